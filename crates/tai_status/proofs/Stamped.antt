@@ -1,0 +1,408 @@
+-- Stamped bytes, part by part.
+use Rattle.std.proofs.Common.{◌≡◌, ℕ, zero, suc, ◌+◌, ◌-◌, ◌<◌, ◌≤◌, ◌==◌, Bool, true, false, not, List, [], ◌∷◌, ◌++◌, length, take, drop, get_or, Option, Some, None, refl, sym, subst, ap, ◌∙◌, arith, add-one, append_assoc, append-nil, length-append}
+use Rattle.std.specs.List.{onto_first}
+use Rattle.std.specs.Io.BufRead.{take_through}
+use Rattle.std.specs.Io.KnownBytes.{Keeps, Appends, Consumes, IsAtEnd}
+use Rattle.std.proofs.lemmas.Grind.{common_steps}
+use Rattle.tai_status.specs.Label.{Tai64n}
+use Rattle.tai_status.specs.Counted.{AppendsFront}
+use Rattle.tai_status.specs.Lines.{lines_of, stamp, stamped, Gave, StampsAll, StampsFront}
+use Rattle.tai_status.specs.Block.{Emits}
+use Rattle.tai_status.specs.Stamping.{stamped_on, begun, is_inside, Stamps, StampsUpTo, SoFar}
+use Rattle.memchr.specs.Find.{NoneBefore, Nowhere, Passes, is_byte}
+use Rattle.tai_status.proofs.Known.{Emits-none, Keeps-same, Emits-then, Emits-front, AppendsFront-more}
+use Rattle.std.proofs.Math.Seq.{take-length}
+use Rattle.std.specs.Prelude.{IfSome}
+
+take_through-on : (b : ℕ) (bs : List ℕ) → (b == 10) ≡ false → take_through 10 (b ∷ bs) ≡ b ∷ take_through 10 bs
+take_through-on b bs e = grind (arith, e)
+
+not_true : (b : Bool) → ¬ (b ≡ true) → b ≡ false
+not_true true no_way = absurd (no_way refl)
+not_true false no_way = refl
+
+-- Parts
+
+inside_by : (labels : List Tai64n) (x : ℕ) (xs : List ℕ) (ends : Bool) → (x == 10) ≡ ends
+    → stamped_on true labels (take_through 10 (x ∷ xs)) ≡ take_through 10 (x ∷ xs)
+inside_by labels x xs true e = grind (arith, e)
+inside_by labels x [] false e = grind (arith, e)
+inside_by labels x (y ∷ ys) false e = let rest = inside_by labels y ys (y == 10) refl in grind (arith, e, rest)
+
+-- bytes of a line that has begun
+pub stamped_on-inside : (labels : List Tai64n) (xs : List ℕ) → stamped_on true labels (take_through 10 xs) ≡ take_through 10 xs
+stamped_on-inside labels [] = refl
+stamped_on-inside labels (x ∷ xs) = inside_by labels x xs (x == 10) refl
+
+begun_by : (x : ℕ) (xs : List ℕ) (ends : Bool) → (x == 10) ≡ ends → begun true (take_through 10 (x ∷ xs)) ≡ 0
+begun_by x xs true e = grind (arith, e)
+begun_by x [] false e = grind (arith, e)
+begun_by x (y ∷ ys) false e = let rest = begun_by y ys (y == 10) refl in grind (arith, e, rest)
+
+pub begun-inside : (xs : List ℕ) → begun true (take_through 10 xs) ≡ 0
+begun-inside [] = refl
+begun-inside (x ∷ xs) = begun_by x xs (x == 10) refl
+
+start_by : (label : Tai64n) (x : ℕ) (xs : List ℕ) (ends : Bool) → (x == 10) ≡ ends
+    → stamped_on false (label ∷ []) (take_through 10 (x ∷ xs)) ≡ stamp label ++ take_through 10 (x ∷ xs)
+start_by label x xs true e = grind (arith, e)
+start_by label x xs false e = let rest = stamped_on-inside [] xs in grind (arith, e, rest)
+
+-- the bytes that begin a line
+pub stamped_on-start : (label : Tai64n) (xs : List ℕ) → 0 < length xs
+    → stamped_on false (label ∷ []) (take_through 10 xs) ≡ stamp label ++ take_through 10 xs
+stamped_on-start label [] some = absurd (omega (arith, some))
+stamped_on-start label (x ∷ xs) some = start_by label x xs (x == 10) refl
+
+begun_start_by : (x : ℕ) (xs : List ℕ) (ends : Bool) → (x == 10) ≡ ends → begun false (take_through 10 (x ∷ xs)) ≡ 1
+begun_start_by x xs true e = grind (arith, e)
+begun_start_by x xs false e = let rest = begun-inside xs in grind (arith, e, rest)
+
+pub begun-start : (xs : List ℕ) → 0 < length xs → begun false (take_through 10 xs) ≡ 1
+begun-start [] some = absurd (omega (arith, some))
+begun-start (x ∷ xs) some = begun_start_by x xs (x == 10) refl
+
+-- One after another
+
+pub is_inside-append : (inside : Bool) (xs ys : List ℕ) → is_inside inside (xs ++ ys) ≡ is_inside (is_inside inside xs) ys
+is_inside-append inside [] ys = refl
+is_inside-append inside (x ∷ xs) ys = is_inside-append (not (x == 10)) xs ys
+
+pub begun-append : (inside : Bool) (xs ys : List ℕ) → begun inside (xs ++ ys) ≡ begun inside xs + begun (is_inside inside xs) ys
+begun-append inside [] ys = omega arith
+begun-append true (x ∷ xs) ys = begun-append (not (x == 10)) xs ys
+begun-append false (x ∷ xs) ys = let rest = begun-append (not (x == 10)) xs ys in omega (arith, rest)
+
+pub stamped_on-append : (inside : Bool) (gs hs : List Tai64n) (xs ys : List ℕ) → length gs ≡ begun inside xs
+    → stamped_on inside (gs ++ hs) (xs ++ ys) ≡ stamped_on inside gs xs ++ stamped_on (is_inside inside xs) hs ys
+stamped_on-append inside [] hs [] ys e = refl
+stamped_on-append inside (g ∷ gs) hs [] ys e = absurd (omega (arith, e))
+stamped_on-append true gs hs (x ∷ xs) ys e = ap (λ (t : List ℕ). x ∷ t) (stamped_on-append (not (x == 10)) gs hs xs ys e)
+stamped_on-append false [] hs (x ∷ xs) ys e = absurd (omega (arith, e))
+stamped_on-append false (g ∷ gs) hs (x ∷ xs) ys e =
+    let rest = stamped_on-append (not (x == 10)) gs hs xs ys (omega (arith, e)) in
+    ap (λ (t : List ℕ). stamp g ++ x ∷ t) rest ∙ sym (append_assoc (stamp g) (x ∷ stamped_on (not (x == 10)) gs xs) _)
+
+pub stamped_on-front : (inside : Bool) (gs : List Tai64n) (xs ys : List ℕ)
+    → (rest : List ℕ) × (stamped_on inside gs (xs ++ ys) ≡ stamped_on inside gs xs ++ rest)
+stamped_on-front inside gs [] ys = (stamped_on inside gs ys, refl)
+stamped_on-front true gs (x ∷ xs) ys =
+    let more = stamped_on-front (not (x == 10)) gs xs ys in (more.0, ap (λ (t : List ℕ). x ∷ t) more.1)
+stamped_on-front false [] (x ∷ xs) ys = ([], refl)
+stamped_on-front false (g ∷ gs) (x ∷ xs) ys =
+    let more = stamped_on-front (not (x == 10)) gs xs ys in
+    (more.0, ap (λ (t : List ℕ). stamp g ++ x ∷ t) more.1 ∙ sym (append_assoc (stamp g) (x ∷ stamped_on (not (x == 10)) gs xs) more.0))
+
+-- Whole lines
+
+-- the lines of bytes that go on a line, after their stamps but the first
+continued : List Tai64n → List (List ℕ) → List ℕ
+continued gs [] = []
+continued gs (line ∷ lines) = line ++ stamped gs lines
+
+stamped-onto : (g : Tai64n) (gs : List Tai64n) (b : ℕ) (ls : List (List ℕ))
+    → stamped (g ∷ gs) (onto_first b ls) ≡ stamp g ++ b ∷ continued gs ls
+unfolding continued
+stamped-onto g gs b [] = append-nil (stamp g ++ b ∷ [])
+stamped-onto g gs b (l ∷ ls) = append_assoc (stamp g) (b ∷ l) (stamped gs ls)
+
+stamped-no_labels : (ls : List (List ℕ)) → stamped [] ls ≡ []
+stamped-no_labels [] = refl
+stamped-no_labels (l ∷ ls) = refl
+
+continued-onto : (gs : List Tai64n) (b : ℕ) (ls : List (List ℕ)) → continued gs (onto_first b ls) ≡ b ∷ continued gs ls
+unfolding continued
+continued-onto gs b [] = refl
+continued-onto gs b (l ∷ ls) = refl
+
+lines_of-end : (b : ℕ) (bs : List ℕ) → (b == 10) ≡ true → lines_of (b ∷ bs) ≡ (10 ∷ []) ∷ lines_of bs
+lines_of-end b bs e = grind (arith, e)
+
+lines_of-on : (b : ℕ) (bs : List ℕ) → (b == 10) ≡ false → lines_of (b ∷ bs) ≡ onto_first b (lines_of bs)
+lines_of-on b bs e = grind (arith, e)
+
+length-onto : (b : ℕ) (ls : List (List ℕ)) → length (onto_first b ls) ≡ 1 + (length ls - 1)
+length-onto b [] = refl
+length-onto b (l ∷ ls) = omega arith
+
+-- both ways of reading a text at once
+record Reads (text : List ℕ) : Type 0 where
+  new : (gs : List Tai64n) → stamped_on false gs text ≡ stamped gs (lines_of text)
+  on : (gs : List Tai64n) → stamped_on true gs text ≡ continued gs (lines_of text)
+  count_new : begun false text ≡ length (lines_of text)
+  count_on : begun true text ≡ length (lines_of text) - 1
+
+-- what a byte does, where the rest of its line is told
+on_after : (gs : List Tai64n) (b : ℕ) (bs : List ℕ) (ends : Bool) → (b == 10) ≡ ends → Reads bs
+    → b ∷ stamped_on (not (b == 10)) gs bs ≡ continued gs (lines_of (b ∷ bs))
+unfolding continued
+on_after gs b bs true e r = let ten : b ≡ 10 = grind (arith, e) in rw (lines_of-end b bs e, e, ten, r.new gs) refl
+on_after gs b bs false e r = rw (lines_of-on b bs e, e, r.on gs, continued-onto gs b (lines_of bs)) refl
+
+new_after : (g : Tai64n) (gs : List Tai64n) (b : ℕ) (bs : List ℕ) (ends : Bool) → (b == 10) ≡ ends → Reads bs
+    → stamped (g ∷ gs) (lines_of (b ∷ bs)) ≡ stamp g ++ continued gs (lines_of (b ∷ bs))
+unfolding continued
+new_after g gs b bs true e r = rw (lines_of-end b bs e) (append_assoc (stamp g) (10 ∷ []) (stamped gs (lines_of bs)))
+new_after g gs b bs false e r = rw (lines_of-on b bs e, stamped-onto g gs b (lines_of bs), continued-onto gs b (lines_of bs)) refl
+
+new_by : (gs : List Tai64n) (b : ℕ) (bs : List ℕ) → Reads bs → stamped_on false gs (b ∷ bs) ≡ stamped gs (lines_of (b ∷ bs))
+new_by [] b bs r = sym (stamped-no_labels (lines_of (b ∷ bs)))
+new_by (g ∷ gs) b bs r =
+    ap (λ (t : List ℕ). stamp g ++ t) (on_after gs b bs (b == 10) refl r) ∙ sym (new_after g gs b bs (b == 10) refl r)
+
+counts_by : (b : ℕ) (bs : List ℕ) (ends : Bool) → (b == 10) ≡ ends → Reads bs
+    → begun (not (b == 10)) bs + 1 ≡ length (lines_of (b ∷ bs))
+counts_by b bs true e r = let l = r.count_new in rw (lines_of-end b bs e, e) (omega (arith, l))
+counts_by b bs false e r = let l = r.count_on in let o = length-onto b (lines_of bs) in rw (lines_of-on b bs e, e) (omega (arith, l, o))
+
+reads : (text : List ℕ) → Reads text
+unfolding continued
+reads [] = record { new = λ gs. refl; on = λ gs. refl; count_new = refl; count_on = refl }
+reads (b ∷ bs) = let r = reads bs in record {
+  new = λ gs. new_by gs b bs r;
+  on = λ gs. on_after gs b bs (b == 10) refl r;
+  count_new = counts_by b bs (b == 10) refl r;
+  count_on = let n = counts_by b bs (b == 10) refl r in omega (arith, n);
+}
+
+-- The stamped lines of a text are its bytes stamped as they come.
+pub stamped-lines : (gs : List Tai64n) (text : List ℕ) → stamped gs (lines_of text) ≡ stamped_on false gs text
+stamped-lines gs text = sym ((reads text).new gs)
+
+pub length-lines : (text : List ℕ) → length (lines_of text) ≡ begun false text
+length-lines text = sym (reads text).count_new
+
+-- Readings
+
+pub Gave-then : (a b c : Option (List Tai64n)) (gs hs : List Tai64n) → Gave a b gs → Gave b c hs → Gave a c (gs ++ hs)
+Gave-then a b None gs hs k l = tt
+Gave-then a None (Some zs) gs hs k l = absurd l
+Gave-then None (Some ys) (Some zs) gs hs k l = absurd k
+Gave-then (Some xs) (Some ys) (Some zs) gs hs k l = l ∙ ap (λ (t : List Tai64n). t ++ hs) k ∙ append_assoc xs gs hs
+
+pub Gave-none : (a : Option (List Tai64n)) → Gave a a []
+Gave-none None = tt
+Gave-none (Some xs) = sym (append-nil xs)
+
+-- Stamped so far
+
+pub Stamps-none : (inside : Bool) (past : Option (List Tai64n)) (held : Option (List ℕ)) (pending : List ℕ) → Emits held held pending pending []
+    → Stamps inside [] past past held held pending pending inside 0
+Stamps-none inside past held pending e = record {
+  labels = [];
+  gave = Gave-none past;
+  each = refl;
+  text = e;
+  after_is = refl;
+  count_is = refl;
+}
+
+pub Stamps-then : {i j k : Bool} {xs ys : List ℕ} {a b c : Option (List Tai64n)} {d e f : Option (List ℕ)} {p q r : List ℕ} {m n : ℕ}
+    → Stamps i xs a b d e p q j m → Stamps j ys b c e f q r k n → Stamps i (xs ++ ys) a c d f p r k (m + n)
+Stamps-then {i} {j} {k} {xs} {ys} {a} {b} {c} {d} {e} {f} {p} {q} {r} {m} {n} s t =
+    let then : begun (is_inside i xs) ys ≡ begun j ys = ap (λ (v : Bool). begun v ys) (sym s.after_is) in
+    let text = stamped_on-append i s.labels t.labels xs ys s.each in
+    let same : stamped_on i (s.labels ++ t.labels) (xs ++ ys) ≡ stamped_on i s.labels xs ++ stamped_on j t.labels ys =
+    text ∙ ap (λ (v : Bool). stamped_on i s.labels xs ++ stamped_on v t.labels ys) (sym s.after_is) in
+    record {
+      labels = s.labels ++ t.labels;
+      gave = Gave-then a b c s.labels t.labels s.gave t.gave;
+      each = let l = s.each in let o = t.each in let h = begun-append i xs ys in let w = length-append s.labels t.labels in omega (arith, l, o, h, w, then);
+      text = subst (λ (v : List ℕ). Emits d f p r v) (sym same) (Emits-then s.text t.text);
+      after_is = t.after_is ∙ ap (λ (v : Bool). is_inside v ys) s.after_is ∙ sym (is_inside-append i xs ys);
+      count_is = let l = s.count_is in let o = t.count_is in let h = begun-append i xs ys in omega (arith, l, o, h, then);
+    }
+
+pub StampsUpTo-more : {i : Bool} {xs : List ℕ} {a b : Option (List Tai64n)} {d e : Option (List ℕ)} {p : List ℕ} (ys : List ℕ)
+    → StampsUpTo i xs a b d e p → StampsUpTo i (xs ++ ys) a b d e p
+StampsUpTo-more {i} {xs} {a} {b} {d} {e} {p} ys s =
+    let more = stamped_on-front i s.labels xs ys in
+    let same : p ++ stamped_on i s.labels (xs ++ ys) ≡ (p ++ stamped_on i s.labels xs) ++ more.0 =
+    ap (λ (v : List ℕ). p ++ v) more.1 ∙ sym (append_assoc p (stamped_on i s.labels xs) more.0) in
+    record { labels = s.labels; gave = s.gave; text = subst (λ (v : List ℕ). AppendsFront d e v) (sym same) (AppendsFront-more more.0 s.text) }
+
+pub Stamps-failed : {i j : Bool} {xs ys : List ℕ} {a b c : Option (List Tai64n)} {d e f : Option (List ℕ)} {p q : List ℕ} {m : ℕ}
+    → Stamps i xs a b d e p q j m → StampsUpTo j ys b c e f q → StampsUpTo i (xs ++ ys) a c d f p
+Stamps-failed {i} {j} {xs} {ys} {a} {b} {c} {d} {e} {f} {p} {q} {m} s t =
+    let same : stamped_on i (s.labels ++ t.labels) (xs ++ ys) ≡ stamped_on i s.labels xs ++ stamped_on j t.labels ys =
+    stamped_on-append i s.labels t.labels xs ys s.each
+    ∙ ap (λ (v : Bool). stamped_on i s.labels xs ++ stamped_on v t.labels ys) (sym s.after_is) in
+    record {
+      labels = s.labels ++ t.labels;
+      gave = Gave-then a b c s.labels t.labels s.gave t.gave;
+      text = subst (λ (v : List ℕ). AppendsFront d f (p ++ v)) (sym same) (Emits-front (stamped_on j t.labels ys) s.text t.text);
+    }
+
+-- A part
+
+pub Stamps-inside : (xs : List ℕ) (past : Option (List Tai64n)) {d e : Option (List ℕ)} {p q : List ℕ} → Emits d e p q (take_through 10 xs)
+    → Stamps true (take_through 10 xs) past past d e p q (is_inside true (take_through 10 xs)) 0
+Stamps-inside xs past {d} {e} {p} {q} m = record {
+  labels = [];
+  gave = Gave-none past;
+  each = sym (begun-inside xs);
+  text = subst (λ (v : List ℕ). Emits d e p q v) (sym (stamped_on-inside [] xs)) m;
+  after_is = refl;
+  count_is = sym (begun-inside xs);
+}
+
+pub Stamps-start : (label : Tai64n) (xs : List ℕ) {a b : Option (List Tai64n)} {d e : Option (List ℕ)} {p q : List ℕ} → 0 < length xs
+    → Gave a b (label ∷ []) → Emits d e p q (stamp label ++ take_through 10 xs)
+    → Stamps false (take_through 10 xs) a b d e p q (is_inside false (take_through 10 xs)) 1
+Stamps-start label xs {a} {b} {d} {e} {p} {q} some g m = record {
+  labels = label ∷ [];
+  gave = g;
+  each = sym (begun-start xs some);
+  text = subst (λ (v : List ℕ). Emits d e p q v) (sym (stamped_on-start label xs some)) m;
+  after_is = refl;
+  count_is = sym (begun-start xs some);
+}
+
+pub StampsUpTo-inside : (xs : List ℕ) (past : Option (List Tai64n)) {d e : Option (List ℕ)} {p : List ℕ} → AppendsFront d e (p ++ take_through 10 xs)
+    → StampsUpTo true (take_through 10 xs) past past d e p
+StampsUpTo-inside xs past {d} {e} {p} m = record {
+  labels = [];
+  gave = Gave-none past;
+  text = subst (λ (v : List ℕ). AppendsFront d e (p ++ v)) (sym (stamped_on-inside [] xs)) m;
+}
+
+pub StampsUpTo-start : (label : Tai64n) (xs : List ℕ) {a b : Option (List Tai64n)} {d e : Option (List ℕ)} {p : List ℕ} → 0 < length xs
+    → Gave a b (label ∷ []) → AppendsFront d e (p ++ (stamp label ++ take_through 10 xs))
+    → StampsUpTo false (take_through 10 xs) a b d e p
+StampsUpTo-start label xs {a} {b} {d} {e} {p} some g m = record {
+  labels = label ∷ [];
+  gave = g;
+  text = subst (λ (v : List ℕ). AppendsFront d e (p ++ v)) (sym (stamped_on-start label xs some)) m;
+}
+
+-- The first newline
+
+pub take_through-found : (xs : List ℕ) (k : ℕ) → k < length xs → (get_or xs k 0 == 10) ≡ true
+    → ((j : ℕ) → j < k → ¬ ((get_or xs j 0 == 10) ≡ true)) → take (k + 1) xs ≡ take_through 10 xs
+take_through-found [] k within is none = absurd (omega (arith, within))
+take_through-found (x ∷ xs) zero within is none = grind (arith, is)
+take_through-found (x ∷ xs) (suc k) within is none =
+    let apart : (x == 10) ≡ false = not_true (x == 10) (none 0 (omega arith)) in
+    let rest = take_through-found xs k (omega (arith, within)) is (λ j h. none (suc j) (omega (arith, h))) in
+    let shifted : take (suc k) xs ≡ take_through 10 xs = ap (λ (n : ℕ). take n xs) (sym (add-one k)) ∙ rest in
+    rw (add-one, take_through-on x xs apart) (ap (λ (t : List ℕ). x ∷ t) shifted)
+
+is_inside-found : (inside : Bool) (xs : List ℕ) (k : ℕ) → k < length xs → (get_or xs k 0 == 10) ≡ true
+    → ((j : ℕ) → j < k → ¬ ((get_or xs j 0 == 10) ≡ true)) → is_inside inside (take_through 10 xs) ≡ false
+is_inside-found inside [] k within is none = absurd (omega (arith, within))
+is_inside-found inside (x ∷ xs) zero within is none = grind (arith, is)
+is_inside-found inside (x ∷ xs) (suc k) within is none =
+    let apart : (x == 10) ≡ false = not_true (x == 10) (none 0 (omega arith)) in
+    let rest = is_inside-found (not (x == 10)) xs k (omega (arith, within)) is (λ j h. none (suc j) (omega (arith, h))) in
+    rw (take_through-on x xs apart) rest
+
+take_through-none : (xs : List ℕ) → ((j : ℕ) → j < length xs → ¬ ((get_or xs j 0 == 10) ≡ true)) → xs ≡ take_through 10 xs
+take_through-none [] none = refl
+take_through-none (x ∷ xs) none =
+    let apart : (x == 10) ≡ false = not_true (x == 10) (none 0 (omega arith)) in
+    let rest = take_through-none xs (λ j h. none (suc j) (omega (arith, h))) in
+    rw (take_through-on x xs apart) (ap (λ (t : List ℕ). x ∷ t) rest)
+
+is_inside-none : (inside : Bool) (x : ℕ) (xs : List ℕ) → ((j : ℕ) → j < length (x ∷ xs) → ¬ ((get_or (x ∷ xs) j 0 == 10) ≡ true))
+    → is_inside inside (x ∷ xs) ≡ true
+is_inside-none inside x [] none =
+    let apart : (x == 10) ≡ false = not_true (x == 10) (none 0 (omega arith)) in rw apart refl
+is_inside-none inside x (y ∷ ys) none = is_inside-none (not (x == 10)) y ys (λ j h. none (suc j) (omega (arith, h)))
+
+-- what a search for the first newline tells
+pub part_found : (xs : List ℕ) (k : ℕ) → NoneBefore (Passes (is_byte 10) xs) 0 (length xs) k → Passes (is_byte 10) xs k
+    → (take (k + 1) xs ≡ take_through 10 xs) × ((inside : Bool) → is_inside inside (take_through 10 xs) ≡ false)
+part_found xs k first is = (
+  take_through-found xs k first.high is (λ j h. first.before j (omega arith) h),
+  λ inside. is_inside-found inside xs k first.high is (λ j h. first.before j (omega arith) h),
+)
+
+pub part_whole : (xs : List ℕ) → Nowhere (Passes (is_byte 10) xs) 0 (length xs)
+    → (take (length xs) xs ≡ take_through 10 xs) × (0 < length xs → (inside : Bool) → is_inside inside (take_through 10 xs) ≡ true)
+part_whole [] none = (refl, λ some. absurd (omega (arith, some)))
+part_whole (x ∷ xs) none =
+    let same = take_through-none (x ∷ xs) (λ j h. none j (omega arith) h) in (
+      take-length (x ∷ xs) ∙ same,
+      λ some inside. subst (λ (t : List ℕ). is_inside inside t ≡ true) same (is_inside-none inside x xs (λ j h. none j (omega arith) h)),
+    )
+
+-- All that was read so far
+
+pub Consumes-then : (a b c : Option (List ℕ)) (bs cs : List ℕ) → Consumes a b bs → Consumes b c cs → Consumes a c (bs ++ cs)
+Consumes-then None b c bs cs k l = tt
+Consumes-then (Some xs) None c bs cs k l = absurd k
+Consumes-then (Some xs) (Some ys) None bs cs k l = absurd l
+Consumes-then (Some xs) (Some ys) (Some zs) bs cs k l = k ∙ ap (λ (t : List ℕ). bs ++ t) l ∙ sym (append_assoc bs cs zs)
+
+pub Consumes-Keeps : (a b c : Option (List ℕ)) (bs : List ℕ) → Consumes a b bs → Keeps b c → Consumes a c bs
+Consumes-Keeps None b c bs k l = tt
+Consumes-Keeps (Some xs) None c bs k l = absurd k
+Consumes-Keeps (Some xs) (Some ys) None bs k l = absurd l
+Consumes-Keeps (Some xs) (Some ys) (Some zs) bs k l = k ∙ ap (λ (t : List ℕ). bs ++ t) (sym l)
+
+pub Consumes-all : (input : List ℕ) (b : Option (List ℕ)) (bs : List ℕ) → Consumes (Some input) b bs → IsAtEnd b → input ≡ bs
+Consumes-all input None bs k l = absurd k
+Consumes-all input (Some ys) bs k l = k ∙ ap (λ (t : List ℕ). bs ++ t) l ∙ append-nil bs
+
+pub Consumes-none : (a : Option (List ℕ)) → Consumes a a []
+Consumes-none None = tt
+Consumes-none (Some xs) = refl
+
+pub SoFar-none : (before : Option (List ℕ)) (past : Option (List Tai64n)) (held : Option (List ℕ)) → SoFar before before past past held held false 0
+SoFar-none before past held = record {
+  bytes = [];
+  read = Consumes-none before;
+  stamps = Stamps-none false past held [] (Emits-none held held [] (Keeps-same held));
+}
+
+pub SoFar-then : {a b c : Option (List ℕ)} {d e f : Option (List Tai64n)} {p q r : Option (List ℕ)} {i j : Bool} {m n : ℕ} {xs : List ℕ}
+    → SoFar a b d e p q i m → Consumes b c xs → Stamps i xs e f q r [] [] j n → SoFar a c d f p r j (m + n)
+SoFar-then {a} {b} {c} {d} {e} {f} {p} {q} {r} {i} {j} {m} {n} {xs} s k t = record {
+  bytes = s.bytes ++ xs;
+  read = Consumes-then a b c s.bytes xs s.read k;
+  stamps = Stamps-then s.stamps t;
+}
+
+wrote_all : {held holds : Option (List ℕ)} {bytes : List ℕ} → Emits held holds [] [] bytes → Appends held holds bytes
+wrote_all {held} {holds} {bytes} e = subst (λ (t : List ℕ). Appends held holds t) (sym (append-nil e.written) ∙ e.whole) e.wrote
+
+pub SoFar-end : (a b c : Option (List ℕ)) {d e : Option (List Tai64n)} {p q : Option (List ℕ)} {i : Bool} {n : ℕ}
+    → SoFar a b d e p q i n → Consumes b c [] → IsAtEnd c → IfSome a (λ input. StampsAll input d e p q n)
+SoFar-end None b c s k l = tt
+SoFar-end (Some input) b c {d} {e} {p} {q} {i} {n} s k l =
+    let whole : input ≡ s.bytes = Consumes-all input c (s.bytes ++ []) (Consumes-then (Some input) b c s.bytes [] s.read k) l ∙ append-nil s.bytes in
+    let counted : length (lines_of input) ≡ begun false s.bytes = ap (λ (t : List ℕ). length (lines_of t)) whole ∙ length-lines s.bytes in
+    let text : stamped s.stamps.labels (lines_of input) ≡ stamped_on false s.stamps.labels s.bytes =
+    ap (λ (t : List ℕ). stamped s.stamps.labels (lines_of t)) whole ∙ stamped-lines s.stamps.labels s.bytes in
+    record {
+      labels = s.stamps.labels;
+      gave = s.stamps.gave;
+      each = s.stamps.each ∙ sym counted;
+      text = subst (λ (t : List ℕ). Appends p q t) (sym text) (wrote_all s.stamps.text);
+      count_is = s.stamps.count_is ∙ sym counted;
+    }
+
+pub SoFar-unread : (a b c : Option (List ℕ)) {d e : Option (List Tai64n)} {p q : Option (List ℕ)} {i : Bool} {n : ℕ}
+    → SoFar a b d e p q i n → Keeps b c → StampsFront a c d e p q
+SoFar-unread a b c {d} {e} {p} {q} {i} {n} s k =
+    let text = stamped-lines s.stamps.labels s.bytes in record {
+      bytes = s.bytes;
+      labels = s.stamps.labels;
+      read = Consumes-Keeps a b c s.bytes s.read k;
+      gave = s.stamps.gave;
+      text = record {
+        count = length (stamped s.stamps.labels (lines_of s.bytes));
+        front = subst (λ (t : List ℕ). Appends p q t) (sym text ∙ sym (take-length _)) (wrote_all s.stamps.text);
+      };
+    }
+
+pub SoFar-unwritten : {a b c : Option (List ℕ)} {d e f : Option (List Tai64n)} {p q r : Option (List ℕ)} {i : Bool} {n : ℕ} {xs : List ℕ}
+    → SoFar a b d e p q i n → Consumes b c xs → StampsUpTo i xs e f q r [] → StampsFront a c d f p r
+SoFar-unwritten {a} {b} {c} {d} {e} {f} {p} {q} {r} {i} {n} {xs} s k t =
+    let all = Stamps-failed s.stamps t in record {
+      bytes = s.bytes ++ xs;
+      labels = all.labels;
+      read = Consumes-then a b c s.bytes xs s.read k;
+      gave = all.gave;
+      text = subst (λ (v : List ℕ). AppendsFront p r v) (sym (stamped-lines all.labels (s.bytes ++ xs))) all.text;
+    }

@@ -1,0 +1,12 @@
+use Rattle.std.proofs.Common.{◌≡◌, ◌≤◌, ◌<◌, ◌+◌, ◌-◌, ◌*◌, ◌^◌, ℕ, Bool, [], List, take, length}
+use Rattle.tai_status.specs.Stamping.{Stamps, SoFar}
+use Rattle.tai_status.proofs.stamp.stamp_lines.Given as goal
+
+abbrev pub invariant-reads : goal.invariant-reads
+invariant-reads g l =
+    SoFar (g.D.Read.remaining l.fn.reader.device) (g.D.Read.remaining l.reader.device) (g.C.TimeSource.readings l.fn.clock) (g.C.TimeSource.readings l.clock)
+    (g.E.Write.contents l.fn.writer.device) (g.E.Write.contents l.writer.device) l.inside l.lines
+    × (l.block ≡ []) × (l.lines ≤ 32768 * l.reader.reads) × (l.writer.faults ≡ l.fn.writer.faults) × (l.reader.faults ≡ l.fn.reader.faults)
+
+abbrev pub decreases-reads : goal.decreases-reads
+decreases-reads g l = 2 ^ 48 - l.reader.reads

@@ -1,0 +1,21 @@
+-- What is true of the definitions, in plain words.
+use Rattle.std.specs.Prelude.{◌≡◌, ◌↔◌, ◌<◌, ℕ, List, [], ◌∷◌, ◌++◌, length, flat_map}
+use Rattle.tai_status.specs.Record.{Status, IsRecord, status_record}
+use Rattle.tai_status.specs.LineReader.{IsPlain}
+use Rattle.tai_status.specs.Lines.{lines_of, texts_of}
+
+-- The bytes before the first newline are the first line, and the other lines are those of what comes after it.
+abbrev pub FirstLine : Type 0
+FirstLine = (line rest : List ℕ) → IsPlain line → texts_of (line ++ 10 ∷ rest) ≡ line ∷ texts_of rest
+
+-- A rest without a newline is the last line, where it is not empty.
+abbrev pub LastLine : Type 0
+LastLine = (line : List ℕ) → 0 < length line → IsPlain line → texts_of line ≡ line ∷ []
+
+-- The lines of a text with their newlines, joined, are the text.
+abbrev pub WholeText : Type 0
+WholeText = (text : List ℕ) → flat_map (λ line. line) (lines_of text) ≡ text
+
+-- A status has one record.
+abbrev pub OneRecord : Type 0
+OneRecord = (bytes : List ℕ) (status : Status) → IsRecord bytes status ↔ (bytes ≡ status_record status)

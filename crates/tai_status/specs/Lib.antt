@@ -1,0 +1,10 @@
+pub mod Label
+pub mod Reading
+pub mod Record
+pub mod Decoding
+pub mod Counted
+pub mod Block
+pub mod LineReader
+pub mod Lines
+pub mod Stamping
+pub mod Laws

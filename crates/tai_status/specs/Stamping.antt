@@ -1,0 +1,48 @@
+-- Stamping byte by byte, as the bytes come. No public contract speaks of it.
+--
+-- `inside` says that the bytes go on a line that has begun.
+use Rattle.std.specs.Prelude.{◌≡◌, ℕ, ◌+◌, ◌==◌, Bool, true, false, not, List, [], ◌∷◌, ◌++◌, length, Option}
+use Rattle.std.specs.Io.KnownBytes.{Consumes}
+use Rattle.tai_status.specs.Label.{Tai64n}
+use Rattle.tai_status.specs.Counted.{AppendsFront}
+use Rattle.tai_status.specs.Block.{Emits}
+use Rattle.tai_status.specs.Lines.{stamp, Gave}
+
+-- the number of lines that begin
+abbrev pub begun : Bool → List ℕ → ℕ
+begun inside [] = 0
+begun true (byte ∷ bytes) = begun (not (byte == 10)) bytes
+begun false (byte ∷ bytes) = begun (not (byte == 10)) bytes + 1
+
+-- whether a line has begun after these bytes
+abbrev pub is_inside : Bool → List ℕ → Bool
+is_inside inside [] = inside
+is_inside inside (byte ∷ bytes) = is_inside (not (byte == 10)) bytes
+
+abbrev pub stamped_on : Bool → List Tai64n → List ℕ → List ℕ
+stamped_on inside labels [] = []
+stamped_on true labels (byte ∷ bytes) = byte ∷ stamped_on (not (byte == 10)) labels bytes
+stamped_on false [] (byte ∷ bytes) = []
+stamped_on false (label ∷ labels) (byte ∷ bytes) =
+    stamp label ++ byte ∷ stamped_on (not (byte == 10)) labels bytes
+
+-- These bytes were stamped.
+pub record Stamps (inside : Bool) (bytes : List ℕ) (past now : Option (List Tai64n)) (held holds : Option (List ℕ)) (pending left : List ℕ) (after : Bool) (count : ℕ) : Type 0 where
+  pub labels : List Tai64n
+  pub gave : Gave past now labels
+  pub each : length labels ≡ begun inside bytes
+  pub text : Emits held holds pending left (stamped_on inside labels bytes)
+  pub after_is : after ≡ is_inside inside bytes
+  pub count_is : count ≡ begun inside bytes
+
+-- A write failed while these bytes were stamped.
+pub record StampsUpTo (inside : Bool) (bytes : List ℕ) (past now : Option (List Tai64n)) (held holds : Option (List ℕ)) (pending : List ℕ) : Type 0 where
+  pub labels : List Tai64n
+  pub gave : Gave past now labels
+  pub text : AppendsFront held holds (pending ++ stamped_on inside labels bytes)
+
+-- All that was read is stamped and written.
+pub record SoFar (before after : Option (List ℕ)) (past now : Option (List Tai64n)) (held holds : Option (List ℕ)) (inside : Bool) (count : ℕ) : Type 0 where
+  pub bytes : List ℕ
+  pub read : Consumes before after bytes
+  pub stamps : Stamps false bytes past now held holds [] [] inside count

@@ -1,0 +1,117 @@
+ghost use Rattle.std.specs.Prelude.{◌≡◌, ◌++◌, ◌+◌, ◌-◌, ◌≤◌, [], List, ℕ, length, take, ◌<◌, OnOk, IfOk, OnErr};
+ghost use Rattle.std.specs.Io.KnownBytes.{Appends};
+ghost use Rattle.tai_status.specs.Counted.{Rose, AppendsFront, device_of, fault_count};
+ghost use Rattle.tai_status.specs.Block.{Emits};
+
+use super::counted::{Counted, DeviceFault};
+use std::io::Write;
+use std::marker::Model;
+
+/// How many bytes are read or written at once.
+pub const BLOCK: usize = 32_768;
+
+/// Bytes that are yet to be written.
+#[derive(Drop)]
+pub struct Block {
+    bytes: [u8; BLOCK],
+    len: usize,
+}
+
+impl Model for Block {
+    ghost use Rattle.std.specs.Prelude.{List, ℕ, ◌≤◌, take};
+
+    ghost Value = { List ℕ };
+
+    ghost view = { λ b. take b.len b.bytes };
+
+    ghost invariant = { λ b. b.len ≤ 32768 };
+}
+
+impl Block {
+    pub fn new() -> Block
+        ensures { result ≡ [] }
+    {
+        Block {
+            bytes: [0; BLOCK],
+            len: 0,
+        }
+    }
+
+    fn as_slice(&self) -> &[u8]
+        ensures { result.now ≡ self.now }
+    {
+        &self.bytes[..self.len]
+    }
+
+    fn room(&self) -> usize
+        ensures { result + length self.now ≡ 32768 }
+    {
+        BLOCK - self.len
+    }
+
+    fn clear(&mut self)
+        ensures { self.new ≡ [] }
+    {
+        self.len = 0;
+    }
+
+    fn push(&mut self, piece: &[u8])
+        requires { length self.old + length piece.now ≤ 32768 }
+        ensures { self.new ≡ self.old ++ piece.now }
+    {
+        let end = self.len + piece.len();
+        self.bytes[self.len..end].copy_from_slice(piece);
+        self.len = end;
+    }
+
+    /// Writes what is pending.
+    pub fn flush<W: Write>(&mut self, writer: &mut Counted<W>) -> Result<(), DeviceFault>
+        ensures ok { OnOk result (Appends (W.contents (device_of writer.old)) (W.contents (device_of writer.new)) self.old) }
+        ensures empty { OnOk result (self.new ≡ []) }
+        ensures err { OnErr result (AppendsFront (W.contents (device_of writer.old)) (W.contents (device_of writer.new)) self.old) }
+        ensures faults { OnOk result (fault_count writer.new ≡ fault_count writer.old) }
+        ensures fault { OnErr result (Rose (fault_count writer.old) (fault_count writer.new)) }
+    {
+        writer.write_all(self.as_slice())?;
+        self.clear();
+        Ok(())
+    }
+
+    /// Puts a piece behind what is pending, of which full blocks are written.
+    pub fn put<W: Write>(
+        &mut self,
+        piece: &[u8],
+        writer: &mut Counted<W>,
+    ) -> Result<(), DeviceFault>
+        ensures ok { OnOk result (Emits (W.contents (device_of writer.old)) (W.contents (device_of writer.new)) self.old self.new piece.now) }
+        ensures err { OnErr result (AppendsFront (W.contents (device_of writer.old)) (W.contents (device_of writer.new)) (self.old ++ piece.now)) }
+        ensures faults { OnOk result (fault_count writer.new ≡ fault_count writer.old) }
+        ensures fault { OnErr result (Rose (fault_count writer.old) (fault_count writer.new)) }
+    {
+        let mut at = 0;
+        while at < piece.len() {
+            at += self.put_part(&piece[at..], writer)?;
+        }
+        Ok(())
+    }
+
+    /// Puts a front of a piece, and tells how long it is.
+    fn put_part<W: Write>(
+        &mut self,
+        piece: &[u8],
+        writer: &mut Counted<W>,
+    ) -> Result<usize, DeviceFault>
+        ensures ok { IfOk result (λ count. Emits (W.contents (device_of writer.old)) (W.contents (device_of writer.new)) self.old self.new (take count piece.now)) }
+        ensures count { IfOk result (λ count. (count ≤ length piece.now) × (0 < length piece.now → 0 < count)) }
+        ensures err { OnErr result (AppendsFront (W.contents (device_of writer.old)) (W.contents (device_of writer.new)) self.old) }
+        ensures faults { OnOk result (fault_count writer.new ≡ fault_count writer.old) }
+        ensures fault { OnErr result (Rose (fault_count writer.old) (fault_count writer.new)) }
+    {
+        if self.room() == 0 {
+            self.flush(writer)?;
+        }
+        let count = piece.len().min(self.room());
+        self.push(&piece[..count]);
+        Ok(count)
+    }
+}

@@ -1,0 +1,27 @@
+//! TAI64N labels, and the status record of a service.
+#![tactic(auto)]
+
+mod block;
+mod counted;
+mod decoding;
+mod label;
+mod laws;
+mod line_reader;
+mod lists;
+mod reading;
+mod record;
+mod stamp;
+
+pub use block::{BLOCK, Block};
+pub use counted::{Counted, DeviceFault};
+pub use decoding::decode;
+pub use label::{Label, LabelFault, pack, text};
+pub use laws::{lines_in_turn, one_record};
+pub use line_reader::{LineFault, LineReader};
+pub use lists::{Lines, Name, Names};
+pub use reading::{read_text, unpack};
+pub use record::{RecordFault, View, Want, encode};
+pub use stamp::{StampFault, TimeSource, stamp_lines};
+
+#[cfg(test)]
+mod tests;

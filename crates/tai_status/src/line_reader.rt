@@ -1,0 +1,187 @@
+ghost use Rattle.std.specs.Prelude.{◌≡◌, ◌↔◌, ◌<◌, ◌≤◌, ◌+◌, ◌-◌, ◌^◌, [], length, take, slice_range, true, false, OnOk, OnErr, IfOk, IsErrOf};
+ghost use Rattle.std.specs.Io.KnownBytes.{Keeps, Consumes, IsAtEnd};
+ghost use Rattle.tai_status.specs.Counted.{Rose, device_of, read_count, fault_count};
+ghost use Rattle.tai_status.specs.LineReader.{IsPlain, TakesLine, Fills};
+
+use crate::block::BLOCK;
+use crate::counted::{Counted, DeviceFault};
+use memchr::memchr;
+use std::alloc::{AllocError, Allocator, Global};
+use std::io::Read;
+use std::marker::Model;
+use thiserror::Error;
+
+/// Why there is no next line.
+#[derive(Clone, Copy, Debug, PartialEq, Eq, Error)]
+pub enum LineFault {
+    /// More bytes than a line may have are there, and none of them is a newline.
+    #[error("TooLong")]
+    TooLong,
+    /// The reader failed.
+    #[error("Read")]
+    Read,
+}
+
+/// The lines of a reader, in order, each of at most `bound` bytes without its newline.
+///
+/// It holds `bound + 1` bytes from the beginning on, and no more. A read happens in
+/// [`fill`](LineReader::fill) alone, so that its owner knows when the input is waited for.
+#[derive(Drop)]
+pub struct LineReader<A: Allocator = Global> {
+    bytes: Vec<u8, A>,
+    line_start: usize,
+    line_end: usize,
+    start: usize,
+    end: usize,
+}
+
+impl<A: Allocator> Model for LineReader<A> {
+    ghost use Rattle.std.specs.Prelude.{◌≤◌, ◌<◌, ◌-◌, length, slice_range};
+    ghost use Rattle.tai_status.specs.LineReader.{Given};
+
+    ghost Value = { Given };
+
+    ghost view = { λ r. record {
+      line = slice_range r.bytes.items r.line_start r.line_end;
+      pending = slice_range r.bytes.items r.start r.end;
+      bound = length r.bytes.items - 1;
+    } };
+
+    ghost invariant = { λ r.
+        (r.line_start ≤ r.line_end) × (r.line_end ≤ length r.bytes.items)
+        × (r.start ≤ r.end) × (r.end ≤ length r.bytes.items) × (0 < length r.bytes.items) };
+}
+
+impl<A: Allocator> LineReader<A> {
+    /// A reader of lines that has read nothing yet.
+    pub fn new(alloc: A, bound: usize) -> Result<LineReader<A>, AllocError>
+        requires { bound < 2 ^ 62 }
+        ensures { IfOk result (λ reader. reader ≡ record { line = []; pending = []; bound = bound }) }
+    {
+        let bytes = vec![in alloc; 0; bound + 1]?;
+        Ok(LineReader {
+            bytes,
+            line_start: 0,
+            line_end: 0,
+            start: 0,
+            end: 0,
+        })
+    }
+
+    /// The line that was given last, without its newline.
+    pub fn line(&self) -> &[u8]
+        ensures { result.now ≡ self.now.line }
+    {
+        &self.bytes.as_slice()[self.line_start..self.line_end]
+    }
+
+    /// What was read and not yet given.
+    fn pending(&self) -> &[u8]
+        ensures { result.now ≡ self.now.pending }
+    {
+        &self.bytes.as_slice()[self.start..self.end]
+    }
+
+    /// Gives the next line, where all of it and its newline were read. Reads nothing.
+    pub fn take_line(&mut self) -> bool
+        ensures taken { result ≡ true → TakesLine self.old self.new }
+        ensures none { result ≡ false → IsPlain self.old.pending × (self.new ≡ self.old) }
+    {
+        match memchr(b'\n', self.pending()) {
+            Some(at) => {
+                self.line_start = self.start;
+                self.line_end = self.start + at;
+                self.start = self.start + at + 1;
+                true
+            }
+            None => false,
+        }
+    }
+
+    /// Gives all that was read and not yet given, as the last line of an input that has ended.
+    pub fn take_rest(&mut self) -> bool
+        ensures taken { result ≡ true → (self.new.line ≡ self.old.pending) × (self.new.pending ≡ []) }
+        ensures none { result ≡ false ↔ (self.old.pending ≡ []) }
+        ensures bound { self.new.bound ≡ self.old.bound }
+    {
+        let some = self.start < self.end;
+        self.line_start = self.start;
+        self.line_end = self.end;
+        self.start = self.end;
+        some
+    }
+
+    /// Reads once, behind what is pending. Answers whether bytes came: none come at the end of the
+    /// input alone. That a line is too long is told before anything more is read.
+    pub fn fill<D: Read>(&mut self, reader: &mut Counted<D>) -> Result<bool, LineFault>
+        ensures filled { OnOk result (Fills (D.remaining (device_of reader.old)) (D.remaining (device_of reader.new)) self.old self.new) }
+        ensures end { IfOk result (λ more. more ≡ false → IsAtEnd (D.remaining (device_of reader.new)) × (self.new.pending ≡ self.old.pending)) }
+        ensures kept { OnErr result ((self.new.pending ≡ self.old.pending) × Keeps (D.remaining (device_of reader.old)) (D.remaining (device_of reader.new))) }
+        ensures bound { self.new.bound ≡ self.old.bound }
+        ensures long { IsErrOf result LineFault.TooLong ↔ (self.old.bound < length self.old.pending) }
+        ensures read { IsErrOf result LineFault.Read → Rose (fault_count reader.old) (fault_count reader.new) }
+        ensures reads { OnOk result (read_count reader.old < read_count reader.new) }
+        ensures faults { OnOk result (fault_count reader.new ≡ fault_count reader.old) }
+    {
+        if self.end - self.start == self.bytes.len() {
+            return Err(LineFault::TooLong);
+        }
+        match self.read_more(reader) {
+            Ok(count) => Ok(count > 0),
+            Err(_) => Err(LineFault::Read),
+        }
+    }
+
+    /// Moves what is pending to the front, and reads once into the room behind it.
+    fn read_more<D: Read>(&mut self, reader: &mut Counted<D>) -> Result<usize, DeviceFault>
+        requires { length self.old.pending ≤ self.old.bound }
+        ensures filled { OnOk result (Fills (D.remaining (device_of reader.old)) (D.remaining (device_of reader.new)) self.old self.new) }
+        ensures end { IfOk result (λ count. count ≡ 0 → IsAtEnd (D.remaining (device_of reader.new)) × (self.new.pending ≡ self.old.pending)) }
+        ensures kept { OnErr result ((self.new.pending ≡ self.old.pending) × Keeps (D.remaining (device_of reader.old)) (D.remaining (device_of reader.new))) }
+        ensures bound { self.new.bound ≡ self.old.bound }
+        ensures read { OnErr result (Rose (fault_count reader.old) (fault_count reader.new)) }
+        ensures reads { OnOk result (read_count reader.old < read_count reader.new) }
+        ensures faults { OnOk result (fault_count reader.new ≡ fault_count reader.old) }
+    {
+        let len = self.end - self.start;
+        move_to_front(self.bytes.as_mut_slice(), self.start, self.end);
+        self.line_start = 0;
+        self.line_end = 0;
+        self.start = 0;
+        self.end = len;
+        let limit = self.bytes.len().min(len + BLOCK);
+        let count = read_into(self.bytes.as_mut_slice(), len, limit, reader)?;
+        self.end = len + count;
+        Ok(count)
+    }
+}
+
+/// Moves the bytes from one place to another to the front.
+fn move_to_front(bytes: &mut [u8], start: usize, end: usize)
+    requires order { start ≤ end }
+    requires within { end ≤ length bytes.old }
+    ensures { take (end - start) bytes.new ≡ slice_range bytes.old start end }
+{
+    bytes.copy_within(start..end, 0);
+}
+
+/// Reads once, into the bytes from one place to another.
+fn read_into<D: Read>(
+    bytes: &mut [u8],
+    at: usize,
+    limit: usize,
+    reader: &mut Counted<D>,
+) -> Result<usize, DeviceFault>
+    requires order { at ≤ limit }
+    requires within { limit ≤ length bytes.old }
+    ensures front { take at bytes.new ≡ take at bytes.old }
+    ensures bound { IfOk result (λ count. at + count ≤ limit) }
+    ensures bytes { IfOk result (λ count. Consumes (D.remaining (device_of reader.old)) (D.remaining (device_of reader.new)) (slice_range bytes.new at (at + count))) }
+    ensures end { IfOk result (λ count. count ≡ 0 → at < limit → IsAtEnd (D.remaining (device_of reader.new))) }
+    ensures kept { OnErr result (Keeps (D.remaining (device_of reader.old)) (D.remaining (device_of reader.new))) }
+    ensures read { OnErr result (Rose (fault_count reader.old) (fault_count reader.new)) }
+    ensures reads { OnOk result (read_count reader.old < read_count reader.new) }
+    ensures faults { OnOk result (fault_count reader.new ≡ fault_count reader.old) }
+{
+    reader.read(&mut bytes[at..limit])
+}

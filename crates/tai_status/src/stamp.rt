@@ -1,0 +1,202 @@
+ghost use Rattle.std.specs.Prelude.{Bool, ◌≡◌, ◌+◌, ◌<◌, ◌≤◌, ◌++◌, [], ◌∷◌, List, ℕ, Some, length, take, not, if◌then◌else◌, OnOk, OnErr, IfOk, IfSome, IsErrOf};
+ghost use Rattle.std.specs.Io.KnownBytes.{IsAtEnd};
+ghost use Rattle.std.specs.Io.BufRead.{take_through};
+ghost use Rattle.tai_status.specs.Lines.{stamp};
+ghost use Rattle.tai_status.specs.Counted.{Rose, AppendsFront, device_of, fault_count};
+ghost use Rattle.tai_status.specs.Lines.{Gave, StampsAll, StampsFront};
+ghost use Rattle.tai_status.specs.Block.{Emits};
+ghost use Rattle.tai_status.specs.Stamping.{Stamps, StampsUpTo, is_inside, begun, stamped_on};
+
+use super::block::{BLOCK, Block};
+use super::counted::{Counted, DeviceFault};
+use super::label::{Label, text};
+use memchr::memchr;
+use std::io::{Read, Write};
+use thiserror::Error;
+
+/// A clock. Contracts see the labels that it gave, where it keeps them.
+pub trait TimeSource {
+    ghost use Rattle.std.specs.Prelude.{Bool, Option, List, None};
+    ghost use Rattle.tai_status.specs.Label.{Tai64n};
+
+    ghost readings: { Self → Option (List Tai64n) } = { λ _. None };
+
+    fn now(&mut self) -> Label
+        ensures { Gave (readings self.old) (readings self.new) (result ∷ []) };
+}
+
+/// Why stamping ended early.
+#[derive(Clone, Copy, Debug, PartialEq, Eq, Error)]
+pub enum StampFault {
+    #[error("Read")]
+    Read,
+    #[error("Write")]
+    Write,
+}
+
+/// What some bytes begin with, up to a newline or to their end.
+#[derive(Clone, Copy)]
+struct Part {
+    len: usize,
+    ends: bool,
+}
+
+fn first_part(bytes: &[u8]) -> Part
+    ensures front { take result.len bytes.now ≡ take_through 10 bytes.now }
+    ensures within { result.len ≤ length bytes.now }
+    ensures some { 0 < length bytes.now → 0 < result.len }
+    ensures ends { 0 < length bytes.now → (inside : Bool) → is_inside inside (take_through 10 bytes.now) ≡ not result.ends }
+{
+    match memchr(b'\n', bytes) {
+        Some(at) => Part {
+            len: at + 1,
+            ends: true,
+        },
+        None => Part {
+            len: bytes.len(),
+            ends: false,
+        },
+    }
+}
+
+/// Puts the bytes up to a newline or to their end, behind a stamp where they begin a line.
+fn stamp_part<E: Write, C: TimeSource>(
+    bytes: &[u8],
+    inside: bool,
+    block: &mut Block,
+    writer: &mut Counted<E>,
+    clock: &mut C,
+) -> Result<Part, DeviceFault>
+    requires { 0 < length bytes.now }
+    ensures part { IfOk result (λ part. (0 < part.len) × (part.len ≤ length bytes.now)) }
+    ensures ok { IfOk result (λ part. Stamps inside (take part.len bytes.now) (C.readings clock.old) (C.readings clock.new)
+        (E.contents (device_of writer.old)) (E.contents (device_of writer.new)) block.old block.new (not part.ends) (if inside then 0 else 1)) }
+    ensures err { OnErr result (StampsUpTo inside bytes.now (C.readings clock.old) (C.readings clock.new)
+        (E.contents (device_of writer.old)) (E.contents (device_of writer.new)) block.old) }
+    ensures fault { OnErr result (Rose (fault_count writer.old) (fault_count writer.new)) }
+    ensures faults { OnOk result (fault_count writer.new ≡ fault_count writer.old) }
+{
+    let part = first_part(bytes);
+    if inside {
+        block.put(&bytes[..part.len], writer)?;
+    } else {
+        put_line(&clock.now(), &bytes[..part.len], block, writer)?;
+    }
+    Ok(part)
+}
+
+/// Stamps bytes, and writes them.
+fn stamp_block<E: Write, C: TimeSource>(
+    bytes: &[u8],
+    inside: &mut bool,
+    block: &mut Block,
+    writer: &mut Counted<E>,
+    clock: &mut C,
+) -> Result<u64, DeviceFault>
+    requires { block.old ≡ [] }
+    ensures ok { IfOk result (λ count. Stamps inside.old bytes.now (C.readings clock.old) (C.readings clock.new)
+        (E.contents (device_of writer.old)) (E.contents (device_of writer.new)) [] [] inside.new count) }
+    ensures lines { IfOk result (λ count. count ≤ length bytes.now) }
+    ensures empty { OnOk result (block.new ≡ []) }
+    ensures err { OnErr result (StampsUpTo inside.old bytes.now (C.readings clock.old) (C.readings clock.new)
+        (E.contents (device_of writer.old)) (E.contents (device_of writer.new)) []) }
+    ensures fault { OnErr result (Rose (fault_count writer.old) (fault_count writer.new)) }
+    ensures faults { OnOk result (fault_count writer.new ≡ fault_count writer.old) }
+{
+    let count = stamp_parts(bytes, inside, block, writer, clock)?;
+    block.flush(writer)?;
+    Ok(count)
+}
+
+/// The number of lines that begin with a part.
+fn lines_begun(inside: bool) -> u64
+    ensures { result ≡ (if inside then 0 else 1) }
+{
+    if inside { 0 } else { 1 }
+}
+
+/// Stamps bytes.
+fn stamp_parts<E: Write, C: TimeSource>(
+    bytes: &[u8],
+    inside: &mut bool,
+    block: &mut Block,
+    writer: &mut Counted<E>,
+    clock: &mut C,
+) -> Result<u64, DeviceFault>
+    ensures ok { IfOk result (λ count. Stamps inside.old bytes.now (C.readings clock.old) (C.readings clock.new)
+        (E.contents (device_of writer.old)) (E.contents (device_of writer.new)) block.old block.new inside.new count) }
+    ensures lines { IfOk result (λ count. count ≤ length bytes.now) }
+    ensures err { OnErr result (StampsUpTo inside.old bytes.now (C.readings clock.old) (C.readings clock.new)
+        (E.contents (device_of writer.old)) (E.contents (device_of writer.new)) block.old) }
+    ensures fault { OnErr result (Rose (fault_count writer.old) (fault_count writer.new)) }
+    ensures faults { OnOk result (fault_count writer.new ≡ fault_count writer.old) }
+{
+    let mut at = 0;
+    let mut count = 0;
+    while at < bytes.len() {
+        let part = stamp_part(&bytes[at..], *inside, block, writer, clock)?;
+        count += lines_begun(*inside);
+        *inside = !part.ends;
+        at += part.len;
+    }
+    Ok(count)
+}
+
+/// Writes each line after the text of a label and a space. A label is read for each line, at its first byte. Answers the number of lines.
+pub fn stamp_lines<D: Read, E: Write, C: TimeSource>(
+    reader: &mut Counted<D>,
+    writer: &mut Counted<E>,
+    clock: &mut C,
+) -> Result<u64, StampFault>
+    ensures done { IfOk result (λ count. IfSome (D.remaining (device_of reader.old)) (λ input.
+        StampsAll input (C.readings clock.old) (C.readings clock.new) (E.contents (device_of writer.old)) (E.contents (device_of writer.new)) count)) }
+    ensures end { OnOk result (IsAtEnd (D.remaining (device_of reader.new))) }
+    ensures front { OnErr result (StampsFront (D.remaining (device_of reader.old)) (D.remaining (device_of reader.new))
+        (C.readings clock.old) (C.readings clock.new) (E.contents (device_of writer.old)) (E.contents (device_of writer.new))) }
+    ensures read { IsErrOf result StampFault.Read → Rose (fault_count reader.old) (fault_count reader.new) }
+    ensures write { IsErrOf result StampFault.Write → Rose (fault_count writer.old) (fault_count writer.new) }
+{
+    let mut bytes = [0; BLOCK];
+    let mut block = Block::new();
+    let mut inside = false;
+    let mut lines = 0;
+    'reads: loop {
+        let count = match reader.read(&mut bytes) {
+            Ok(count) => count,
+            Err(_) => return Err(StampFault::Read),
+        };
+        if count == 0 {
+            return Ok(lines);
+        }
+        match stamp_block(&bytes[..count], &mut inside, &mut block, writer, clock) {
+            Ok(count) => lines += count,
+            Err(_) => return Err(StampFault::Write),
+        }
+    }
+}
+
+/// A label's text and a space.
+#[tactic(auto, unfolding(crate::specs::Lines::stamp))]
+fn stamp_bytes(label: &Label) -> [u8; 26]
+    ensures { result ≡ stamp label.now }
+{
+    let mut bytes = [b' '; 26];
+    bytes[..25].copy_from_slice(&text(label));
+    bytes
+}
+
+/// Puts a stamp and bytes.
+fn put_line<E: Write>(
+    label: &Label,
+    bytes: &[u8],
+    block: &mut Block,
+    writer: &mut Counted<E>,
+) -> Result<(), DeviceFault>
+    ensures ok { OnOk result (Emits (E.contents (device_of writer.old)) (E.contents (device_of writer.new)) block.old block.new (stamp label.now ++ bytes.now)) }
+    ensures err { OnErr result (AppendsFront (E.contents (device_of writer.old)) (E.contents (device_of writer.new)) (block.old ++ (stamp label.now ++ bytes.now))) }
+    ensures faults { OnOk result (fault_count writer.new ≡ fault_count writer.old) }
+    ensures fault { OnErr result (Rose (fault_count writer.old) (fault_count writer.new)) }
+{
+    block.put(&stamp_bytes(label), writer)?;
+    block.put(bytes, writer)
+}
