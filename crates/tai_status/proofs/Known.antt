@@ -1,6 +1,6 @@
 -- What is known of the bytes of a device, over several calls.
 use Rattle.std.proofs.Common.{◌≡◌, ℕ, ◌+◌, ◌-◌, min, List, [], ◌∷◌, ◌++◌, length, take, drop, Option, Some, None, refl, sym, subst, ap, ◌∙◌, arith, append_assoc, append-nil}
-use Rattle.std.proofs.Math.Seq.{take-add, take-append-add}
+use Rattle.std.proofs.Math.Seq.{take-add, take-append-add, take-length}
 use Rattle.std.proofs.lemmas.List.{take_rest, take_min, take-append-le, take-append-drop}
 use Rattle.std.specs.Io.KnownBytes.{Keeps, Appends, Consumes}
 use Rattle.tai_status.specs.Counted.{AppendsFront}
@@ -90,3 +90,10 @@ pub Emits-failed : {a b c : Option (List ℕ)} {p q : List ℕ} (xs : List ℕ) 
     → AppendsFront b c q → AppendsFront a c (p ++ xs)
 Emits-failed {a} {b} {c} {p} {q} xs at e f =
     subst (λ (t : List ℕ). AppendsFront a c (p ++ t)) (take-append-drop at xs) (Emits-front (drop at xs) e (AppendsFront-more (drop at xs) f))
+
+pub AppendsFront-first : {a b : Option (List ℕ)} (p xs ys : List ℕ) → AppendsFront a b (p ++ xs) → AppendsFront a b (p ++ (xs ++ ys))
+AppendsFront-first {a} {b} p xs ys f = subst (λ (t : List ℕ). AppendsFront a b t) (append_assoc p xs ys) (AppendsFront-more ys f)
+
+-- A piece is a front of itself.
+pub AppendsFront-whole : (a b : Option (List ℕ)) (xs : List ℕ) → Appends a b xs → AppendsFront a b xs
+AppendsFront-whole a b xs k = record { count = length xs; front = subst (λ (t : List ℕ). Appends a b t) (sym (take-length xs)) k }

@@ -12,18 +12,7 @@ use Rattle.tai_status.specs.Stamping.{stamped_on, is_inside, Stamps, StampsUpTo}
 use Rattle.tai_status.proofs.Known.{Emits-then, Emits-front, AppendsFront-more}
 use Rattle.tai_status.proofs.Stamped.{Stamps-inside, Stamps-start, StampsUpTo-inside, StampsUpTo-start, StampsUpTo-more, Stamps-then, Stamps-failed}
 
--- A stamp and bytes
 
-pub line_put : {a b c : Option (List ℕ)} {p q r s xs : List ℕ} (label : Tai64n) → s ≡ stamp label → Emits a b p q s → Emits b c q r xs → Emits a c p r (stamp label ++ xs)
-line_put {a} {b} {c} {p} {q} {r} {s} {xs} label e m n = subst (λ (t : List ℕ). Emits a c p r (t ++ xs)) e (Emits-then m n)
-
-pub line_unput : {a b : Option (List ℕ)} {s : List ℕ} (label : Tai64n) (p xs : List ℕ) → s ≡ stamp label → AppendsFront a b (p ++ s) → AppendsFront a b (p ++ (stamp label ++ xs))
-line_unput {a} {b} {s} label p xs e m =
-    subst (λ (t : List ℕ). AppendsFront a b t) (append_assoc p (stamp label) xs)
-    (AppendsFront-more xs (subst (λ (t : List ℕ). AppendsFront a b (p ++ t)) e m))
-
-pub line_cut : {a b c : Option (List ℕ)} {q s : List ℕ} (label : Tai64n) (p xs : List ℕ) → s ≡ stamp label → Emits a b p q s → AppendsFront b c (q ++ xs) → AppendsFront a c (p ++ (stamp label ++ xs))
-line_cut {a} {b} {c} {q} {s} label p xs e m n = subst (λ (t : List ℕ). AppendsFront a c (p ++ (t ++ xs))) e (Emits-front xs m n)
 
 -- A part
 

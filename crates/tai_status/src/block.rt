@@ -114,4 +114,15 @@ impl Block {
         self.push(&piece[..count]);
         Ok(count)
     }
+
+    /// Puts two pieces, one after the other.
+    pub fn put_both<W: Write>(&mut self, first: &[u8], second: &[u8], writer: &mut Counted<W>) -> Result<(), DeviceFault>
+        ensures ok { OnOk result (Emits (W.contents (device_of writer.old)) (W.contents (device_of writer.new)) self.old self.new (first.now ++ second.now)) }
+        ensures err { OnErr result (AppendsFront (W.contents (device_of writer.old)) (W.contents (device_of writer.new)) (self.old ++ (first.now ++ second.now))) }
+        ensures faults { OnOk result (fault_count writer.new ≡ fault_count writer.old) }
+        ensures fault { OnErr result (Rose (fault_count writer.old) (fault_count writer.new)) }
+    {
+        self.put(first, writer)?;
+        self.put(second, writer)
+    }
 }

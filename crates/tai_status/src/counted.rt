@@ -50,7 +50,6 @@ impl<D> Counted<D> {
         ensures count { result ≡ read_count self.now }
         ensures bounded { result ≤ 2 ^ 48 }
     {
-        let _ = &self.reads;
         self.reads
     }
 

@@ -121,6 +121,7 @@ impl<A: Allocator> LineReader<A> {
         ensures long { IsErrOf result LineFault.TooLong ↔ (self.old.bound < length self.old.pending) }
         ensures read { IsErrOf result LineFault.Read → Rose (fault_count reader.old) (fault_count reader.new) }
         ensures reads { OnOk result (read_count reader.old < read_count reader.new) }
+        ensures block { OnOk result (length self.new.pending ≤ length self.old.pending + 32768) }
         ensures faults { OnOk result (fault_count reader.new ≡ fault_count reader.old) }
     {
         if self.end - self.start == self.bytes.len() {
@@ -141,6 +142,7 @@ impl<A: Allocator> LineReader<A> {
         ensures bound { self.new.bound ≡ self.old.bound }
         ensures read { OnErr result (Rose (fault_count reader.old) (fault_count reader.new)) }
         ensures reads { OnOk result (read_count reader.old < read_count reader.new) }
+        ensures block { OnOk result (length self.new.pending ≤ length self.old.pending + 32768) }
         ensures faults { OnOk result (fault_count reader.new ≡ fault_count reader.old) }
     {
         let len = self.end - self.start;
@@ -162,7 +164,9 @@ fn move_to_front(bytes: &mut [u8], start: usize, end: usize)
     requires within { end ≤ length bytes.old }
     ensures { take (end - start) bytes.new ≡ slice_range bytes.old start end }
 {
-    bytes.copy_within(start..end, 0);
+    if start > 0 {
+        bytes.copy_within(start..end, 0);
+    }
 }
 
 /// Reads once, into the bytes from one place to another.

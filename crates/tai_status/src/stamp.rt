@@ -197,6 +197,5 @@ fn put_line<E: Write>(
     ensures faults { OnOk result (fault_count writer.new ≡ fault_count writer.old) }
     ensures fault { OnErr result (Rose (fault_count writer.old) (fault_count writer.new)) }
 {
-    block.put(&stamp_bytes(label), writer)?;
-    block.put(bytes, writer)
+    block.put_both(&stamp_bytes(label), bytes, writer)
 }

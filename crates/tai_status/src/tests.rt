@@ -1,9 +1,10 @@
 ghost use Rattle.std.specs.Prelude.{◌<◌};
 
 use super::*;
-use std::io;
-use std::io::{ErrorKind, Read, Write};
+use std::io::Read;
+use std::process::Abort;
 use std::test::Fail;
+use test_devices::{Slow, Tight};
 
 /// The label of this second of Unix time.
 fn at(second: u64) -> Result<Label, Fail> {
@@ -14,59 +15,6 @@ fn at(second: u64) -> Result<Label, Fail> {
 const RUNNING: [u8; 18] = [
     0x40, 0, 0, 0, 0, 0, 0, 0x0b, 0, 0, 0, 0, 0x67, 0x12, 0, 0, 0, b'u',
 ];
-
-/// A reader that gives one byte a read, is interrupted before each, and fails after the last.
-#[derive(Drop)]
-struct Slow<'a> {
-    bytes: &'a [u8],
-    ready: bool,
-    fails: bool,
-}
-
-impl<'a> Read for Slow<'a> {
-    fn read(&mut self, buf: &mut [u8]) -> io::Result<usize> {
-        self.ready = !self.ready;
-        if !self.ready {
-            return Err(io::Error::from(ErrorKind::Interrupted));
-        }
-        let bytes = self.bytes;
-        match (bytes, buf) {
-            ([first, rest @ ..], [place, ..]) => {
-                *place = *first;
-                self.bytes = rest;
-                Ok(1)
-            }
-            _ if self.fails => Err(io::Error::from(ErrorKind::Other)),
-            _ => Ok(0),
-        }
-    }
-}
-
-/// A writer that takes a number of bytes, and then none, or fails.
-#[derive(Drop)]
-struct Tight {
-    held: Vec<u8>,
-    room: usize,
-    fails: bool,
-}
-
-impl Write for Tight {
-    fn write(&mut self, buf: &[u8]) -> io::Result<usize> {
-        let count = buf.len().min(self.room);
-        if count == 0 && self.fails {
-            return Err(io::Error::from(ErrorKind::Other));
-        }
-        self.room -= count;
-        if self.held.extend_from_slice(&buf[..count]).is_err() {
-            return Err(io::Error::from(ErrorKind::Other));
-        }
-        Ok(count)
-    }
-
-    fn flush(&mut self) -> io::Result<()> {
-        Ok(())
-    }
-}
 
 /// A clock that gives second 0, 1, 2 and on.
 #[derive(Drop)]
@@ -231,11 +179,7 @@ fn each_byte_of_a_record(rt: HostRuntime) {
 #[test]
 fn devices_count_their_faults(rt: HostRuntime) -> Result<(), Fail> {
     let mut byte = [0; 4];
-    let mut reader = Counted::new(Slow {
-        bytes: b"ab",
-        ready: false,
-        fails: true,
-    });
+    let mut reader = Counted::new(Slow::failing(b"ab", 1));
     assert_eq!(rt; reader.read(&mut byte), Ok(1));
     assert_eq!(rt; reader.read(&mut byte), Ok(1));
     // The second one was interrupted once.
@@ -244,24 +188,18 @@ fn devices_count_their_faults(rt: HostRuntime) -> Result<(), Fail> {
     assert_eq!(rt; reader.read(&mut byte), Err(DeviceFault));
     assert_eq!(rt; reader.faults(), 2);
 
-    for fails in [false, true] {
-        let held = Vec::new(rt.alloc());
-        let mut writer = Counted::new(Tight {
-            held,
-            room: 3,
-            fails,
-        });
-        assert_eq!(rt;
-            writer.write(b""),
-            if fails { Err(DeviceFault) } else { Ok(0) }
-        );
-        let before = writer.faults();
-        assert_eq!(rt; writer.write_all(b"ab"), Ok(()));
-        assert_eq!(rt; writer.write_all(b"cd"), Err(DeviceFault));
-        assert_eq!(rt; writer.faults(), before.saturating_add(1));
-        assert_eq!(rt; writer.into_device().held.as_slice(), b"abc".as_slice());
-    }
+    overfill(&rt, Tight::refusing(rt.alloc(), 3));
+    overfill(&rt, Tight::failing(rt.alloc(), 3));
     Ok(())
+}
+
+/// Writes four bytes to a writer that holds three.
+fn overfill<R: Abort>(rt: &R, writer: Tight) {
+    let mut writer = Counted::new(writer);
+    assert_eq!(rt; writer.write_all(b"ab"), Ok(()));
+    assert_eq!(rt; writer.write_all(b"cd"), Err(DeviceFault));
+    assert_eq!(rt; writer.faults(), 1);
+    assert_eq!(rt; writer.into_device().held(), b"abc".as_slice());
 }
 
 #[test]
@@ -273,21 +211,13 @@ fn stamps(rt: HostRuntime) -> Result<(), Fail> {
     assert_eq!(rt; lines, Ok(2));
     assert_eq!(rt; writer.into_device().as_slice(), want);
 
-    let mut slow = Counted::new(Slow {
-        bytes: b"a\nb",
-        ready: false,
-        fails: false,
-    });
+    let mut slow = Counted::new(Slow::ending(b"a\nb", 1));
     let mut writer = Counted::new(Vec::new(rt.alloc()));
     let lines = stamp_lines(&mut slow, &mut writer, &mut Ticks { next: 0 });
     assert_eq!(rt; lines, Ok(2));
     assert_eq!(rt; writer.into_device().as_slice(), want);
 
-    let mut failing = Counted::new(Slow {
-        bytes: b"a\nb",
-        ready: false,
-        fails: true,
-    });
+    let mut failing = Counted::new(Slow::failing(b"a\nb", 1));
     let mut writer = Counted::new(Vec::new(rt.alloc()));
     let lines = stamp_lines(&mut failing, &mut writer, &mut Ticks { next: 0 });
     assert_eq!(rt; lines, Err(StampFault::Read));
@@ -295,14 +225,10 @@ fn stamps(rt: HostRuntime) -> Result<(), Fail> {
 
     for room in 0..want.len() {
         let mut reader = Counted::new(b"a\nb".as_slice());
-        let mut writer = Counted::new(Tight {
-            held: Vec::new(rt.alloc()),
-            room,
-            fails: true,
-        });
+        let mut writer = Counted::new(Tight::failing(rt.alloc(), room));
         let lines = stamp_lines(&mut reader, &mut writer, &mut Ticks { next: 0 });
         assert_eq!(rt; lines, Err(StampFault::Write));
-        assert_eq!(rt; writer.into_device().held.as_slice(), &want[..room]);
+        assert_eq!(rt; writer.into_device().held(), &want[..room]);
     }
     Ok(())
 }
@@ -353,20 +279,12 @@ fn lines_of_a_reader(rt: HostRuntime) -> Result<(), Fail> {
         let (lines, why) = joined(&rt, input, bound)?;
         assert_eq!(rt; lines.as_slice(), want);
         assert_eq!(rt; why, fault);
-        let slow = Slow {
-            bytes: input,
-            ready: false,
-            fails: false,
-        };
+        let slow = Slow::ending(input, 1);
         let (lines, why) = joined(&rt, slow, bound)?;
         assert_eq!(rt; lines.as_slice(), want);
         assert_eq!(rt; why, fault);
     }
-    let failing = Slow {
-        bytes: b"a\nb",
-        ready: false,
-        fails: true,
-    };
+    let failing = Slow::failing(b"a\nb", 1);
     let (lines, why) = joined(&rt, failing, 3)?;
     assert_eq!(rt; lines.as_slice(), b"a|".as_slice());
     assert_eq!(rt; why, Some(LineFault::Read));

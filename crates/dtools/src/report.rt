@@ -1,0 +1,46 @@
+//! What a command tells of its faults, and with which status it ends.
+ghost use Rattle.std.specs.Prelude.{◌≡◌, ◌+◌, ◌≤◌, ◌++◌, decimal};
+ghost use Rattle.arrayvec.specs.ArrayString.{array_string_len};
+ghost use Rattle.tai_status.specs.Counted.{AppendsFront, device_of};
+
+use arrayvec::ArrayString;
+use itoa::Buffer;
+use std::io::Write;
+use tai_status::Counted;
+
+/// The status of a command that did what it was asked.
+pub const DONE: u8 = 0;
+
+/// The status of wrong words, and of input that is refused.
+pub const REFUSED: u8 = 100;
+
+/// The status of trouble: want of memory, or a fault of a device or a file.
+pub const TROUBLE: u8 = 111;
+
+/// Tells a fault. That it could not be told is passed over.
+pub fn tell<E: Write>(faults: &mut Counted<E>, text: &[u8])
+    ensures { AppendsFront (E.contents (device_of faults.old)) (E.contents (device_of faults.new)) text.now }
+{
+    match faults.write_all(text) {
+        Ok(()) => {}
+        Err(_) => {}
+    }
+}
+
+/// Tells that the words are wrong, and answers the status of that.
+pub fn usage<E: Write>(faults: &mut Counted<E>) -> u8
+    ensures status { result ≡ 100 }
+{
+    tell(faults, b"dtools: usage\n");
+    REFUSED
+}
+
+/// Writes a number at the end of a text.
+pub fn push_number<const N: usize>(out: &mut ArrayString<N>, number: u64)
+    requires { array_string_len out.old + 20 ≤ N }
+    ensures text { out.new.bytes ≡ out.old.bytes ++ decimal number }
+    ensures len { array_string_len out.new ≤ array_string_len out.old + 20 }
+{
+    let mut buffer = Buffer::new();
+    out.push_str(buffer.format(number));
+}

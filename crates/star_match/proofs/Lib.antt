@@ -1,0 +1,6 @@
+pub mod Stars
+pub mod Adjacent
+pub mod First
+pub mod Computed
+pub mod Cuts
+pub mod Words

@@ -1,0 +1,190 @@
+use crate::{Pattern, PatternFault};
+use bumpalo::Bump;
+use std::test::Fail;
+
+/// A pattern, texts that it matches, and texts that it doesn't, by hand.
+const ROWS: &[(&[u8], &[&[u8]], &[&[u8]])] = &[
+    (b"", &[b""], &[b"a", b"*", b"\0"]),
+    (b"a", &[b"a"], &[b"", b"b", b"aa", b"A", b"*", b"a\r"]),
+    (b"abc", &[b"abc"], &[b"ab", b"abcd", b"abd", b"xabc"]),
+    (
+        b"*",
+        &[b"", b"a", b"*", b"a*b", b"\0", b"\xff\xfe", b"\n"],
+        &[],
+    ),
+    (b"a*", &[b"a", b"ab", b"a*", b"aaaa"], &[b"", b"b", b"ba"]),
+    (
+        b"*a",
+        &[b"a", b"ba", b"bbba", b"*a"],
+        &[b"", b"b", b"aa", b"ab", b"baa", b"aba"],
+    ),
+    (
+        b"*a*",
+        &[b"a", b"aa", b"ba", b"ab", b"xxaxx"],
+        &[b"", b"b", b"xyz"],
+    ),
+    (
+        b"a*b",
+        &[b"ab", b"axxb", b"aaab", b"a*b", b"a**b", b"a\nb"],
+        &[b"abb", b"a", b"", b"b", b"abx", b"xab", b"aba"],
+    ),
+    (
+        b"*ab*",
+        &[b"ab", b"xab", b"abx", b"xxabyy"],
+        &[b"aab", b"axab", b"a", b"b", b"", b"ba"],
+    ),
+    (b"*aa", &[b"aa", b"baa"], &[b"", b"a", b"aaa", b"baaa"]),
+    (b"*aa*", &[b"aa", b"aaa", b"baab"], &[b"a", b"aba", b"abaa"]),
+    (
+        b"a*a",
+        &[b"aa", b"aba", b"abba"],
+        &[b"a", b"aaa", b"abaa", b"ab"],
+    ),
+    (b"a*a*", &[b"aa", b"aaa", b"abaa"], &[b"a", b"ab"]),
+    (
+        b"a*b*c",
+        &[b"abc", b"axbxc", b"aabc", b"abbc", b"acbc"],
+        &[b"ac", b"acb", b"abcc", b"abcb"],
+    ),
+    (b"*b*b*", &[b"bb", b"abab", b"xbxbx"], &[b"b", b"a", b"xbx"]),
+    (
+        b"*:*:*",
+        &[b"::", b"a:b:c", b"a:b:c:d"],
+        &[b"", b":", b"a:b"],
+    ),
+    (
+        b"* fatal: *",
+        &[b" fatal: ", b"log fatal: full"],
+        &[b"fatal: full", b"my log fatal: full"],
+    ),
+    (b"\0", &[b"\0"], &[b"", b"\0\0", b"0"]),
+    (b"*\0", &[b"\0", b"a\0", b"\xff\0"], &[b"", b"\0\0", b"\0a"]),
+    (b"a*\0*", &[b"a\0", b"axx\0yy"], &[b"a", b"\0"]),
+    (
+        b"*\xff",
+        &[b"\xff", b"\xfe\xff"],
+        &[b"", b"\xff\xff", b"\x7f"],
+    ),
+    (b"\x80*", &[b"\x80", b"\x80\x80"], &[b"\0", b"\x81"]),
+    (
+        b"*\xc3\xa9*",
+        &[b"\xc3\xa9", b"caf\xc3\xa9!"],
+        &[b"\xc3\xa8\xc3\xa9", b"\xa9"],
+    ),
+];
+
+#[test]
+fn matches_by_hand(rt: HostRuntime) -> Result<(), Fail> {
+    for (bytes, matched, others) in ROWS {
+        let pattern = Pattern::read(rt.alloc(), bytes)?;
+        for text in *matched {
+            assert!(rt; pattern.matches(text), "{bytes:?} matches {text:?}");
+        }
+        for text in *others {
+            assert!(rt; !pattern.matches(text), "{bytes:?} does not match {text:?}");
+        }
+    }
+    Ok(())
+}
+
+#[test]
+fn every_other_byte_is_plain(rt: HostRuntime) -> Result<(), Fail> {
+    for byte in 0..=255u8 {
+        if byte != b'*' {
+            let other = byte ^ 1;
+            let alone = Pattern::read(rt.alloc(), &[byte])?;
+            assert!(rt; alone.matches(&[byte]), "{byte}");
+            assert!(rt; !alone.matches(&[other]), "{byte}");
+            assert!(rt; !alone.matches(&[byte, byte]), "{byte}");
+            let behind_star = Pattern::read(rt.alloc(), &[b'*', byte])?;
+            assert!(rt; behind_star.matches(&[byte]), "{byte}");
+            assert!(rt; behind_star.matches(&[other, b'*', byte]), "{byte}");
+            assert!(rt; !behind_star.matches(&[byte, byte]), "{byte}");
+        }
+    }
+    Ok(())
+}
+
+#[test]
+fn refuses_adjacent_stars(rt: HostRuntime) -> Result<(), Fail> {
+    let refused: [&[u8]; 7] = [b"a**b", b"**", b"***", b"**a", b"a**", b"*a**", b"a*b**c*"];
+    for bytes in refused {
+        let fault = Pattern::read(rt.alloc(), bytes).err();
+        assert_eq!(rt; fault, Some(PatternFault::AdjacentStars), "{bytes:?}");
+    }
+    Ok(())
+}
+
+#[test]
+fn says_where_memory_is_refused(rt: HostRuntime) -> Result<(), Fail> {
+    let bump = Bump::new(rt.alloc());
+    bump.set_allocation_limit(Some(0));
+    let fault = Pattern::read(&bump, b"a*b").err();
+    assert_eq!(rt; fault, Some(PatternFault::OutOfMemory));
+    let fault = Pattern::read(&bump, b"a**b").err();
+    assert_eq!(rt; fault, Some(PatternFault::AdjacentStars));
+    assert!(rt; Pattern::read(&bump, b"")?.matches(b""));
+    bump.set_allocation_limit(None);
+    assert!(rt; Pattern::read(&bump, b"a*b")?.matches(b"axxb"));
+    Ok(())
+}
+
+/// The rules as they stand: a star before another byte tries each part without that byte.
+fn some_cut_matches(pattern: &[u8], text: &[u8]) -> bool {
+    let [byte, rest @ ..] = pattern else {
+        return text.is_empty();
+    };
+    if *byte != b'*' {
+        return match text {
+            [first, more @ ..] => first == byte && some_cut_matches(rest, more),
+            [] => false,
+        };
+    }
+    let Some(next) = rest.first() else {
+        return true;
+    };
+    for at in 0..=text.len() {
+        let (part, after) = text.split_at(at);
+        if !part.contains(next) && some_cut_matches(rest, after) {
+            return true;
+        }
+    }
+    false
+}
+
+/// The last digit of a number to the base 3, as a byte.
+fn letter(number: usize) -> u8 {
+    match number % 3 {
+        0 => b'a',
+        1 => b'b',
+        _ => b'*',
+    }
+}
+
+#[test]
+fn matches_where_some_cut_does(rt: HostRuntime) -> Result<(), Fail> {
+    for number in 0..243usize {
+        let bytes = [
+            letter(number),
+            letter(number / 3),
+            letter(number / 9),
+            letter(number / 27),
+            letter(number / 81),
+        ];
+        let Ok(pattern) = Pattern::read(rt.alloc(), &bytes) else {
+            assert!(rt;
+                bytes.windows(2).any(|pair| pair == b"**".as_slice()),
+                "{bytes:?}"
+            );
+            continue;
+        };
+        for text in [b"aaabbb", b"ababab", b"baabaa", b"bbabba"] {
+            for len in 0..=text.len() {
+                let front = &text[..len];
+                let wanted = some_cut_matches(&bytes, front);
+                assert_eq!(rt; pattern.matches(front), wanted, "{bytes:?} at {front:?}");
+            }
+        }
+    }
+    Ok(())
+}

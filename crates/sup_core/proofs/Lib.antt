@@ -1,0 +1,6 @@
+pub mod Laws
+pub mod Fields
+pub mod Spelling
+pub mod Lines
+pub mod Records
+pub mod Counts

@@ -1,0 +1,322 @@
+-- Event lines and begin lines: what is told is read, and what is read is told so.
+use Rattle.std.proofs.Common.{◌≡◌, ℕ, ◌^◌, ◌<◌, ◌==◌, ◌&&◌, Bool, true, false, not, List, [], ◌∷◌, ◌++◌, drop, Option, Some, None, Result, Ok, Err, refl, sym, ap, ◌∙◌, arith, decimal, subst, codes}
+use Rattle.std.specs.Prelude.{IfOk, IfSome, if◌then◌else◌, bytes_eq, option_map, ok_or}
+use Rattle.std.specs.List.{list_all, onto_first, join_with_byte}
+use Rattle.std.specs.Str.Parse.{AllDigits}
+use Rattle.std.specs.Char.{digit_value}
+use Rattle.std.proofs.lemmas.Bool.{and_parts, eqb-true}
+use Rattle.std.proofs.lemmas.Slice.Eq.{bytes_eq-Decides}
+use Rattle.std.proofs.lemmas.Fmt.{decimal_is_IsNumeral}
+use Rattle.std.proofs.lemmas.List.Splits.{slice_split-cons_no, slice_split-cons_yes, join_with_byte-slice_split}
+use Rattle.hex.specs.Hex.{encode_with, encode_lower}
+use Rattle.tai_status.specs.Label.{Tai64n, IsLabel, packed, label_text}
+use Rattle.tai_status.specs.Reading.{from_text, is_lower_digit}
+use Rattle.tai_status.proofs.Spelled.{from_text-label_text}
+use Rattle.sup_core.specs.declared.event.Event.{Event}
+use Rattle.sup_core.specs.declared.event.Event.TheVariants.{Byte, Started, StartFailed, Death, Clock}
+use Rattle.sup_core.specs.declared.reading.EventFault.{EventFault}
+use Rattle.sup_core.specs.declared.reading.EventFault.TheVariants as fault
+use Rattle.sup_core.specs.declared.reading.Word.{Word}
+use Rattle.sup_core.specs.declared.reading.Word.TheVariants as kind
+use Rattle.sup_core.specs.Rules.{IsEvent}
+use Rattle.sup_core.specs.Text.{byte_text, event_fields, event_text, begin_fields, begin_text}
+use Rattle.sup_core.specs.Fields.{word_name}
+use Rattle.sup_core.specs.Reading.{fields, IsInRange, byte_of_text, pid_of_text, label_of_text, byte_event, started, start_event, label_event, event_of, event_from, side_of, begun, side_event, begin_from}
+use Rattle.sup_core.proofs.Spelling.{all_below, all_below-at, TellsByte, TellsPid, TellsLabel, byte_of_text-found, byte_of_text-only, pid_of_text-found, pid_of_text-only, label_of_text-found, label_of_text-only}
+
+-- Fields without a space
+
+abbrev is_space : ℕ → Bool
+is_space byte = byte == 32
+
+abbrev has_no_space : List ℕ → Bool
+has_no_space text = list_all (λ byte. not (is_space byte)) text
+
+not_false : (b : Bool) → not b ≡ true → b ≡ false
+not_false true h = cc h
+not_false false h = refl
+
+-- the field before a space
+fields-first : (word rest : List ℕ) → has_no_space word ≡ true → fields (word ++ 32 ∷ rest) ≡ word ∷ fields rest
+fields-first [] rest h = slice_split-cons_yes is_space 32 rest refl
+fields-first (x ∷ xs) rest h =
+    let parts = and_parts (not (is_space x)) (has_no_space xs) h in
+    slice_split-cons_no is_space x (xs ++ 32 ∷ rest) (not_false (is_space x) parts.0)
+    ∙ ap (onto_first x) (fields-first xs rest parts.1)
+
+-- the last field
+fields-last : (word : List ℕ) → has_no_space word ≡ true → fields word ≡ word ∷ []
+fields-last [] h = refl
+fields-last (x ∷ xs) h =
+    let parts = and_parts (not (is_space x)) (has_no_space xs) h in
+    slice_split-cons_no is_space x xs (not_false (is_space x) parts.0) ∙ ap (onto_first x) (fields-last xs parts.1)
+
+abbrev is_spaceless : ℕ → Bool
+is_spaceless byte = has_no_space (byte_text byte)
+
+spaceless_table : all_below is_spaceless 256 ≡ true
+unfolding encode_with
+spaceless_table = refl
+
+byte_text-spaceless : (byte : ℕ) → byte < 2 ^ 8 → has_no_space (byte_text byte) ≡ true
+byte_text-spaceless byte below = all_below-at is_spaceless 256 byte spaceless_table below
+
+digit_no_space : (c : ℕ) → digit_value c < 10 → not (is_space c) ≡ true
+digit_no_space c h =
+    elim (is_space c) as (λ b. is_space c ≡ b → not b ≡ true) [
+      | true ↦ λ is. let e = ap digit_value (eqb-true c 32 is) in absurd (omega (arith, e, h))
+      | false ↦ λ is. refl
+    ] refl
+
+and_true : (a b : Bool) → a ≡ true → b ≡ true → (a && b) ≡ true
+and_true true true h g = refl
+and_true true false h g = cc g
+and_true false b h g = cc h
+
+digits_spaceless : (ds : List ℕ) → AllDigits 10 ds → has_no_space ds ≡ true
+digits_spaceless [] h = refl
+digits_spaceless (c ∷ cs) h = and_true _ _ (digit_no_space c h.0) (digits_spaceless cs h.1)
+
+decimal-spaceless : (n : ℕ) → n < 2 ^ 32 → has_no_space (decimal n) ≡ true
+decimal-spaceless n below = digits_spaceless (decimal n) (decimal_is_IsNumeral n (omega (arith, below))).0.1
+
+lower_no_space : (c : ℕ) → is_lower_digit c ≡ true → not (is_space c) ≡ true
+lower_no_space c h = grind (arith)
+
+lower_spaceless : (ds : List ℕ) → list_all is_lower_digit ds ≡ true → has_no_space ds ≡ true
+lower_spaceless [] h = refl
+lower_spaceless (c ∷ cs) h =
+    let parts = and_parts (is_lower_digit c) (list_all is_lower_digit cs) h in
+    and_true _ _ (lower_no_space c parts.0) (lower_spaceless cs parts.1)
+
+label_lower : (text : List ℕ) (label : Tai64n) → from_text text ≡ Ok label → list_all is_lower_digit (drop 1 text) ≡ true
+label_lower text label h = grind (arith)
+
+label_text-spaceless : (label : Tai64n) → IsLabel label → has_no_space (label_text label) ≡ true
+label_text-spaceless label range =
+    lower_spaceless (encode_lower (packed label)) (label_lower (label_text label) label (from_text-label_text label range))
+
+-- What is told is read.
+
+two : (word text : List ℕ) → has_no_space word ≡ true → has_no_space text ≡ true
+    → fields (word ++ 32 ∷ text) ≡ word ∷ text ∷ []
+two word text w t = fields-first word text w ∙ ap (λ (parts : List (List ℕ)). word ∷ parts) (fields-last text t)
+
+three : (word text label : List ℕ) → has_no_space word ≡ true → has_no_space text ≡ true → has_no_space label ≡ true
+    → fields (word ++ 32 ∷ (text ++ 32 ∷ label)) ≡ word ∷ text ∷ label ∷ []
+three word text label w t l =
+    fields-first word (text ++ 32 ∷ label) w ∙ ap (λ (parts : List (List ℕ)). word ∷ parts) (two text label t l)
+
+event_fields-event_text : (event : Event) → IsInRange event → fields (event_text event) ≡ event_fields event
+event_fields-event_text (Byte byte) range = two (codes "byte") (byte_text byte) refl (byte_text-spaceless byte range)
+event_fields-event_text (Started pid label) range =
+    three (codes "started") (decimal pid) (label_text label) refl (decimal-spaceless pid range.1) (label_text-spaceless label range.2)
+event_fields-event_text (StartFailed label) range = two (codes "failed") (label_text label) refl (label_text-spaceless label range)
+event_fields-event_text (Death label) range = two (codes "death") (label_text label) refl (label_text-spaceless label range)
+event_fields-event_text (Clock label) range = two (codes "clock") (label_text label) refl (label_text-spaceless label range)
+
+label_read : (label : Tai64n) → IsLabel label → label_of_text (label_text label) ≡ Some label
+label_read label range = label_of_text-only (label_text label) label (record { range = range; is = refl })
+
+event_read : (event : Event) → IsInRange event → event_from (event_fields event) ≡ Ok event
+event_read (Byte byte) range = rw (byte_of_text-only (byte_text byte) byte (record { below = range; is = refl })) refl
+event_read (Started pid label) range =
+    rw (pid_of_text-only (decimal pid) pid (record { some = range.0; below = range.1; is = refl }), label_read label range.2) refl
+event_read (StartFailed label) range = rw (label_read label range) refl
+event_read (Death label) range = rw (label_read label range) refl
+event_read (Clock label) range = rw (label_read label range) refl
+
+-- The line of an event is read as that event.
+pub event_from-event_text : (event : Event) → IsInRange event → event_from (fields (event_text event)) ≡ Ok event
+event_from-event_text event range = ap event_from (event_fields-event_text event range) ∙ event_read event range
+
+side_fields : (down : Bool) (label : Tai64n) → IsLabel label → fields (begin_text down label) ≡ begin_fields down label
+side_fields true label range = three (codes "begin") (codes "down") (label_text label) refl refl (label_text-spaceless label range)
+side_fields false label range = three (codes "begin") (codes "up") (label_text label) refl refl (label_text-spaceless label range)
+
+begin_read : (down : Bool) (label : Tai64n) → IsLabel label → begin_from (begin_fields down label) ≡ Ok (down, label)
+begin_read true label range = rw (label_read label range) refl
+begin_read false label range = rw (label_read label range) refl
+
+-- A begin line is read as what it tells.
+pub begin_from-begin_text : (down : Bool) (label : Tai64n) → IsLabel label → begin_from (fields (begin_text down label)) ≡ Ok (down, label)
+begin_from-begin_text down label range = ap begin_from (side_fields down label range) ∙ begin_read down label range
+
+-- What is read is told so.
+
+pub record Told (parts : List (List ℕ)) (event : Event) : Type 0 where
+  pub range : IsInRange event
+  pub is : parts ≡ event_fields event
+
+ok_parts : {A E : Type 0} (o : Option A) (e : E) (x : A) → ok_or o e ≡ Ok x → o ≡ Some x
+ok_parts (Some y) e x h = cc h
+ok_parts None e x h = cc h
+
+-- a choice by a word
+choose : {A T : Type 0} (word name : List ℕ) (a b : Option A) (x : A) → (word ≡ name → a ≡ Some x → T) → (b ≡ Some x → T)
+    → (if bytes_eq word name then a else b) ≡ Some x → T
+choose {A} {T} word name a b x here otherwise h =
+    elim (bytes_eq word name) as (λ t. bytes_eq word name ≡ t → (if t then a else b) ≡ Some x → T) [
+      | true ↦ λ is. here ((bytes_eq-Decides word name).0 is)
+      | false ↦ λ is. otherwise
+    ] refl h
+
+byte_told : (word text : List ℕ) (o : Option ℕ) (event : Event) → IfSome o (TellsByte text) → word ≡ codes "byte"
+    → option_map (λ byte. Byte byte) o ≡ Some event → Told (word ∷ text ∷ []) event
+byte_told word text (Some byte) event tells is h =
+    let same : Byte byte ≡ event = cc h in
+    let fields : word ∷ text ∷ [] ≡ codes "byte" ∷ byte_text byte ∷ [] = cc (is, tells.is) in
+    subst (Told (word ∷ text ∷ [])) same (record { range = tells.below; is = fields })
+byte_told word text None event tells is h = cc h
+
+byte_line : (word : List ℕ) (rest : List (List ℕ)) (event : Event) → word ≡ codes "byte" → byte_event rest ≡ Some event → Told (word ∷ rest) event
+byte_line word (text ∷ []) event is h = byte_told word text (byte_of_text text) event (byte_of_text-found text) is h
+byte_line word [] event is h = cc h
+byte_line word (a ∷ b ∷ rest) event is h = cc h
+
+start_told : (word first second : List ℕ) (pid : Option ℕ) (label : Option Tai64n) (event : Event) → IfSome pid (TellsPid first)
+    → IfSome label (TellsLabel second) → word ≡ codes "started" → started pid label ≡ Some event → Told (word ∷ first ∷ second ∷ []) event
+start_told word first second (Some pid) (Some label) event p l is h =
+    let same : Started pid label ≡ event = cc h in
+    let fields : word ∷ first ∷ second ∷ [] ≡ codes "started" ∷ decimal pid ∷ label_text label ∷ [] = cc (is, p.is, l.is) in
+    subst (Told (word ∷ first ∷ second ∷ [])) same (record { range = (p.some, p.below, l.range); is = fields })
+start_told word first second (Some pid) None event p l is h = cc h
+start_told word first second None label event p l is h = cc h
+
+start_line : (word : List ℕ) (rest : List (List ℕ)) (event : Event) → word ≡ codes "started" → start_event rest ≡ Some event → Told (word ∷ rest) event
+start_line word [] event is h = cc h
+start_line word (a ∷ []) event is h = cc h
+start_line word (a ∷ b ∷ []) event is h =
+    start_told word a b (pid_of_text a) (label_of_text b) event (pid_of_text-found a) (label_of_text-found b) is h
+start_line word (a ∷ b ∷ c ∷ rest) event is h = cc h
+
+-- an event with a label alone
+record TellsAlone (name : List ℕ) (make : Tai64n → Event) : Type 0 where
+  range : (label : Tai64n) → IsLabel label → IsInRange (make label)
+  is : (label : Tai64n) → name ∷ label_text label ∷ [] ≡ event_fields (make label)
+
+label_told : (name word text : List ℕ) (make : Tai64n → Event) (o : Option Tai64n) (event : Event) → TellsAlone name make
+    → IfSome o (TellsLabel text) → word ≡ name → option_map make o ≡ Some event → Told (word ∷ text ∷ []) event
+label_told name word text make (Some label) event alone tells is h =
+    let same : make label ≡ event = cc h in
+    let fields : word ∷ text ∷ [] ≡ name ∷ label_text label ∷ [] = cc (is, tells.is) in
+    subst (Told (word ∷ text ∷ [])) same (record { range = alone.range label tells.range; is = fields ∙ alone.is label })
+label_told name word text make None event alone tells is h = cc h
+
+label_line : (name word : List ℕ) (make : Tai64n → Event) (rest : List (List ℕ)) (event : Event) → TellsAlone name make
+    → word ≡ name → label_event make rest ≡ Some event → Told (word ∷ rest) event
+label_line name word make [] event alone is h = cc h
+label_line name word make (text ∷ []) event alone is h =
+    label_told name word text make (label_of_text text) event alone (label_of_text-found text) is h
+label_line name word make (a ∷ b ∷ rest) event alone is h = cc h
+
+failed_alone : TellsAlone (codes "failed") (λ label. StartFailed label)
+failed_alone = record { range = λ label h. h; is = λ label. refl }
+
+death_alone : TellsAlone (codes "death") (λ label. Death label)
+death_alone = record { range = λ label h. h; is = λ label. refl }
+
+clock_alone : TellsAlone (codes "clock") (λ label. Clock label)
+clock_alone = record { range = λ label h. h; is = λ label. refl }
+
+event_told : (word : List ℕ) (rest : List (List ℕ)) (event : Event) → event_of word rest ≡ Some event → Told (word ∷ rest) event
+event_told word rest event h =
+    choose word (codes "byte") _ _ event (byte_line word rest event)
+    (choose word (codes "started") _ _ event (start_line word rest event)
+    (choose word (codes "failed") _ _ event (label_line (codes "failed") word (λ label. StartFailed label) rest event failed_alone)
+    (choose word (codes "death") _ _ event (label_line (codes "death") word (λ label. Death label) rest event death_alone)
+    (choose word (codes "clock") _ _ event (label_line (codes "clock") word (λ label. Clock label) rest event clock_alone)
+    (λ (none : None ≡ Some event). cc none))))) h
+
+told_of : (parts : List (List ℕ)) (event : Event) → event_from parts ≡ Ok event → Told parts event
+told_of [] event h = cc h
+told_of (word ∷ rest) event h = event_told word rest event (ok_parts _ _ event h)
+
+-- What a line is read as has that line.
+pub event_text-event_from : (line : List ℕ) (r : Result Event EventFault) → r ≡ event_from (fields line)
+    → IfOk r (λ event. IsInRange event × (line ≡ event_text event))
+event_text-event_from line (Ok event) h =
+    let told = told_of (fields line) event (sym h) in
+    (told.range, sym (join_with_byte-slice_split 32 line) ∙ ap (join_with_byte 32) told.is)
+event_text-event_from line (Err e) h = tt
+
+pub record BeginTold (parts : List (List ℕ)) (begin : Bool × Tai64n) : Type 0 where
+  pub range : IsLabel begin.1
+  pub is : parts ≡ begin_fields begin.0 begin.1
+
+side_told : (word side text : List ℕ) (down : Bool) (label : Option Tai64n) (begin : Bool × Tai64n)
+    → side ≡ (if down then codes "down" else codes "up") → IfSome label (TellsLabel text) → word ≡ codes "begin"
+    → begun (Some down) label ≡ Some begin → BeginTold (word ∷ side ∷ text ∷ []) begin
+side_told word side text down (Some label) begin s l is h =
+    let same : (down, label) ≡ begin = cc h in
+    let fields : word ∷ side ∷ text ∷ [] ≡ begin_fields down label = cc (is, s, l.is) in
+    subst (BeginTold (word ∷ side ∷ text ∷ [])) same (record { range = l.range; is = fields })
+side_told word side text down None begin s l is h = cc h
+
+sided : (word side text : List ℕ) (label : Option Tai64n) (begin : Bool × Tai64n)
+    → IfSome label (TellsLabel text) → word ≡ codes "begin"
+    → begun (side_of side) label ≡ Some begin → BeginTold (word ∷ side ∷ text ∷ []) begin
+sided word side text label begin l is h =
+    elim (bytes_eq side (codes "up")) as (λ t. bytes_eq side (codes "up") ≡ t
+    → begun (if t then Some false else if bytes_eq side (codes "down") then Some true else None) label ≡ Some begin
+    → BeginTold (word ∷ side ∷ text ∷ []) begin) [
+      | true ↦ λ at h. side_told word side text false label begin ((bytes_eq-Decides side (codes "up")).0 at) l is h
+      | false ↦ λ not_up h.
+          elim (bytes_eq side (codes "down")) as (λ t. bytes_eq side (codes "down") ≡ t
+          → begun (if t then Some true else None) label ≡ Some begin
+          → BeginTold (word ∷ side ∷ text ∷ []) begin) [
+            | true ↦ λ at h. side_told word side text true label begin ((bytes_eq-Decides side (codes "down")).0 at) l is h
+            | false ↦ λ not_down h. cc h
+          ] refl h
+    ] refl h
+
+side_line : (word : List ℕ) (rest : List (List ℕ)) (begin : Bool × Tai64n) → word ≡ codes "begin" → side_event rest ≡ Some begin
+    → BeginTold (word ∷ rest) begin
+side_line word [] begin is h = cc h
+side_line word (a ∷ []) begin is h = cc h
+side_line word (a ∷ b ∷ []) begin is h = sided word a b (label_of_text b) begin (label_of_text-found b) is h
+side_line word (a ∷ b ∷ c ∷ rest) begin is h = cc h
+
+begin_told : (parts : List (List ℕ)) (begin : Bool × Tai64n) → begin_from parts ≡ Ok begin → BeginTold parts begin
+begin_told [] begin h = cc h
+begin_told (word ∷ rest) begin h =
+    choose word (codes "begin") _ _ begin (side_line word rest begin) (λ (none : None ≡ Some begin). cc none) (ok_parts _ _ begin h)
+
+-- What a line is read as has that begin line.
+pub begin_text-begin_from : (line : List ℕ) (r : Result (Bool × Tai64n) EventFault) → r ≡ begin_from (fields line)
+    → IfOk r (λ begin. IsLabel begin.1 × (line ≡ begin_text begin.0 begin.1))
+begin_text-begin_from line (Ok begin) h =
+    let told = begin_told (fields line) begin (sym h) in
+    (told.range, sym (join_with_byte-slice_split 32 line) ∙ ap (join_with_byte 32) told.is)
+begin_text-begin_from line (Err e) h = tt
+
+other_word : (word name : List ℕ) → (word ≡ name → ⊥) → bytes_eq word name ≡ false
+other_word word name other =
+    elim (bytes_eq word name) as (λ t. bytes_eq word name ≡ t → t ≡ false) [
+      | true ↦ λ is. absurd (other ((bytes_eq-Decides word name).0 is))
+      | false ↦ λ is. refl
+    ] refl
+
+-- A line of an unknown word is refused as that.
+pub unknown_word : (word : List ℕ) (rest : List (List ℕ)) → ((known : Word) → word ≡ word_name known → ⊥)
+    → event_from (word ∷ rest) ≡ Err fault.UnknownEvent
+unknown_word word rest other =
+    rw (
+      other_word word _ (other kind.Byte),
+      other_word word _ (other kind.Started),
+      other_word word _ (other kind.Failed),
+      other_word word _ (other kind.Death),
+      other_word word _ (other kind.Clock),
+    ) refl
+
+pub IsEvent-in_range : (event : Event) → IsInRange event → IsEvent event
+IsEvent-in_range (Byte byte) h = tt
+IsEvent-in_range (Started pid label) h = h.0
+IsEvent-in_range (StartFailed label) h = tt
+IsEvent-in_range (Death label) h = tt
+IsEvent-in_range (Clock label) h = tt
+
+-- A process number of what is read is at least 1.
+pub IsEvent-event_from : (line : List ℕ) (r : Result Event EventFault) → r ≡ event_from (fields line) → IfOk r IsEvent
+IsEvent-event_from line (Ok event) h = IsEvent-in_range event (told_of (fields line) event (sym h)).range
+IsEvent-event_from line (Err e) h = tt

@@ -1,0 +1,45 @@
+-- The parts of a line, as reading goes through it.
+use Rattle.std.specs.Prelude.{ℕ, Bool, List, [], ◌∷◌, codes, Option, Some, None, Result, Err, ok_or}
+use Rattle.tai_status.specs.Label.{Tai64n}
+use Rattle.sup_core.specs.declared.event.Event.{Event}
+use Rattle.sup_core.specs.declared.reading.Word.{Word}
+use Rattle.sup_core.specs.declared.reading.Word.TheVariants as word
+use Rattle.sup_core.specs.declared.reading.EventFault.{EventFault}
+use Rattle.sup_core.specs.declared.reading.EventFault.TheVariants as fault
+use Rattle.sup_core.specs.Reading.{fields, byte_of_text, label_of_text, start_event, start_fault, side_event, side_fault}
+
+-- the first word of an event's line
+abbrev pub word_name : Word → List ℕ
+word_name word.Byte = codes "byte"
+word_name word.Started = codes "started"
+word_name word.Failed = codes "failed"
+word_name word.Death = codes "death"
+word_name word.Clock = codes "clock"
+
+-- the fields after a space, where there is one
+abbrev pub fields_after : Option (List ℕ) → List (List ℕ)
+fields_after None = []
+fields_after (Some rest) = fields rest
+
+-- the field, where there is just one
+abbrev pub sole : List (List ℕ) → Option (List ℕ)
+sole (field ∷ []) = Some field
+sole other = None
+
+-- the label that is the one field left
+abbrev pub sole_label : List (List ℕ) → Result Tai64n EventFault
+sole_label (text ∷ []) = ok_or (label_of_text text) fault.Label
+sole_label other = Err fault.Line
+
+-- the byte that is the one field left
+abbrev pub sole_byte : List (List ℕ) → Result ℕ EventFault
+sole_byte (text ∷ []) = ok_or (byte_of_text text) fault.Line
+sole_byte other = Err fault.Line
+
+-- a start, of the two fields left
+abbrev pub start_from : List (List ℕ) → Result Event EventFault
+start_from rest = ok_or (start_event rest) (start_fault rest)
+
+-- a beginning, of the two fields left
+abbrev pub side_from : List (List ℕ) → Result (Bool × Tai64n) EventFault
+side_from rest = ok_or (side_event rest) (side_fault rest)

@@ -1,0 +1,25 @@
+//! What supervise does at each event of a service: the decisions, with no process and no clock.
+//!
+//! A `Machine` is where supervise stands with one service. `Machine::step` takes an event and answers what to ask of the
+//! system: signals, the status record, a start. Contracts speak of histories: `specs/History` says what a history tells,
+//! and `specs/Rules` what is taken and asked after it. Lines of text tell events and answers.
+#![tactic(auto)]
+
+mod asks;
+mod event;
+mod law;
+mod machine;
+mod reading;
+mod table;
+mod text;
+
+pub use asks::{Ask, Asks, Reply, Sig};
+pub use event::Event;
+pub use law::histories_of_one_state;
+pub use machine::{Machine, Phase};
+pub use reading::{EventFault, read_begin, read_byte, read_event, read_phase, read_sig};
+pub use table::table_line;
+pub use text::{answer_text, event_text, phase_name, sig_name};
+
+#[cfg(test)]
+mod tests;

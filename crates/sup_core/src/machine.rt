@@ -1,0 +1,435 @@
+ghost use Rattle.std.specs.Prelude.{◌≡◌, ◌≢◌, ◌<◌, ◌^◌, ◌⊎◌, ◌↔◌, ◌∷◌, [], ◌++◌, List, IsTrue, IsSome, IfSome, Bool, false, true};
+ghost use Rattle.std.specs.List.{AllByRecursion};
+ghost use Rattle.tai_status.specs.Label.{Tai64n, IsLabel};
+ghost use Rattle.tai_status.specs.Record.{IsStatus, status_record};
+ghost use Rattle.sup_core.specs.State.{IsState, is_gone};
+
+use crate::asks::{Ask, Asks, Reply, Sig};
+use crate::event::Event;
+use crate::table::{control_bytes, taken_events};
+use std::marker::Model;
+use tai_status::{Label, View, Want, encode};
+
+/// Makes a row's changes to a machine.
+macro_rules! change {
+    ($machine:ident, want = $want:ident) => { $machine.view.want = Want::$want; };
+    ($machine:ident, paused = $paused:literal) => { $machine.view.paused = $paused; };
+    ($machine:ident, exiting = $exiting:literal) => { $machine.exiting = $exiting; };
+    ($machine:ident, phase = $phase:ident) => { $machine.phase = Phase::$phase; };
+}
+
+/// One ask of a row.
+macro_rules! ask {
+    ($machine:ident, record) => { Ask::Write(encode(&$machine.view)) };
+    ($machine:ident, start) => { Ask::Start };
+    ($machine:ident, TERM) => { signal!($machine, Term) };
+    ($machine:ident, CONT) => { signal!($machine, Cont) };
+    ($machine:ident, STOP) => { signal!($machine, Stop) };
+    ($machine:ident, HUP) => { signal!($machine, Hup) };
+    ($machine:ident, ALRM) => { signal!($machine, Alrm) };
+    ($machine:ident, INT) => { signal!($machine, Int) };
+    ($machine:ident, KILL) => { signal!($machine, Kill) };
+}
+
+/// A signal to the machine's process.
+macro_rules! signal {
+    ($machine:ident, $signal:ident) => { Ask::Signal(Sig::$signal, $machine.view.pid) };
+}
+
+/// Takes a control byte by the rows of the table.
+macro_rules! take_byte {
+    (
+        ($machine:ident, $byte:expr)
+        $($row:literal
+            running [$($ask:ident)*] {$($field:ident = $value:tt),*}
+            idle [$($idle_ask:ident)*] {$($idle_field:ident = $idle_value:tt),*};)*
+    ) => {
+        match ($byte, $machine.phase) {
+            $(
+                ($row, Phase::Up) => {
+                    $(change!($machine, $field = $value);)*
+                    let mut asks = Asks::new();
+                    $(asks.push(ask!($machine, $ask));)*
+                    asks
+                }
+                ($row, _) => {
+                    $(change!($machine, $idle_field = $idle_value);)*
+                    let mut asks = Asks::new();
+                    $(asks.push(ask!($machine, $idle_ask));)*
+                    asks
+                }
+            )*
+            _ => Asks::new(),
+        }
+    };
+}
+
+/// Whether an event is taken, by the rows of the events that are.
+macro_rules! takes_event {
+    (
+        ($machine:ident, $event:ident)
+        $($phase:ident takes $kind:ident $when:ident;)*
+    ) => {
+        match ($machine.phase, $event) {
+            $((Phase::$phase, Event::$kind { .. }) => is_time!($when, $machine, $event),)*
+            _ => false,
+        }
+    };
+}
+
+/// Whether a row's event is taken now.
+macro_rules! is_time {
+    (always, $machine:ident, $event:ident) => { true };
+    (at_its_end, $machine:ident, $event:ident) => { $machine.is_reached($event) };
+}
+
+/// Where supervise stands with a service.
+#[derive(Clone, Copy, Debug, PartialEq, Eq)]
+pub enum Phase {
+    /// A start was asked for and not answered.
+    Starting,
+    /// A process was started less than a second ago.
+    Settling,
+    /// A start failed less than a second ago.
+    Resting,
+    /// There is a process.
+    Up,
+    /// There is none, and none is wanted.
+    Down,
+    /// There is none, and supervise is done.
+    Gone,
+}
+
+/// Supervise's state for one service: where it stands, what its status record tells, whether it is to end, and until
+/// when it settles or rests. Only the states in which supervise can stand have a machine.
+#[derive(Clone, Copy, Debug, PartialEq, Eq)]
+pub struct Machine {
+    phase: Phase,
+    view: View,
+    exiting: bool,
+    until: Option<Label>,
+}
+
+impl Model for Machine {
+    ghost use Rattle.sup_core.specs.State.{State, IsState};
+
+    ghost Value = { State };
+
+    ghost view = { λ m. record { phase = m.phase; status = m.view; exiting = m.exiting; until = m.until } };
+
+    ghost invariant = { λ m. IsState (record { phase = m.phase; status = m.view; exiting = m.exiting; until = m.until }) };
+
+    ghost inverse = { λ s. record { phase = s.phase; view = s.status; exiting = s.exiting; until = s.until } };
+}
+
+impl Machine {
+    ghost use Rattle.sup_core.specs.History.{History, Begin, Opened, Then, state_of};
+    ghost use Rattle.sup_core.specs.Runs.{after};
+    ghost use Rattle.sup_core.specs.Rules.{asks_of, asks_of_begin, is_taken, reaches, takes, next, reply_to, IsEvent};
+    ghost use Rattle.sup_core.specs.Asks.{records_in};
+
+    /// Where supervise stands.
+    pub fn phase(&self) -> Phase
+        ensures { result ≡ self.now.phase }
+    {
+        self.phase
+    }
+
+    /// What its status record tells.
+    pub fn view(&self) -> View
+        ensures view { result ≡ self.now.status }
+        ensures range { IsStatus result }
+    {
+        in_range(&self.view)
+    }
+
+    /// Whether supervise is done, and takes nothing more.
+    pub fn is_gone(&self) -> bool
+        ensures { result ≡ is_gone self.now.phase }
+    {
+        self.phase == Phase::Gone
+    }
+
+    /// Whether supervise is to end once there is no process.
+    pub fn exiting(&self) -> bool
+        ensures { result ≡ self.now.exiting }
+    {
+        self.exiting
+    }
+
+    /// The end of settling or resting: a clock reading from this label on is taken.
+    pub fn until(&self) -> Option<Label>
+        ensures until { result ≡ self.now.until }
+        ensures range { IfSome result IsLabel }
+    {
+        match &self.until {
+            Some(until) => Some(label_in_range(until)),
+            None => None,
+        }
+    }
+
+    /// The machine of these parts, where a machine can stand so:
+    ///
+    /// | phase | process | want | exiting | until |
+    /// |---|---|---|---|---|
+    /// | starting | none | up, once | no | none |
+    /// | settling | one, not paused | up, once | no | one second past the view's label |
+    /// | resting | none | up, once | no | one second past some label |
+    /// | up | one | any | any | none |
+    /// | down | none | down, once | no | none |
+    /// | gone | none | any | yes | none |
+    pub fn of_parts(
+        phase: Phase,
+        view: View,
+        exiting: bool,
+        until: Option<Label>,
+    ) -> Option<Machine>
+        ensures valid { IsSome result ↔
+            IsState (record { phase = phase; status = view; exiting = exiting; until = until }) }
+        ensures value { IfSome result (λ m.
+            m ≡ record { phase = phase; status = view; exiting = exiting; until = until }) }
+    {
+        if can_stand(phase, &view, exiting, &until) {
+            Some(Machine {
+                phase,
+                view,
+                exiting,
+                until,
+            })
+        } else {
+            None
+        }
+    }
+
+    /// Whether the machine takes the event. It holds every other event.
+    pub fn takes(&self, event: &Event) -> bool
+        ensures taken { (past : History) → state_of past ≡ self.now → result ≡ takes past event.now }
+        ensures by_phase { result ≡ is_taken self.now.phase self.now.until event.now }
+    {
+        taken_events!(takes_event(self, event))
+    }
+
+    /// Whether a clock reading reaches the end of settling or resting.
+    fn is_reached(&self, event: &Event) -> bool
+        ensures { result ≡ reaches self.now.until event.now }
+    {
+        match event {
+            Event::Clock { label } => self.until.is_some_and(|until| *label >= until),
+            _ => false,
+        }
+    }
+
+    /// Takes a control byte.
+    fn take_byte(&mut self, byte: u8) -> Asks
+        requires { (self.old.phase ≡ Phase.Up) ⊎ (self.old.phase ≡ Phase.Down) }
+        ensures state { self.new ≡ state_of (Then (Opened self.old) (Event.Byte byte)) }
+        ensures asks { result ≡ asks_of (Opened self.old) (Event.Byte byte) }
+    {
+        control_bytes!(take_byte(self, byte))
+    }
+
+    /// Takes the start that was asked for.
+    fn take_start(&mut self, pid: u32, label: Label) -> Asks
+        requires phase { self.old.phase ≡ Phase.Starting }
+        requires process { 0 < pid }
+        ensures state { self.new ≡ state_of (Then (Opened self.old) (Event.Started pid label)) }
+        ensures asks { result ≡ asks_of (Opened self.old) (Event.Started pid label) }
+    {
+        self.phase = Phase::Settling;
+        self.until = Some(label.plus_second());
+        self.view = View {
+            label,
+            pid,
+            paused: false,
+            want: self.view.want,
+        };
+        let mut asks = Asks::new();
+        asks.push(Ask::Write(encode(&self.view)));
+        asks
+    }
+
+    /// Takes the failure of the start that was asked for.
+    fn take_failure(&mut self, label: Label) -> Asks
+        requires { self.old.phase ≡ Phase.Starting }
+        ensures state { self.new ≡ state_of (Then (Opened self.old) (Event.StartFailed label)) }
+        ensures asks { result ≡ asks_of (Opened self.old) (Event.StartFailed label) }
+    {
+        self.phase = Phase::Resting;
+        self.until = Some(label.plus_second());
+        Asks::new()
+    }
+
+    /// Takes the death of the process.
+    fn take_death(&mut self, label: Label) -> Asks
+        requires { self.old.phase ≡ Phase.Up }
+        ensures state { self.new ≡ state_of (Then (Opened self.old) (Event.Death label)) }
+        ensures asks { result ≡ asks_of (Opened self.old) (Event.Death label) }
+    {
+        self.view = View {
+            label,
+            pid: 0,
+            paused: false,
+            want: self.view.want,
+        };
+        self.phase = if self.exiting {
+            Phase::Gone
+        } else if self.view.want == Want::Up {
+            Phase::Starting
+        } else {
+            Phase::Down
+        };
+        let mut asks = Asks::new();
+        asks.push(Ask::Write(encode(&self.view)));
+        if self.phase == Phase::Starting {
+            asks.push(Ask::Start);
+        }
+        asks
+    }
+
+    /// Takes a clock reading that ends settling or resting.
+    fn take_reading(&mut self) -> Asks
+        requires { (self.old.phase ≡ Phase.Settling) ⊎ (self.old.phase ≡ Phase.Resting) }
+        // What the clock reads makes no difference.
+        ensures state { self.new ≡ state_of (Then (Opened self.old) (Event.Clock self.old.status.label)) }
+        ensures asks { result ≡ asks_of (Opened self.old) (Event.Clock self.old.status.label) }
+    {
+        self.until = None;
+        let mut asks = Asks::new();
+        if self.phase == Phase::Settling {
+            self.phase = Phase::Up;
+        } else if self.view.want == Want::Up {
+            self.phase = Phase::Starting;
+            asks.push(Ask::Start);
+        } else {
+            self.phase = Phase::Down;
+        }
+        asks
+    }
+
+    /// The machine with which supervise begins, with or without a `down` file, and what it asks then: its record, and a
+    /// start where there is no such file.
+    pub fn begin(down_file: bool, label: Label) -> (Machine, Asks)
+        ensures machine { result.0 ≡ state_of (Begin down_file label) }
+        ensures asks { result.1 ≡ asks_of_begin (Begin down_file label) }
+    {
+        let machine = Machine {
+            phase: if down_file {
+                Phase::Down
+            } else {
+                Phase::Starting
+            },
+            view: View {
+                label,
+                pid: 0,
+                paused: false,
+                want: if down_file { Want::Down } else { Want::Up },
+            },
+            exiting: false,
+            until: None,
+        };
+        let mut asks = Asks::new();
+        asks.push(Ask::Write(encode(&machine.view)));
+        if !down_file {
+            asks.push(Ask::Start);
+        }
+        (machine, asks)
+    }
+
+    /// Takes the event, or holds it and does nothing. The table of the pages on supervise and svc says which.
+    ///
+    /// The reply and the new state are those of every history that the machine stands for.
+    pub fn step(&mut self, event: Event) -> Reply
+        requires { IsEvent event }
+        ensures reply { (past : History) → state_of past ≡ self.old → result ≡ reply_to past event }
+        ensures state { (past : History) → state_of past ≡ self.old → self.new ≡ state_of (next past event) }
+
+        // The record is written where what it tells may have changed, and then once, as it stands after the step.
+        ensures unwritten { records_in result ≡ [] → self.new.status ≡ self.old.status }
+        ensures written { records_in result ≢ [] → records_in result ≡ status_record self.new.status ∷ [] }
+        ensures range { IsStatus self.new.status }
+    {
+        let reply = self.advance(event);
+        // For the last clause.
+        let _ = self.view();
+        reply
+    }
+
+    /// Takes the event, or holds it.
+    fn advance(&mut self, event: Event) -> Reply
+        requires { IsEvent event }
+        ensures reply { (past : History) → state_of past ≡ self.old → result ≡ reply_to past event }
+        ensures state { (past : History) → state_of past ≡ self.old → self.new ≡ state_of (next past event) }
+    {
+        if !self.takes(&event) {
+            return Reply::Held;
+        }
+        Reply::Took(match event {
+            Event::Byte(byte) => self.take_byte(byte),
+            Event::Started { pid, label } => self.take_start(pid, label),
+            Event::StartFailed { label } => self.take_failure(label),
+            Event::Death { label } => self.take_death(label),
+            Event::Clock { .. } => self.take_reading(),
+        })
+    }
+
+    /// Takes those of these events that are taken, one after another, and holds the others.
+    pub fn run(&mut self, events: &[Event])
+        requires { AllByRecursion IsEvent events.now }
+        ensures { (past : History) → state_of past ≡ self.old → self.new ≡ state_of (after past events.now) }
+    {
+        for event in events {
+            self.step(*event);
+        }
+    }
+}
+
+/// Whether a machine can have these parts.
+fn can_stand(phase: Phase, view: &View, exiting: bool, until: &Option<Label>) -> bool
+    ensures { IsTrue result ↔
+        IsState (record { phase = phase; status = view.now; exiting = exiting; until = until.now }) }
+{
+    let idle = view.pid == 0;
+    let restarts = !exiting && view.want != Want::Down;
+    match phase {
+        Phase::Starting => idle && restarts && until.is_none(),
+        Phase::Settling => {
+            !idle && !view.paused && restarts && *until == Some(view.label.plus_second())
+        }
+        Phase::Resting => idle && restarts && until.is_some_and(|until| until.sec >= 1),
+        Phase::Up => !idle && until.is_none(),
+        Phase::Down => idle && !exiting && view.want != Want::Up && until.is_none(),
+        Phase::Gone => idle && exiting && until.is_none(),
+    }
+}
+
+/// A view, and that it is one whose record can be read again: callers are told so by a clause alone.
+fn in_range(view: &View) -> View
+    ensures view { result ≡ view.now }
+    ensures range { IsStatus result }
+{
+    View {
+        label: label_in_range(&view.label),
+        pid: pid_in_range(view.pid),
+        paused: view.paused,
+        want: view.want,
+    }
+}
+
+/// A label, and that it is one.
+fn label_in_range(label: &Label) -> Label
+    ensures label { result ≡ label.now }
+    ensures range { IsLabel result }
+{
+    Label {
+        sec: label.sec,
+        nano: label.nano,
+    }
+}
+
+/// A process number, and that it fits its type.
+fn pid_in_range(pid: u32) -> u32
+    ensures pid { result ≡ pid }
+    ensures range { result < 2 ^ 32 }
+{
+    pid
+}

@@ -1,0 +1,322 @@
+ghost use Rattle.std.specs.Prelude.{◌≡◌, ◌^◌, ℕ, decimal, Bool, Some, IfOk, Ok, ◌==◌, ◌<◌, ◌∷◌, [], length, position, IfSome, IsTrue, ◌↔◌};
+ghost use Rattle.hex.specs.Hex.{encode_lower};
+ghost use Rattle.std.specs.Option.{option_copied};
+ghost use Rattle.tai_status.specs.Label.{Tai64n, IsLabel};
+ghost use Rattle.sup_core.specs.declared.asks.Sig.{Sig};
+ghost use Rattle.sup_core.specs.declared.machine.Phase.{Phase};
+ghost use Rattle.sup_core.specs.declared.event.Event.{Event};
+ghost use Rattle.sup_core.specs.declared.reading.Word.{Word};
+ghost use Rattle.sup_core.specs.Rules.{IsEvent};
+ghost use Rattle.sup_core.specs.Text.{byte_text, event_text, begin_text, signal_name, phase_name};
+ghost use Rattle.sup_core.specs.Fields.{word_name, fields_after, sole, sole_label, sole_byte, start_from, side_from};
+ghost use Rattle.sup_core.specs.Reading.{fields, IsInRange, byte_of_text, pid_of_text, label_of_text, event_from, begin_from};
+
+use crate::asks::Sig;
+use crate::event::Event;
+use crate::machine::Phase;
+use crate::text::push_byte;
+use arrayvec::ArrayString;
+use hex::FromHex;
+use itoa::Buffer;
+use std::str;
+use tai_status::{Label, read_text};
+use thiserror::Error;
+
+/// Why a line is the text of nothing. The first of these that applies is told.
+#[derive(Clone, Copy, Debug, PartialEq, Eq, Error)]
+pub enum EventFault {
+    /// The first word is not known.
+    #[error("UnknownEvent")]
+    UnknownEvent,
+    /// The number of fields is wrong, or a field that is neither a number nor a label.
+    #[error("Line")]
+    Line,
+    /// The process number is wrong.
+    #[error("Number")]
+    Number,
+    /// The label is wrong.
+    #[error("Label")]
+    Label,
+}
+
+/// The first word of an event's line.
+#[derive(Clone, Copy)]
+enum Word {
+    Byte,
+    Started,
+    Failed,
+    Death,
+    Clock,
+}
+
+/// The signal of this name.
+pub fn read_sig(name: &[u8]) -> Option<Sig>
+    ensures found { IfSome result (λ sig. name.now ≡ signal_name sig) }
+    ensures only { (sig : Sig) → name.now ≡ signal_name sig → result ≡ Some sig }
+{
+    match name {
+        b"TERM" => Some(Sig::Term),
+        b"CONT" => Some(Sig::Cont),
+        b"STOP" => Some(Sig::Stop),
+        b"HUP" => Some(Sig::Hup),
+        b"ALRM" => Some(Sig::Alrm),
+        b"INT" => Some(Sig::Int),
+        b"KILL" => Some(Sig::Kill),
+        _ => None,
+    }
+}
+
+/// The phase of this name.
+pub fn read_phase(name: &[u8]) -> Option<Phase>
+    ensures found { IfSome result (λ phase. name.now ≡ phase_name phase) }
+    ensures only { (phase : Phase) → name.now ≡ phase_name phase → result ≡ Some phase }
+{
+    match name {
+        b"starting" => Some(Phase::Starting),
+        b"settling" => Some(Phase::Settling),
+        b"resting" => Some(Phase::Resting),
+        b"up" => Some(Phase::Up),
+        b"down" => Some(Phase::Down),
+        b"gone" => Some(Phase::Gone),
+        _ => None,
+    }
+}
+
+/// The byte that this is the text of: one from `!` to `~` is itself, and any other is its two lower-case
+/// hexadecimal digits.
+pub fn read_byte(text: &[u8]) -> Option<u8>
+    ensures found { IfSome result (λ byte. text.now ≡ byte_text byte) }
+    ensures only { (byte : ℕ) → byte < 2 ^ 8 → text.now ≡ byte_text byte → result ≡ Some byte }
+    ensures exact { result ≡ byte_of_text text.now }
+{
+    let byte = byte_meant(text)?;
+    if is_byte_text(text, byte) {
+        Some(byte)
+    } else {
+        None
+    }
+}
+
+/// Whether this is the text of a byte.
+fn is_byte_text(text: &[u8], byte: u8) -> bool
+    ensures { IsTrue result ↔ (text.now ≡ byte_text byte) }
+{
+    let mut spelled = ArrayString::<2>::new();
+    push_byte(&mut spelled, byte);
+    spelled.as_bytes() == text
+}
+
+/// The byte that this can be the text of.
+#[tactic(auto, using(crate::proofs::Spelling::text_of_one, crate::proofs::Spelling::text_of_two))]
+fn byte_meant(text: &[u8]) -> Option<u8>
+    ensures { (byte : ℕ) → byte < 2 ^ 8 → text.now ≡ byte_text byte → result ≡ Some byte }
+{
+    match text {
+        [byte] => Some(*byte),
+        _ => digits_meant(text),
+    }
+}
+
+/// The byte of two digits.
+#[tactic(auto, using(crate::proofs::Spelling::digits_read))]
+fn digits_meant(digits: &[u8]) -> Option<u8>
+    ensures { (byte : ℕ) → byte < 2 ^ 8 → digits.now ≡ encode_lower (byte ∷ []) → result ≡ Some byte }
+{
+    let bytes = <[u8; 1] as FromHex>::from_hex(digits).ok()?;
+    Some(bytes[0])
+}
+
+/// The number of at least 1 whose decimal text this is.
+fn read_pid(text: &[u8]) -> Option<u32>
+    ensures { result ≡ pid_of_text text.now }
+{
+    let number = read_number(text)?;
+    if number >= 1 { Some(number) } else { None }
+}
+
+/// The number below 2 ^ 32 whose decimal text this is.
+fn read_number(text: &[u8]) -> Option<u32>
+    ensures found { IfSome result (λ n. text.now ≡ decimal n) }
+    ensures only { (n : ℕ) → n < 2 ^ 32 → text.now ≡ decimal n → result ≡ Some n }
+{
+    let number = parse_number(text)?;
+    let mut buffer = Buffer::new();
+    if buffer.format(number).as_bytes() == text {
+        Some(number)
+    } else {
+        None
+    }
+}
+
+/// A number that the field is a text of, perhaps not its decimal text.
+fn parse_number(field: &[u8]) -> Option<u32>
+    ensures { (n : ℕ) → n < 2 ^ 32 → field.now ≡ decimal n → result ≡ Some n }
+{
+    match str::from_utf8(field) {
+        Ok(text) => text.parse().ok(),
+        Err(_) => None,
+    }
+}
+
+/// The label whose text this is.
+#[tactic(auto, unfolding(crate::specs::Reading::label_of_text))]
+fn read_label(text: &[u8]) -> Option<Label>
+    ensures { result ≡ label_of_text text.now }
+{
+    read_text(text).ok()
+}
+
+/// Where the first space is.
+fn space_at(line: &[u8]) -> Option<usize>
+    ensures at { result ≡ position (λ byte. byte == 32) line.now }
+    ensures below { IfSome result (λ at. at < length line.now) }
+{
+    line.iter().position(|byte| *byte == b' ')
+}
+
+/// The first field of a line, and what comes after its space, if there is one.
+#[tactic(auto, using(crate::proofs::Fields::split_none, crate::proofs::Fields::split_some))]
+fn cut(line: &[u8]) -> (&[u8], Option<&[u8]>)
+    ensures { fields line.now ≡ result.0.now ∷ fields_after (option_copied result.1) }
+{
+    match space_at(line) {
+        None => (line, None),
+        Some(at) => (&line[..at], Some(&line[at + 1..])),
+    }
+}
+
+/// The field, where there is just one left.
+#[tactic(auto, using(crate::proofs::Fields::sole_many))]
+fn sole(rest: Option<&[u8]>) -> Option<&[u8]>
+    ensures { option_copied result ≡ sole (fields_after (option_copied rest.entry)) }
+{
+    match cut(rest?) {
+        (field, None) => Some(field),
+        (_, Some(_)) => None,
+    }
+}
+
+/// The label that is the one field left.
+fn sole_label(rest: Option<&[u8]>) -> Result<Label, EventFault>
+    ensures { result ≡ sole_label (fields_after (option_copied rest.entry)) }
+{
+    let text = sole(rest).ok_or(EventFault::Line)?;
+    read_label(text).ok_or(EventFault::Label)
+}
+
+/// The byte that is the one field left.
+fn sole_byte(rest: Option<&[u8]>) -> Result<u8, EventFault>
+    ensures { result ≡ sole_byte (fields_after (option_copied rest.entry)) }
+{
+    let text = sole(rest).ok_or(EventFault::Line)?;
+    read_byte(text).ok_or(EventFault::Line)
+}
+
+/// The start of the two fields left.
+fn read_start(rest: Option<&[u8]>) -> Result<Event, EventFault>
+    ensures { result ≡ start_from (fields_after (option_copied rest.entry)) }
+{
+    let (field, rest) = cut(rest.ok_or(EventFault::Line)?);
+    let text = sole(rest).ok_or(EventFault::Line)?;
+    let pid = read_pid(field).ok_or(EventFault::Number)?;
+    let label = read_label(text).ok_or(EventFault::Label)?;
+    Ok(Event::Started { pid, label })
+}
+
+/// The event of a line, without its newline. Fields are parted by one space:
+///
+/// | line | event |
+/// |---|---|
+/// | `byte C` | the control byte C, as `read_byte` reads it |
+/// | `started PID LABEL` | the start made process PID, at least 1 |
+/// | `failed LABEL` | the start failed |
+/// | `death LABEL` | the process died |
+/// | `clock LABEL` | the clock was read |
+pub fn read_event(line: &[u8]) -> Result<Event, EventFault>
+    ensures found { IfOk result (λ event. IsInRange event × (line.now ≡ event_text event)) }
+    ensures only { (event : Event) → IsInRange event → line.now ≡ event_text event → result ≡ Ok event }
+    // Which fault it is.
+    ensures exact { result ≡ event_from (fields line.now) }
+    ensures event { IfOk result IsEvent }
+{
+    tell_event(line)
+}
+
+/// The event of a line, by its fields.
+fn tell_event(line: &[u8]) -> Result<Event, EventFault>
+    ensures { result ≡ event_from (fields line.now) }
+{
+    let (word, rest) = cut(line);
+    match read_word(word) {
+        Some(word) => read_rest(word, rest),
+        None => Err(EventFault::UnknownEvent),
+    }
+}
+
+/// The first word of an event's line.
+fn read_word(text: &[u8]) -> Option<Word>
+    ensures found { IfSome result (λ word. text.now ≡ word_name word) }
+    ensures only { (word : Word) → text.now ≡ word_name word → result ≡ Some word }
+{
+    match text {
+        b"byte" => Some(Word::Byte),
+        b"started" => Some(Word::Started),
+        b"failed" => Some(Word::Failed),
+        b"death" => Some(Word::Death),
+        b"clock" => Some(Word::Clock),
+        _ => None,
+    }
+}
+
+/// The event of a first word and what comes after its space.
+fn read_rest(word: Word, rest: Option<&[u8]>) -> Result<Event, EventFault>
+    ensures { result ≡ event_from (word_name word ∷ fields_after (option_copied rest.entry)) }
+{
+    match word {
+        Word::Byte => Ok(Event::Byte(sole_byte(rest)?)),
+        Word::Started => read_start(rest),
+        Word::Failed => Ok(Event::StartFailed {
+            label: sole_label(rest)?,
+        }),
+        Word::Death => Ok(Event::Death {
+            label: sole_label(rest)?,
+        }),
+        Word::Clock => Ok(Event::Clock {
+            label: sole_label(rest)?,
+        }),
+    }
+}
+
+/// Whether there is a `down` file, and the label, of a line `begin up LABEL` or `begin down LABEL`, without its newline.
+pub fn read_begin(line: &[u8]) -> Result<(bool, Label), EventFault>
+    ensures found { IfOk result (λ (down, label). IsLabel label × (line.now ≡ begin_text down label)) }
+    ensures only { (down : Bool) (label : Tai64n) → IsLabel label → line.now ≡ begin_text down label → result ≡ Ok (down, label) }
+    // Which fault it is.
+    ensures exact { result ≡ begin_from (fields line.now) }
+{
+    tell_begin(line)
+}
+
+/// The beginning of a line, by its fields.
+fn tell_begin(line: &[u8]) -> Result<(bool, Label), EventFault>
+    ensures { result ≡ begin_from (fields line.now) }
+{
+    let (word, rest) = cut(line);
+    match word {
+        b"begin" => read_side(rest),
+        _ => Err(EventFault::UnknownEvent),
+    }
+}
+
+/// Whether there is a `down` file, and the label, of the two fields left.
+fn read_side(rest: Option<&[u8]>) -> Result<(bool, Label), EventFault>
+    ensures { result ≡ side_from (fields_after (option_copied rest.entry)) }
+{
+    let (side, rest) = cut(rest.ok_or(EventFault::Line)?);
+    let down = match side {
+        b"up" => false,
+        b"down" => true,
+        _ => return Err(EventFault::Line),
+    };
+    Ok((down, sole_label(rest)?))
+}

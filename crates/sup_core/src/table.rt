@@ -1,0 +1,106 @@
+ghost use Rattle.std.specs.Prelude.{◌≡◌, ◌≤◌, if◌then◌else◌, codes, length, map};
+ghost use Rattle.sup_core.specs.declared.event.Event.TheVariants.{Byte};
+ghost use Rattle.sup_core.specs.History.{History, runs};
+ghost use Rattle.sup_core.specs.Rules.{asks_of};
+ghost use Rattle.sup_core.specs.Text.{ask_name, asked_names, names_text, table_text};
+
+use crate::text::push_byte;
+use arrayvec::ArrayString;
+
+/// The control bytes, in the order in which the table is printed. Each row says what is asked and what changes
+/// where there is a process, and where there is none. Another byte asks nothing and changes nothing.
+///
+/// The list is handed to the macro that is named, after its arguments.
+macro_rules! control_bytes {
+    ($rows:ident $arguments:tt) => {
+        $rows! {
+            $arguments
+            b'u' running [record] {want = Up} idle [record start] {want = Up, phase = Starting};
+            b'd' running [TERM CONT record] {want = Down, paused = false} idle [record] {want = Down};
+            b'o' running [record] {want = Once} idle [record start] {want = Once, phase = Starting};
+            b'p' running [STOP record] {paused = true} idle [record] {};
+            b'c' running [CONT record] {paused = false} idle [record] {};
+            b'h' running [HUP] {} idle [] {};
+            b'a' running [ALRM] {} idle [] {};
+            b'i' running [INT] {} idle [] {};
+            b't' running [TERM] {} idle [] {};
+            b'k' running [KILL] {} idle [] {};
+            b'x' running [record] {exiting = true} idle [record] {exiting = true, phase = Gone};
+        }
+    };
+}
+
+pub(crate) use control_bytes;
+
+/// The events that are taken in each phase. Every other event is held.
+macro_rules! taken_events {
+    ($rows:ident $arguments:tt) => {
+        $rows! {
+            $arguments
+            Starting takes Started always;
+            Starting takes StartFailed always;
+            Settling takes Clock at_its_end;
+            Resting takes Clock at_its_end;
+            Up takes Byte always;
+            Up takes Death always;
+            Down takes Byte always;
+        }
+    };
+}
+
+pub(crate) use taken_events;
+
+/// What a row asks, in words.
+macro_rules! row_words {
+    () => { "nothing" };
+    ($($ask:ident)+) => { stringify!($($ask)+) };
+}
+
+/// The words of a byte's row.
+macro_rules! words_of {
+    (
+        ($byte:expr, $running:expr)
+        $($row:literal
+            running [$($ask:ident)*] {$($field:ident = $value:tt),*}
+            idle [$($idle_ask:ident)*] {$($idle_field:ident = $idle_value:tt),*};)*
+    ) => {
+        match ($byte, $running) {
+            $(
+                ($row, true) => row_words!($($ask)*),
+                ($row, false) => row_words!($($idle_ask)*),
+            )*
+            _ => row_words!(),
+        }
+    };
+}
+
+/// What a byte asks, in words.
+fn asked(byte: u8, running: bool) -> &'static str
+    ensures words { result.now ≡ names_text (asked_names byte running) }
+    ensures short { length result.now ≤ 16 }
+{
+    control_bytes!(words_of(byte, running))
+}
+
+/// What names a side of the table.
+fn side(running: bool) -> &'static str
+    ensures text { result.now ≡ (if running then codes " running: " else codes " idle: ") }
+    ensures short { length result.now ≤ 10 }
+{
+    if running { " running: " } else { " idle: " }
+}
+
+/// The line of a control byte in the printed table: what it asks where there is a process, or where there is none.
+///
+/// An unknown byte has a line too, on which nothing is asked.
+pub fn table_line(byte: u8, running: bool) -> ArrayString<48>
+    ensures line { result.bytes ≡ table_text byte running }
+    // The words are the names of what is asked.
+    ensures rules { (past : History) → runs past ≡ running → asked_names byte running ≡ map ask_name (asks_of past (Byte byte)) }
+{
+    let mut out = ArrayString::new();
+    push_byte(&mut out, byte);
+    out.push_str(side(running));
+    out.push_str(asked(byte, running));
+    out
+}
