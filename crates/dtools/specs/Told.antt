@@ -1,10 +1,22 @@
--- What `sim` tells of a fault, and with which status it ends.
-use Rattle.std.specs.Prelude.{ℕ, List, [], ◌∷◌, ◌++◌, codes, decimal}
+-- What a command tells of its faults, and with which status it ends.
+use Rattle.std.specs.Prelude.{ℕ, ◌⊎◌, List, [], ◌∷◌, ◌++◌, codes, decimal, Option}
+use Rattle.std.specs.Io.KnownBytes.{Appends}
+use Rattle.tai_status.specs.Counted.{Rose, AppendsFront}
 use Rattle.sup_core.specs.declared.reading.EventFault.{EventFault}
 use Rattle.sup_core.specs.declared.reading.EventFault.TheVariants as why
 use Rattle.dtools.specs.Sim.{Refusal}
 use Rattle.dtools.specs.declared.fault.SimFault.{SimFault}
 use Rattle.dtools.specs.declared.fault.SimFault.TheVariants as fault
+
+-- A text was told; or the fault writer, of which these are the counts of faults, failed after a front of it.
+abbrev pub Tells : (held holds : Option (List ℕ)) (before after : ℕ) → List ℕ → Type 0
+Tells held holds before after text = Appends held holds text ⊎ (AppendsFront held holds text × Rose before after)
+
+-- what is told of wrong words
+abbrev pub usage_text : List ℕ
+usage_text = codes "dtools: usage" ++ 10 ∷ []
+
+-- The faults of `sim`
 
 abbrev pub fault_name : EventFault → List ℕ
 fault_name why.UnknownEvent = codes "UnknownEvent"

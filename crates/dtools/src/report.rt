@@ -1,7 +1,8 @@
 //! What a command tells of its faults, and with which status it ends.
 ghost use Rattle.std.specs.Prelude.{◌≡◌, ◌+◌, ◌≤◌, ◌++◌, decimal};
 ghost use Rattle.arrayvec.specs.ArrayString.{array_string_len};
-ghost use Rattle.tai_status.specs.Counted.{AppendsFront, device_of};
+ghost use Rattle.tai_status.specs.Counted.{device_of, fault_count};
+ghost use Rattle.dtools.specs.Told.{Tells, usage_text};
 
 use arrayvec::ArrayString;
 use itoa::Buffer;
@@ -17,9 +18,9 @@ pub const REFUSED: u8 = 100;
 /// The status of trouble: want of memory, or a fault of a device or a file.
 pub const TROUBLE: u8 = 111;
 
-/// Tells a fault. That it could not be told is passed over.
+/// Tells a fault. That the fault writer failed is passed over.
 pub fn tell<E: Write>(faults: &mut Counted<E>, text: &[u8])
-    ensures { AppendsFront (E.contents (device_of faults.old)) (E.contents (device_of faults.new)) text.now }
+    ensures { Tells (E.contents (device_of faults.old)) (E.contents (device_of faults.new)) (fault_count faults.old) (fault_count faults.new) text.now }
 {
     match faults.write_all(text) {
         Ok(()) => {}
@@ -30,6 +31,7 @@ pub fn tell<E: Write>(faults: &mut Counted<E>, text: &[u8])
 /// Tells that the words are wrong, and answers the status of that.
 pub fn usage<E: Write>(faults: &mut Counted<E>) -> u8
     ensures status { result ≡ 100 }
+    ensures told { Tells (E.contents (device_of faults.old)) (E.contents (device_of faults.new)) (fault_count faults.old) (fault_count faults.new) usage_text }
 {
     tell(faults, b"dtools: usage\n");
     REFUSED

@@ -10,7 +10,7 @@ ghost use Rattle.sup_core.specs.declared.asks.Reply.{Reply};
 ghost use Rattle.sup_core.specs.History.{History, Begin, state_of, phase_of};
 ghost use Rattle.sup_core.specs.Rules.{asks_of_begin};
 ghost use Rattle.sup_core.specs.Text.{answer_text, table_text};
-ghost use Rattle.dtools.specs.Told.{fault_name, told_of, status_of, refusal_text};
+ghost use Rattle.dtools.specs.Told.{fault_name, told_of, status_of, refusal_text, usage_text, Tells};
 ghost use Rattle.dtools.specs.Sim.{said, printed, both_sides, printed_table, Refusal, AnswersAll, AnswersUpTo, AnswersFront};
 ghost use Rattle.dtools.specs.Progress.{Stands, Says, Answered, SoFar, text_said};
 
@@ -303,7 +303,7 @@ fn fault_name(why: EventFault) -> &'static str
 /// Tells a fault, and answers its status.
 fn report<E: Write>(fault: SimFault, faults: &mut Counted<E>) -> u8
     ensures status { result ≡ status_of fault }
-    ensures told { AppendsFront (E.contents (device_of faults.old)) (E.contents (device_of faults.new)) (told_of fault) }
+    ensures told { Tells (E.contents (device_of faults.old)) (E.contents (device_of faults.new)) (fault_count faults.old) (fault_count faults.new) (told_of fault) }
 {
     tell(faults, fault_text(fault).as_bytes());
     match fault {
@@ -351,7 +351,7 @@ fn answer_input<A: Allocator, D: Read, W: Write, E: Write>(
 ) -> u8
     ensures done { result ≡ 0 → AnswersAll (D.remaining (device_of reader.old)) (W.contents (device_of writer.old)) (W.contents (device_of writer.new)) × IsAtEnd (D.remaining (device_of reader.new)) }
     ensures refused { result ≡ 100 → (refusal : Refusal) × (AnswersUpTo (D.remaining (device_of reader.old)) (W.contents (device_of writer.old)) (W.contents (device_of writer.new)) refusal
-        × AppendsFront (E.contents (device_of faults.old)) (E.contents (device_of faults.new)) (refusal_text refusal)) }
+        × Tells (E.contents (device_of faults.old)) (E.contents (device_of faults.new)) (fault_count faults.old) (fault_count faults.new) (refusal_text refusal)) }
     ensures trouble { result ≡ 111 → AnswersFront (D.remaining (device_of reader.old)) (D.remaining (device_of reader.new)) (W.contents (device_of writer.old)) (W.contents (device_of writer.new)) }
     ensures cause { result ≡ 111 → Rose (fault_count reader.old) (fault_count reader.new) ⊎ (Rose (fault_count writer.old) (fault_count writer.new)
         ⊎ ((reader.new ≡ reader.old) × (writer.new ≡ writer.old))) }
@@ -392,7 +392,7 @@ pub fn run_sim<A: Allocator, D: Read, W: Write, E: Write>(
     // A line is refused, the answers to the lines before it are written, and it is told.
     ensures refused { length words.now ≡ 0 → result ≡ 100
         → (refusal : Refusal) × (AnswersUpTo (D.remaining (device_of reader.old)) (W.contents (device_of writer.old)) (W.contents (device_of writer.new)) refusal
-            × AppendsFront (E.contents (device_of faults.old)) (E.contents (device_of faults.new)) (refusal_text refusal)) }
+            × Tells (E.contents (device_of faults.old)) (E.contents (device_of faults.new)) (fault_count faults.old) (fault_count faults.new) (refusal_text refusal)) }
     // A front of the answers to what was read is written.
     ensures trouble { length words.now ≡ 0 → result ≡ 111
         → AnswersFront (D.remaining (device_of reader.old)) (D.remaining (device_of reader.new)) (W.contents (device_of writer.old)) (W.contents (device_of writer.new)) }
@@ -401,7 +401,8 @@ pub fn run_sim<A: Allocator, D: Read, W: Write, E: Write>(
         → Rose (fault_count reader.old) (fault_count reader.new) ⊎ (Rose (fault_count writer.old) (fault_count writer.new)
             ⊎ ((reader.new ≡ reader.old) × (writer.new ≡ writer.old))) }
     ensures status { (result ≡ 0) ⊎ ((result ≡ 100) ⊎ (result ≡ 111)) }
-    ensures usage { 1 < length words.now → (result ≡ 100) × (reader.new ≡ reader.old) × (writer.new ≡ writer.old) }
+    ensures usage { 1 < length words.now → (result ≡ 100) × (reader.new ≡ reader.old) × (writer.new ≡ writer.old)
+        × Tells (E.contents (device_of faults.old)) (E.contents (device_of faults.new)) (fault_count faults.old) (fault_count faults.new) usage_text }
 {
     if words.is_empty() {
         return answer_input(alloc, reader, writer, faults);

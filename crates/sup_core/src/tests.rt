@@ -1,6 +1,7 @@
 use super::*;
 use std::process::Abort;
 use std::test::Fail;
+use tai_status::decode;
 
 /// The answer to each line of a script, of which the first tells where supervise begins.
 fn plays(rt: &impl Abort, script: &[(&str, &str)]) -> Result<(), Fail> {
@@ -16,12 +17,24 @@ fn plays(rt: &impl Abort, script: &[(&str, &str)]) -> Result<(), Fail> {
             Some(machine) => {
                 let event = read_event(line.as_bytes())?;
                 let reply = machine.step(event);
+                reads_back(rt, &reply, machine);
                 answer_text(&reply, machine.phase())
             }
         };
         assert_eq!(rt; answer.as_str(), *expected, "at {line}");
     }
     Ok(())
+}
+
+/// A record that is asked is read as the view after the step.
+fn reads_back(rt: &impl Abort, reply: &Reply, machine: &Machine) {
+    if let Reply::Took(asks) = reply {
+        for ask in asks.as_slice() {
+            if let Ask::Write(bytes) = ask {
+                assert_eq!(rt; decode(bytes), Ok(machine.view()));
+            }
+        }
+    }
 }
 
 #[test]

@@ -1,9 +1,9 @@
 use Rattle.std.proofs.Common.{◌≡◌, ℕ, List, Err, sym, ap, subst, ◌∙◌, ⊎_elim, inl, inr}
-use Rattle.tai_status.specs.Counted.{AppendsFront, device_of}
+use Rattle.tai_status.specs.Counted.{device_of, fault_count}
 use Rattle.sup_core.specs.declared.reading.EventFault.{EventFault}
 use Rattle.dtools.specs.declared.fault.SimFault.{SimFault}
 use Rattle.dtools.specs.Sim.{Refusal, AnswersUpTo}
-use Rattle.dtools.specs.Told.{told_of}
+use Rattle.dtools.specs.Told.{Tells, told_of}
 use Rattle.dtools.proofs.Steps.{refusal_at, trouble_at, unmoved}
 use Rattle.dtools.proofs.sim.answer_input.Goals as goal
 
@@ -14,7 +14,7 @@ returns-in-Err-clause-refused g c = λ is.
       found.0,
       (
         c.in-Err.ensures.refused found.0.line found.0.why (ap Err found.1),
-        subst (λ (f : SimFault). AppendsFront (g.E.Write.contents (device_of c.args.faults.now)) (g.E.Write.contents (device_of c.report.new.faults)) (told_of f)) found.1 c.report.ensures.told,
+        subst (λ (f : SimFault). Tells (g.E.Write.contents (device_of c.args.faults.now)) (g.E.Write.contents (device_of c.report.new.faults)) (fault_count c.args.faults.now) (fault_count c.report.new.faults) (told_of f)) found.1 c.report.ensures.told,
       ),
     )
 
