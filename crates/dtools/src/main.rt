@@ -2,11 +2,14 @@
 //! Its first word is the command.
 #![tactic(auto)]
 
+mod clock;
 mod command;
 mod fault;
 mod report;
 mod sim;
+mod tai64n;
 
+use clock::SystemClock;
 use command::run;
 use report::{TROUBLE, tell, usage};
 use std::env;
@@ -48,7 +51,15 @@ fn run_words<E: Write>(rt: &HostRuntime, texts: &[String], faults: &mut Counted<
     }
     let mut reader = Counted::new(rt.stdin());
     let mut writer = Counted::new(rt.stdout());
-    run(rt.alloc(), &words, &mut reader, &mut writer, faults)
+    let mut clock = SystemClock::new(*rt);
+    run(
+        rt.alloc(),
+        &words,
+        &mut reader,
+        &mut writer,
+        faults,
+        &mut clock,
+    )
 }
 
 /// Tells why the words could not be had: for want of memory, or since they are no text.

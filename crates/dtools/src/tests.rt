@@ -1,10 +1,11 @@
 use crate::command::run;
 use crate::sim::run_sim;
+use crate::tai64n::run_tai64n;
 use std::alloc::Global;
 use std::io::Read;
 use std::process::Abort;
 use std::test::Fail;
-use tai_status::Counted;
+use tai_status::{Counted, Label, TimeSource};
 use test_devices::{Slow, Tight};
 
 /// One service that is begun, started, brought down and dead, and what is answered.
@@ -166,12 +167,56 @@ fn tells_of_devices(rt: HostRuntime) {
     }
 }
 
+/// A clock that gives second 0, 1, 2 and on.
+#[derive(Drop)]
+struct Ticks {
+    next: u64,
+}
+
+impl TimeSource for Ticks {
+    fn now(&mut self) -> Label {
+        let label = Label::from_unix(self.next, 0).unwrap_or(Label::MAX);
+        self.next = self.next.saturating_add(1);
+        label
+    }
+}
+
+#[test]
+fn stamps_lines(rt: HostRuntime) {
+    let want = b"@400000000000000a00000000 a\n@400000000000000b00000000 b".as_slice();
+    for most in [1, 2, 3] {
+        let mut reader = Counted::new(Slow::ending(b"a\nb", most));
+        let mut writer = Counted::new(Vec::new(rt.alloc()));
+        let mut faults = Counted::new(Vec::new(rt.alloc()));
+        let mut clock = Ticks { next: 0 };
+        let status = run_tai64n(&[], &mut reader, &mut writer, &mut faults, &mut clock);
+        assert_eq!(rt; status, 0);
+        assert_eq!(rt; writer.into_device().as_slice(), want);
+        assert_eq!(rt; faults.into_device().len(), 0);
+    }
+    let mut reader = Counted::new(Slow::failing(b"a\nb", 1));
+    let mut writer = Counted::new(Tight::refusing(rt.alloc(), 5));
+    let mut faults = Counted::new(Vec::new(rt.alloc()));
+    let mut clock = Ticks { next: 0 };
+    let status = run_tai64n(&[], &mut reader, &mut writer, &mut faults, &mut clock);
+    assert_eq!(rt; status, 111);
+    assert_eq!(rt; writer.into_device().held(), b"@4000".as_slice());
+    assert_eq!(rt; faults.into_device().as_slice(), b"tai64n: Write\n".as_slice());
+    let mut reader = Counted::new(Slow::failing(b"a\nb", 1));
+    let mut writer = Counted::new(Vec::new(rt.alloc()));
+    let mut faults = Counted::new(Vec::new(rt.alloc()));
+    let status = run_tai64n(&[], &mut reader, &mut writer, &mut faults, &mut clock);
+    assert_eq!(rt; status, 111);
+    assert_eq!(rt; faults.into_device().as_slice(), b"tai64n: Read\n".as_slice());
+}
+
 /// Runs words over no input.
 fn words(alloc: Global, words: &[&str]) -> Ran {
     let mut reader = Counted::new(b"".as_slice());
     let mut writer = Counted::new(Vec::new(alloc));
     let mut faults = Counted::new(Vec::new(alloc));
-    let status = run(alloc, words, &mut reader, &mut writer, &mut faults);
+    let mut clock = Ticks { next: 0 };
+    let status = run(alloc, words, &mut reader, &mut writer, &mut faults, &mut clock);
     Ran {
         out: writer.into_device(),
         told: faults.into_device(),
@@ -210,7 +255,8 @@ x idle: record
     );
     assert_eq!(rt; table.status, 0);
     assert_eq!(rt; words(rt.alloc(), &["sim"]).status, 0);
-    for wrong in [[].as_slice(), &["nosuch"], &["sim", "tables"], &["sim", "table", "table"], &["table"]] {
+    assert_eq!(rt; words(rt.alloc(), &["tai64n"]).status, 0);
+    for wrong in [[].as_slice(), &["nosuch"], &["sim", "tables"], &["sim", "table", "table"], &["tai64n", "x"]] {
         let ran = words(rt.alloc(), wrong);
         assert_eq!(rt; ran.told.as_slice(), b"dtools: usage\n".as_slice());
         assert_eq!(rt; (ran.status, ran.out.len()), (100, 0));
