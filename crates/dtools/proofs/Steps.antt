@@ -1,6 +1,6 @@
 -- Line by line through an input.
-use Rattle.std.proofs.Common.{◌≡◌, ◌↔◌, ℕ, ◌+◌, ◌≤◌, ◌<◌, Bool, true, false, nat_lt, ◌==◌, List, [], ◌∷◌, ◌++◌, length, length-append, take, Option, Some, None, Result, Ok, Err, refl, sym, subst, ap, ◌∙◌, arith, append_assoc, append-nil}
-use Rattle.std.proofs.lemmas.Grind.{common_steps, flat_map-append}
+use Rattle.std.proofs.Common.{◌≡◌, ◌↔◌, ℕ, ◌+◌, ◌≤◌, ◌<◌, Bool, true, false, ◌==◌, List, [], ◌∷◌, ◌++◌, length, length-append, take, Option, Some, None, Result, Ok, Err, refl, sym, subst, ap, ◌∙◌, arith, append_assoc, append-nil}
+use Rattle.std.proofs.lemmas.Grind.{flat_map-append}
 use Rattle.tai_status.specs.Label.{Tai64n}
 use Rattle.sup_core.specs.declared.asks.Reply.{Reply}
 use Rattle.sup_core.specs.declared.asks.Reply.TheVariants.{Took}
@@ -107,9 +107,14 @@ first_refused-refused n past line later why e = rw (e, first_refused) refl
 
 pub SoFar-none : (before held : Option (List ℕ)) → SoFar before before held held [] [] None 0
 SoFar-none before held = record {
-  done = []; lines = []; texts = []; past = None;
+  done = [];
+  lines = [];
+  texts = [];
+  past = None;
   read = Consumes-nothing before;
-  cut = λ more. refl; says = λ later. refl; refuses = λ later. refl;
+  cut = λ more. refl;
+  says = λ later. refl;
+  refuses = λ later. refl;
   text = Emits-none held held [] (Keeps-same held);
   stands = tt;
 }
@@ -121,7 +126,7 @@ pub SoFar-line : {before now held holds holds2 : Option (List ℕ)} {pending wai
     → SoFar before now held holds2 rest waiting2 machine2 (count + 1)
 SoFar-line {before} {now} {held} {holds2 = holds2} {waiting2 = waiting2} {count = count} s line rest whole plain a =
     let joined : (more : List ℕ) → (s.done ++ (line ++ 10 ∷ [])) ++ more ≡ s.done ++ (line ++ 10 ∷ more) =
-        λ more. append_assoc s.done (line ++ 10 ∷ []) more ∙ ap (λ (t : List ℕ). s.done ++ t) (append_assoc line (10 ∷ []) more) in
+    λ more. append_assoc s.done (line ++ 10 ∷ []) more ∙ ap (λ (t : List ℕ). s.done ++ t) (append_assoc line (10 ∷ []) more) in
     record {
       done = s.done ++ (line ++ 10 ∷ []);
       lines = s.lines ++ line ∷ [];
@@ -170,9 +175,16 @@ Appends-emitted {a} {b} {xs} e = subst (λ (t : List ℕ). Appends a b t) (sym (
 pub SoFar-flush : {before now held holds holds2 : Option (List ℕ)} {pending waiting : List ℕ} {machine : Option State} {count : ℕ}
     → SoFar before now held holds pending waiting machine count → Appends holds holds2 waiting → SoFar before now held holds2 pending [] machine count
 SoFar-flush s w = record {
-  done = s.done; lines = s.lines; texts = s.texts; past = s.past;
-  read = s.read; cut = s.cut; says = s.says; refuses = s.refuses;
-  text = Emits-written s.text w; stands = s.stands;
+  done = s.done;
+  lines = s.lines;
+  texts = s.texts;
+  past = s.past;
+  read = s.read;
+  cut = s.cut;
+  says = s.says;
+  refuses = s.refuses;
+  text = Emits-written s.text w;
+  stands = s.stands;
 }
 
 -- A write failed, after a front of the answers that wait and of those that come next.
@@ -191,7 +203,7 @@ pub SoFar-unflushed : {before now held holds holds2 : Option (List ℕ)} {pendin
     → SoFar before now held holds pending waiting machine count → AppendsFront holds holds2 waiting → AnswersFront before now held holds2
 SoFar-unflushed {holds = holds} {holds2 = holds2} {pending = pending} {waiting = waiting} s f =
     front_of s [] (printed (answers s.past (texts_of pending)))
-      (subst (λ (t : List ℕ). AppendsFront holds holds2 t) (sym (append-nil waiting)) f) refl
+    (subst (λ (t : List ℕ). AppendsFront holds holds2 t) (sym (append-nil waiting)) f) refl
 
 printed_by : (past : Option History) (line : List ℕ) (later : List (List ℕ)) (told : Result Said EventFault) → said past line ≡ told
     → (rest : List ℕ) × (printed (answers past (line ∷ later)) ≡ text_said told ++ rest)
@@ -234,10 +246,17 @@ Consumes-kept (Some xs) (Some ys) (Some zs) bs k l = k ∙ ap (λ (t : List ℕ)
 pub SoFar-filled : {before now after held holds : Option (List ℕ)} {waiting : List ℕ} {machine : Option State} {count : ℕ} {old new : Given}
     → SoFar before now held holds old.pending waiting machine count → Fills now after old new → SoFar before after held holds new.pending waiting machine count
 SoFar-filled {before} {now} {after} {old = old} {new = new} s f = record {
-  done = s.done; lines = s.lines; texts = s.texts; past = s.past;
+  done = s.done;
+  lines = s.lines;
+  texts = s.texts;
+  past = s.past;
   read = subst (λ (t : List ℕ). Consumes before after t) (append_assoc s.done old.pending f.bytes ∙ ap (λ (t : List ℕ). s.done ++ t) (sym f.pending))
       (Consumes-then before now after (s.done ++ old.pending) f.bytes s.read f.read);
-  cut = s.cut; says = s.says; refuses = s.refuses; text = s.text; stands = s.stands;
+  cut = s.cut;
+  says = s.says;
+  refuses = s.refuses;
+  text = s.text;
+  stands = s.stands;
 }
 
 -- A read failed.
@@ -266,8 +285,7 @@ more_input (Some xs) (Some ys) bytes input c e = let same : input ≡ xs = cc e 
 pub SoFar-end : {before now held holds : Option (List ℕ)} {pending : List ℕ} {machine : Option State} {count : ℕ}
     → SoFar before now held holds pending [] machine count → pending ≡ [] → IsAtEnd now → AnswersAll before held holds
 SoFar-end {before} {now} {held} {holds} {pending} s none end = λ input is.
-    let whole : input ≡ s.done ++ [] = whole_input before now (s.done ++ pending) input s.read end is ∙ ap (λ (t : List ℕ). s.done ++ t) none in
-    (
+    let whole : input ≡ s.done ++ [] = whole_input before now (s.done ++ pending) input s.read end is ∙ ap (λ (t : List ℕ). s.done ++ t) none in (
       ap refused_in whole ∙ SoFar-refused_in s [],
       subst (λ (t : List ℕ). Appends held holds t) (sym (ap printed_for whole ∙ SoFar-printed s [] ∙ append-nil (printed s.texts))) (Appends-emitted s.text),
     )
@@ -280,13 +298,12 @@ SoFar-last {before} {now} {held} {pending = pending} {count = count} holds3 s so
     let whole : input ≡ s.done ++ pending = whole_input before now (s.done ++ pending) input s.read end is in
     let cut = texts_of-last pending some plain in
     let texts : printed_for input ≡ printed s.texts ++ (a.answer.text ++ 10 ∷ []) =
-        ap printed_for whole ∙ SoFar-printed s pending
-        ∙ ap (λ (t : List (List ℕ)). printed s.texts ++ printed (answers s.past t)) cut
-        ∙ ap (λ (t : List (List ℕ)). printed s.texts ++ printed t) (answers-said s.past pending [] a.answer a.is)
-        ∙ ap (λ (t : List ℕ). printed s.texts ++ t) (append-nil (a.answer.text ++ 10 ∷ [])) in
-    (
+    ap printed_for whole ∙ SoFar-printed s pending
+    ∙ ap (λ (t : List (List ℕ)). printed s.texts ++ printed (answers s.past t)) cut
+    ∙ ap (λ (t : List (List ℕ)). printed s.texts ++ printed t) (answers-said s.past pending [] a.answer a.is)
+    ∙ ap (λ (t : List ℕ). printed s.texts ++ t) (append-nil (a.answer.text ++ 10 ∷ [])) in (
       ap refused_in whole ∙ SoFar-refused_in s pending ∙ ap (first_refused (count + 1) s.past) cut
-      ∙ first_refused-said (count + 1) s.past pending [] a.answer a.is,
+          ∙ first_refused-said (count + 1) s.past pending [] a.answer a.is,
       subst (λ (t : List ℕ). Appends held holds3 t) (sym texts) (Appends-emitted (Emits-written (Emits-then s.text a.text) w)),
     )
 
@@ -298,12 +315,11 @@ refused_at : {before now held holds : Option (List ℕ)} {pending waiting : List
     → (refused_in input ≡ Some (record { line = count + 1; why = why })) × Appends held holds2 (printed_for input)
 refused_at {held = held} {count = count} holds2 s input more line later why is cut refused w =
     let nothing : printed_for input ≡ printed s.texts =
-        ap printed_for is ∙ SoFar-printed s more
-        ∙ ap (λ (t : List (List ℕ)). printed s.texts ++ printed t) (ap (answers s.past) cut ∙ answers-refused s.past line later why refused)
-        ∙ append-nil (printed s.texts) in
-    (
+    ap printed_for is ∙ SoFar-printed s more
+    ∙ ap (λ (t : List (List ℕ)). printed s.texts ++ printed t) (ap (answers s.past) cut ∙ answers-refused s.past line later why refused)
+    ∙ append-nil (printed s.texts) in (
       ap refused_in is ∙ SoFar-refused_in s more ∙ ap (first_refused (count + 1) s.past) cut
-      ∙ first_refused-refused (count + 1) s.past line later why refused,
+          ∙ first_refused-refused (count + 1) s.past line later why refused,
       subst (λ (t : List ℕ). Appends held holds2 t) (sym nothing) (Appends-emitted (Emits-written s.text w)),
     )
 
@@ -313,9 +329,9 @@ pub SoFar-refused : {before now held holds : Option (List ℕ)} {pending waiting
 SoFar-refused {before} {now} {pending = pending} holds2 s line rest why whole plain refused w = λ input is.
     let more = more_input before now (s.done ++ pending) input s.read is in
     let from : input ≡ s.done ++ (line ++ 10 ∷ (rest ++ more.0)) =
-        more.1 ∙ append_assoc s.done pending more.0
-        ∙ ap (λ (t : List ℕ). s.done ++ (t ++ more.0)) whole
-        ∙ ap (λ (t : List ℕ). s.done ++ t) (append_assoc line (10 ∷ rest) more.0) in
+    more.1 ∙ append_assoc s.done pending more.0
+    ∙ ap (λ (t : List ℕ). s.done ++ (t ++ more.0)) whole
+    ∙ ap (λ (t : List ℕ). s.done ++ t) (append_assoc line (10 ∷ rest) more.0) in
     refused_at holds2 s input (line ++ 10 ∷ (rest ++ more.0)) line (texts_of (rest ++ more.0)) why from (texts_of-line line (rest ++ more.0) plain) refused w
 
 pub SoFar-rest_refused : {before now held holds : Option (List ℕ)} {pending waiting : List ℕ} {machine : Option State} {count : ℕ}
@@ -387,7 +403,7 @@ pub SoFar-line_unwritten : {before now held holds holds2 : Option (List ℕ)} {w
     → AppendsFront holds holds2 (waiting ++ text_said (said s.past text)) → AnswersFront before now held holds2
 SoFar-line_unwritten {holds = holds} {holds2 = holds2} {waiting = waiting} {new = new} s took same f =
     SoFar-unwritten s new.line new.pending took.whole took.plain
-      (subst (λ (t : List ℕ). AppendsFront holds holds2 (waiting ++ text_said (said s.past t))) same f)
+    (subst (λ (t : List ℕ). AppendsFront holds holds2 (waiting ++ text_said (said s.past t))) same f)
 
 pub SoFar-flushed : {before now held holds : Option (List ℕ)} {waiting waiting2 : List ℕ} {machine machine2 : Option State} {count count2 : ℕ} {old new : Given}
     (holds2 : Option (List ℕ)) (s : SoFar before now held holds old.pending waiting machine count) → new ≡ old → Appends holds holds2 waiting
@@ -453,7 +469,7 @@ rest_unflushed {holds = holds} {holds2 = holds2} {holds3 = holds3} {pending = pe
     let whole = Emits-front [] a.text (subst (λ (t : List ℕ). AppendsFront holds2 holds3 t) (sym (append-nil waiting2)) f) in
     let said_so : text_said (said s.past pending) ≡ a.answer.text ++ 10 ∷ [] = ap (λ (t : List ℕ). text_said (said s.past t)) (sym same) ∙ ap text_said a.is in
     SoFar-rest_unwritten s some plain
-      (subst (λ (t : List ℕ). AppendsFront holds holds3 (waiting ++ t)) (append-nil (a.answer.text ++ 10 ∷ []) ∙ sym said_so) whole)
+    (subst (λ (t : List ℕ). AppendsFront holds holds3 (waiting ++ t)) (append-nil (a.answer.text ++ 10 ∷ []) ∙ sym said_so) whole)
 
 pub room_after : {old new : Given} (n m : ℕ) → TakesLine old new → m ≡ n + 1 → m + length new.pending ≤ n + length old.pending
 room_after {old} {new} n m took counted =
@@ -481,7 +497,7 @@ refusal_at sim.Write is = absurd (omega (arith, is))
 -- A row further down the table.
 pub rows_further : (bytes : List ℕ) (i : ℕ) → i < length bytes
     → printed (flat_map both_sides (take (i + 1) bytes))
-      ≡ printed (flat_map both_sides (take i bytes)) ++ (table_text (get_or bytes i 0) true ++ 10 ∷ []) ++ (table_text (get_or bytes i 0) false ++ 10 ∷ [])
+    ≡ printed (flat_map both_sides (take i bytes)) ++ (table_text (get_or bytes i 0) true ++ 10 ∷ []) ++ (table_text (get_or bytes i 0) false ++ 10 ∷ [])
 rows_further bytes i within =
     let front : take (i + 1) bytes ≡ take i bytes ++ get_or bytes i 0 ∷ [] = rw add-one (take-suc bytes i 0 within) in
     ap (λ (t : List ℕ). printed (flat_map both_sides t)) front

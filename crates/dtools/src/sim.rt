@@ -118,14 +118,18 @@ impl Session {
     }
 
     /// Answers a line, behind the answers that wait. Where it is refused, those are written.
-    fn answer_line<W: Write>(&mut self, line: &[u8], writer: &mut Counted<W>) -> Result<(), SimFault>
+    fn answer_line<W: Write>(
+        &mut self,
+        line: &[u8],
+        writer: &mut Counted<W>,
+    ) -> Result<(), SimFault>
         requires { self.old.count < 2 ^ 63 }
         ensures ok { OnOk result ((past : Option History) → Stands past self.old.machine
             → Answered past line.now self.new.machine (W.contents (device_of writer.old)) (W.contents (device_of writer.new)) self.old.waiting self.new.waiting) }
         ensures count { OnOk result (self.new.count ≡ self.old.count + 1) }
         ensures refused { (number : ℕ) (why : EventFault) → IsErrOf result (SimFault.Refused number why)
             → (number ≡ self.old.count + 1) × Appends (W.contents (device_of writer.old)) (W.contents (device_of writer.new)) self.old.waiting
-              × ((past : Option History) → Stands past self.old.machine → said past line.now ≡ Err why) }
+            × ((past : Option History) → Stands past self.old.machine → said past line.now ≡ Err why) }
         ensures write { IsErrOf result SimFault.Write → (past : Option History) → Stands past self.old.machine
             → AppendsFront (W.contents (device_of writer.old)) (W.contents (device_of writer.new)) (self.old.waiting ++ text_said (said past line.now)) }
         ensures fault { IsErrOf result SimFault.Write → Rose (fault_count writer.old) (fault_count writer.new) }
@@ -145,7 +149,11 @@ impl Session {
 
 impl Session {
     /// Answers the whole lines that are pending, and writes the answers.
-    fn answer_pending<A: Allocator, W: Write>(&mut self, lines: &mut LineReader<A>, writer: &mut Counted<W>) -> Result<(), SimFault>
+    fn answer_pending<A: Allocator, W: Write>(
+        &mut self,
+        lines: &mut LineReader<A>,
+        writer: &mut Counted<W>,
+    ) -> Result<(), SimFault>
         requires { self.old.count + length lines.old.pending ≤ 2 ^ 63 }
         ensures ok { OnOk result ((before now held : Option (List ℕ))
             → SoFar before now held (W.contents (device_of writer.old)) lines.old.pending self.old.waiting self.old.machine self.old.count
@@ -171,7 +179,11 @@ impl Session {
     }
 
     /// Answers the last line, where it has no newline, and writes the answer.
-    fn answer_rest<A: Allocator, W: Write>(&mut self, lines: &mut LineReader<A>, writer: &mut Counted<W>) -> Result<(), SimFault>
+    fn answer_rest<A: Allocator, W: Write>(
+        &mut self,
+        lines: &mut LineReader<A>,
+        writer: &mut Counted<W>,
+    ) -> Result<(), SimFault>
         requires room { self.old.count + length lines.old.pending ≤ 2 ^ 63 }
         requires plain { IsPlain lines.old.pending }
         requires waiting { self.old.waiting ≡ [] }
@@ -196,7 +208,11 @@ impl Session {
 }
 
 /// Answers the lines of a reader, one answer a line, up to the first line that is refused.
-fn answer_lines<A: Allocator, D: Read, W: Write>(alloc: A, reader: &mut Counted<D>, writer: &mut Counted<W>) -> Result<(), SimFault>
+fn answer_lines<A: Allocator, D: Read, W: Write>(
+    alloc: A,
+    reader: &mut Counted<D>,
+    writer: &mut Counted<W>,
+) -> Result<(), SimFault>
     ensures all { OnOk result (AnswersAll (D.remaining (device_of reader.old)) (W.contents (device_of writer.old)) (W.contents (device_of writer.new))) }
     ensures end { OnOk result (IsAtEnd (D.remaining (device_of reader.new))) }
     ensures refused { (number : ℕ) (why : EventFault) → IsErrOf result (SimFault.Refused number why)
@@ -392,14 +408,14 @@ pub fn run_sim<A: Allocator, D: Read, W: Write, E: Write>(
     // A line is refused, the answers to the lines before it are written, and it is told.
     ensures refused { length words.now ≡ 0 → result ≡ 100
         → (refusal : Refusal) × (AnswersUpTo (D.remaining (device_of reader.old)) (W.contents (device_of writer.old)) (W.contents (device_of writer.new)) refusal
-            × Tells (E.contents (device_of faults.old)) (E.contents (device_of faults.new)) (fault_count faults.old) (fault_count faults.new) (refusal_text refusal)) }
+        × Tells (E.contents (device_of faults.old)) (E.contents (device_of faults.new)) (fault_count faults.old) (fault_count faults.new) (refusal_text refusal)) }
     // A front of the answers to what was read is written.
     ensures trouble { length words.now ≡ 0 → result ≡ 111
         → AnswersFront (D.remaining (device_of reader.old)) (D.remaining (device_of reader.new)) (W.contents (device_of writer.old)) (W.contents (device_of writer.new)) }
     // The reader or the writer failed, or there was no memory, and nothing was read or written.
     ensures cause { length words.now ≡ 0 → result ≡ 111
         → Rose (fault_count reader.old) (fault_count reader.new) ⊎ (Rose (fault_count writer.old) (fault_count writer.new)
-            ⊎ ((reader.new ≡ reader.old) × (writer.new ≡ writer.old))) }
+        ⊎ ((reader.new ≡ reader.old) × (writer.new ≡ writer.old))) }
     ensures status { (result ≡ 0) ⊎ ((result ≡ 100) ⊎ (result ≡ 111)) }
     ensures usage { 1 < length words.now → (result ≡ 100) × (reader.new ≡ reader.old) × (writer.new ≡ writer.old)
         × Tells (E.contents (device_of faults.old)) (E.contents (device_of faults.new)) (fault_count faults.old) (fault_count faults.new) usage_text }

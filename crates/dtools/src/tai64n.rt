@@ -21,11 +21,11 @@ pub fn run_tai64n<D: Read, W: Write, E: Write, C: TimeSource>(
     // All lines are stamped and written.
     ensures done { length words.now ≡ 0 → result ≡ 0
         → IsAtEnd (D.remaining (device_of reader.new)) × IfSome (D.remaining (device_of reader.old)) (λ input. (count : ℕ)
-            × StampsAll input (C.readings clock.old) (C.readings clock.new) (W.contents (device_of writer.old)) (W.contents (device_of writer.new)) count) }
+        × StampsAll input (C.readings clock.old) (C.readings clock.new) (W.contents (device_of writer.old)) (W.contents (device_of writer.new)) count) }
     // A front of the stamped text of what was read is written, and the reader or the writer failed.
     ensures trouble { length words.now ≡ 0 → result ≢ 0 → (result ≡ 111)
         × StampsFront (D.remaining (device_of reader.old)) (D.remaining (device_of reader.new)) (C.readings clock.old) (C.readings clock.new)
-            (W.contents (device_of writer.old)) (W.contents (device_of writer.new)) }
+        (W.contents (device_of writer.old)) (W.contents (device_of writer.new)) }
     ensures cause { length words.now ≡ 0 → result ≢ 0
         → Rose (fault_count reader.old) (fault_count reader.new) ⊎ Rose (fault_count writer.old) (fault_count writer.new) }
     ensures usage { 0 < length words.now → (result ≡ 100) × (reader.new ≡ reader.old) × (writer.new ≡ writer.old) × (clock.new ≡ clock.old)

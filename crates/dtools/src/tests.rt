@@ -15,6 +15,7 @@ clock @400000000000000c00000000
 byte d
 death @400000000000000d00000000
 ";
+
 const SERVICE_ANSWERS: &str = "took record:400000000000000a00000000000000000075 start -> starting
 took record:400000000000000b00000000671200000075 -> settling
 took -> up
@@ -137,7 +138,10 @@ fn bounds_lines(rt: HostRuntime) -> Result<(), Fail> {
         line.push(b'a')?;
     }
     let longest = sim(rt.alloc(), line.as_slice());
-    assert_eq!(rt; longest.told.as_slice(), b"sim: line 1: UnknownEvent\n".as_slice());
+    assert_eq!(rt;
+        longest.told.as_slice(),
+        b"sim: line 1: UnknownEvent\n".as_slice()
+    );
     assert_eq!(rt; longest.status, 100);
     line.push(b'a')?;
     let longer = sim(rt.alloc(), line.as_slice());
@@ -163,7 +167,10 @@ fn tells_of_devices(rt: HostRuntime) {
         let status = run_sim(rt.alloc(), &[], &mut reader, &mut writer, &mut faults);
         assert_eq!(rt; status, 111);
         assert_eq!(rt; writer.into_device().held(), &answers[..room]);
-        assert_eq!(rt; faults.into_device().as_slice(), b"sim: write fault\n".as_slice());
+        assert_eq!(rt;
+            faults.into_device().as_slice(),
+            b"sim: write fault\n".as_slice()
+        );
     }
 }
 
@@ -201,13 +208,19 @@ fn stamps_lines(rt: HostRuntime) {
     let status = run_tai64n(&[], &mut reader, &mut writer, &mut faults, &mut clock);
     assert_eq!(rt; status, 111);
     assert_eq!(rt; writer.into_device().held(), b"@4000".as_slice());
-    assert_eq!(rt; faults.into_device().as_slice(), b"tai64n: Write\n".as_slice());
+    assert_eq!(rt;
+        faults.into_device().as_slice(),
+        b"tai64n: Write\n".as_slice()
+    );
     let mut reader = Counted::new(Slow::failing(b"a\nb", 1));
     let mut writer = Counted::new(Vec::new(rt.alloc()));
     let mut faults = Counted::new(Vec::new(rt.alloc()));
     let status = run_tai64n(&[], &mut reader, &mut writer, &mut faults, &mut clock);
     assert_eq!(rt; status, 111);
-    assert_eq!(rt; faults.into_device().as_slice(), b"tai64n: Read\n".as_slice());
+    assert_eq!(rt;
+        faults.into_device().as_slice(),
+        b"tai64n: Read\n".as_slice()
+    );
 }
 
 /// Runs words over no input.
@@ -216,7 +229,14 @@ fn words(alloc: Global, words: &[&str]) -> Ran {
     let mut writer = Counted::new(Vec::new(alloc));
     let mut faults = Counted::new(Vec::new(alloc));
     let mut clock = Ticks { next: 0 };
-    let status = run(alloc, words, &mut reader, &mut writer, &mut faults, &mut clock);
+    let status = run(
+        alloc,
+        words,
+        &mut reader,
+        &mut writer,
+        &mut faults,
+        &mut clock,
+    );
     Ran {
         out: writer.into_device(),
         told: faults.into_device(),
@@ -251,12 +271,19 @@ k running: KILL
 k idle: nothing
 x running: record
 x idle: record
-".as_slice()
+"
+            .as_slice()
     );
     assert_eq!(rt; table.status, 0);
     assert_eq!(rt; words(rt.alloc(), &["sim"]).status, 0);
     assert_eq!(rt; words(rt.alloc(), &["tai64n"]).status, 0);
-    for wrong in [[].as_slice(), &["nosuch"], &["sim", "tables"], &["sim", "table", "table"], &["tai64n", "x"]] {
+    for wrong in [
+        [].as_slice(),
+        &["nosuch"],
+        &["sim", "tables"],
+        &["sim", "table", "table"],
+        &["tai64n", "x"],
+    ] {
         let ran = words(rt.alloc(), wrong);
         assert_eq!(rt; ran.told.as_slice(), b"dtools: usage\n".as_slice());
         assert_eq!(rt; (ran.status, ran.out.len()), (100, 0));

@@ -1,16 +1,13 @@
-use Rattle.std.proofs.Common.{◌≡◌, ℕ, List, Err, sym, ap, subst, ◌∙◌, ⊎_elim, inl, inr}
+use Rattle.std.proofs.Common.{Err, sym, ap, subst, ◌∙◌, ⊎_elim, inl, inr}
 use Rattle.tai_status.specs.Counted.{device_of, fault_count}
-use Rattle.sup_core.specs.declared.reading.EventFault.{EventFault}
 use Rattle.dtools.specs.declared.fault.SimFault.{SimFault}
-use Rattle.dtools.specs.Sim.{Refusal, AnswersUpTo}
 use Rattle.dtools.specs.Told.{Tells, told_of}
 use Rattle.dtools.proofs.Steps.{refusal_at, trouble_at, unmoved}
 use Rattle.dtools.proofs.sim.answer_input.Goals as goal
 
 pub returns-in-Err-clause-refused : goal.returns-in-Err-clause-refused
 returns-in-Err-clause-refused g c = λ is.
-    let found = refusal_at c.in-Err.fault (sym c.report.ensures.status ∙ is) in
-    (
+    let found = refusal_at c.in-Err.fault (sym c.report.ensures.status ∙ is) in (
       found.0,
       (
         c.in-Err.ensures.refused found.0.line found.0.why (ap Err found.1),
@@ -21,14 +18,14 @@ returns-in-Err-clause-refused g c = λ is.
 pub returns-in-Err-clause-trouble : goal.returns-in-Err-clause-trouble
 returns-in-Err-clause-trouble g c = λ is.
     ⊎_elim
-      (λ e. let same = c.in-Err.ensures.memory (ap Err e) in
-        unmoved _ _ _ _ (ap (λ r. g.D.Read.remaining (device_of r)) same.0) (ap (λ w. g.W.Write.contents (device_of w)) same.1))
-      (λ more. ⊎_elim (λ e. (c.in-Err.ensures.read (ap Err e)).0) (λ e. (c.in-Err.ensures.write (ap Err e)).0) more)
-      (trouble_at c.in-Err.fault (sym c.report.ensures.status ∙ is))
+    (λ e. let same = c.in-Err.ensures.memory (ap Err e) in
+    unmoved _ _ _ _ (ap (λ r. g.D.Read.remaining (device_of r)) same.0) (ap (λ w. g.W.Write.contents (device_of w)) same.1))
+    (λ more. ⊎_elim (λ e. (c.in-Err.ensures.read (ap Err e)).0) (λ e. (c.in-Err.ensures.write (ap Err e)).0) more)
+    (trouble_at c.in-Err.fault (sym c.report.ensures.status ∙ is))
 
 pub returns-in-Err-clause-cause : goal.returns-in-Err-clause-cause
 returns-in-Err-clause-cause g c = λ is.
     ⊎_elim
-      (λ e. inr (inr (c.in-Err.ensures.memory (ap Err e))))
-      (λ more. ⊎_elim (λ e. inl (c.in-Err.ensures.read (ap Err e)).1) (λ e. inr (inl (c.in-Err.ensures.write (ap Err e)).1)) more)
-      (trouble_at c.in-Err.fault (sym c.report.ensures.status ∙ is))
+    (λ e. inr (inr (c.in-Err.ensures.memory (ap Err e))))
+    (λ more. ⊎_elim (λ e. inl (c.in-Err.ensures.read (ap Err e)).1) (λ e. inr (inl (c.in-Err.ensures.write (ap Err e)).1)) more)
+    (trouble_at c.in-Err.fault (sym c.report.ensures.status ∙ is))

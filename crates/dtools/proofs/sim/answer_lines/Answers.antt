@@ -1,5 +1,4 @@
-use Rattle.std.proofs.Common.{◌≡◌, ◌≤◌, ◌+◌, ◌^◌, ℕ, List, Option, Err, length, subst, sym, ap, ◌∙◌, arith, refl}
-use Rattle.std.proofs.lemmas.Grind.{common_steps}
+use Rattle.std.proofs.Common.{◌≡◌, ◌≤◌, ◌+◌, ◌^◌, ℕ, Err, length, subst, sym, ap, ◌∙◌, arith, refl}
 use Rattle.std.proofs.lemmas.Result.{err_from_is_err_and, on_ok_weaker}
 use Rattle.tai_status.specs.LineReader.{Given}
 use Rattle.tai_status.specs.Counted.{Rose, device_of, read_count, fault_count}
@@ -9,13 +8,13 @@ use Rattle.dtools.proofs.sim.answer_lines.Goals as goal
 
 pub reads-init : goal.reads-init
 reads-init g c = (
-      SoFar-begin _ _ (ap (λ (l : Given). l.pending) c.in-Ok.ensures) c.new-session.ensures.waiting c.new-session.ensures.machine c.new-session.ensures.count,
-      c.new-session.ensures.waiting,
-      ap (λ (l : Given). l.bound) c.in-Ok.ensures,
-      (let n = c.new-session.ensures.count in let p : length c.in-Ok.lines.pending ≡ 0 = ap (λ (l : Given). length l.pending) c.in-Ok.ensures in omega (arith, n, p)),
-      refl,
-      refl,
-    )
+  SoFar-begin _ _ (ap (λ (l : Given). l.pending) c.in-Ok.ensures) c.new-session.ensures.waiting c.new-session.ensures.machine c.new-session.ensures.count,
+  c.new-session.ensures.waiting,
+  ap (λ (l : Given). l.bound) c.in-Ok.ensures,
+  (let n = c.new-session.ensures.count in let p : length c.in-Ok.lines.pending ≡ 0 = ap (λ (l : Given). length l.pending) c.in-Ok.ensures in omega (arith, n, p)),
+  refl,
+  refl,
+)
 
 pub answer_pending-requires : goal.answer_pending-requires
 answer_pending-requires g c = let room = c.reads.invariant.3 in let most : read_count c.reads.reader ≤ 2 ^ 48 = c.reads.reader.bounded in omega (arith, room, most)
@@ -27,8 +26,7 @@ returns-in_err-answer_pending-clause-refused g c = λ number why is.
 
 pub reads-preserved : goal.reads-preserved
 reads-preserved g c =
-    let s = c.in_ok-answer_pending.ensures.ok _ _ _ c.reads.invariant.0 in
-    (
+    let s = c.in_ok-answer_pending.ensures.ok _ _ _ c.reads.invariant.0 in (
       SoFar-filled s c.in-Ok-true.ensures.filled,
       c.in_ok-answer_pending.ensures.waiting,
       c.in-Ok-true.ensures.bound ∙ c.in_ok-answer_pending.ensures.bound ∙ c.reads.invariant.2,
@@ -56,15 +54,14 @@ pub returns-in-Err-TooLong-clause-refused : goal.returns-in-Err-TooLong-clause-r
 returns-in-Err-TooLong-clause-refused g c = λ number why is.
     let s = c.in_ok-answer_pending.ensures.ok _ _ _ c.reads.invariant.0 in
     let all = long_refused c.answer_pending.new.lines s c.in_ok-answer_pending.ensures.waiting (c.in_ok-answer_pending.ensures.bound ∙ c.reads.invariant.2)
-        (c.in-Err-TooLong.ensures.long.0 (ap Err c.in-Err-TooLong.field-0-is)) c.in_ok-answer_pending.ensures.plain in
+    (c.in-Err-TooLong.ensures.long.0 (ap Err c.in-Err-TooLong.field-0-is)) c.in_ok-answer_pending.ensures.plain in
     let number_is : c.answer_pending.new.self.count + 1 ≡ number = cc is in
     let why_is : fault.Line ≡ why = cc is in
     told_as (g.D.Read.remaining (device_of c.args.reader.now)) (g.W.Write.contents (device_of c.args.writer.now)) (g.W.Write.contents (device_of c.answer_pending.new.writer)) number_is why_is all
 
 pub returns-in-Err-Read-clause-read : goal.returns-in-Err-Read-clause-read
 returns-in-Err-Read-clause-read g c = λ is.
-    let s = c.in_ok-answer_pending.ensures.ok _ _ _ c.reads.invariant.0 in
-    (
+    let s = c.in_ok-answer_pending.ensures.ok _ _ _ c.reads.invariant.0 in (
       read_failed s c.in_ok-answer_pending.ensures.waiting c.in-Err-Read.ensures.kept.1,
       subst (λ (n : ℕ). Rose n (fault_count c.fill.new.reader)) c.reads.invariant.4 (c.in-Err-Read.ensures.read (ap Err c.in-Err-Read.field-0-is)),
     )

@@ -1,4 +1,4 @@
-use Rattle.std.proofs.Common.{◌≡◌, Err, Some, sym, subst, ap, ◌∙◌, Option}
+use Rattle.std.proofs.Common.{◌≡◌, Err, sym, subst, ap, ◌∙◌, Option}
 use Rattle.std.proofs.lemmas.Result.{err_from_is_err_and}
 use Rattle.sup_core.specs.State.{State}
 use Rattle.dtools.specs.Progress.{Stands}
@@ -10,4 +10,4 @@ returns-in_err-machine-in-Some-clause-refused c = λ why is past stands.
     let whole = ap Err (sym passed.2) ∙ sym passed.1 ∙ is in
     let same : c.in_err-machine-in-Some.field-0.0 ≡ why = cc whole in
     c.in_err-machine-in-Some.ensures.refused why (ap Err same) past
-      (subst (λ (m : Option State). Stands past m) c.in-Some.is stands)
+    (subst (λ (m : Option State). Stands past m) c.in-Some.is stands)

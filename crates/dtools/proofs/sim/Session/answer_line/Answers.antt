@@ -1,18 +1,16 @@
-use Rattle.std.proofs.Common.{◌≡◌, ◌++◌, ◌+◌, ℕ, List, [], Option, Err, refl, sym, subst, ap, ◌∙◌, append-nil}
+use Rattle.std.proofs.Common.{◌≡◌, ◌++◌, ◌+◌, ℕ, List, [], Err, refl, sym, subst, ap, ◌∙◌, append-nil}
 use Rattle.std.specs.Io.KnownBytes.{Appends}
 use Rattle.tai_status.specs.Counted.{AppendsFront, device_of}
 use Rattle.sup_core.specs.declared.reading.EventFault.{EventFault}
-use Rattle.dtools.specs.declared.fault.SimFault.{SimFault}
 use Rattle.dtools.specs.declared.fault.SimFault.TheVariants as fault
 use Rattle.dtools.specs.Sim.{said}
-use Rattle.dtools.specs.Progress.{Stands, text_said}
+use Rattle.dtools.specs.Progress.{text_said}
 use Rattle.dtools.proofs.sim.Session.answer_line.Goals as goal
 
 pub returns-in-Err-clause-refused : goal.returns-in-Err-clause-refused
 returns-in-Err-clause-refused g c = λ number why is.
     let same : c.refuse.result ≡ fault.Refused number why = cc is in
-    let told = c.refuse.ensures.told number why same in
-    (
+    let told = c.refuse.ensures.told number why same in (
       told.0 ∙ ap (λ (n : ℕ). n + 1) c.in-Err.ensures.count,
       subst (λ (t : List ℕ). Appends (g.W.Write.contents (device_of c.args.writer.now)) (g.W.Write.contents (device_of c.refuse.new.writer)) t) c.in-Err.ensures.waiting told.2,
       λ past stands. c.in-Err.ensures.refused c.in-Err.why refl past stands ∙ ap (λ (w : EventFault). Err w) (sym told.1),
@@ -24,4 +22,4 @@ returns-in-Err-clause-write g c = λ is past stands.
     let front = c.refuse.ensures.write same in
     let nothing : text_said (said past c.args.line.now) ≡ [] = ap text_said (c.in-Err.ensures.refused c.in-Err.why refl past stands) in
     subst (λ (t : List ℕ). AppendsFront (g.W.Write.contents (device_of c.args.writer.now)) (g.W.Write.contents (device_of c.refuse.new.writer)) t)
-      (c.in-Err.ensures.waiting ∙ sym (append-nil c.args.self.now.waiting) ∙ ap (λ (t : List ℕ). c.args.self.now.waiting ++ t) (sym nothing)) front.0
+    (c.in-Err.ensures.waiting ∙ sym (append-nil c.args.self.now.waiting) ∙ ap (λ (t : List ℕ). c.args.self.now.waiting ++ t) (sym nothing)) front.0

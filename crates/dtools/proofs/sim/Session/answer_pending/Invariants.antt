@@ -6,8 +6,8 @@ use Rattle.dtools.proofs.sim.Session.answer_pending.Given as goal
 abbrev pub invariant-each : goal.invariant-each
 invariant-each g l =
     ((before now held : Option (List ℕ))
-        → SoFar before now held (g.W.Write.contents (device_of l.fn.writer)) l.fn.lines.pending l.fn.self.waiting l.fn.self.machine l.fn.self.count
-        → SoFar before now held (g.W.Write.contents (device_of l.writer)) l.lines.pending l.self.waiting l.self.machine l.self.count)
+    → SoFar before now held (g.W.Write.contents (device_of l.fn.writer)) l.fn.lines.pending l.fn.self.waiting l.fn.self.machine l.fn.self.count
+    → SoFar before now held (g.W.Write.contents (device_of l.writer)) l.lines.pending l.self.waiting l.self.machine l.self.count)
     × (l.self.count + length l.lines.pending ≤ l.fn.self.count + length l.fn.lines.pending)
     × (l.lines.bound ≡ l.fn.lines.bound)
     × (fault_count l.writer ≡ fault_count l.fn.writer)
