@@ -1,7 +1,7 @@
 # build: proves and builds the program. test: the gate. install: copies the program to PREFIX/bin.
 PREFIX ?= /usr/local
 PROGRAM = crates/dtools/out/dtools
-COMMANDS =
+COMMANDS = tai64n
 
 .PHONY: build test install
 
