@@ -1,5 +1,5 @@
 -- Parts of lines, as the code meets them.
-use Rattle.std.proofs.Common.{◌≡◌, ℕ, zero, suc, ◌+◌, ◌-◌, ◌<◌, ◌≤◌, ◌==◌, Bool, true, false, not, if◌then◌else◌, List, [], ◌∷◌, ◌++◌, length, take, drop, Option, Some, None, refl, sym, subst, ap, ◌∙◌, arith, append_assoc, append-nil}
+use Rattle.std.proofs.Common.{◌≡◌, ℕ, ◌+◌, ◌-◌, ◌<◌, Bool, true, false, not, if◌then◌else◌, List, [], ◌∷◌, ◌++◌, length, take, drop, Option, refl, sym, subst, ◌∙◌, append-nil}
 use Rattle.std.specs.Io.BufRead.{take_through}
 use Rattle.std.specs.Io.KnownBytes.{Appends}
 use Rattle.std.proofs.Math.Seq.{take-add}
@@ -9,10 +9,8 @@ use Rattle.tai_status.specs.Counted.{AppendsFront}
 use Rattle.tai_status.specs.Lines.{stamp, Gave}
 use Rattle.tai_status.specs.Block.{Emits}
 use Rattle.tai_status.specs.Stamping.{stamped_on, is_inside, Stamps, StampsUpTo}
-use Rattle.tai_status.proofs.Known.{Emits-then, Emits-front, AppendsFront-more}
+use Rattle.tai_status.proofs.Known.{Emits-then, Emits-front}
 use Rattle.tai_status.proofs.Stamped.{Stamps-inside, Stamps-start, StampsUpTo-inside, StampsUpTo-start, StampsUpTo-more, Stamps-then, Stamps-failed}
-
-
 
 -- A part
 

@@ -116,7 +116,12 @@ impl Block {
     }
 
     /// Puts two pieces, one after the other.
-    pub fn put_both<W: Write>(&mut self, first: &[u8], second: &[u8], writer: &mut Counted<W>) -> Result<(), DeviceFault>
+    pub fn put_both<W: Write>(
+        &mut self,
+        first: &[u8],
+        second: &[u8],
+        writer: &mut Counted<W>,
+    ) -> Result<(), DeviceFault>
         ensures ok { OnOk result (Emits (W.contents (device_of writer.old)) (W.contents (device_of writer.new)) self.old self.new (first.now ++ second.now)) }
         ensures err { OnErr result (AppendsFront (W.contents (device_of writer.old)) (W.contents (device_of writer.new)) (self.old ++ (first.now ++ second.now))) }
         ensures faults { OnOk result (fault_count writer.new ≡ fault_count writer.old) }

@@ -1,7 +1,7 @@
-use Rattle.std.proofs.Common.{◌≡◌, List, ℕ, [], take, subst, sym, ap, refl, ◌∙◌, arith, length}
+use Rattle.std.proofs.Common.{List, ℕ, take, subst, arith}
 use Rattle.std.specs.Io.KnownBytes.{Consumes}
 use Rattle.std.proofs.lemmas.Grind.{common_steps}
-use Rattle.tai_status.proofs.Stamped.{SoFar-unread, SoFar-end, SoFar-then, SoFar-unwritten, SoFar-none}
+use Rattle.tai_status.proofs.Stamped.{SoFar-unread, SoFar-end, SoFar-then, SoFar-unwritten}
 use Rattle.tai_status.proofs.stamp.stamp_lines.Goals as goal
 
 pub returns-in-Err-clause-front : goal.returns-in-Err-clause-front

@@ -1,5 +1,5 @@
-use Rattle.std.proofs.Common.{◌≡◌, ◌≤◌, ◌<◌, ◌+◌, ◌-◌, ◌*◌, ◌^◌, ℕ, Bool, [], List, take, length}
-use Rattle.tai_status.specs.Stamping.{Stamps, SoFar}
+use Rattle.std.proofs.Common.{◌≡◌, ◌≤◌, ◌-◌, ◌*◌, ◌^◌, []}
+use Rattle.tai_status.specs.Stamping.{SoFar}
 use Rattle.tai_status.proofs.stamp.stamp_lines.Given as goal
 
 abbrev pub invariant-reads : goal.invariant-reads

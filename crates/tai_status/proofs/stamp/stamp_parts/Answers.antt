@@ -2,8 +2,6 @@ use Rattle.std.proofs.Common.{arith}
 use Rattle.std.proofs.lemmas.Grind.{common_steps}
 use Rattle.std.proofs.lemmas.Result.{err_from_is_err_and}
 use Rattle.tai_status.proofs.Parts.{parts_further, parts_failed}
-use Rattle.tai_status.proofs.Stamped.{Stamps-none}
-use Rattle.tai_status.proofs.Known.{Emits-none, Keeps-same}
 use Rattle.tai_status.proofs.stamp.stamp_parts.Goals as goal
 
 pub returns-in_err-part-clause-err : goal.returns-in_err-part-clause-err

@@ -1,5 +1,5 @@
-use Rattle.std.proofs.Common.{◌≡◌, ◌≤◌, ◌<◌, ◌+◌, ◌-◌, ◌*◌, ◌^◌, ℕ, Bool, [], List, take, length}
-use Rattle.tai_status.specs.Stamping.{Stamps, SoFar}
+use Rattle.std.proofs.Common.{◌≡◌, ◌≤◌, ◌-◌, take, length}
+use Rattle.tai_status.specs.Stamping.{Stamps}
 use Rattle.tai_status.proofs.stamp.stamp_parts.Given as goal
 
 abbrev pub invariant-loop-at : goal.invariant-loop-at

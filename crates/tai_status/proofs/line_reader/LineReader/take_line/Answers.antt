@@ -1,7 +1,7 @@
-use Rattle.std.proofs.Common.{◌≡◌, ◌≤◌, ◌<◌, List, ℕ, length, subst, sym, ap, ◌∙◌, arith, refl}
+use Rattle.std.proofs.Common.{◌≡◌, List, ℕ, length, subst, sym, ap, ◌∙◌, refl}
 use Rattle.std.specs.List.{slice_range}
 use Rattle.tai_status.specs.LineReader.{Given, IsPlain}
-use Rattle.memchr.specs.Find.{NoneBefore, Nowhere, Passes, is_byte}
+use Rattle.memchr.specs.Find.{NoneBefore, Passes, is_byte}
 use Rattle.tai_status.proofs.Ranges.{line_found, none_found}
 use Rattle.tai_status.proofs.line_reader.LineReader.take_line.Goals as goal
 
