@@ -1,0 +1,7 @@
+pub mod Arrived
+pub mod Histories
+pub mod Lengths
+pub mod Lists
+pub mod Pair
+pub mod Steps
+pub mod Told

@@ -1,0 +1,26 @@
+use Rattle.std.proofs.Common.{◌≡◌, ℕ, refl, ap, sym, ◌∙◌, subst}
+use Rattle.std.specs.Arc.{arc_value}
+use Rattle.atomic_table.specs.Seated.{TableId}
+use Rattle.crossbeam_queue.specs.Passes.{view, ruled_capacity}
+use Rattle.svc_mail.specs.Ends.{AreNewSenders}
+use Rattle.svc_mail.proofs.Steps.{begins}
+use Rattle.svc_mail.proofs.mailbox.Mailbox.open.Goals as goal
+
+pub ruled-requires-clause-rule : goal.ruled-requires-clause-rule
+ruled-requires-clause-rule g c = begins
+
+pub returns : goal.returns
+returns g c =
+    let mine : arc_value c.in_ok-queue-2.queue ≡ arc_value c.in_ok-own.own = sym c.in_ok-own.ensures in
+    let room : ruled_capacity (arc_value c.in_ok-queue-2.queue) ≡ c.args.capacity = ap ruled_capacity c.in_ok-queue-2.ensures.ok ∙ c.in_ok-queue.ensures.0 in
+    let pass = c.in_ok-ends.ensures.pass in
+    let mark = c.over.ensures.1 in
+    let knows = ap view mark ∙ pass.1 in (
+      ap ruled_capacity (sym mine) ∙ room,
+      refl,
+      c.in_ok-ends.ensures.senders.0,
+      subst (λ (y : ℕ × TableId). AreNewSenders y.0 c.args.senders y.1 c.in_ok-ends.ends.items) (λ i. (room i, (mine i).table.shared.table_id)) c.in_ok-ends.ensures.senders.1,
+      (ap (λ m. m.table_id) mark ∙ pass.0.0 ∙ ap (λ q. q.table.shared.table_id) mine, ap (λ v. v.all) knows),
+      ap (λ v. v.taken) knows,
+      ap (λ v. v.seen) knows,
+    )

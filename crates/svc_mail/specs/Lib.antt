@@ -1,0 +1,4 @@
+pub mod Ends
+pub mod History
+pub mod Kept
+pub mod Whole

@@ -1,0 +1,109 @@
+//! The rule that the queue of a mailbox keeps at each step, and what each end of the mailbox knows by it.
+use crate::letter::Letter;
+use crossbeam_queue::protocol::{Join, Lesson, Outcome, Protocol, Split};
+use crossbeam_queue::{Pass, RuledArrayQueue};
+use std::alloc::Global;
+use std::collections::LinkedList;
+
+// A queue takes no more values than this.
+pub(crate) const MOST: u64 = 1 << 62;
+
+/// What an end of a mailbox knows: a sender its number and its row, the receiver what it took and the senders that have
+/// ended, both the history that they have seen. No value of it is made.
+pub struct Knows<T> {
+    pub all: u64,
+    pub posts: bool,
+    pub number: usize,
+    pub row: LinkedList<T>,
+    pub takes: bool,
+    pub taken: LinkedList<Letter<T>>,
+    pub made: u64,
+    pub ended: LinkedList<(usize, LinkedList<T>, LinkedList<Letter<T>>)>,
+    pub seen: LinkedList<Letter<T>>,
+}
+
+/// What was taken, and then what the queue holds, is the history, in which each sender's letters are its row.
+pub struct InOrder;
+
+impl<T> Protocol<Letter<T>, Knows<T>> for InOrder {
+    ghost use Rattle.std.specs.Prelude.{[]};
+    ghost use Rattle.svc_mail.specs.Kept.{Kept, taker};
+
+    ghost holds = { Kept };
+
+    ghost first = { taker 0 0 [] [] [] };
+}
+
+/// A letter joins the history and its sender's row; or the sender learns that the queue was full.
+pub struct Posts;
+
+impl<T> Outcome<Letter<T>, Knows<T>> for Posts {
+    ghost use Rattle.svc_mail.specs.Kept.{Adds};
+
+    ghost then = { Adds };
+}
+
+impl<T> Lesson<Letter<T>, Knows<T>> for Posts {
+    ghost use Rattle.std.specs.Prelude.{List, ◌++◌};
+    ghost use Rattle.svc_mail.specs.Kept.{MayBe};
+
+    ghost fact = { λ v items. (taken : List _) × MayBe v (taken ++ items) };
+}
+
+/// The receiver takes the next letter of the history; or it learns that it has taken them all.
+pub struct Gets;
+
+impl<T> Outcome<Letter<T>, Knows<T>> for Gets {
+    ghost use Rattle.svc_mail.specs.Kept.{Takes};
+
+    ghost then = { Takes };
+}
+
+impl<T> Lesson<Letter<T>, Knows<T>> for Gets {
+    ghost use Rattle.std.specs.Prelude.{◌++◌};
+    ghost use Rattle.svc_mail.specs.Kept.{IsWhole};
+
+    ghost fact = { λ v items. IsWhole v (v.taken ++ items) };
+}
+
+/// The mailbox is to have a sender more.
+pub struct Promised;
+
+impl<T> Split<Knows<T>> for Promised {
+    ghost use Rattle.std.specs.Prelude.{◌+◌};
+    ghost use Rattle.svc_mail.specs.Kept.{nobody, taker};
+
+    ghost left = { λ v. taker (v.all + 1) v.made v.taken v.ended v.seen };
+
+    ghost right = { λ v. nobody };
+}
+
+/// The next sender is made.
+pub struct Made;
+
+impl<T> Split<Knows<T>> for Made {
+    ghost use Rattle.std.specs.Prelude.{◌+◌, []};
+    ghost use Rattle.svc_mail.specs.Kept.{poster, taker};
+
+    ghost left = { λ v. taker v.all (v.made + 1) v.taken v.ended v.seen };
+
+    ghost right = { λ v. poster v.all v.made [] v.seen };
+}
+
+/// A sender has ended, and what it posted and saw is known from then on.
+pub struct Ended;
+
+impl<T> Join<Knows<T>> for Ended {
+    ghost use Rattle.std.specs.Prelude.{[], ◌∷◌, ◌++◌};
+    ghost use Rattle.svc_mail.specs.Kept.{taker, nobody};
+
+    ghost both = { λ v w. taker v.all v.made v.taken (v.ended ++ (w.number, w.row, w.seen) ∷ []) v.seen };
+
+    ghost spent = { nobody };
+}
+
+/// The queue of letters, under the rule.
+pub type Queue<T, A = Global> = RuledArrayQueue<Letter<T>, Knows<T>, InOrder, A>;
+
+/// What one end knows of the queue. It has no bytes.
+pub type Mark<T> = Pass<Letter<T>, Knows<T>>;

@@ -1,0 +1,102 @@
+//! The posting end of a mailbox.
+ghost use Rattle.std.specs.Prelude.{◌≡◌, ◌≤◌, ◌^◌, length};
+ghost use Rattle.std.specs.Arc.{arc_value};
+ghost use Rattle.crossbeam_queue.specs.Passes.{view, IsPassOf};
+ghost use Rattle.svc_mail.specs.Kept.{poster};
+
+use crate::letter::{Full, Letter};
+use crate::rule::{MOST, Made, Mark, Posts, Queue};
+use std::alloc::{AllocError, Allocator, Global};
+use std::sync::{Arc, Wait};
+
+/// A sender of a mailbox. Its number is its own, from 0, and its letters keep their order.
+/// Contracts see its mailbox (`home`), its number (`number_of`) and its row: the items that it posted, in order
+/// (`posted`). A sender that is dropped keeps the mailbox from being closed.
+#[derive(Drop)]
+pub struct Sender<T: Copy, A: Allocator = Global> {
+    pub(crate) queue: Arc<Queue<T, A>, A>,
+    pub(crate) mark: Mark<T>,
+    number: usize,
+    next: u64,
+    ghost seated: { IsPassOf (arc_value queue) mark },
+    ghost knows: { view mark ≡ poster (view mark).all number (view mark).row (view mark).seen },
+    ghost counted: { next ≡ length (view mark).row },
+    ghost within: { next ≤ 2 ^ 62 },
+}
+
+impl<T: Copy, A: Allocator + Clone> Sender<T, A> {
+    ghost use Rattle.std.specs.Prelude.{◌≡◌, ◌+◌, ◌<◌, ◌≤◌, ◌^◌, ◌∷◌, ◌++◌, [], true, length, MatchResult, IfOk, IfErr};
+    ghost use Rattle.std.specs.Arc.{arc_value};
+    ghost use Rattle.crossbeam_queue.specs.Passes.{view, IsPassOf};
+    ghost use Rattle.svc_mail.specs.Kept.{poster, taker};
+    ghost use Rattle.svc_mail.specs.Ends.{IsSameSender, JoinsHistory, WasFull, home, number_of, posted, seen_by, senders_of};
+
+    // The next sender, made by the receiver's pass.
+    pub(crate) fn make(
+        queue: &Arc<Queue<T, A>, A>,
+        mark: &mut Mark<T>,
+        number: usize,
+    ) -> Result<Sender<T, A>, AllocError>
+        requires pass { IsPassOf (arc_value queue.now) mark.old }
+        requires next { ((view mark.old).takes ≡ true) × ((view mark.old).made ≡ number) × (number < (view mark.old).all) }
+        ensures pass { IfOk result (λ s. IsPassOf (arc_value queue.now) mark.new) }
+        ensures next { IfOk result (λ s. view mark.new ≡ taker (view mark.old).all (number + 1) (view mark.old).taken (view mark.old).ended (view mark.old).seen) }
+        ensures sender { IfOk result (λ s. (arc_value s.queue ≡ arc_value queue.now) × IsPassOf (arc_value queue.now) s.mark × (view s.mark ≡ poster (view mark.old).all number [] (view mark.old).seen) × (number_of s ≡ number)) }
+    {
+        let own = Arc::try_clone(queue)?;
+        let its = queue.another::<Made>(mark);
+        Ok(Sender {
+            queue: own,
+            mark: its,
+            number,
+            next: 0,
+        })
+    }
+
+    pub(crate) fn into_mark(self) -> Mark<T>
+        ensures { (result ≡ self.mark) × ((view result).posts ≡ true) × ((view result).number ≡ number_of self) × (result.me.1 ≡ []) }
+    {
+        let Sender {
+            queue: _queue,
+            mark,
+            number: _,
+            next: _,
+        } = self;
+        mark
+    }
+
+    /// Its number among the senders of its mailbox, from 0.
+    pub fn number(&self) -> usize
+        ensures { result ≡ number_of self.now }
+    {
+        self.number
+    }
+
+    /// Posts an item, once, as the next letter of this sender. The item comes back, and nothing was posted, only if the
+    /// mailbox was full at one moment of the call. It takes no memory.
+    /// After 2^62 letters of this sender it waits for ever.
+    pub fn post<R: Wait>(&mut self, rt: &R, item: T) -> Result<(), Full<T>>
+        ensures same { IsSameSender self.old self.new }
+        ensures row { MatchResult result (λ _. posted self.new ≡ posted self.old ++ item ∷ []) (λ _. posted self.new ≡ posted self.old) }
+        ensures history { MatchResult result (λ _. JoinsHistory self.old item self.new) (λ _. seen_by self.new ≡ seen_by self.old) }
+        ensures full { IfErr result (λ full. (full.0 ≡ item) × WasFull self.old) }
+        ensures within { length (posted self.new) ≤ 2 ^ 62 }
+    {
+        if self.next >= MOST {
+            for _ in rt.forever() {}
+            unreachable!()
+        }
+        let letter = Letter {
+            sender: self.number,
+            place: self.next,
+            item,
+        };
+        match self.queue.push_as::<Posts, R>(rt, &mut self.mark, letter) {
+            Ok(()) => {
+                self.next += 1;
+                Ok(())
+            }
+            Err(letter) => Err(Full(letter.item)),
+        }
+    }
+}

@@ -1,0 +1,335 @@
+ghost use Rattle.std.specs.Prelude.{◌≡◌, ◌++◌, ◌∷◌, ◌+◌, ◌≤◌, [], IfOk, IfSome, length, vec_len, vec_capacity};
+ghost use Rattle.svc_mail.specs.History.{letter, row_of};
+ghost use Rattle.svc_mail.specs.Ends.{IsSameSender, IsSameReceiver, home, number_of, posted, receiver_home, taken_by, senders_at, box_of, senders_in, AreNewSenders, IsNewSender, IsItsReceiver};
+
+use crate::letter::{Full, Letter};
+use crate::letters::Letters;
+use crate::mailbox::Mailbox;
+use crate::receiver::Receiver;
+use crate::sender::Sender;
+use crate::whole::every_letter_arrives;
+use bumpalo::Bump;
+use std::alloc::{AllocError, Allocator, Global};
+use std::sync::Wait;
+use std::test::Fail;
+use std::thread;
+use std::thread::Threads;
+
+// The two senders of a mailbox that was just opened, and the vector that held them.
+fn two_of<T: Copy, A: Allocator + Clone>(
+    mut senders: Vec<Sender<T, A>, A>,
+    capacity: usize,
+    mailbox: &Mailbox<T, A>,
+) -> (Sender<T, A>, Sender<T, A>, Vec<Sender<T, A>, A>)
+    requires { (length senders.items ≡ 2) × AreNewSenders capacity 2 (box_of mailbox.now) senders.items }
+    ensures two { IsNewSender capacity 2 (box_of mailbox.now) 0 result.0 × IsNewSender capacity 2 (box_of mailbox.now) 1 result.1 }
+    ensures room { result.2.items ≡ [] }
+{
+    let second = senders.pop().unwrap();
+    let first = senders.pop().unwrap();
+    (first, second, senders)
+}
+
+// Closes a mailbox of two senders. Where there was no memory it lifts the limit, and closes what came back.
+fn close_two<T: Copy, A: Allocator + Clone, R: Wait>(
+    rt: &R,
+    limited: Option<&Bump>,
+    mailbox: Mailbox<T, A>,
+    one: Sender<T, A>,
+    two: Sender<T, A>,
+    receiver: Receiver<T, A>,
+    mut ends: Vec<Sender<T, A>, A>,
+) -> Result<Letters<T, A>, AllocError>
+    requires one { (home one ≡ box_of mailbox) × (number_of one ≡ 0) }
+    requires two { (home two ≡ box_of mailbox) × (number_of two ≡ 1) }
+    requires receiver { IsItsReceiver mailbox receiver × (senders_in mailbox ≡ 2) }
+    requires room { ends.items ≡ [] }
+    ensures one { IfOk result (λ left. row_of 0 (taken_by receiver ++ left) ≡ posted one) }
+    ensures two { IfOk result (λ left. row_of 1 (taken_by receiver ++ left) ≡ posted two) }
+{
+    ends.push(one)?;
+    ends.push(two)?;
+    match mailbox.close(rt, ends, receiver) {
+        Ok(left) => Ok(left),
+        Err(back) => {
+            if let Some(bump) = limited {
+                bump.set_allocation_limit(None);
+            }
+            match back.mailbox.close(rt, back.senders, back.receiver) {
+                Ok(left) => Ok(left),
+                Err(_refused) => Err(AllocError),
+            }
+        }
+    }
+}
+
+#[test]
+fn a_full_mailbox_gives_the_item_back(rt: HostRuntime) -> Result<(), Fail> {
+    let (mailbox, mut senders, receiver) = Mailbox::<u8>::open(rt.alloc(), 64, 1)?;
+    assert_eq!(rt; mailbox.capacity(), 64);
+    let Some(mut sender) = senders.pop() else {
+        return Ok(());
+    };
+    assert_eq!(rt; sender.number(), 0);
+    for _ in 0..64 {
+        assert!(rt; sender.post(&rt, b'u').is_ok());
+    }
+    assert_eq!(rt; sender.post(&rt, b'd'), Err(Full(b'd')));
+    drop(receiver);
+    Ok(())
+}
+
+#[test]
+fn what_is_left_comes_in_order(rt: HostRuntime) -> Result<(), Fail> {
+    let (mailbox, senders, mut receiver) = Mailbox::<u8>::open(rt.alloc(), 64, 2)?;
+    let (mut first, mut second, room) = two_of(senders, 64, &mailbox);
+    assert_eq!(rt; receiver.take(&rt), None);
+    assert_eq!(rt; first.post(&rt, b'u'), Ok(()));
+    assert_eq!(rt; first.post(&rt, b't'), Ok(()));
+    assert_eq!(rt; second.post(&rt, b'd'), Ok(()));
+    let taken = receiver.take(&rt);
+    assert_eq!(rt;
+        taken,
+        Some(Letter {
+            sender: 0,
+            place: 0,
+            item: b'u'
+        })
+    );
+    let left = close_two(&rt, None, mailbox, first, second, receiver, room)?.into_vec();
+    let rest = [
+        Letter {
+            sender: 0,
+            place: 1,
+            item: b't',
+        },
+        Letter {
+            sender: 1,
+            place: 0,
+            item: b'd',
+        },
+    ];
+    assert_eq!(rt; left.as_slice(), rest.as_slice());
+    every_letter_arrives::<u8, Global>();
+    Ok(())
+}
+
+// A region in which so many bytes are left, and which gets no more.
+fn region(alloc: Global, left: usize) -> Result<Bump, AllocError> {
+    let bump = Bump::try_with_capacity(alloc, 4096)?;
+    bump.set_allocation_limit(Some(0));
+    let filler = bump.chunk_capacity().saturating_sub(left);
+    bump.try_alloc_slice_fill_clone(filler, 0u8)?;
+    Ok(bump)
+}
+
+#[test]
+fn each_growth_is_refused_in_turn(rt: HostRuntime) -> Result<(), Fail> {
+    let mut opens_refused = 0usize;
+    let mut closes_refused = 0usize;
+    for words in 0..400usize {
+        let bump = region(rt.alloc(), words * 8)?;
+        let Ok((mailbox, senders, mut receiver)) = Mailbox::<u8, &Bump>::open(&bump, 4, 2) else {
+            opens_refused = opens_refused.wrapping_add(1);
+            continue;
+        };
+        let (mut first, mut second, room) = two_of(senders, 4, &mailbox);
+        assert_eq!(rt; first.post(&rt, b'u'), Ok(()));
+        assert_eq!(rt; first.post(&rt, b't'), Ok(()));
+        assert_eq!(rt; second.post(&rt, b'd'), Ok(()));
+        assert_eq!(rt;
+            receiver.take(&rt),
+            Some(Letter {
+                sender: 0,
+                place: 0,
+                item: b'u'
+            })
+        );
+        let left = close_two(&rt, Some(&bump), mailbox, first, second, receiver, room)?.into_vec();
+        let rest = [
+            Letter {
+                sender: 0,
+                place: 1,
+                item: b't',
+            },
+            Letter {
+                sender: 1,
+                place: 0,
+                item: b'd',
+            },
+        ];
+        assert_eq!(rt; left.as_slice(), rest.as_slice());
+        if bump.allocation_limit().is_some() {
+            break;
+        }
+        closes_refused = closes_refused.wrapping_add(1);
+    }
+    assert!(rt; opens_refused > 0);
+    assert!(rt; closes_refused > 0);
+    Ok(())
+}
+
+// Posts an item, and again where it comes back.
+fn post_until<R: Wait>(rt: &R, sender: &mut Sender<u32>, item: u32)
+    ensures same { IsSameSender sender.old sender.new }
+    ensures posted { posted sender.new ≡ posted sender.old ++ item ∷ [] }
+{
+    for _ in rt.forever() {
+        match sender.post(rt, item) {
+            Ok(()) => return,
+            Err(_full) => thread::yield_now(),
+        }
+    }
+    unreachable!()
+}
+
+// Posts all items.
+fn post_all<R: Wait>(rt: &R, mut sender: Sender<u32>, items: &[u32]) -> Sender<u32>
+    ensures same { IsSameSender sender result }
+    ensures posted { posted result ≡ posted sender ++ items.now }
+{
+    for &item in items {
+        post_until(rt, &mut sender, item);
+    }
+    sender
+}
+
+// The next letter, once there is one.
+fn take_until<R: Wait>(rt: &R, receiver: &mut Receiver<u32>) -> Letter<u32>
+    ensures same { IsSameReceiver receiver.old receiver.new }
+    ensures taken { taken_by receiver.new ≡ taken_by receiver.old ++ result ∷ [] }
+{
+    for _ in rt.forever() {
+        match receiver.take(rt) {
+            Some(letter) => return letter,
+            None => thread::yield_now(),
+        }
+    }
+    unreachable!()
+}
+
+// Takes so many letters.
+fn take_all<R: Wait>(
+    rt: &R,
+    mut receiver: Receiver<u32>,
+    count: usize,
+    mut into: Vec<Letter<u32>>,
+) -> (Receiver<u32>, Vec<Letter<u32>>)
+    requires { vec_len into + count ≤ vec_capacity into }
+    ensures same { IsSameReceiver receiver result.0 }
+    ensures taken { (into.items ≡ taken_by receiver) → (result.1.items ≡ taken_by result.0) }
+{
+    for _taken in 0..count {
+        into.push_reserved(take_until(rt, &mut receiver));
+    }
+    (receiver, into)
+}
+
+// Two threads post, a third takes as many letters, and what is left comes last.
+fn carry<R: Threads + Wait + Sync>(
+    rt: &R,
+    alloc: Global,
+    first: &[u32],
+    second: &[u32],
+    count: usize,
+) -> Result<(Vec<Letter<u32>>, Letters<u32>), AllocError>
+    ensures first { IfOk result (λ r. row_of 0 (r.0.items ++ r.1) ≡ first.now) }
+    ensures second { IfOk result (λ r. row_of 1 (r.0.items ++ r.1) ≡ second.now) }
+{
+    let taken = Vec::with_capacity(alloc, count)?;
+    let (mailbox, senders, receiver) = Mailbox::open(alloc, 4, 2)?;
+    let (one, two, room) = two_of(senders, 4, &mailbox);
+    let (one, (two, (receiver, taken))) = thread::join(
+        rt,
+        move || -> Sender<u32>
+            ensures { IsSameSender one result × (posted result ≡ posted one ++ first.entry.now) }
+        { post_all(rt, one, first) },
+        move || -> (Sender<u32>, (Receiver<u32>, Vec<Letter<u32>>))
+            requires { vec_len taken + count ≤ vec_capacity taken }
+            ensures { IsSameSender two result.0 × (posted result.0 ≡ posted two ++ second.entry.now) × IsSameReceiver receiver result.1.0 × ((taken.items ≡ taken_by receiver) → (result.1.1.items ≡ taken_by result.1.0)) }
+        {
+            thread::join(
+                rt,
+                move || -> Sender<u32>
+                    ensures { IsSameSender two result × (posted result ≡ posted two ++ second.entry.now) }
+                { post_all(rt, two, second) },
+                move || -> (Receiver<u32>, Vec<Letter<u32>>)
+                    requires { vec_len taken + count ≤ vec_capacity taken }
+                    ensures { IsSameReceiver receiver result.0 × ((taken.items ≡ taken_by receiver) → (result.1.items ≡ taken_by result.0)) }
+                { take_all(rt, receiver, count, taken) },
+            )
+        },
+    );
+    let left = close_two(rt, None, mailbox, one, two, receiver, room)?;
+    Ok((taken, left))
+}
+
+#[test]
+fn two_thousand_letters_cross_threads(rt: HostRuntime) -> Result<(), Fail> {
+    let mut first = Vec::new(rt.alloc());
+    let mut second = Vec::new(rt.alloc());
+    for i in 0..1000u32 {
+        first.push(i)?;
+        second.push(i + 5000)?;
+    }
+    let (taken, left) = carry(&rt, rt.alloc(), &first, &second, 2000)?;
+    assert_eq!(rt; left.len(), 0);
+    let mut nexts = (0u64, 0u64);
+    for letter in &taken {
+        let place = if letter.sender == 0 { nexts.0 } else { nexts.1 };
+        assert_eq!(rt; letter.place, place);
+        if letter.sender == 0 {
+            assert_eq!(rt; u64::from(letter.item), place);
+            nexts.0 = nexts.0.wrapping_add(1);
+        } else {
+            assert_eq!(rt; letter.sender, 1);
+            assert_eq!(rt; u64::from(letter.item), place.wrapping_add(5000));
+            nexts.1 = nexts.1.wrapping_add(1);
+        }
+    }
+    assert_eq!(rt; nexts, (1000, 1000));
+    Ok(())
+}
+
+/// Up to 512 bytes, an item of another size.
+#[derive(Clone, Copy)]
+struct Piece {
+    bytes: [u8; 512],
+    len: u16,
+}
+
+// Posts a piece in a thread of its own, and gives the sender back.
+fn post_in_thread<R>(rt: R, sender: Sender<Piece>, piece: Piece) -> Option<Sender<Piece>>
+where
+    R: Threads + Wait + Copy + Send + 'static,
+{
+    let child = thread::spawn(&rt, move || {
+        let mut sender = sender;
+        let _posted = sender.post(&rt, piece).is_ok();
+        sender
+    })
+    .ok()?;
+    Some(child.join(&rt))
+}
+
+#[test]
+fn a_spawned_thread_posts(rt: HostRuntime) -> Result<(), Fail> {
+    let (_mailbox, mut senders, mut receiver) = Mailbox::<Piece>::open(rt.alloc(), 1, 1)?;
+    let Some(sender) = senders.pop() else {
+        return Ok(());
+    };
+    let piece = Piece {
+        bytes: [7; 512],
+        len: 512,
+    };
+    let Some(_sender) = post_in_thread(rt, sender, piece) else {
+        return Ok(());
+    };
+    let Some(letter) = receiver.take(&rt) else {
+        assert!(rt; false);
+        return Ok(());
+    };
+    assert_eq!(rt; (letter.sender, letter.place, letter.item.len), (0, 0, 512));
+    assert_eq!(rt; letter.item.bytes[511], 7);
+    Ok(())
+}
