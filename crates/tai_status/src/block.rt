@@ -64,7 +64,8 @@ impl Block {
         self.len = end;
     }
 
-    /// Writes what is pending.
+    /// Writes what is pending. After a fault a front of it may be written, and what is pending then is
+    /// not promised: it is not to be written again.
     pub fn flush<W: Write>(&mut self, writer: &mut Counted<W>) -> Result<(), DeviceFault>
         ensures ok { OnOk result (Appends (W.contents (device_of writer.old)) (W.contents (device_of writer.new)) self.old) }
         ensures empty { OnOk result (self.new ≡ []) }

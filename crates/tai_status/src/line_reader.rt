@@ -112,7 +112,8 @@ impl<A: Allocator> LineReader<A> {
     }
 
     /// Reads once, behind what is pending. Answers whether bytes came: none come at the end of the
-    /// input alone. That a line is too long is told before anything more is read.
+    /// input alone. That a line is too long is told before anything more is read. The line that was
+    /// given last is given up.
     pub fn fill<D: Read>(&mut self, reader: &mut Counted<D>) -> Result<bool, LineFault>
         ensures filled { OnOk result (Fills (D.remaining (device_of reader.old)) (D.remaining (device_of reader.new)) self.old self.new) }
         ensures end { IfOk result (λ more. more ≡ false → IsAtEnd (D.remaining (device_of reader.new)) × (self.new.pending ≡ self.old.pending)) }
