@@ -46,7 +46,8 @@ split_front : {X : Type 0} (p : X → Bool) (x : X) (xs : List X) (b : Bool) →
 split_front p x xs true e ih h = cc (rw e at h)
 split_front p x xs false e ih h = onto_some x (slice_split p xs) (rw e at h)
 
-split_some_part : {X : Type 0} (p : X → Bool) (xs : List X) → slice_split p xs ≡ [] → ⊥
+-- a list has at least one part
+pub split_some_part : {X : Type 0} (p : X → Bool) (xs : List X) → slice_split p xs ≡ [] → ⊥
 split_some_part p [] h = cc h
 split_some_part p (x ∷ xs) h = split_front p x xs (p x) refl (split_some_part p xs) h
 

@@ -1,10 +1,10 @@
 -- Event lines and begin lines: what is told is read, and what is read is told so.
-use Rattle.std.proofs.Common.{◌≡◌, ℕ, ◌^◌, ◌<◌, ◌==◌, ◌&&◌, Bool, true, false, not, List, [], ◌∷◌, ◌++◌, drop, Option, Some, None, Result, Ok, Err, refl, sym, ap, ◌∙◌, arith, decimal, subst, codes}
+use Rattle.std.proofs.Common.{◌≡◌, ℕ, ◌^◌, ◌<◌, ◌≤◌, ◌==◌, ◌&&◌, nat_lt, Bool, true, false, not, List, [], ◌∷◌, ◌++◌, drop, Option, Some, None, Result, Ok, Err, refl, sym, ap, ◌∙◌, arith, decimal, subst, codes}
 use Rattle.std.specs.Prelude.{IfOk, IfSome, if◌then◌else◌, bytes_eq, option_map, ok_or}
-use Rattle.std.specs.List.{list_all, onto_first, join_with_byte}
+use Rattle.std.specs.List.{AllByRecursion, list_all, onto_first, slice_split, join_with_byte}
 use Rattle.std.specs.Str.Parse.{AllDigits}
 use Rattle.std.specs.Char.{digit_value}
-use Rattle.std.proofs.lemmas.Bool.{and_parts, eqb-true}
+use Rattle.std.proofs.lemmas.Bool.{and_parts}
 use Rattle.std.proofs.lemmas.Slice.Eq.{bytes_eq-Decides}
 use Rattle.std.proofs.lemmas.Fmt.{decimal_is_IsNumeral}
 use Rattle.std.proofs.lemmas.List.Splits.{slice_split-cons_no, slice_split-cons_yes, join_with_byte-slice_split}
@@ -24,101 +24,129 @@ use Rattle.sup_core.specs.Fields.{word_name}
 use Rattle.sup_core.specs.Reading.{fields, IsInRange, byte_of_text, pid_of_text, label_of_text, byte_event, started, start_event, label_event, event_of, event_from, side_of, begun, side_event, begin_from}
 use Rattle.sup_core.proofs.Spelling.{all_below, all_below-at, TellsByte, TellsPid, TellsLabel, byte_of_text-found, byte_of_text-only, pid_of_text-found, pid_of_text-only, label_of_text-found, label_of_text-only}
 
--- Fields without a space
+-- Parts between separators
 
-abbrev is_space : ℕ → Bool
-is_space byte = byte == 32
-
-abbrev has_no_space : List ℕ → Bool
-has_no_space text = list_all (λ byte. not (is_space byte)) text
+abbrev pub avoids : ℕ → List ℕ → Bool
+avoids separator text = list_all (λ byte. not (byte == separator)) text
 
 not_false : (b : Bool) → not b ≡ true → b ≡ false
 not_false true h = cc h
 not_false false h = refl
 
--- the field before a space
-fields-first : (word rest : List ℕ) → has_no_space word ≡ true → fields (word ++ 32 ∷ rest) ≡ word ∷ fields rest
-fields-first [] rest h = slice_split-cons_yes is_space 32 rest refl
-fields-first (x ∷ xs) rest h =
-    let parts = and_parts (not (is_space x)) (has_no_space xs) h in
-    slice_split-cons_no is_space x (xs ++ 32 ∷ rest) (not_false (is_space x) parts.0)
-    ∙ ap (onto_first x) (fields-first xs rest parts.1)
+-- the part before a separator
+pub split-first : (separator : ℕ) (word rest : List ℕ) → avoids separator word ≡ true
+    → slice_split (λ byte. byte == separator) (word ++ separator ∷ rest) ≡ word ∷ slice_split (λ byte. byte == separator) rest
+split-first separator [] rest h = slice_split-cons_yes (λ byte. byte == separator) separator rest (grind (arith))
+split-first separator (x ∷ xs) rest h =
+    let parts = and_parts (not (x == separator)) (avoids separator xs) h in
+    slice_split-cons_no (λ byte. byte == separator) x (xs ++ separator ∷ rest) (not_false (x == separator) parts.0)
+    ∙ ap (onto_first x) (split-first separator xs rest parts.1)
 
--- the last field
-fields-last : (word : List ℕ) → has_no_space word ≡ true → fields word ≡ word ∷ []
-fields-last [] h = refl
-fields-last (x ∷ xs) h =
-    let parts = and_parts (not (is_space x)) (has_no_space xs) h in
-    slice_split-cons_no is_space x xs (not_false (is_space x) parts.0) ∙ ap (onto_first x) (fields-last xs parts.1)
+-- the last part
+pub split-last : (separator : ℕ) (word : List ℕ) → avoids separator word ≡ true
+    → slice_split (λ byte. byte == separator) word ≡ word ∷ []
+split-last separator [] h = refl
+split-last separator (x ∷ xs) h =
+    let parts = and_parts (not (x == separator)) (avoids separator xs) h in
+    slice_split-cons_no (λ byte. byte == separator) x xs (not_false (x == separator) parts.0)
+    ∙ ap (onto_first x) (split-last separator xs parts.1)
 
-abbrev is_spaceless : ℕ → Bool
-is_spaceless byte = has_no_space (byte_text byte)
+-- Texts of bytes past the space have neither a space nor a newline.
 
-spaceless_table : all_below is_spaceless 256 ≡ true
-unfolding encode_with
-spaceless_table = refl
+abbrev pub is_solid : List ℕ → Bool
+is_solid text = list_all (λ byte. nat_lt 32 byte) text
 
-byte_text-spaceless : (byte : ℕ) → byte < 2 ^ 8 → has_no_space (byte_text byte) ≡ true
-byte_text-spaceless byte below = all_below-at is_spaceless 256 byte spaceless_table below
-
-digit_no_space : (c : ℕ) → digit_value c < 10 → not (is_space c) ≡ true
-digit_no_space c h =
-    elim (is_space c) as (λ b. is_space c ≡ b → not b ≡ true) [
-      | true ↦ λ is. let e = ap digit_value (eqb-true c 32 is) in absurd (omega (arith, e, h))
-      | false ↦ λ is. refl
-    ] refl
+avoids_solid_byte : (separator byte : ℕ) → separator ≤ 32 → nat_lt 32 byte ≡ true → not (byte == separator) ≡ true
+avoids_solid_byte separator byte low h = grind (arith)
 
 and_true : (a b : Bool) → a ≡ true → b ≡ true → (a && b) ≡ true
 and_true true true h g = refl
 and_true true false h g = cc g
 and_true false b h g = cc h
 
-digits_spaceless : (ds : List ℕ) → AllDigits 10 ds → has_no_space ds ≡ true
-digits_spaceless [] h = refl
-digits_spaceless (c ∷ cs) h = and_true _ _ (digit_no_space c h.0) (digits_spaceless cs h.1)
+pub avoids-solid : (separator : ℕ) (text : List ℕ) → separator ≤ 32 → is_solid text ≡ true → avoids separator text ≡ true
+avoids-solid separator [] low h = refl
+avoids-solid separator (x ∷ xs) low h =
+    let parts = and_parts (nat_lt 32 x) (is_solid xs) h in
+    and_true _ _ (avoids_solid_byte separator x low parts.0) (avoids-solid separator xs low parts.1)
 
-decimal-spaceless : (n : ℕ) → n < 2 ^ 32 → has_no_space (decimal n) ≡ true
-decimal-spaceless n below = digits_spaceless (decimal n) (decimal_is_IsNumeral n (omega (arith, below))).0.1
+-- the field before a space
+pub fields-first : (word rest : List ℕ) → is_solid word ≡ true → fields (word ++ 32 ∷ rest) ≡ word ∷ fields rest
+fields-first word rest h = split-first 32 word rest (avoids-solid 32 word (omega arith) h)
 
-lower_no_space : (c : ℕ) → is_lower_digit c ≡ true → not (is_space c) ≡ true
-lower_no_space c h = grind (arith)
+-- the last field
+pub fields-last : (word : List ℕ) → is_solid word ≡ true → fields word ≡ word ∷ []
+fields-last word h = split-last 32 word (avoids-solid 32 word (omega arith) h)
 
-lower_spaceless : (ds : List ℕ) → list_all is_lower_digit ds ≡ true → has_no_space ds ≡ true
-lower_spaceless [] h = refl
-lower_spaceless (c ∷ cs) h =
+abbrev is_solid_text : ℕ → Bool
+is_solid_text byte = is_solid (byte_text byte)
+
+solid_table : all_below is_solid_text 256 ≡ true
+unfolding encode_with
+solid_table = refl
+
+byte_text-solid : (byte : ℕ) → byte < 2 ^ 8 → is_solid (byte_text byte) ≡ true
+byte_text-solid byte below = all_below-at is_solid_text 256 byte solid_table below
+
+solid_digit : (c : ℕ) → digit_value c < 10 → nat_lt 32 c ≡ true
+solid_digit c h = grind (arith)
+
+solid_digits : (ds : List ℕ) → AllDigits 10 ds → is_solid ds ≡ true
+solid_digits [] h = refl
+solid_digits (c ∷ cs) h = and_true _ _ (solid_digit c h.0) (solid_digits cs h.1)
+
+pub decimal-solid : (n : ℕ) → n < 2 ^ 64 → is_solid (decimal n) ≡ true
+decimal-solid n below = solid_digits (decimal n) (decimal_is_IsNumeral n (omega (arith, below))).0.1
+
+solid_lower : (c : ℕ) → is_lower_digit c ≡ true → nat_lt 32 c ≡ true
+solid_lower c h = grind (arith)
+
+pub lower-solid : (ds : List ℕ) → list_all is_lower_digit ds ≡ true → is_solid ds ≡ true
+lower-solid [] h = refl
+lower-solid (c ∷ cs) h =
     let parts = and_parts (is_lower_digit c) (list_all is_lower_digit cs) h in
-    and_true _ _ (lower_no_space c parts.0) (lower_spaceless cs parts.1)
+    and_true _ _ (solid_lower c parts.0) (lower-solid cs parts.1)
 
 label_lower : (text : List ℕ) (label : Tai64n) → from_text text ≡ Ok label → list_all is_lower_digit (drop 1 text) ≡ true
 label_lower text label h = grind (arith)
 
-label_text-spaceless : (label : Tai64n) → IsLabel label → has_no_space (label_text label) ≡ true
-label_text-spaceless label range =
-    lower_spaceless (encode_lower (packed label)) (label_lower (label_text label) label (from_text-label_text label range))
+pub label_text-solid : (label : Tai64n) → IsLabel label → is_solid (label_text label) ≡ true
+label_text-solid label range =
+    lower-solid (encode_lower (packed label)) (label_lower (label_text label) label (from_text-label_text label range))
 
 -- What is told is read.
 
-two : (word text : List ℕ) → has_no_space word ≡ true → has_no_space text ≡ true
+two : (word text : List ℕ) → is_solid word ≡ true → is_solid text ≡ true
     → fields (word ++ 32 ∷ text) ≡ word ∷ text ∷ []
 two word text w t = fields-first word text w ∙ ap (λ (parts : List (List ℕ)). word ∷ parts) (fields-last text t)
 
-three : (word text label : List ℕ) → has_no_space word ≡ true → has_no_space text ≡ true → has_no_space label ≡ true
+three : (word text label : List ℕ) → is_solid word ≡ true → is_solid text ≡ true → is_solid label ≡ true
     → fields (word ++ 32 ∷ (text ++ 32 ∷ label)) ≡ word ∷ text ∷ label ∷ []
 three word text label w t l =
     fields-first word (text ++ 32 ∷ label) w ∙ ap (λ (parts : List (List ℕ)). word ∷ parts) (two text label t l)
 
-event_fields-event_text : (event : Event) → IsInRange event → fields (event_text event) ≡ event_fields event
-event_fields-event_text (Byte byte) range = two (codes "byte") (byte_text byte) refl (byte_text-spaceless byte range)
+-- the fields of an event's line
+pub event_fields-event_text : (event : Event) → IsInRange event → fields (event_text event) ≡ event_fields event
+event_fields-event_text (Byte byte) range = two (codes "byte") (byte_text byte) refl (byte_text-solid byte range)
 event_fields-event_text (Started pid label) range =
-    three (codes "started") (decimal pid) (label_text label) refl (decimal-spaceless pid range.1) (label_text-spaceless label range.2)
-event_fields-event_text (StartFailed label) range = two (codes "failed") (label_text label) refl (label_text-spaceless label range)
-event_fields-event_text (Death label) range = two (codes "death") (label_text label) refl (label_text-spaceless label range)
-event_fields-event_text (Clock label) range = two (codes "clock") (label_text label) refl (label_text-spaceless label range)
+    three (codes "started") (decimal pid) (label_text label) refl (decimal-solid pid (omega (arith, range.1))) (label_text-solid label range.2)
+event_fields-event_text (StartFailed label) range = two (codes "failed") (label_text label) refl (label_text-solid label range)
+event_fields-event_text (Death label) range = two (codes "death") (label_text label) refl (label_text-solid label range)
+event_fields-event_text (Clock label) range = two (codes "clock") (label_text label) refl (label_text-solid label range)
+
+-- the fields of an event are solid
+pub event_fields-solid : (event : Event) → IsInRange event → AllByRecursion (λ field. is_solid field ≡ true) (event_fields event)
+event_fields-solid (Byte byte) range = (refl, (byte_text-solid byte range, tt))
+event_fields-solid (Started pid label) range = (refl, (decimal-solid pid (omega (arith, range.1)), (label_text-solid label range.2, tt)))
+event_fields-solid (StartFailed label) range = (refl, (label_text-solid label range, tt))
+event_fields-solid (Death label) range = (refl, (label_text-solid label range, tt))
+event_fields-solid (Clock label) range = (refl, (label_text-solid label range, tt))
 
 label_read : (label : Tai64n) → IsLabel label → label_of_text (label_text label) ≡ Some label
 label_read label range = label_of_text-only (label_text label) label (record { range = range; is = refl })
 
-event_read : (event : Event) → IsInRange event → event_from (event_fields event) ≡ Ok event
+-- the fields of an event are read as that event
+pub event_read : (event : Event) → IsInRange event → event_from (event_fields event) ≡ Ok event
 event_read (Byte byte) range = rw (byte_of_text-only (byte_text byte) byte (record { below = range; is = refl })) refl
 event_read (Started pid label) range =
     rw (pid_of_text-only (decimal pid) pid (record { some = range.0; below = range.1; is = refl }), label_read label range.2) refl
@@ -131,8 +159,8 @@ pub event_from-event_text : (event : Event) → IsInRange event → event_from (
 event_from-event_text event range = ap event_from (event_fields-event_text event range) ∙ event_read event range
 
 side_fields : (down : Bool) (label : Tai64n) → IsLabel label → fields (begin_text down label) ≡ begin_fields down label
-side_fields true label range = three (codes "begin") (codes "down") (label_text label) refl refl (label_text-spaceless label range)
-side_fields false label range = three (codes "begin") (codes "up") (label_text label) refl refl (label_text-spaceless label range)
+side_fields true label range = three (codes "begin") (codes "down") (label_text label) refl refl (label_text-solid label range)
+side_fields false label range = three (codes "begin") (codes "up") (label_text label) refl refl (label_text-solid label range)
 
 begin_read : (down : Bool) (label : Tai64n) → IsLabel label → begin_from (begin_fields down label) ≡ Ok (down, label)
 begin_read true label range = rw (label_read label range) refl

@@ -17,7 +17,9 @@ pub use asks::{Ask, Asks, Reply, Sig};
 pub use event::Event;
 pub use law::histories_of_one_state;
 pub use machine::{Machine, Phase};
-pub use reading::{EventFault, read_begin, read_byte, read_event, read_phase, read_sig};
+pub use reading::{
+    EventFault, read_begin, read_byte, read_event, read_number, read_phase, read_sig, split_field,
+};
 pub use table::table_line;
 pub use text::{answer_text, event_text, phase_name, sig_name};
 

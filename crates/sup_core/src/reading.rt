@@ -131,13 +131,16 @@ fn read_pid(text: &[u8]) -> Option<u32>
     ensures { result ≡ pid_of_text text.now }
 {
     let number = read_number(text)?;
-    if number >= 1 { Some(number) } else { None }
+    if number == 0 {
+        return None;
+    }
+    u32::try_from(number).ok()
 }
 
-/// The number below 2 ^ 32 whose decimal text this is.
-fn read_number(text: &[u8]) -> Option<u32>
+/// The number whose decimal text this is: digits alone, with no leading zero but in `0` itself.
+pub fn read_number(text: &[u8]) -> Option<u64>
     ensures found { IfSome result (λ n. text.now ≡ decimal n) }
-    ensures only { (n : ℕ) → n < 2 ^ 32 → text.now ≡ decimal n → result ≡ Some n }
+    ensures only { (n : ℕ) → n < 2 ^ 64 → text.now ≡ decimal n → result ≡ Some n }
 {
     let number = parse_number(text)?;
     let mut buffer = Buffer::new();
@@ -149,8 +152,8 @@ fn read_number(text: &[u8]) -> Option<u32>
 }
 
 /// A number that the field is a text of, perhaps not its decimal text.
-fn parse_number(field: &[u8]) -> Option<u32>
-    ensures { (n : ℕ) → n < 2 ^ 32 → field.now ≡ decimal n → result ≡ Some n }
+fn parse_number(field: &[u8]) -> Option<u64>
+    ensures { (n : ℕ) → n < 2 ^ 64 → field.now ≡ decimal n → result ≡ Some n }
 {
     match str::from_utf8(field) {
         Ok(text) => text.parse().ok(),
@@ -174,9 +177,10 @@ fn space_at(line: &[u8]) -> Option<usize>
     line.iter().position(|byte| *byte == b' ')
 }
 
-/// The first field of a line, and what comes after its space, if there is one.
+/// The first field of a line, and what comes after its space, if there is one. Fields are parted by one space, so two
+/// spaces have an empty field between them.
 #[tactic(auto, using(crate::proofs::Fields::split_none, crate::proofs::Fields::split_some))]
-fn cut(line: &[u8]) -> (&[u8], Option<&[u8]>)
+pub fn split_field(line: &[u8]) -> (&[u8], Option<&[u8]>)
     ensures { fields line.now ≡ result.0.now ∷ fields_after (option_copied result.1) }
 {
     match space_at(line) {
@@ -190,7 +194,7 @@ fn cut(line: &[u8]) -> (&[u8], Option<&[u8]>)
 fn sole(rest: Option<&[u8]>) -> Option<&[u8]>
     ensures { option_copied result ≡ sole (fields_after (option_copied rest.entry)) }
 {
-    match cut(rest?) {
+    match split_field(rest?) {
         (field, None) => Some(field),
         (_, Some(_)) => None,
     }
@@ -216,7 +220,7 @@ fn sole_byte(rest: Option<&[u8]>) -> Result<u8, EventFault>
 fn read_start(rest: Option<&[u8]>) -> Result<Event, EventFault>
     ensures { result ≡ start_from (fields_after (option_copied rest.entry)) }
 {
-    let (field, rest) = cut(rest.ok_or(EventFault::Line)?);
+    let (field, rest) = split_field(rest.ok_or(EventFault::Line)?);
     let text = sole(rest).ok_or(EventFault::Line)?;
     let pid = read_pid(field).ok_or(EventFault::Number)?;
     let label = read_label(text).ok_or(EventFault::Label)?;
@@ -246,7 +250,7 @@ pub fn read_event(line: &[u8]) -> Result<Event, EventFault>
 fn tell_event(line: &[u8]) -> Result<Event, EventFault>
     ensures { result ≡ event_from (fields line.now) }
 {
-    let (word, rest) = cut(line);
+    let (word, rest) = split_field(line);
     match read_word(word) {
         Some(word) => read_rest(word, rest),
         None => Err(EventFault::UnknownEvent),
@@ -301,7 +305,7 @@ pub fn read_begin(line: &[u8]) -> Result<(bool, Label), EventFault>
 fn tell_begin(line: &[u8]) -> Result<(bool, Label), EventFault>
     ensures { result ≡ begin_from (fields line.now) }
 {
-    let (word, rest) = cut(line);
+    let (word, rest) = split_field(line);
     match word {
         b"begin" => read_side(rest),
         _ => Err(EventFault::UnknownEvent),
@@ -312,7 +316,7 @@ fn tell_begin(line: &[u8]) -> Result<(bool, Label), EventFault>
 fn read_side(rest: Option<&[u8]>) -> Result<(bool, Label), EventFault>
     ensures { result ≡ side_from (fields_after (option_copied rest.entry)) }
 {
-    let (side, rest) = cut(rest.ok_or(EventFault::Line)?);
+    let (side, rest) = split_field(rest.ok_or(EventFault::Line)?);
     let down = match side {
         b"up" => false,
         b"down" => true,
