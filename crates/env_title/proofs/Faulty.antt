@@ -1,0 +1,48 @@
+-- The first fault among files, file by file.
+use Rattle.std.proofs.Common.{◌≡◌, ℕ, ◌+◌, true, false, List, ◌∷◌, refl}
+use Rattle.std.specs.Prelude.{Option, Some, None, Result, Err, IsOk, MatchOption, slice_get, if◌then◌else◌}
+use Rattle.std.specs.Str.{is_utf8}
+use Rattle.env_title.specs.Files.{File, is_hidden, file_value}
+use Rattle.env_title.specs.Faults.{has_equals, fault_at, faults_from}
+use Rattle.env_title.specs.declared.fault.EnvFault.{EnvFault}
+use Rattle.env_title.specs.declared.fault.EnvFault.TheVariants.{NotText}
+
+-- what is wrong with a file whose name is good
+pub fault_at-named : (place : ℕ) (file : File) → is_hidden file ≡ false → has_equals file.name ≡ false
+    → fault_at place file ≡ (if is_utf8 (file_value file.bytes) then None else Some (NotText place))
+fault_at-named place file visible named = rw (visible, named) refl
+
+pub first-good : (place : ℕ) (file : File) (files : List File) → fault_at place file ≡ None
+    → slice_get (faults_from place (file ∷ files)) 0 ≡ slice_get (faults_from (place + 1) files) 0
+first-good place file files good = rw good refl
+
+pub first-bad : (place : ℕ) (file : File) (files : List File) (fault : EnvFault) → fault_at place file ≡ Some fault
+    → slice_get (faults_from place (file ∷ files)) 0 ≡ Some fault
+first-bad place file files fault bad = rw bad refl
+
+-- a fault that is told is the file's
+pub told : (o : Option EnvFault) (r : Result (Unit {0}) EnvFault) (fault : EnvFault)
+    → MatchOption o (IsOk r) (λ f. r ≡ Err f) → r ≡ Err fault → o ≡ Some fault
+told None r fault good is = let never = rw is at good in cc
+told (Some f) r fault bad is = cc
+
+-- where the first fault is none, the first file has none, and the others have none
+pub none_parts : (place : ℕ) (file : File) (files : List File) → slice_get (faults_from place (file ∷ files)) 0 ≡ None
+    → (fault_at place file ≡ None) × (slice_get (faults_from (place + 1) files) 0 ≡ None)
+none_parts place file files none =
+    elim (fault_at place file) as (λ o. fault_at place file ≡ o → (o ≡ None) × (slice_get (faults_from (place + 1) files) 0 ≡ None)) [
+      | None ↦ λ good. let rest = rw good at none in (refl, rest)
+      | Some fault ↦ λ bad. let first : Some fault ≡ None = rw bad at none in cc
+    ] refl
+
+pub good_is_text : (place : ℕ) (file : File) → fault_at place file ≡ None → is_hidden file ≡ false
+    → is_utf8 (file_value file.bytes) ≡ true
+good_is_text place file good visible =
+    elim (has_equals file.name) as (λ b. has_equals file.name ≡ b → is_utf8 (file_value file.bytes) ≡ true) [
+      | true ↦ λ named. let e = rw (visible, named) at good in cc
+      | false ↦ λ named.
+          elim (is_utf8 (file_value file.bytes)) as (λ b. is_utf8 (file_value file.bytes) ≡ b → b ≡ true) [
+            | true ↦ λ _. refl
+            | false ↦ λ text. let e = rw (visible, named, text) at good in cc
+          ] refl
+    ] refl

@@ -1,0 +1,5 @@
+pub mod Env
+pub mod Files
+pub mod Faults
+pub mod Title
+pub mod Laws

@@ -1,0 +1,24 @@
+//! The environment of envdir, and the title of readproctitle.
+//!
+//! [`apply`] changes an [`Env`] by the files of a folder (<https://cr.yp.to/daemontools/envdir.html>): a file `NAME`
+//! whose first line is `VALUE` sets the variable `NAME` to `VALUE`, and a file of 0 bytes removes its variable.
+//! [`Title`] is a text of fixed length that shows the last bytes of a log
+//! (<https://cr.yp.to/daemontools/readproctitle.html>). [`laws`] says what both are, in other words.
+#![tactic(auto)]
+
+mod env;
+mod fault;
+mod file;
+mod folder;
+pub mod laws;
+mod title;
+mod value;
+
+pub use env::{Env, Variable};
+pub use fault::EnvFault;
+pub use file::EnvFile;
+pub use folder::apply;
+pub use title::{Title, TitleFault};
+
+#[cfg(test)]
+mod tests;
