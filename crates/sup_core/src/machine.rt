@@ -139,6 +139,7 @@ impl Machine {
     pub fn view(&self) -> View
         ensures view { result ≡ self.now.status }
         ensures range { IsStatus result }
+        ensures stands { IsState self.now }
     {
         in_range(&self.view)
     }

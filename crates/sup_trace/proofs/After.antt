@@ -1,0 +1,72 @@
+-- Traces of a machine after events, each of which is taken: `trace_after`.
+use Rattle.std.proofs.Common.{◌≡◌, ℕ, ◌-◌, ◌<◌, ◌≤◌, true, false, List, [], ◌∷◌, ◌++◌, refl, sym, ◌∙◌, arith, if◌then◌else◌}
+use Rattle.std.specs.List.{AllByRecursion}
+use Rattle.sup_core.specs.declared.event.Event.{Event}
+use Rattle.sup_core.specs.State.{State}
+use Rattle.sup_core.specs.History.{Opened, state_of}
+use Rattle.sup_core.specs.Rules.{IsEvent, takes, reply_to}
+use Rattle.sup_core.specs.Runs.{followed_by, AreTaken, taken_of}
+use Rattle.sup_core.proofs.Laws.{reply_to-state, takes-state}
+use Rattle.sup_trace.specs.Trace.{Kept, IsTrace, history_of, replay, noted, noted_if_taken, noted_along, new_trace, trace_after}
+use Rattle.sup_trace.proofs.Laws.{IsTrace-new, IsTrace-noted, noted-noted, noted_along-taken, replay-noted}
+
+pub trace_after-none : (machine : State) (capacity : ℕ) → trace_after machine capacity [] ≡ new_trace machine capacity
+trace_after-none machine capacity =
+    let none : 0 - capacity ≡ 0 = omega arith in
+    rw none refl
+
+-- a trace replays to the machine after all events
+pub replay-trace_after : (machine : State) (capacity : ℕ) (events : List Event)
+    → replay (trace_after machine capacity events) ≡ state_of (followed_by (Opened machine) events)
+replay-trace_after machine capacity events = replay-noted (new_trace machine capacity) events
+
+pub capacity-noted : (kept : Kept) (events : List Event) → (noted kept events).capacity ≡ kept.capacity
+capacity-noted kept events = refl
+
+pub capacity-noted_if_taken : (kept : Kept) (event : Event) → (noted_if_taken kept event).capacity ≡ kept.capacity
+capacity-noted_if_taken kept event =
+    elim (takes (history_of kept) event) as (λ b. (if b then noted kept (event ∷ []) else kept).capacity ≡ kept.capacity) [
+      | true ↦ refl
+      | false ↦ refl
+    ]
+
+pub capacity-trace_after : (machine : State) (capacity : ℕ) (events : List Event) → (trace_after machine capacity events).capacity ≡ capacity
+capacity-trace_after machine capacity events = refl
+
+-- more events
+pub trace_after-append : (machine : State) (capacity : ℕ) (xs ys : List Event)
+    → trace_after machine capacity (xs ++ ys) ≡ noted (trace_after machine capacity xs) ys
+trace_after-append machine capacity xs ys = sym (noted-noted (new_trace machine capacity) xs ys)
+
+-- What is taken and answered after a trace is so after its whole history.
+pub takes-trace_after : (machine : State) (capacity : ℕ) (events : List Event) (event : Event)
+    → takes (history_of (trace_after machine capacity events)) event ≡ takes (followed_by (Opened machine) events) event
+takes-trace_after machine capacity events event =
+    takes-state (history_of (trace_after machine capacity events)) (followed_by (Opened machine) events) event
+    (replay-trace_after machine capacity events)
+
+pub reply_to-trace_after : (machine : State) (capacity : ℕ) (events : List Event) (event : Event)
+    → reply_to (history_of (trace_after machine capacity events)) event ≡ reply_to (followed_by (Opened machine) events) event
+reply_to-trace_after machine capacity events event =
+    reply_to-state (history_of (trace_after machine capacity events)) (followed_by (Opened machine) events) event
+    (replay-trace_after machine capacity events)
+
+-- one more event, which is taken
+pub trace_after-more : (machine : State) (capacity : ℕ) (events : List Event) (event : Event)
+    → takes (followed_by (Opened machine) events) event ≡ true
+    → trace_after machine capacity (events ++ event ∷ []) ≡ noted_if_taken (trace_after machine capacity events) event
+trace_after-more machine capacity events event taken =
+    let here = takes-trace_after machine capacity events event ∙ taken in
+    trace_after-append machine capacity events (event ∷ []) ∙ rw here refl
+
+pub IsTrace-trace_after : (machine : State) (capacity : ℕ) (events : List Event) → 0 < capacity → capacity ≤ 65536
+    → AreTaken (Opened machine) events → IsTrace (trace_after machine capacity events)
+IsTrace-trace_after machine capacity events room limit taken =
+    IsTrace-noted (new_trace machine capacity) events (IsTrace-new machine capacity room limit) taken
+
+-- whatever the events are
+pub noted_along-new : (machine : State) (capacity : ℕ) (events : List Event) → 0 < capacity → capacity ≤ 65536
+    → AllByRecursion IsEvent events
+    → noted_along (new_trace machine capacity) events ≡ trace_after machine capacity (taken_of (Opened machine) events)
+noted_along-new machine capacity events room limit conditions =
+    noted_along-taken (new_trace machine capacity) events (IsTrace-new machine capacity room limit) conditions

@@ -1,0 +1,9 @@
+pub mod Laws
+pub mod After
+pub mod Taken
+pub mod Plain
+mod Written
+mod Places
+pub mod Parts
+pub mod Steps
+pub mod Whole

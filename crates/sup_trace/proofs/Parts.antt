@@ -1,0 +1,300 @@
+-- The fields of the base's line: what is told is read, and what is read is told so.
+use Rattle.std.proofs.Common.{◌≡◌, ℕ, ◌^◌, ◌<◌, ◌≤◌, ◌&&◌, ◌==◌, nat_le, nat_lt, Bool, true, false, List, [], ◌∷◌, Option, Some, None, Result, Ok, Err, refl, sym, ap, ◌∙◌, arith, decimal, codes, subst}
+use Rattle.std.specs.Prelude.{◌≢◌, ◌↔◌, not, is_none, IsSomeAnd, IfSome, IfOk, if◌then◌else◌, bytes_eq, option_map}
+use Rattle.std.specs.Result.{result_ok}
+use Rattle.std.specs.Str.Parse.{digits_value}
+use Rattle.std.proofs.lemmas.Bool.{and_parts, eqb-true}
+use Rattle.std.proofs.lemmas.Slice.Eq.{bytes_eq-Decides}
+use Rattle.std.proofs.lemmas.Fmt.{decimal_is_IsNumeral}
+use Rattle.hex.specs.Hex.{decode_sized, encode_lower, IsBytes}
+use Rattle.hex.specs.declared.error.FromHexError.{FromHexError}
+use Rattle.hex.proofs.HexLemmas.{decode_sized-encode_lower, decode_sized-ok, decode_pairs-ok}
+use Rattle.hex.proofs.Pairs.{decode_sized-pairs}
+use Rattle.tai_status.specs.Label.{Tai64n, IsLabel, label_text, plus_second}
+use Rattle.tai_status.specs.declared.record.Want.{Want}
+use Rattle.tai_status.specs.declared.record.Want.TheVariants as want
+use Rattle.sup_core.specs.State.{State, StandsIn, IsState}
+use Rattle.tai_status.specs.Record.{Status, IsStatus, IsRecord, status_record}
+use Rattle.tai_status.specs.declared.record.RecordFault.{RecordFault}
+use Rattle.tai_status.proofs.Recorded.{found_recorded, status_from-record, IsRecord-status_record}
+use Rattle.tai_status.proofs.Spelled.{IsBytes-status_record}
+use Rattle.tai_status.specs.Decoding.{status_from}
+use Rattle.sup_core.specs.declared.machine.Phase.{Phase}
+use Rattle.sup_core.specs.declared.machine.Phase.TheVariants as phase
+use Rattle.sup_core.specs.Text.{phase_name}
+use Rattle.sup_core.specs.Reading.{fields, label_of_text}
+use Rattle.sup_core.proofs.Fields.{split_some_part}
+use Rattle.sup_core.proofs.Spelling.{TellsLabel, label_of_text-found, label_of_text-only}
+use Rattle.sup_trace.specs.Text.{stay_text, until_text}
+use Rattle.sup_trace.specs.Reading.{folded_of_text, phase_of_text, if_spelled, status_of_bytes, status_of_text, exiting_of_text, until_of_text, base_said, is_want, is_label, is_second_past, stands_in, is_state}
+use Rattle.sup_trace.specs.declared.fault.TraceFaultKind.TheVariants as kind
+
+-- Answers that are tested
+
+tested : {A : Type 0} (R : A → Type 0) (test : Bool) (x : A) → (test ≡ true → R x) → IfSome (if test then Some x else None) R
+tested R test x h =
+    elim test as (λ t. test ≡ t → IfSome (if t then Some x else None) R) [ true ↦ λ is. h is | false ↦ λ is. tt ] refl
+
+-- The count
+
+le-from_test : (m n : ℕ) → nat_le m n ≡ true → m ≤ n
+le-from_test m n h = grind (arith)
+
+le-test : (m n : ℕ) → m ≤ n → nat_le m n ≡ true
+le-test m n h = grind (arith)
+
+pub record TellsFolded (text : List ℕ) (folded : ℕ) : Type 0 where
+  pub limit : folded ≤ 2 ^ 63
+  pub is : text ≡ decimal folded
+
+folded_tested : (text : List ℕ) (folded : ℕ) → (nat_le folded (2 ^ 63) && bytes_eq (decimal folded) text) ≡ true → TellsFolded text folded
+folded_tested text folded h =
+    let parts = and_parts (nat_le folded (2 ^ 63)) (bytes_eq (decimal folded) text) h in
+    record { limit = le-from_test _ _ parts.0; is = sym ((bytes_eq-Decides (decimal folded) text).0 parts.1) }
+
+pub folded_of_text-found : (text : List ℕ) → IfSome (folded_of_text text) (TellsFolded text)
+unfolding folded_of_text
+folded_of_text-found text = tested (TellsFolded text) _ (digits_value 10 text) (folded_tested text (digits_value 10 text))
+
+pub folded_of_text-only : (text : List ℕ) (folded : ℕ) → TellsFolded text folded → folded_of_text text ≡ Some folded
+unfolding folded_of_text
+folded_of_text-only text folded h =
+    let limit = h.limit in
+    let value : digits_value 10 text ≡ folded = ap (digits_value 10) h.is ∙ (decimal_is_IsNumeral folded (omega (arith, limit))).1 in
+    let same = (bytes_eq-Decides (decimal folded) text).1 (sym h.is) in
+    rw (value, le-test folded (2 ^ 63) limit, same) refl
+
+-- The phase
+
+choose : {A T : Type 0} (word name : List ℕ) (a b : Option A) (x : A) → (word ≡ name → a ≡ Some x → T) → (b ≡ Some x → T)
+    → (if bytes_eq word name then a else b) ≡ Some x → T
+choose {A} {T} word name a b x here otherwise h =
+    elim (bytes_eq word name) as (λ t. bytes_eq word name ≡ t → (if t then a else b) ≡ Some x → T) [
+      | true ↦ λ is. here ((bytes_eq-Decides word name).0 is)
+      | false ↦ λ is. otherwise
+    ] refl h
+
+named : (text : List ℕ) (a b : Phase) → text ≡ phase_name a → Some a ≡ Some b → text ≡ phase_name b
+named text a b is same = let e : a ≡ b = cc same in is ∙ ap phase_name e
+
+pub phase_of_text-found : (text : List ℕ) (found : Phase) → phase_of_text text ≡ Some found → text ≡ phase_name found
+phase_of_text-found text found h =
+    choose text (codes "starting") _ _ found (named text phase.Starting found)
+    (choose text (codes "settling") _ _ found (named text phase.Settling found)
+    (choose text (codes "resting") _ _ found (named text phase.Resting found)
+    (choose text (codes "up") _ _ found (named text phase.Up found)
+    (choose text (codes "down") _ _ found (named text phase.Down found)
+    (choose text (codes "gone") _ _ found (named text phase.Gone found)
+    (λ (none : None ≡ Some found). cc none)))))) h
+
+pub phase_of_text-only : (named : Phase) → phase_of_text (phase_name named) ≡ Some named
+phase_of_text-only phase.Starting = refl
+phase_of_text-only phase.Settling = refl
+phase_of_text-only phase.Resting = refl
+phase_of_text-only phase.Up = refl
+phase_of_text-only phase.Down = refl
+phase_of_text-only phase.Gone = refl
+
+pub phase_of_text-exact : (text : List ℕ) (r : Option Phase) → IfSome r (λ named. text ≡ phase_name named)
+    → ((named : Phase) → text ≡ phase_name named → r ≡ Some named) → r ≡ phase_of_text text
+phase_of_text-exact text (Some named) found only = sym (ap phase_of_text found ∙ phase_of_text-only named)
+phase_of_text-exact text None found only =
+    elim (phase_of_text text) as (λ o. phase_of_text text ≡ o → None ≡ o) [
+      | Some named ↦ λ is. only named (phase_of_text-found text named is)
+      | None ↦ λ is. refl
+    ] refl
+
+-- The record
+
+pub record TellsStatus (text : List ℕ) (status : Status) : Type 0 where
+  pub range : IsStatus status
+  pub is : text ≡ encode_lower (status_record status)
+
+only_status : (r : Result Status RecordFault) (bytes : List ℕ) → IfOk r (λ status. IsStatus status × IsRecord bytes status) → IfOk r IsStatus
+only_status (Ok status) bytes h = h.0
+only_status (Err fault) bytes h = tt
+
+bytes_decoded : (text bytes : List ℕ) → decode_sized text 18 ≡ Ok bytes → IsBytes bytes
+bytes_decoded text bytes h =
+    let len = decode_sized-ok text 18 bytes h in
+    let pairs = sym (decode_sized-pairs text 18 (omega (arith, len)) (omega (arith, len))) ∙ h in
+    (decode_pairs-ok 0 text bytes pairs).2
+
+spelled_status : (text : List ℕ) (r : Result Status RecordFault) → IfOk r IsStatus → IfSome (if_spelled text (result_ok r)) (TellsStatus text)
+spelled_status text (Err fault) range = tt
+spelled_status text (Ok status) range = tested (TellsStatus text) _ status λ same.
+    record { range = range; is = sym ((bytes_eq-Decides (encode_lower (status_record status)) text).0 same) }
+
+spelled_so : (text : List ℕ) (r : Result (List ℕ) FromHexError) → decode_sized text 18 ≡ r → IfSome (if_spelled text (status_of_bytes r)) (TellsStatus text)
+spelled_so text (Err e) h = tt
+spelled_so text (Ok bytes) h =
+    let range = only_status _ bytes (found_recorded bytes (status_from bytes) (bytes_decoded text bytes h) refl) in
+    spelled_status text (status_from bytes) range
+
+pub status_of_text-found : (text : List ℕ) → IfSome (status_of_text text) (TellsStatus text)
+unfolding status_of_text
+status_of_text-found text = spelled_so text (decode_sized text 18) refl
+
+pub status_of_text-only : (text : List ℕ) (status : Status) → TellsStatus text status → status_of_text text ≡ Some status
+unfolding status_of_text
+status_of_text-only text status h =
+    let bytes = status_record status in
+    let recorded = IsRecord-status_record status in
+    let decoded : decode_sized text 18 ≡ Ok bytes =
+    ap (λ (digits : List ℕ). decode_sized digits 18) h.is ∙ decode_sized-encode_lower bytes 18 recorded.size (IsBytes-status_record status) in
+    let read = status_from-record bytes status h.range recorded in
+    let same = (bytes_eq-Decides (encode_lower bytes) text).1 (sym h.is) in
+    ap (λ (r : Result (List ℕ) FromHexError). if_spelled text (status_of_bytes r)) decoded
+    ∙ ap (λ (r : Result Status RecordFault). if_spelled text (result_ok r)) read
+    ∙ ap (λ (b : Bool). if b then Some status else None) same
+
+-- Whether the machine is to end
+
+stayed : (text : List ℕ) (a b : Bool) → text ≡ stay_text a → Some a ≡ Some b → text ≡ stay_text b
+stayed text a b is same = let e : a ≡ b = cc same in is ∙ ap stay_text e
+
+pub exiting_of_text-found : (text : List ℕ) (exiting : Bool) → exiting_of_text text ≡ Some exiting → text ≡ stay_text exiting
+exiting_of_text-found text exiting h =
+    choose text (codes "exit") _ _ exiting (stayed text true exiting) (choose text (codes "stay") _ _ exiting (stayed text false exiting)
+    (λ (none : None ≡ Some exiting). cc none)) h
+
+pub exiting_of_text-only : (exiting : Bool) → exiting_of_text (stay_text exiting) ≡ Some exiting
+exiting_of_text-only true = refl
+exiting_of_text-only false = refl
+
+-- Until when it settles or rests
+
+pub record TellsUntil (text : List ℕ) (until : Option Tai64n) : Type 0 where
+  pub range : IfSome until IsLabel
+  pub is : text ≡ until_text until
+
+until_label : (text : List ℕ) (label : Option Tai64n) (until : Option Tai64n) → IfSome label (TellsLabel text)
+    → option_map (λ label. Some label) label ≡ Some until → TellsUntil text until
+until_label text (Some label) until tells h =
+    let e : Some label ≡ until = cc h in
+    subst (TellsUntil text) e (record { range = tells.range; is = tells.is })
+until_label text None until tells h = cc h
+
+until_none : (text : List ℕ) (until : Option Tai64n) → text ≡ codes "-" → Some None ≡ Some until → TellsUntil text until
+until_none text until is h =
+    let e : None ≡ until = cc h in
+    subst (TellsUntil text) e (record { range = tt; is = is })
+
+pub until_of_text-found : (text : List ℕ) (until : Option Tai64n) → until_of_text text ≡ Some until → TellsUntil text until
+until_of_text-found text until h =
+    choose text (codes "-") _ _ until (until_none text until)
+    (until_label text (label_of_text text) until (label_of_text-found text)) h
+
+pub until_of_text-only : (until : Option Tai64n) → IfSome until IsLabel → until_of_text (until_text until) ≡ Some until
+until_of_text-only None range = refl
+until_of_text-only (Some label) range =
+    let read = label_of_text-only (label_text label) label (record { range = range; is = refl }) in
+    ap (λ (o : Option Tai64n). option_map (λ label. Some label) o) read
+
+-- More than six fields
+
+many : (a b c d e f : List ℕ) (parts : List (List ℕ)) → (parts ≡ [] → ⊥) → base_said (a ∷ b ∷ c ∷ d ∷ e ∷ f ∷ parts) ≡ Err kind.Line
+many a b c d e f [] h = absurd (h refl)
+many a b c d e f (part ∷ parts) h = refl
+
+pub base_said_many : (a b c d e f rest : List ℕ) → base_said (a ∷ b ∷ c ∷ d ∷ e ∷ f ∷ fields rest) ≡ Err kind.Line
+base_said_many a b c d e f rest = many a b c d e f (fields rest) (split_some_part (λ byte. byte == 32) rest)
+
+-- Whether a machine can stand so
+
+not_want : (a b : Want) → (a ≢ b) ↔ (not (is_want a b) ≡ true)
+not_want want.Up want.Up = (λ h. absurd (h refl), λ h e. cc h)
+not_want want.Up want.Down = (λ h. refl, λ h e. cc e)
+not_want want.Up want.Once = (λ h. refl, λ h e. cc e)
+not_want want.Down want.Up = (λ h. refl, λ h e. cc e)
+not_want want.Down want.Down = (λ h. absurd (h refl), λ h e. cc h)
+not_want want.Down want.Once = (λ h. refl, λ h e. cc e)
+not_want want.Once want.Up = (λ h. refl, λ h e. cc e)
+not_want want.Once want.Down = (λ h. refl, λ h e. cc e)
+not_want want.Once want.Once = (λ h. absurd (h refl), λ h e. cc h)
+
+pub and_true : (a b : Bool) → a ≡ true → b ≡ true → (a && b) ≡ true
+and_true true true h g = refl
+and_true true false h g = cc g
+and_true false b h g = cc h
+
+no : (b : Bool) → (b ≡ false) ↔ (not b ≡ true)
+no true = (λ h. cc h, λ h. cc h)
+no false = (λ h. refl, λ h. refl)
+
+yes : (b : Bool) → (b ≡ true) ↔ (b ≡ true)
+yes b = (λ h. h, λ h. h)
+
+zero_pid : (pid : ℕ) → (pid ≡ 0) ↔ ((pid == 0) ≡ true)
+zero_pid pid = (λ h. grind (arith, h), λ h. eqb-true pid 0 h)
+
+some_pid : (pid : ℕ) → (0 < pid) ↔ (nat_lt 0 pid ≡ true)
+some_pid pid = (λ h. grind (arith, h), λ h. grind (arith, h))
+
+no_until : (until : Option Tai64n) → (until ≡ None) ↔ (is_none until ≡ true)
+no_until (Some label) = (λ h. cc h, λ h. cc h)
+no_until None = (λ h. refl, λ h. refl)
+
+same_label : (a b : Tai64n) → (a ≡ b) ↔ (((a.sec == b.sec) && (a.nano == b.nano)) ≡ true)
+same_label a b = (
+  λ h.
+      let sec : a.sec ≡ b.sec = ap (λ (l : Tai64n). l.sec) h in
+      let nano : a.nano ≡ b.nano = ap (λ (l : Tai64n). l.nano) h in
+      and_true (a.sec == b.sec) (a.nano == b.nano) (grind (arith, sec)) (grind (arith, nano)),
+  λ h.
+      let parts = and_parts (a.sec == b.sec) (a.nano == b.nano) h in
+      let sec = eqb-true a.sec b.sec parts.0 in
+      let nano = eqb-true a.nano b.nano parts.1 in
+      ap (λ (n : ℕ). record { sec = n; nano = a.nano }) sec ∙ ap (λ (n : ℕ). record { sec = b.sec; nano = n }) nano,
+)
+
+label_until : (label : Tai64n) (until : Option Tai64n) → (until ≡ Some label) ↔ (is_label label until ≡ true)
+label_until label (Some until) = (
+  λ h. (same_label until label).0 (let e : until ≡ label = cc h in e),
+  λ h. ap Some ((same_label until label).1 h),
+)
+label_until label None = (λ h. cc h, λ h. cc h)
+
+past_until : (until : Option Tai64n) → IsSomeAnd until (λ until. 0 < until.sec) ↔ (is_second_past until ≡ true)
+past_until (Some until) = some_pid until.sec
+past_until None = (λ h. absurd h, λ h. cc h)
+
+-- facts, each decided by a test
+
+two : {A B : Type 0} (a b : Bool) → A ↔ (a ≡ true) → B ↔ (b ≡ true) → (A × B) ↔ ((a && b) ≡ true)
+two a b p q = (λ h. and_true a b (p.0 h.0) (q.0 h.1), λ h. let parts = and_parts a b h in (p.1 parts.0, q.1 parts.1))
+
+three : {A B C : Type 0} (a b c : Bool) → A ↔ (a ≡ true) → B ↔ (b ≡ true) → C ↔ (c ≡ true)
+    → (A × B × C) ↔ ((a && b && c) ≡ true)
+three a b c p q r = (
+  λ h. and_true (a && b) c ((two a b p q).0 (h.0, h.1)) (r.0 h.2),
+  λ h. let parts = and_parts (a && b) c h in let front = (two a b p q).1 parts.0 in (front.0, front.1, r.1 parts.1),
+)
+
+four : {A B C D : Type 0} (a b c d : Bool) → A ↔ (a ≡ true) → B ↔ (b ≡ true) → C ↔ (c ≡ true) → D ↔ (d ≡ true)
+    → (A × B × C × D) ↔ ((a && b && c && d) ≡ true)
+four a b c d p q r s = (
+  λ h. and_true (a && b && c) d ((three a b c p q r).0 (h.0, h.1, h.2)) (s.0 h.3),
+  λ h. let parts = and_parts (a && b && c) d h in let front = (three a b c p q r).1 parts.0 in (front.0, front.1, front.2, s.1 parts.1),
+)
+
+five : {A B C D E : Type 0} (a b c d e : Bool) → A ↔ (a ≡ true) → B ↔ (b ≡ true) → C ↔ (c ≡ true) → D ↔ (d ≡ true) → E ↔ (e ≡ true)
+    → (A × B × C × D × E) ↔ ((a && b && c && d && e) ≡ true)
+five a b c d e p q r s t = (
+  λ h. and_true (a && b && c && d) e ((four a b c d p q r s).0 (h.0, h.1, h.2, h.3)) (t.0 h.4),
+  λ h. let parts = and_parts (a && b && c && d) e h in let front = (four a b c d p q r s).1 parts.0 in (front.0, front.1, front.2, front.3, t.1 parts.1),
+)
+
+decides : (phase : Phase) (s : State) → StandsIn phase s ↔ (stands_in phase s ≡ true)
+decides phase.Starting s = four _ _ _ _ (zero_pid s.status.pid) (not_want s.status.want want.Down) (no s.exiting) (no_until s.until)
+decides phase.Settling s =
+    five _ _ _ _ _ (some_pid s.status.pid) (no s.status.paused) (not_want s.status.want want.Down) (no s.exiting)
+    (label_until (plus_second s.status.label) s.until)
+decides phase.Resting s = four _ _ _ _ (zero_pid s.status.pid) (not_want s.status.want want.Down) (no s.exiting) (past_until s.until)
+decides phase.Up s = two _ _ (some_pid s.status.pid) (no_until s.until)
+decides phase.Down s = four _ _ _ _ (zero_pid s.status.pid) (not_want s.status.want want.Up) (no s.exiting) (no_until s.until)
+decides phase.Gone s = three _ _ _ (zero_pid s.status.pid) (yes s.exiting) (no_until s.until)
+
+-- the test decides where a machine can stand
+pub is_state-decides : (s : State) → IsState s ↔ (is_state s ≡ true)
+is_state-decides s = decides s.phase s

@@ -1,0 +1,111 @@
+-- A replay at a place: the machine before the entry there, what is answered, and the line of it.
+use Rattle.std.proofs.Common.{◌≡◌, ℕ, ◌+◌, ◌-◌, ◌<◌, ◌≤◌, List, [], ◌∷◌, ◌++◌, length, take, map, get_or, Some, slice_get, subst, sym, ap, ◌∙◌, arith, refl, inl, inr, zero-add, decimal, codes}
+use Rattle.std.specs.Prelude.{IsSomeAnd}
+use Rattle.std.specs.List.{enumerate_from}
+use Rattle.std.proofs.lemmas.Bool.{cases_lt}
+use Rattle.std.proofs.lemmas.List.{length-map, map_push, take-map, take_more}
+use Rattle.std.proofs.lemmas.List.FromFn.{get_or-enumerate_from, length-enumerate_from}
+use Rattle.std.proofs.lemmas.Option.{slice_get_past, slice_get_read}
+use Rattle.sup_core.specs.declared.asks.Reply.{Reply}
+use Rattle.sup_core.specs.declared.event.Event.{Event}
+use Rattle.sup_core.specs.declared.machine.Phase.{Phase}
+use Rattle.sup_core.specs.History.{Opened, phase_of}
+use Rattle.sup_core.specs.Rules.{IsEvent, next, reply_to}
+use Rattle.sup_core.specs.Text.{event_text, answer_text}
+use Rattle.sup_core.proofs.Laws.{AreTaken-at, next-taken}
+use Rattle.sup_trace.specs.declared.breaks.Break.{Break}
+use Rattle.sup_trace.specs.Told.{Told, IsTraceText}
+use Rattle.sup_trace.specs.Explained.{before, explained, explained_line}
+use Rattle.sup_trace.specs.Breaks.{Breaks, BreaksAt, IsFirstBreak}
+
+-- What is known of the entry at a place.
+pub record IsEntry (told : Told) (place : ℕ) (event : Event) : Type 0 where
+  pub condition : IsEvent event
+  pub next_is : before told (place + 1) ≡ next (before told place) event
+  pub here : slice_get told.entries place ≡ Some event
+  pub within : place < length told.entries
+  pub at : event ≡ get_or told.entries place event
+
+pub entry_at : (told : Told) (entries : List Event) (place : ℕ) (event : Event) → IsTraceText told → entries ≡ told.entries
+    → place < length entries → event ≡ get_or entries place event → IsEntry told place event
+entry_at told entries place event text same below at =
+    let within : place < length told.entries = omega (arith, ap length same) in
+    let here : event ≡ get_or told.entries place event = at ∙ ap (λ events. get_or events place event) same in
+    let taken = AreTaken-at (Opened told.base) told.entries place event text.taken within here in
+    record {
+      condition = taken.condition;
+      next_is = taken.next ∙ sym (next-taken (before told place) event taken.taken);
+      here = slice_get_read told.entries (length told.entries) place event refl within here;
+      within = within;
+      at = here;
+    }
+
+-- The line of the entry is the next one.
+explained-more : (told : Told) (place : ℕ) (event : Event) → place < length told.entries → event ≡ get_or told.entries place event
+    → take (place + 1) (explained told) ≡ take place (explained told) ++ explained_line told place event ∷ []
+explained-more told place event below at =
+    let placed = enumerate_from 0 told.entries in
+    let line : ℕ × Event → List ℕ = λ p. explained_line told p.0 p.1 in
+    let within : place < length placed = omega (arith, length-enumerate_from 0 told.entries) in
+    let here : get_or placed place (place, event) ≡ (place, event) =
+    get_or-enumerate_from 0 told.entries place (place, event) below ∙ ap {B = ℕ × Event} (λ k. (k, get_or told.entries place event)) (zero-add place)
+    ∙ ap {B = ℕ × Event} (λ e. (place, e)) (sym at) in
+    take-map line (place + 1) placed
+    ∙ ap (map line) (take_more placed place (place, event) within)
+    ∙ map_push line (take place placed) (get_or placed place (place, event))
+    ∙ ap (λ p. map line (take place placed) ++ line p ∷ []) here
+    ∙ ap (λ lines. lines ++ explained_line told place event ∷ []) (sym (take-map line place placed))
+
+-- the line as it is made
+pub explained_line-made : (told : Told) (place : ℕ) (event : Event) (reply : Reply) (phase : Phase)
+    → reply ≡ reply_to (before told place) event → phase ≡ phase_of (next (before told place) event)
+    → decimal (place + 1) ++ codes " " ++ event_text event ++ codes ": " ++ answer_text reply phase ≡ explained_line told place event
+explained_line-made told place event reply phase answered led =
+    let front = decimal (place + 1) ++ codes " " ++ event_text event ++ codes ": " in
+    ap (λ (r : Reply). front ++ answer_text r phase) answered
+    ∙ ap (λ (p : Phase). front ++ answer_text (reply_to (before told place) event) p) led
+
+pub lines-more : (told : Told) (place : ℕ) (event : Event) (lines : List (List ℕ)) (line : List ℕ) → place < length told.entries
+    → event ≡ get_or told.entries place event → lines ≡ take place (explained told) → line ≡ explained_line told place event
+    → lines ++ line ∷ [] ≡ take (place + 1) (explained told)
+lines-more told place event lines line below at so_far here =
+    ap (λ (l : List (List ℕ)). l ++ line ∷ []) so_far
+    ∙ ap (λ (x : List ℕ). take place (explained told) ++ x ∷ []) here
+    ∙ sym (explained-more told place event below at)
+
+pub length-explained : (told : Told) → length (explained told) ≡ length told.entries
+length-explained told = length-map (enumerate_from 0 told.entries) (λ p. explained_line told p.0 p.1) ∙ length-enumerate_from 0 told.entries
+
+-- Breaks
+
+breaks_here : (told : Told) (at : Break) (place : ℕ) (event : Event) → IsEntry told place event
+    → Breaks at (before told place) event → BreaksAt told at place
+breaks_here told at place event entry breaks =
+    subst (λ found. IsSomeAnd found (Breaks at (before told place))) (sym entry.here) breaks
+
+-- an entry that is not what is looked for
+pub no_break : (told : Told) (at : Break) (place : ℕ) (event : Event) → IsEntry told place event
+    → ¬ Breaks at (before told place) event → ¬ BreaksAt told at place
+no_break told at place event entry none breaks =
+    none (subst (λ found. IsSomeAnd found (Breaks at (before told place))) entry.here breaks)
+
+-- none up to a place, and the entry there
+pub first_found : (told : Told) (at : Break) (place : ℕ) (event : Event) → IsEntry told place event
+    → ((earlier : ℕ) → earlier < place → ¬ BreaksAt told at earlier) → Breaks at (before told place) event
+    → IsFirstBreak told at (place + 1)
+first_found told at place event entry none breaks =
+    let same : place ≡ place + 1 - 1 = omega arith in
+    record {
+      above = omega arith;
+      here = subst (BreaksAt told at) same (breaks_here told at place event entry breaks);
+      first = λ earlier below. none earlier (omega arith);
+    }
+
+-- none up to the end
+pub no_break_at_all : (told : Told) (at : Break) (n : ℕ) → length told.entries ≤ n
+    → ((earlier : ℕ) → earlier < n → ¬ BreaksAt told at earlier) → (place : ℕ) → ¬ BreaksAt told at place
+no_break_at_all told at n end none place breaks =
+    elim (cases_lt place n) [
+      | inl below ↦ none place below breaks
+      | inr past ↦ subst (λ found. IsSomeAnd found (Breaks at (before told place))) (slice_get_past told.entries place (omega arith)) breaks
+    ]

@@ -1,0 +1,47 @@
+use Rattle.std.proofs.Common.{◌≡◌, map, string_bytes, length, ◌∙◌, ap, sym, subst, arith}
+use Rattle.std.specs.List.{AllByRecursion}
+use Rattle.std.proofs.lemmas.List.{map_push, take_all}
+use Rattle.tai_status.specs.LineReader.{IsPlain}
+use Rattle.sup_core.specs.State.{State}
+use Rattle.sup_core.specs.History.{state_of}
+use Rattle.sup_trace.specs.Explained.{before, explained, explained_line}
+use Rattle.sup_trace.proofs.Plain.{plain-explained}
+use Rattle.sup_trace.proofs.Places.{entry_at, explained_line-made, length-explained, lines-more}
+use Rattle.sup_trace.proofs.explained.explain.Goals as goal
+
+pub step-reply-requires : goal.step-reply-requires
+step-reply-requires g c =
+    let items = c.entries-event-items in
+    (entry_at c.args.told.now items.result.now c.loop-place.place c.event-item.result items.ensures.bounds items.ensures.entries
+    c.loop-place-test.true c.event-item.is).condition
+
+pub loop-place-preserved : goal.loop-place-preserved
+loop-place-preserved g c =
+    let told = c.args.told.now in
+    let items = c.entries-event-items in
+    let place = c.loop-place.place in
+    let event = c.event-item.result in
+    let entry = entry_at told items.result.now place event items.ensures.bounds items.ensures.entries c.loop-place-test.true c.event-item.is in
+    let past = before told place in
+    let stands = sym c.loop-place.invariant.machine in
+    let state = c.step-reply.ensures.state past stands in
+    let phase = c.phase.ensures ∙ ap (λ (s : State). s.phase) state in
+    let reply = c.step-reply.ensures.reply past stands in
+    let line : string_bytes c.in_ok-explained_line.field-0 ≡ explained_line told place event =
+    c.in_ok-explained_line.ensures ∙ explained_line-made told place event c.step-reply.result c.phase.result reply phase in
+    record {
+      machine = state ∙ ap state_of (sym entry.next_is);
+      lines = rw (c.in_ok-push.ensures.items, map_push (λ line. string_bytes line) c.loop-place.lines.items c.in_ok-explained_line.field-0)
+          (lines-more told place event (map (λ line. string_bytes line) c.loop-place.lines.items) (string_bytes c.in_ok-explained_line.field-0)
+          entry.within entry.at c.loop-place.invariant.lines line);
+    }
+
+pub returns-clause-lines : goal.returns-clause-lines
+returns-clause-lines g c =
+    let told = c.args.told.now in
+    c.from_vec.ensures ∙ c.loop-place.invariant.lines
+    ∙ take_all c.loop-place.place (explained told)
+    (omega (arith, length-explained told, ap length c.entries-event-items.ensures.entries))
+
+pub returns-clause-plain : goal.returns-clause-plain
+returns-clause-plain g c = subst (AllByRecursion IsPlain) (sym (returns-clause-lines g c)) (plain-explained c.args.told.now)

@@ -1,0 +1,46 @@
+-- The entry at which a replay is to break.
+use Rattle.std.specs.Prelude.{◌≡◌, ℕ, ◌+◌, ◌-◌, ◌<◌, slice_get, IsSomeAnd}
+use Rattle.std.specs.List.{Any}
+use Rattle.sup_core.specs.declared.asks.Ask.{Ask}
+use Rattle.sup_core.specs.declared.asks.Ask.TheVariants.{Signal}
+use Rattle.sup_core.specs.declared.asks.Reply.{Reply}
+use Rattle.sup_core.specs.declared.asks.Reply.TheVariants.{Held, Took}
+use Rattle.sup_core.specs.declared.asks.Sig.{Sig}
+use Rattle.sup_core.specs.declared.event.Event.{Event}
+use Rattle.sup_core.specs.declared.event.Event.TheVariants as event
+use Rattle.sup_core.specs.History.{History, phase_of}
+use Rattle.sup_core.specs.Rules.{next, reply_to}
+use Rattle.sup_trace.specs.declared.breaks.Break.{Break}
+use Rattle.sup_trace.specs.declared.breaks.Break.TheVariants as break
+use Rattle.sup_trace.specs.Told.{Told}
+use Rattle.sup_trace.specs.Explained.{before}
+
+-- An ask is this signal, to whatever process.
+abbrev pub IsSignal : Sig → Ask → Type 0
+IsSignal sig (Signal other pid) = other ≡ sig
+IsSignal sig ask = ⊥
+
+-- A reply asks for this signal.
+abbrev pub AsksFor : Sig → Reply → Type 0
+AsksFor sig Held = ⊥
+AsksFor sig (Took asks) = Any (IsSignal sig) asks
+
+-- An event is that byte, or leads to that phase, or asks for that signal.
+abbrev pub Breaks : Break → History → Event → Type 0
+Breaks (break.Byte byte) past happened = happened ≡ event.Byte byte
+Breaks (break.Phase phase) past happened = phase_of (next past happened) ≡ phase
+Breaks (break.Signal sig) past happened = AsksFor sig (reply_to past happened)
+
+-- The entry at a place, from 0, is such an event where it stands.
+abbrev pub BreaksAt : Told → Break → ℕ → Type 0
+BreaksAt told at place = IsSomeAnd (slice_get told.entries place) (Breaks at (before told place))
+
+-- This number, counted from 1, is that of the first such entry.
+pub record IsFirstBreak (told : Told) (at : Break) (number : ℕ) : Type 0 where
+  pub above : 0 < number
+  pub here : BreaksAt told at (number - 1)
+  pub first : (place : ℕ) → place + 1 < number → ¬ BreaksAt told at place
+
+-- There is no such entry.
+abbrev pub HasNoBreak : Told → Break → Type 0
+HasNoBreak told at = (place : ℕ) → ¬ BreaksAt told at place

@@ -1,0 +1,26 @@
+-- What the entries of a trace did: each after the machine before it.
+use Rattle.std.specs.Prelude.{ℕ, ◌+◌, List, ◌++◌, map, take, codes, decimal}
+use Rattle.std.specs.List.{enumerate_from}
+use Rattle.sup_core.specs.declared.event.Event.{Event}
+use Rattle.sup_core.specs.History.{History, Opened, phase_of}
+use Rattle.sup_core.specs.Rules.{next, reply_to}
+use Rattle.sup_core.specs.Runs.{followed_by}
+use Rattle.sup_core.specs.Text.{event_text, answer_text}
+use Rattle.sup_trace.specs.Told.{Told}
+
+-- the history before the entry at a place, from 0: the base and the entries that come first
+abbrev pub before : Told → ℕ → History
+before told place = followed_by (Opened told.base) (take place told.entries)
+
+-- what is answered to an event, and the phase after it
+abbrev pub answer_at : History → Event → List ℕ
+answer_at past event = answer_text (reply_to past event) (phase_of (next past event))
+
+-- the line of the entry at a place: its number from 1, the event, and the answer
+abbrev pub explained_line : Told → ℕ → Event → List ℕ
+explained_line told place event =
+    decimal (place + 1) ++ codes " " ++ event_text event ++ codes ": " ++ answer_at (before told place) event
+
+-- a line for each entry
+abbrev pub explained : Told → List (List ℕ)
+explained told = map (λ placed. explained_line told placed.0 placed.1) (enumerate_from 0 told.entries)

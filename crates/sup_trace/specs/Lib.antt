@@ -1,0 +1,6 @@
+pub mod Told
+pub mod Text
+pub mod Trace
+pub mod Explained
+pub mod Breaks
+pub mod Reading

@@ -1,0 +1,207 @@
+-- Reading the text of a trace: what it tells, or else its first faulty line and why that is refused.
+use Rattle.std.specs.Prelude.{ℕ, ◌+◌, ◌^◌, ◌==◌, ◌&&◌, nat_lt, nat_le, bytes_eq, Bool, true, false, not, if◌then◌else◌, List, [], ◌∷◌, ◌++◌, length, codes, decimal, Option, Some, None, option_map, is_none, Result, Ok, Err}
+use Rattle.std.specs.List.{slice_split}
+use Rattle.std.specs.Result.{result_ok}
+use Rattle.std.specs.Str.Parse.{digits_value}
+use Rattle.hex.specs.Hex.{decode_sized, encode_lower}
+use Rattle.hex.specs.declared.error.FromHexError.{FromHexError}
+use Rattle.tai_status.specs.Label.{Tai64n, plus_second}
+use Rattle.tai_status.specs.Record.{Status, status_record}
+use Rattle.tai_status.specs.Decoding.{status_from}
+use Rattle.tai_status.specs.declared.record.Want.{Want}
+use Rattle.tai_status.specs.declared.record.Want.TheVariants as want
+use Rattle.sup_core.specs.declared.event.Event.{Event}
+use Rattle.sup_core.specs.declared.machine.Phase.{Phase}
+use Rattle.sup_core.specs.declared.machine.Phase.TheVariants as phase
+use Rattle.sup_core.specs.declared.reading.EventFault.{EventFault}
+use Rattle.sup_core.specs.declared.reading.EventFault.TheVariants as why
+use Rattle.sup_core.specs.State.{State}
+use Rattle.sup_core.specs.Rules.{takes}
+use Rattle.sup_core.specs.Reading.{fields, label_of_text, event_from}
+use Rattle.sup_trace.specs.declared.fault.TraceFault.{TraceFault}
+use Rattle.sup_trace.specs.declared.fault.TraceFaultKind.{TraceFaultKind}
+use Rattle.sup_trace.specs.declared.fault.TraceFaultKind.TheVariants as kind
+use Rattle.sup_trace.specs.Told.{Told, told_of, told_history}
+use Rattle.sup_trace.specs.Text.{header}
+
+-- What the fields of the base's line tell
+
+-- the count of folded events that this is the text of
+unfoldable pub folded_of_text : List ℕ → Option ℕ
+folded_of_text text =
+    if nat_le (digits_value 10 text) (2 ^ 63) && bytes_eq (decimal (digits_value 10 text)) text
+    then Some (digits_value 10 text)
+    else None
+
+-- the phase of this name
+abbrev pub phase_of_text : List ℕ → Option Phase
+phase_of_text text =
+    if bytes_eq text (codes "starting") then Some phase.Starting
+    else if bytes_eq text (codes "settling") then Some phase.Settling
+    else if bytes_eq text (codes "resting") then Some phase.Resting
+    else if bytes_eq text (codes "up") then Some phase.Up
+    else if bytes_eq text (codes "down") then Some phase.Down
+    else if bytes_eq text (codes "gone") then Some phase.Gone
+    else None
+
+-- the status whose record these bytes are
+abbrev pub status_of_bytes : Result (List ℕ) FromHexError → Option Status
+status_of_bytes (Ok bytes) = result_ok (status_from bytes)
+status_of_bytes (Err e) = None
+
+-- a status, where this is the text of its record
+abbrev pub if_spelled : List ℕ → Option Status → Option Status
+if_spelled text (Some status) = if bytes_eq (encode_lower (status_record status)) text then Some status else None
+if_spelled text None = None
+
+-- the status whose record has these 36 lower-case digits
+unfoldable pub status_of_text : List ℕ → Option Status
+status_of_text text = if_spelled text (status_of_bytes (decode_sized text 18))
+
+-- whether the machine is to end
+abbrev pub exiting_of_text : List ℕ → Option Bool
+exiting_of_text text =
+    if bytes_eq text (codes "exit") then Some true
+    else if bytes_eq text (codes "stay") then Some false
+    else None
+
+-- until when the machine settles or rests
+abbrev pub until_of_text : List ℕ → Option (Option Tai64n)
+until_of_text text =
+    if bytes_eq text (codes "-") then Some None
+    else option_map (λ label. Some label) (label_of_text text)
+
+-- Whether a machine can stand so
+
+abbrev pub is_want : Want → Want → Bool
+is_want want.Up want.Up = true
+is_want want.Down want.Down = true
+is_want want.Once want.Once = true
+is_want other wanted = false
+
+abbrev pub is_label : Tai64n → Option Tai64n → Bool
+is_label label (Some until) = (until.sec == label.sec) && (until.nano == label.nano)
+is_label label None = false
+
+abbrev pub is_second_past : Option Tai64n → Bool
+is_second_past (Some until) = nat_lt 0 until.sec
+is_second_past None = false
+
+abbrev pub stands_in : Phase → State → Bool
+stands_in phase.Starting s =
+    (s.status.pid == 0) && not (is_want s.status.want want.Down) && not s.exiting && is_none s.until
+stands_in phase.Settling s =
+    nat_lt 0 s.status.pid && not s.status.paused && not (is_want s.status.want want.Down)
+    && not s.exiting && is_label (plus_second s.status.label) s.until
+stands_in phase.Resting s =
+    (s.status.pid == 0) && not (is_want s.status.want want.Down) && not s.exiting && is_second_past s.until
+stands_in phase.Up s = nat_lt 0 s.status.pid && is_none s.until
+stands_in phase.Down s =
+    (s.status.pid == 0) && not (is_want s.status.want want.Up) && not s.exiting && is_none s.until
+stands_in phase.Gone s = (s.status.pid == 0) && s.exiting && is_none s.until
+
+-- whether a machine can stand so
+abbrev pub is_state : State → Bool
+is_state s = stands_in s.phase s
+
+-- The lines
+
+-- what the lines so far told: nothing, the header, the base and some entries, or all
+pub data Heard : Type 0 where
+  Nothing : Heard
+  Header : Heard
+  Entries : Told → Heard
+  Whole : Told → Heard
+
+abbrev pub with_entry : Told → Event → Told
+with_entry told event = told_of told.base told.folded (told.entries ++ event ∷ [])
+
+-- a phase, a status, and whether the machine is to end
+abbrev pub standing : Option Phase → Option Status → Option Bool → Option (Phase × Status × Bool)
+standing (Some phase) (Some status) (Some exiting) = Some (phase, status, exiting)
+standing phase status exiting = None
+
+-- the state that these and an end tell
+abbrev pub standing_so : Phase × Status × Bool → Option Tai64n → State
+standing_so (phase, status, exiting) until = record { phase = phase; status = status; exiting = exiting; until = until }
+
+abbrev pub base_at : ℕ → State → Result Heard TraceFaultKind
+base_at folded state =
+    if is_state state then Ok (Entries (told_of state folded [])) else Err kind.Line
+
+-- The base of what its fields tell, or the first fault: no number; no phase, record or word of staying; no label;
+-- no state in which a machine stands.
+abbrev pub base_from : Option ℕ → Option (Phase × Status × Bool) → Option (Option Tai64n) → Result Heard TraceFaultKind
+base_from None standing until = Err kind.Number
+base_from (Some folded) None until = Err kind.Line
+base_from (Some folded) (Some standing) None = Err kind.Label
+base_from (Some folded) (Some standing) (Some until) = base_at folded (standing_so standing until)
+
+abbrev pub base_said : List (List ℕ) → Result Heard TraceFaultKind
+base_said (word ∷ folded ∷ phase ∷ status ∷ stay ∷ until ∷ []) =
+    if bytes_eq word (codes "base")
+    then base_from (folded_of_text folded) (standing (phase_of_text phase) (status_of_text status) (exiting_of_text stay)) (until_of_text until)
+    else Err kind.Line
+base_said other = Err kind.Line
+
+abbrev pub kind_of : EventFault → TraceFaultKind
+kind_of why.UnknownEvent = kind.UnknownEvent
+kind_of why.Line = kind.Line
+kind_of why.Number = kind.Number
+kind_of why.Label = kind.Label
+
+-- an event's line: its own faults come first, then one entry more than 65,536, then one that is not taken
+abbrev pub entry_said : Told → Result Event EventFault → Result Heard TraceFaultKind
+entry_said told (Err fault) = Err (kind_of fault)
+entry_said told (Ok event) =
+    if not (nat_lt (length told.entries) 65536) then Err kind.Line
+    else if takes (told_history told) event then Ok (Entries (with_entry told event))
+    else Err kind.NotTaken
+
+-- the end line: the number of the entries
+abbrev pub end_said : Told → List (List ℕ) → Result Heard TraceFaultKind
+end_said told (count ∷ []) = if bytes_eq count (decimal (length told.entries)) then Ok (Whole told) else Err kind.Number
+end_said told other = Err kind.Line
+
+-- a line after the base's, by its fields: a first word `end` makes it the end line
+abbrev pub later_said : Told → List (List ℕ) → Result Heard TraceFaultKind
+later_said told [] = Err kind.UnknownEvent
+later_said told (word ∷ rest) =
+    if bytes_eq word (codes "end") then end_said told rest else entry_said told (event_from (word ∷ rest))
+
+-- what a line says after those so far
+abbrev pub said : Heard → List ℕ → Result Heard TraceFaultKind
+said Nothing line = if bytes_eq line header then Ok Header else Err kind.Line
+said Header line = base_said (fields line)
+said (Entries told) line = later_said told (fields line)
+said (Whole told) line = Err kind.Line
+
+-- all that was told, or what was told so far
+abbrev pub told_so : Bool → Told → Heard
+told_so true told = Whole told
+told_so false told = Entries told
+
+abbrev pub refused : ℕ → TraceFaultKind → Result Told TraceFault
+refused number why = Err (record { line = number; kind = why })
+
+-- what the bytes after the last newline say: there are none, and all was told
+abbrev pub at_end : ℕ → Heard → List ℕ → Result Told TraceFault
+at_end number (Whole told) [] = Ok told
+at_end number heard rest = refused number kind.Line
+
+-- Reading goes line by line, each up to its newline, and the first that is refused is told with its number.
+abbrev pub told_by_parts : ℕ → Heard → List (List ℕ) → Result Told TraceFault
+told_by_parts number heard [] = at_end number heard []
+told_by_parts number heard (rest ∷ []) = at_end number heard rest
+told_by_parts number heard (line ∷ part ∷ parts) = elim (said heard line) [
+  | Ok more ↦ told_by_parts (number + 1) more (part ∷ parts)
+  | Err why ↦ refused number why
+]
+
+-- the parts of a text between its newlines
+abbrev pub parts_of : List ℕ → List (List ℕ)
+parts_of text = slice_split (λ byte. byte == 10) text
+
+-- what a text tells, or its first fault
+abbrev pub told_from : List ℕ → Result Told TraceFault
+told_from text = told_by_parts 1 Nothing (parts_of text)

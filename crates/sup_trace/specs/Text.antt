@@ -1,0 +1,47 @@
+-- The text of a trace: a header, a line for the base, one line for each entry, oldest first, and an
+-- end line with the number of entries. Every line ends in a newline.
+use Rattle.std.specs.Prelude.{ℕ, Bool, if◌then◌else◌, List, [], ◌∷◌, ◌++◌, map, length, flat_map, codes, decimal, Option, Some, None}
+use Rattle.std.specs.List.{join_with_byte}
+use Rattle.hex.specs.Hex.{encode_lower}
+use Rattle.tai_status.specs.Label.{Tai64n, label_text}
+use Rattle.tai_status.specs.Record.{status_record}
+use Rattle.sup_core.specs.State.{State}
+use Rattle.sup_core.specs.Text.{event_text, phase_name}
+use Rattle.sup_trace.specs.Told.{Told}
+
+-- the first line
+unfoldable pub header : List ℕ
+header = codes "dtools-trace 1"
+
+-- whether the machine is to end
+abbrev pub stay_text : Bool → List ℕ
+stay_text exiting = if exiting then codes "exit" else codes "stay"
+
+-- until when it settles or rests
+abbrev pub until_text : Option Tai64n → List ℕ
+until_text None = codes "-"
+until_text (Some label) = label_text label
+
+-- the fields of the base's line: the count of folded events; the phase; the digits of the status record; whether
+-- the machine is to end; and the end of its settling or resting
+abbrev pub base_fields : ℕ → State → List (List ℕ)
+base_fields folded base =
+    codes "base" ∷ decimal folded ∷ phase_name base.phase ∷ encode_lower (status_record base.status)
+    ∷ stay_text base.exiting ∷ until_text base.until ∷ []
+
+-- the base's line: its fields, parted by one space
+abbrev pub base_text : ℕ → State → List ℕ
+base_text folded base = join_with_byte 32 (base_fields folded base)
+
+-- the last line
+abbrev pub end_text : ℕ → List ℕ
+end_text count = codes "end " ++ decimal count
+
+-- the lines of a trace's text
+abbrev pub trace_lines : Told → List (List ℕ)
+trace_lines told =
+    header ∷ base_text told.folded told.base ∷ map event_text told.entries ++ end_text (length told.entries) ∷ []
+
+-- the text: its lines, each with a newline
+abbrev pub trace_text : Told → List ℕ
+trace_text told = flat_map (λ line. line ++ 10 ∷ []) (trace_lines told)

@@ -1,0 +1,157 @@
+ghost use Rattle.std.specs.Prelude.{◌≡◌, ◌≢◌, ◌↔◌, ◌+◌, ◌^◌, ◌<◌, ◌≤◌, [], ◌∷◌, ℕ, List, length, codes, decimal, Option, Some, None, IfSome, IfOk, IfErr, MatchOption, MatchResult, true, false, Ok, Err, IsErrOf, IsTrue};
+ghost use Rattle.std.specs.Option.{option_copied};
+ghost use Rattle.tai_status.specs.Label.{Tai64n, IsLabel};
+ghost use Rattle.hex.specs.Hex.{encode_lower, decode_sized};
+ghost use Rattle.tai_status.specs.Record.{Status, IsStatus, status_record};
+ghost use Rattle.sup_core.specs.Reading.{fields, label_of_text};
+ghost use Rattle.sup_trace.specs.declared.fault.TraceFaultKind.TheVariants as kind;
+ghost use Rattle.sup_trace.specs.Told.{Told, told_of};
+ghost use Rattle.sup_trace.specs.Reading.{folded_of_text, phase_of_text, status_of_bytes, status_of_text, exiting_of_text, until_of_text, is_state, standing, standing_so, Entries, base_said};
+
+use crate::fault::TraceFaultKind;
+use crate::text::digits_of;
+use hex::FromHex;
+use sup_core::{Machine, Phase, read_number, read_phase, split_field};
+use tai_status::{Label, View, decode, read_text};
+
+/// The fields of the base's line, after its first word.
+#[derive(Clone, Copy)]
+struct BaseFields<'a> {
+    folded: &'a [u8],
+    phase: &'a [u8],
+    status: &'a [u8],
+    stay: &'a [u8],
+    until: &'a [u8],
+}
+
+/// The count of folded events whose text this is.
+fn read_folded(text: &[u8]) -> Option<u64>
+    ensures { result ≡ folded_of_text text.now }
+{
+    let folded = read_number(text)?;
+    if folded <= 1 << 63 {
+        Some(folded)
+    } else {
+        None
+    }
+}
+
+/// The status of bytes that these digits spell, in whatever case.
+fn status_meant(text: &[u8]) -> Option<View>
+    ensures { result ≡ status_of_bytes (decode_sized text.now 18) }
+{
+    match <[u8; 18] as FromHex>::from_hex(text) {
+        Ok(bytes) => decode(&bytes).ok(),
+        Err(_) => None,
+    }
+}
+
+/// The status whose record has these digits.
+#[tactic(auto, unfolding(crate::specs::Reading::status_of_text))]
+fn read_status(text: &[u8]) -> Option<View>
+    ensures { result ≡ status_of_text text.now }
+{
+    let view = status_meant(text)?;
+    if digits_of(&view).as_slice() == text {
+        Some(view)
+    } else {
+        None
+    }
+}
+
+/// Whether the machine is to end.
+fn read_exiting(text: &[u8]) -> Option<bool>
+    ensures { result ≡ exiting_of_text text.now }
+{
+    match text {
+        b"exit" => Some(true),
+        b"stay" => Some(false),
+        _ => None,
+    }
+}
+
+/// Until when the machine settles or rests.
+fn read_until(text: &[u8]) -> Option<Option<Label>>
+    ensures { result ≡ until_of_text text.now }
+{
+    match text {
+        b"-" => Some(None),
+        _ => Some(Some(read_label(text)?)),
+    }
+}
+
+/// The label whose text this is.
+fn read_label(text: &[u8]) -> Option<Label>
+    ensures { result ≡ label_of_text text.now }
+{
+    read_text(text).ok()
+}
+
+/// The fields of a base's line.
+#[tactic(auto, using(crate::proofs::Parts::base_said_many))]
+fn base_fields(line: &[u8]) -> Option<BaseFields<'_>>
+    ensures { MatchOption result (base_said (fields line.now) ≡ Err TraceFaultKind.Line)
+        (λ f. fields line.now ≡ codes "base" ∷ f.folded.now ∷ f.phase.now ∷ f.status.now ∷ f.stay.now ∷ f.until.now ∷ []) }
+{
+    let (word, rest) = split_field(line);
+    if word != b"base".as_slice() {
+        return None;
+    }
+    let (folded, rest) = split_field(rest?);
+    let (phase, rest) = split_field(rest?);
+    let (status, rest) = split_field(rest?);
+    let (stay, rest) = split_field(rest?);
+    let (until, rest) = split_field(rest?);
+    match rest {
+        None => Some(BaseFields {
+            folded,
+            phase,
+            status,
+            stay,
+            until,
+        }),
+        Some(_) => None,
+    }
+}
+
+/// The phase of this name.
+fn phase_of(name: &[u8]) -> Option<Phase>
+    ensures { result ≡ phase_of_text name.now }
+{
+    read_phase(name)
+}
+
+/// The phase, the status, and whether the machine is to end.
+fn read_standing(fields: &BaseFields<'_>) -> Option<(Phase, View, bool)>
+    ensures { result ≡ standing (phase_of_text fields.now.phase.now) (status_of_text fields.now.status.now) (exiting_of_text fields.now.stay.now) }
+{
+    let phase = phase_of(fields.phase)?;
+    let view = read_status(fields.status)?;
+    let exiting = read_exiting(fields.stay)?;
+    Some((phase, view, exiting))
+}
+
+/// The machine of these parts.
+fn machine_of(standing: (Phase, View, bool), until: Option<Label>) -> Option<Machine>
+    ensures { MatchOption result (is_state (standing_so standing until) ≡ false)
+        (λ base. (is_state (standing_so standing until) ≡ true) × (base ≡ standing_so standing until)) }
+{
+    let (phase, view, exiting) = standing;
+    Machine::of_parts(phase, view, exiting, until)
+}
+
+/// The base and the count of folded events of a line.
+pub(crate) fn read_base(line: &[u8]) -> Result<(u64, Machine), TraceFaultKind>
+    ensures base { MatchResult result (λ (folded, base). base_said (fields line.now) ≡ Ok (Entries (told_of base folded [])))
+        (λ kind. base_said (fields line.now) ≡ Err kind) }
+    ensures memory { IfErr result (λ why. why ≢ kind.OutOfMemory) }
+{
+    let Some(fields) = base_fields(line) else {
+        return Err(TraceFaultKind::Line);
+    };
+    let folded = read_folded(fields.folded).ok_or(TraceFaultKind::Number)?;
+    let standing = read_standing(&fields).ok_or(TraceFaultKind::Line)?;
+    let until = read_until(fields.until).ok_or(TraceFaultKind::Label)?;
+    let base = machine_of(standing, until).ok_or(TraceFaultKind::Line)?;
+    Ok((folded, base))
+}

@@ -1,0 +1,269 @@
+ghost use Rattle.std.specs.Prelude.{◌≡◌, ◌≢◌, ◌+◌, ◌^◌, ◌<◌, ◌≤◌, [], ◌∷◌, ◌++◌, List, ℕ, length, bytes_eq, true, false, Ok, Err, OnOk, OnErr, IfOk, IfErr, IsOkAnd, MatchResult};
+ghost use Rattle.std.specs.Option.{option_copied};
+ghost use Rattle.sup_core.specs.Reading.{fields, event_from};
+ghost use Rattle.sup_core.specs.Fields.{fields_after};
+ghost use Rattle.sup_core.specs.Rules.{IsEvent};
+ghost use Rattle.sup_trace.specs.declared.fault.TraceFault.{TraceFault};
+ghost use Rattle.sup_trace.specs.declared.fault.TraceFaultKind.TheVariants as kind;
+ghost use Rattle.sup_trace.specs.Told.{Told, IsTold, told_of, replay_of};
+ghost use Rattle.sup_trace.specs.Text.{header, trace_text};
+ghost use Rattle.sup_trace.specs.Reading.{Nothing, Header, Entries, Whole, said, told_so, entry_said, end_said, kind_of, told_by_parts, parts_of, told_from};
+
+use crate::base::read_base;
+use crate::fault::{TraceFault, TraceFaultKind};
+use crate::lines::Lines;
+use crate::told::TraceText;
+use crate::trace::MAX_CAPACITY;
+use std::alloc::{Allocator, Global};
+use sup_core::{Event, EventFault, Machine, Reply, read_event, read_number, split_field};
+
+/// The base and the entries so far, and the machine after them.
+#[derive(Drop)]
+struct Reading<A: Allocator> {
+    base: Machine,
+    folded: u64,
+    entries: Vec<Event, A>,
+    machine: Machine,
+}
+
+/// What is told of the fault of an event's line.
+fn kind_of(fault: EventFault) -> TraceFaultKind
+    ensures { result ≡ kind_of fault }
+{
+    match fault {
+        EventFault::UnknownEvent => TraceFaultKind::UnknownEvent,
+        EventFault::Line => TraceFaultKind::Line,
+        EventFault::Number => TraceFaultKind::Number,
+        EventFault::Label => TraceFaultKind::Label,
+    }
+}
+
+/// Whether this is the first line.
+#[tactic(auto, unfolding(crate::specs::Text::header))]
+fn is_header(line: &[u8]) -> bool
+    ensures { result ≡ bytes_eq line.now header }
+{
+    line == b"dtools-trace 1".as_slice()
+}
+
+/// Reads the first line.
+fn read_header(line: &[u8]) -> Result<(), TraceFaultKind>
+    ensures { MatchResult result (λ u. said Nothing line.now ≡ Ok Header) (λ kind. said Nothing line.now ≡ Err kind) }
+{
+    if is_header(line) {
+        Ok(())
+    } else {
+        Err(TraceFaultKind::Line)
+    }
+}
+
+impl<A: Allocator> Reading<A> {
+    /// Takes an event's line.
+    fn take_event(&mut self, line: &[u8]) -> Result<(), TraceFaultKind>
+        requires machine { self.old.machine ≡ replay_of (told_of self.old.base self.old.folded self.old.entries.items) }
+        ensures ok { OnOk result (entry_said (told_of self.old.base self.old.folded self.old.entries.items) (event_from (fields line.now))
+            ≡ Ok (Entries (told_of self.new.base self.new.folded self.new.entries.items))) }
+        ensures machine { OnOk result (self.new.machine ≡ replay_of (told_of self.new.base self.new.folded self.new.entries.items)) }
+        ensures fault { IfErr result (λ why. why ≢ kind.OutOfMemory
+            → entry_said (told_of self.old.base self.old.folded self.old.entries.items) (event_from (fields line.now)) ≡ Err why) }
+    {
+        let event = match read_event(line) {
+            Ok(event) => event,
+            Err(fault) => return Err(kind_of(fault)),
+        };
+        if self.entries.len() >= MAX_CAPACITY {
+            return Err(TraceFaultKind::Line);
+        }
+        if !self.machine.takes(&event) {
+            return Err(TraceFaultKind::NotTaken);
+        }
+        match self.entries.push(event) {
+            Ok(()) => {}
+            Err(_) => return Err(TraceFaultKind::OutOfMemory),
+        }
+        self.machine.step(event);
+        Ok(())
+    }
+
+    /// Takes the fields after the first word of the end line.
+    #[tactic(auto, using(crate::proofs::Steps::end_said_many))]
+    fn take_end(&self, rest: Option<&[u8]>) -> Result<(), TraceFaultKind>
+        ensures { MatchResult result
+            (λ u. end_said (told_of self.now.base self.now.folded self.now.entries.items) (fields_after (option_copied rest.entry))
+            ≡ Ok (Whole (told_of self.now.base self.now.folded self.now.entries.items)))
+            (λ why. end_said (told_of self.now.base self.now.folded self.now.entries.items) (fields_after (option_copied rest.entry)) ≡ Err why) }
+    {
+        let Some(rest) = rest else {
+            return Err(TraceFaultKind::Line);
+        };
+        let (count, rest) = split_field(rest);
+        if rest.is_some() {
+            return Err(TraceFaultKind::Line);
+        }
+        if read_number(count) == Some(self.entries.len() as u64) {
+            Ok(())
+        } else {
+            Err(TraceFaultKind::Number)
+        }
+    }
+}
+
+impl<A: Allocator> Reading<A> {
+    /// Takes a line after the base's. Whether it is the end line.
+    fn take_line(&mut self, line: &[u8]) -> Result<bool, TraceFaultKind>
+        requires machine { self.old.machine ≡ replay_of (told_of self.old.base self.old.folded self.old.entries.items) }
+        ensures ok { IfOk result (λ ended. said (Entries (told_of self.old.base self.old.folded self.old.entries.items)) line.now
+            ≡ Ok (told_so ended (told_of self.new.base self.new.folded self.new.entries.items))) }
+        ensures machine { OnOk result (self.new.machine ≡ replay_of (told_of self.new.base self.new.folded self.new.entries.items)) }
+        ensures fault { IfErr result (λ why. why ≢ kind.OutOfMemory
+            → said (Entries (told_of self.old.base self.old.folded self.old.entries.items)) line.now ≡ Err why) }
+    {
+        let (word, rest) = split_field(line);
+        match word {
+            b"end" => {
+                self.take_end(rest)?;
+                Ok(true)
+            }
+            _ => match self.take_event(line) {
+                Ok(()) => Ok(false),
+                Err(why) => Err(why),
+            },
+        }
+    }
+}
+
+impl<A: Allocator> Reading<A> {
+    /// Takes the next line after the base's. Whether it is the end line.
+    fn take_next(&mut self, lines: &mut Lines<'_>) -> Result<bool, TraceFault>
+        requires machine { self.old.machine ≡ replay_of (told_of self.old.base self.old.folded self.old.entries.items) }
+        requires room { lines.old.number + length lines.old.rest.now < 2 ^ 64 }
+        ensures ok { IfOk result (λ ended.
+            told_by_parts lines.old.number (Entries (told_of self.old.base self.old.folded self.old.entries.items)) (parts_of lines.old.rest.now)
+            ≡ told_by_parts lines.new.number (told_so ended (told_of self.new.base self.new.folded self.new.entries.items)) (parts_of lines.new.rest.now)) }
+        ensures machine { OnOk result (self.new.machine ≡ replay_of (told_of self.new.base self.new.folded self.new.entries.items)) }
+        ensures room { OnOk result (lines.new.number + length lines.new.rest.now < 2 ^ 64) }
+        ensures later { OnOk result (lines.old.number < lines.new.number) }
+        ensures shorter { OnOk result (length lines.new.rest.now < length lines.old.rest.now) }
+        ensures fault { IfErr result (λ fault. fault.kind ≢ kind.OutOfMemory
+            → told_by_parts lines.old.number (Entries (told_of self.old.base self.old.folded self.old.entries.items)) (parts_of lines.old.rest.now) ≡ Err fault) }
+        ensures memory { IfErr result (λ fault. (first : TraceFault)
+            → told_by_parts lines.old.number (Entries (told_of self.old.base self.old.folded self.old.entries.items)) (parts_of lines.old.rest.now) ≡ Err first
+            → fault.line ≤ first.line) }
+    {
+        let number = lines.number;
+        let line = lines.next_line()?;
+        match self.take_line(line) {
+            Ok(ended) => Ok(ended),
+            Err(kind) => Err(TraceFault { line: number, kind }),
+        }
+    }
+}
+
+/// Takes the first line.
+fn take_header(lines: &mut Lines<'_>) -> Result<(), TraceFault>
+    requires { lines.old.number + length lines.old.rest.now < 2 ^ 64 }
+    ensures ok { OnOk result (told_by_parts lines.old.number Nothing (parts_of lines.old.rest.now)
+        ≡ told_by_parts lines.new.number Header (parts_of lines.new.rest.now)) }
+    ensures room { OnOk result (lines.new.number + length lines.new.rest.now < 2 ^ 64) }
+    ensures fault { IfErr result (λ fault. told_by_parts lines.old.number Nothing (parts_of lines.old.rest.now) ≡ Err fault) }
+    ensures memory { IfErr result (λ fault. fault.kind ≢ kind.OutOfMemory) }
+{
+    let number = lines.number;
+    let line = lines.next_line()?;
+    match read_header(line) {
+        Ok(()) => Ok(()),
+        Err(kind) => Err(TraceFault { line: number, kind }),
+    }
+}
+
+/// Takes the base's line.
+fn take_base(lines: &mut Lines<'_>) -> Result<(u64, Machine), TraceFault>
+    requires { lines.old.number + length lines.old.rest.now < 2 ^ 64 }
+    ensures ok { IfOk result (λ (folded, base). told_by_parts lines.old.number Header (parts_of lines.old.rest.now)
+        ≡ told_by_parts lines.new.number (Entries (told_of base folded [])) (parts_of lines.new.rest.now)) }
+    ensures room { OnOk result (lines.new.number + length lines.new.rest.now < 2 ^ 64) }
+    ensures fault { IfErr result (λ fault. told_by_parts lines.old.number Header (parts_of lines.old.rest.now) ≡ Err fault) }
+    ensures memory { IfErr result (λ fault. fault.kind ≢ kind.OutOfMemory) }
+{
+    let number = lines.number;
+    let line = lines.next_line()?;
+    match read_base(line) {
+        Ok(base) => Ok(base),
+        Err(kind) => Err(TraceFault { line: number, kind }),
+    }
+}
+
+impl<A: Allocator> Reading<A> {
+    /// Takes the lines after the base's, up to the end line.
+    fn take_entries(&mut self, lines: &mut Lines<'_>) -> Result<(), TraceFault>
+        requires machine { self.old.machine ≡ replay_of (told_of self.old.base self.old.folded self.old.entries.items) }
+        requires room { lines.old.number + length lines.old.rest.now < 2 ^ 64 }
+        ensures ok { OnOk result (
+            told_by_parts lines.old.number (Entries (told_of self.old.base self.old.folded self.old.entries.items)) (parts_of lines.old.rest.now)
+            ≡ told_by_parts lines.new.number (Whole (told_of self.new.base self.new.folded self.new.entries.items)) (parts_of lines.new.rest.now)) }
+        ensures fault { IfErr result (λ fault. fault.kind ≢ kind.OutOfMemory
+            → told_by_parts lines.old.number (Entries (told_of self.old.base self.old.folded self.old.entries.items)) (parts_of lines.old.rest.now) ≡ Err fault) }
+        ensures memory { IfErr result (λ fault. (first : TraceFault)
+            → told_by_parts lines.old.number (Entries (told_of self.old.base self.old.folded self.old.entries.items)) (parts_of lines.old.rest.now) ≡ Err first
+            → fault.line ≤ first.line) }
+    {
+        'entries: loop {
+            if self.take_next(lines)? {
+                return Ok(());
+            }
+        }
+    }
+}
+
+/// Reads the lines of a text, one after another.
+fn read_lines<A: Allocator>(alloc: A, text: &[u8]) -> Result<TraceText<A>, TraceFault>
+    ensures told { IfOk result (λ told. told_from text.now ≡ Ok told) }
+    ensures fault { IfErr result (λ fault. fault.kind ≢ kind.OutOfMemory → told_from text.now ≡ Err fault) }
+    ensures memory { IfErr result (λ fault. fault.kind ≡ kind.OutOfMemory
+        → (first : TraceFault) → told_from text.now ≡ Err first → fault.line ≤ first.line) }
+{
+    let mut lines = Lines::new(text);
+    take_header(&mut lines)?;
+    let (folded, base) = take_base(&mut lines)?;
+    let mut reading = Reading {
+        base,
+        folded,
+        entries: Vec::new(alloc),
+        machine: base,
+    };
+    reading.take_entries(&mut lines)?;
+    if !lines.rest.is_empty() {
+        return Err(TraceFault {
+            line: lines.number,
+            kind: TraceFaultKind::Line,
+        });
+    }
+    let Reading {
+        base,
+        folded,
+        entries,
+        machine: _,
+    } = reading;
+    Ok(TraceText::from_parts(base, folded, entries))
+}
+
+/// What this text tells. It has a line `dtools-trace 1`, one for the base, one event line for each entry, oldest first, and
+/// a line `end` with the number of the entries; every line ends in a newline.
+///
+/// The base's line is `base FOLDED PHASE RECORD STAY UNTIL`: the count of events before the entries, at most `2 ^ 63`; the
+/// phase; the 36 lower-case digits of the status record; `exit` where the machine is to end, else `stay`; and the label
+/// until which it settles or rests, or `-`. An event line is one that `read_event` reads.
+///
+/// The first faulty line is told. Want of memory for an entry is told as a fault of its line.
+pub fn read_text<A: Allocator>(alloc: A, text: &[u8]) -> Result<TraceText<A>, TraceFault>
+    ensures found { IfOk result (λ told. IsTold told × (text.now ≡ trace_text told)) }
+    ensures only { (told : Told) → IsTold told → text.now ≡ trace_text told
+        → MatchResult result (λ read. read ≡ told) (λ fault. fault.kind ≡ kind.OutOfMemory) }
+    // Which fault it is.
+    ensures fault { IfErr result (λ fault. fault.kind ≢ kind.OutOfMemory → told_from text.now ≡ Err fault) }
+    // Want of memory at a line is told where no line before it is faulty.
+    ensures memory { IfErr result (λ fault. fault.kind ≡ kind.OutOfMemory
+        → (first : TraceFault) → told_from text.now ≡ Err first → fault.line ≤ first.line) }
+{
+    read_lines(alloc, text)
+}

@@ -1,0 +1,84 @@
+ghost use Rattle.std.specs.Prelude.{◌≡◌, ◌≤◌, ◌^◌, IfOk, OnOk};
+ghost use Rattle.sup_trace.specs.Text.{trace_text};
+ghost use Rattle.sup_trace.specs.Told.{replay_of};
+
+use crate::text::trace_text;
+use std::alloc::{AllocError, Allocator, Global};
+use std::marker::Model;
+use sup_core::{Event, Machine};
+
+/// What the text of a trace tells: the machine before the entries, how many events had led to it, and the events taken
+/// since. Contracts see it as `Told`.
+#[derive(Drop)]
+pub struct TraceText<A: Allocator = Global> {
+    base: Machine,
+    folded: u64,
+    entries: Vec<Event, A>,
+}
+
+impl<A: Allocator> Model for TraceText<A> {
+    ghost use Rattle.sup_trace.specs.Told.{Told, IsTraceText, told_of};
+
+    ghost Value = { Told };
+
+    ghost view = { λ text. told_of text.base text.folded text.entries.items };
+
+    ghost invariant = { λ text. IsTraceText (told_of text.base text.folded text.entries.items) };
+}
+
+impl<A: Allocator> TraceText<A> {
+    ghost use Rattle.sup_trace.specs.Told.{IsTold, IsTraceText, told_of};
+
+    /// The text that tells of this base, of as many events before it, and of these entries.
+    pub(crate) fn from_parts(base: Machine, folded: u64, entries: Vec<Event, A>) -> TraceText<A>
+        requires { IsTraceText (told_of base folded entries.items) }
+        ensures { result ≡ told_of base folded entries.items }
+    {
+        TraceText {
+            base,
+            folded,
+            entries,
+        }
+    }
+
+    /// The machine before the entries.
+    pub fn base(&self) -> Machine
+        ensures { result ≡ self.now.base }
+    {
+        self.base
+    }
+
+    /// How many events were taken before the entries. The count stops at `2 ^ 63`.
+    pub fn folded(&self) -> u64
+        ensures folded { result ≡ self.now.folded }
+        ensures limit { result ≤ 2 ^ 63 }
+    {
+        self.folded
+    }
+
+    /// The events taken since, oldest first: at most 65,536.
+    pub fn entries(&self) -> &[Event]
+        ensures entries { result.now ≡ self.now.entries }
+        ensures bounds { IsTraceText self.now }
+    {
+        self.entries.as_slice()
+    }
+    /// The text: a header, the base's line, a line for each entry, and the number of entries. `AllocError` comes only
+    /// where the allocator refuses the memory for it, which is asked for at once.
+    pub fn write_text<B: Allocator>(&self, alloc: B) -> Result<Vec<u8, B>, AllocError>
+        ensures text { IfOk result (λ bytes. bytes.items ≡ trace_text self.now) }
+        // Such a text is read as what it tells.
+        ensures range { OnOk result (IsTold self.now) }
+    {
+        trace_text(alloc, &self.base, self.folded, &[], &self.entries)
+    }
+}
+
+/// The machine after the entries.
+pub fn replay<A: Allocator>(told: &TraceText<A>) -> Machine
+    ensures { result ≡ replay_of told.now }
+{
+    let mut machine = told.base();
+    machine.run(told.entries());
+    machine
+}
