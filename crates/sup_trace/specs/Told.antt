@@ -39,7 +39,7 @@ pub record IsTold (told : Told) : Type 0 where
 abbrev pub told_of : State → ℕ → List Event → Told
 told_of base folded entries = record { base = base; folded = folded; entries = entries }
 
--- That without what the types of machines and events tell by themselves.
+-- What of `IsTold` the types of machines and events do not tell by themselves.
 pub record IsTraceText (told : Told) : Type 0 where
   pub count : told.folded ≤ 2 ^ 63
   pub limit : length told.entries ≤ 65536
