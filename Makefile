@@ -1,7 +1,7 @@
 # build: proves and builds the program. test: the gate. install: copies the program to PREFIX/bin.
 PREFIX ?= /usr/local
 PROGRAM = crates/dtools/out/dtools
-COMMANDS = tai64n
+COMMANDS = tai64n envdir readproctitle
 
 .PHONY: build test install
 

@@ -17,7 +17,7 @@ use Rattle.std.proofs.Common.{get_or, add-one, ◌⊎◌, inl, inr}
 use Rattle.std.proofs.Math.Seq.{take-suc}
 use Rattle.dtools.specs.declared.fault.SimFault.{SimFault}
 use Rattle.dtools.specs.declared.fault.SimFault.TheVariants as sim
-use Rattle.dtools.specs.Told.{status_of}
+use Rattle.dtools.specs.Told.{status_of, Cause}
 use Rattle.dtools.specs.Sim.{Said, said, said_by, beginning, going_on, answers, first_refused, Refusal, printed, both_sides, printed_for, refused_in, AnswersAll, AnswersUpTo, AnswersFront}
 use Rattle.dtools.specs.Progress.{Stands, Says, Answered, SoFar, text_said}
 use Rattle.std.specs.Io.KnownBytes.{Appends, Consumes, Keeps, IsAtEnd}
@@ -512,6 +512,13 @@ trouble_at (sim.Refused line why) is = absurd (omega (arith, is))
 trouble_at sim.OutOfMemory is = inl refl
 trouble_at sim.Read is = inr (inl refl)
 trouble_at sim.Write is = inr (inr refl)
+
+-- what a fault of status 111 comes from
+pub cause_at : {R W M : Type 0} (told : SimFault) → status_of told ≡ 111 → (told ≡ sim.OutOfMemory → M) → (told ≡ sim.Read → R) → (told ≡ sim.Write → W) → Cause told R W M
+cause_at (sim.Refused line why) is m r w = absurd (omega (arith, is))
+cause_at sim.OutOfMemory is m r w = m refl
+cause_at sim.Read is m r w = r refl
+cause_at sim.Write is m r w = w refl
 
 -- Nothing was read and nothing written.
 pub unmoved : (before after held holds : Option (List ℕ)) → after ≡ before → holds ≡ held → AnswersFront before after held holds

@@ -1,3 +1,6 @@
 pub mod Sim
 pub mod Progress
 pub mod Told
+pub mod Traced
+pub mod Title
+pub mod Child

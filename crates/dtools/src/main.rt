@@ -2,28 +2,58 @@
 //! Its first word is the command.
 #![tactic(auto)]
 
+mod break_word;
+mod child;
 mod clock;
 mod command;
+mod devices;
+mod envdir;
 mod fault;
+mod folder;
+mod readproctitle;
 mod report;
+mod shown;
 mod sim;
 mod tai64n;
+mod trace;
+mod trace_words;
+mod variables;
 
 use clock::SystemClock;
 use command::run;
+use devices::Devices;
 use report::{TROUBLE, tell, usage};
 use std::env;
-use std::io::{ErrorKind, Write};
+use std::io::{ErrorKind, Read, Write};
 use std::process::ExitCode;
-use tai_status::Counted;
+use tai_status::{Counted, TimeSource};
 
 fn main(rt: HostRuntime) -> ExitCode {
-    let mut faults = Counted::new(rt.stderr());
-    let status = match arguments(&rt) {
-        Ok(words) => run_words(&rt, &words, &mut faults),
-        Err(fault) => refuse_words(fault, &mut faults),
+    let mut devices = Devices {
+        reader: Counted::new(rt.stdin()),
+        writer: Counted::new(rt.stdout()),
+        faults: Counted::new(rt.stderr()),
+        clock: SystemClock::new(rt),
     };
-    ExitCode::from(status)
+    ExitCode::from(run_arguments(&rt, &mut devices))
+}
+
+/// Runs the program's words, but for its own name.
+fn run_arguments<D: Read, W: Write, E: Write, C: TimeSource>(
+    rt: &HostRuntime,
+    devices: &mut Devices<D, W, E, C>,
+) -> u8 {
+    let texts = match arguments(rt) {
+        Ok(texts) => texts,
+        Err(fault) => return refuse_words(fault, &mut devices.faults),
+    };
+    let mut words = Vec::new(rt.alloc());
+    for text in &texts {
+        if words.push(text.as_str()).is_err() {
+            return refuse_words(ErrorKind::OutOfMemory, &mut devices.faults);
+        }
+    }
+    run(rt, rt.alloc(), &words, devices)
 }
 
 /// The program's words, without its own name.
@@ -41,27 +71,6 @@ fn arguments(rt: &HostRuntime) -> Result<Vec<String>, ErrorKind> {
     Ok(words)
 }
 
-/// Runs the words over the standard streams.
-fn run_words<E: Write>(rt: &HostRuntime, texts: &[String], faults: &mut Counted<E>) -> u8 {
-    let mut words = Vec::new(rt.alloc());
-    for text in texts {
-        if words.push(text.as_str()).is_err() {
-            return refuse_words(ErrorKind::OutOfMemory, faults);
-        }
-    }
-    let mut reader = Counted::new(rt.stdin());
-    let mut writer = Counted::new(rt.stdout());
-    let mut clock = SystemClock::new(*rt);
-    run(
-        rt.alloc(),
-        &words,
-        &mut reader,
-        &mut writer,
-        faults,
-        &mut clock,
-    )
-}
-
 /// Tells why the words could not be had: for want of memory, or since they are no text.
 fn refuse_words<E: Write>(why: ErrorKind, faults: &mut Counted<E>) -> u8 {
     if why == ErrorKind::OutOfMemory {
@@ -73,3 +82,5 @@ fn refuse_words<E: Write>(why: ErrorKind, faults: &mut Counted<E>) -> u8 {
 
 #[cfg(test)]
 mod tests;
+#[cfg(test)]
+mod trace_tests;

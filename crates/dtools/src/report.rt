@@ -1,13 +1,14 @@
 //! What a command tells of its faults, and with which status it ends.
-ghost use Rattle.std.specs.Prelude.{◌≡◌, ◌+◌, ◌≤◌, ◌++◌, decimal};
+ghost use Rattle.std.specs.Prelude.{◌≡◌, ◌+◌, ◌≤◌, ◌++◌, decimal, OnOk, OnErr};
+ghost use Rattle.std.specs.Io.KnownBytes.{Appends};
 ghost use Rattle.arrayvec.specs.ArrayString.{array_string_len};
-ghost use Rattle.tai_status.specs.Counted.{device_of, fault_count};
+ghost use Rattle.tai_status.specs.Counted.{Rose, AppendsFront, device_of, fault_count};
 ghost use Rattle.dtools.specs.Told.{Tells, usage_text};
 
 use arrayvec::ArrayString;
 use itoa::Buffer;
 use std::io::Write;
-use tai_status::Counted;
+use tai_status::{Block, Counted, DeviceFault};
 
 /// The status of a command that did what it was asked.
 pub const DONE: u8 = 0;
@@ -26,6 +27,34 @@ pub fn tell<E: Write>(faults: &mut Counted<E>, text: &[u8])
         Ok(()) => {}
         Err(_) => {}
     }
+}
+
+/// Tells a fault in three parts, as one write where they are short. That the fault writer failed is
+/// passed over.
+pub fn tell_parts<E: Write>(faults: &mut Counted<E>, first: &[u8], second: &[u8], third: &[u8])
+    ensures { Tells (E.contents (device_of faults.old)) (E.contents (device_of faults.new)) (fault_count faults.old) (fault_count faults.new) (first.now ++ (second.now ++ third.now)) }
+{
+    match write_parts(faults, first, second, third) {
+        Ok(()) => {}
+        Err(_) => {}
+    }
+}
+
+/// Writes three pieces.
+fn write_parts<W: Write>(
+    writer: &mut Counted<W>,
+    first: &[u8],
+    second: &[u8],
+    third: &[u8],
+) -> Result<(), DeviceFault>
+    ensures ok { OnOk result (Appends (W.contents (device_of writer.old)) (W.contents (device_of writer.new)) (first.now ++ (second.now ++ third.now))) }
+    ensures err { OnErr result (AppendsFront (W.contents (device_of writer.old)) (W.contents (device_of writer.new)) (first.now ++ (second.now ++ third.now))) }
+    ensures fault { OnErr result (Rose (fault_count writer.old) (fault_count writer.new)) }
+{
+    let mut line = Block::new();
+    line.put(first, writer)?;
+    line.put_both(second, third, writer)?;
+    line.flush(writer)
 }
 
 /// Tells that the words are wrong, and answers the status of that.

@@ -1,16 +1,17 @@
-ghost use Rattle.std.specs.Prelude.{◌≡◌, ◌≤◌, ◌<◌, ◌+◌, ◌^◌, [], ◌∷◌, ◌++◌, length, OnOk, OnErr, IfOk, IfErr, IfSome, IsErrOf, Err, Option, List, ℕ, ◌≢◌, ◌⊎◌, flat_map};
+ghost use Rattle.std.specs.Prelude.{◌≡◌, ◌≤◌, ◌<◌, ◌+◌, ◌^◌, [], ◌∷◌, ◌++◌, length, slice_get, codes, OnOk, OnErr, IfOk, IfErr, IfSome, IsErrOf, Err, Option, List, ℕ, ◌≢◌, ◌⊎◌, flat_map};
 ghost use Rattle.std.specs.Io.KnownBytes.{Appends, IsAtEnd};
 ghost use Rattle.arrayvec.specs.ArrayString.{array_string_len};
 ghost use Rattle.tai_status.specs.Counted.{Rose, AppendsFront, device_of, read_count, fault_count};
 ghost use Rattle.tai_status.specs.Block.{Emits};
 ghost use Rattle.tai_status.specs.LineReader.{IsPlain};
 ghost use Rattle.sup_core.specs.declared.reading.EventFault.{EventFault};
+ghost use Rattle.dtools.specs.declared.fault.SimFault.{SimFault};
 ghost use Rattle.sup_core.specs.State.{State};
 ghost use Rattle.sup_core.specs.declared.asks.Reply.{Reply};
 ghost use Rattle.sup_core.specs.History.{History, Begin, state_of, phase_of};
 ghost use Rattle.sup_core.specs.Rules.{asks_of_begin};
 ghost use Rattle.sup_core.specs.Text.{answer_text, table_text};
-ghost use Rattle.dtools.specs.Told.{fault_name, told_of, status_of, refusal_text, usage_text, Tells};
+ghost use Rattle.dtools.specs.Told.{fault_name, told_of, status_of, refusal_text, usage_text, Tells, Cause, TableEnds};
 ghost use Rattle.dtools.specs.Sim.{said, printed, both_sides, printed_table, Refusal, AnswersAll, AnswersUpTo, AnswersFront};
 ghost use Rattle.dtools.specs.Progress.{Stands, Says, Answered, SoFar, text_said};
 
@@ -369,8 +370,9 @@ fn answer_input<A: Allocator, D: Read, W: Write, E: Write>(
     ensures refused { result ≡ 100 → (refusal : Refusal) × (AnswersUpTo (D.remaining (device_of reader.old)) (W.contents (device_of writer.old)) (W.contents (device_of writer.new)) refusal
         × Tells (E.contents (device_of faults.old)) (E.contents (device_of faults.new)) (fault_count faults.old) (fault_count faults.new) (refusal_text refusal)) }
     ensures trouble { result ≡ 111 → AnswersFront (D.remaining (device_of reader.old)) (D.remaining (device_of reader.new)) (W.contents (device_of writer.old)) (W.contents (device_of writer.new)) }
-    ensures cause { result ≡ 111 → Rose (fault_count reader.old) (fault_count reader.new) ⊎ (Rose (fault_count writer.old) (fault_count writer.new)
-        ⊎ ((reader.new ≡ reader.old) × (writer.new ≡ writer.old))) }
+    ensures cause { result ≡ 111 → (fault : SimFault)
+        × (Cause fault (Rose (fault_count reader.old) (fault_count reader.new)) (Rose (fault_count writer.old) (fault_count writer.new)) ((reader.new ≡ reader.old) × (writer.new ≡ writer.old))
+        × Tells (E.contents (device_of faults.old)) (E.contents (device_of faults.new)) (fault_count faults.old) (fault_count faults.new) (told_of fault)) }
     ensures status { (result ≡ 0) ⊎ ((result ≡ 100) ⊎ (result ≡ 111)) }
 {
     match answer_lines(alloc, reader, writer) {
@@ -382,8 +384,10 @@ fn answer_input<A: Allocator, D: Read, W: Write, E: Write>(
 /// `sim table`: prints the table of the control bytes.
 fn show_table<W: Write, E: Write>(writer: &mut Counted<W>, faults: &mut Counted<E>) -> u8
     ensures done { result ≡ 0 → Appends (W.contents (device_of writer.old)) (W.contents (device_of writer.new)) printed_table }
-    ensures trouble { result ≢ 0 → (result ≡ 111) × Rose (fault_count writer.old) (fault_count writer.new)
-        × AppendsFront (W.contents (device_of writer.old)) (W.contents (device_of writer.new)) printed_table }
+    ensures trouble { result ≢ 0 → (result ≡ 111) × (Rose (fault_count writer.old) (fault_count writer.new)
+        × (AppendsFront (W.contents (device_of writer.old)) (W.contents (device_of writer.new)) printed_table
+        × Tells (E.contents (device_of faults.old)) (E.contents (device_of faults.new)) (fault_count faults.old) (fault_count faults.new) (told_of SimFault.Write))) }
+    ensures status { (result ≡ 0) ⊎ (result ≡ 111) }
 {
     match writer.write_all(whole_table().as_bytes()) {
         Ok(()) => DONE,
@@ -412,18 +416,25 @@ pub fn run_sim<A: Allocator, D: Read, W: Write, E: Write>(
     // A front of the answers to what was read is written.
     ensures trouble { length words.now ≡ 0 → result ≡ 111
         → AnswersFront (D.remaining (device_of reader.old)) (D.remaining (device_of reader.new)) (W.contents (device_of writer.old)) (W.contents (device_of writer.new)) }
-    // The reader or the writer failed, or there was no memory, and nothing was read or written.
-    ensures cause { length words.now ≡ 0 → result ≡ 111
-        → Rose (fault_count reader.old) (fault_count reader.new) ⊎ (Rose (fault_count writer.old) (fault_count writer.new)
-        ⊎ ((reader.new ≡ reader.old) × (writer.new ≡ writer.old))) }
+    // The reader or the writer failed, or there was no memory, and nothing was read or written. It is told which.
+    ensures cause { length words.now ≡ 0 → result ≡ 111 → (fault : SimFault)
+        × (Cause fault (Rose (fault_count reader.old) (fault_count reader.new)) (Rose (fault_count writer.old) (fault_count writer.new)) ((reader.new ≡ reader.old) × (writer.new ≡ writer.old))
+        × Tells (E.contents (device_of faults.old)) (E.contents (device_of faults.new)) (fault_count faults.old) (fault_count faults.new) (told_of fault)) }
     ensures status { (result ≡ 0) ⊎ ((result ≡ 100) ⊎ (result ≡ 111)) }
+    // The table is written, or the writer failed after a front of it, and that is told.
+    ensures table { length words.now ≡ 1 → IfSome (slice_get words.now 0) (λ word. word.now ≡ codes "table") → (reader.new ≡ reader.old)
+        × TableEnds result (W.contents (device_of writer.old)) (W.contents (device_of writer.new)) (E.contents (device_of faults.old)) (E.contents (device_of faults.new))
+        (fault_count writer.old) (fault_count writer.new) (fault_count faults.old) (fault_count faults.new) }
+    ensures wrong_word { length words.now ≡ 1 → IfSome (slice_get words.now 0) (λ word. word.now ≢ codes "table")
+        → (result ≡ 100) × (reader.new ≡ reader.old) × (writer.new ≡ writer.old)
+        × Tells (E.contents (device_of faults.old)) (E.contents (device_of faults.new)) (fault_count faults.old) (fault_count faults.new) usage_text }
     ensures usage { 1 < length words.now → (result ≡ 100) × (reader.new ≡ reader.old) × (writer.new ≡ writer.old)
         × Tells (E.contents (device_of faults.old)) (E.contents (device_of faults.new)) (fault_count faults.old) (fault_count faults.new) usage_text }
 {
-    if words.is_empty() {
+    let Some((word, further)) = words.split_first() else {
         return answer_input(alloc, reader, writer, faults);
-    }
-    if words.len() == 1 && words[0] == "table" {
+    };
+    if *word == "table" && further.is_empty() {
         return show_table(writer, faults);
     }
     usage(faults)

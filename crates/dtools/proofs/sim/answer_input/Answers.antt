@@ -1,8 +1,8 @@
-use Rattle.std.proofs.Common.{Err, sym, ap, subst, ◌∙◌, ⊎_elim, inl, inr}
+use Rattle.std.proofs.Common.{Err, sym, ap, subst, ◌∙◌, ⊎_elim}
 use Rattle.tai_status.specs.Counted.{device_of, fault_count}
 use Rattle.dtools.specs.declared.fault.SimFault.{SimFault}
 use Rattle.dtools.specs.Told.{Tells, told_of}
-use Rattle.dtools.proofs.Steps.{refusal_at, trouble_at, unmoved}
+use Rattle.dtools.proofs.Steps.{refusal_at, trouble_at, cause_at, unmoved}
 use Rattle.dtools.proofs.sim.answer_input.Goals as goal
 
 pub returns-in-Err-clause-refused : goal.returns-in-Err-clause-refused
@@ -24,8 +24,11 @@ returns-in-Err-clause-trouble g c = λ is.
     (trouble_at c.in-Err.fault (sym c.report.ensures.status ∙ is))
 
 pub returns-in-Err-clause-cause : goal.returns-in-Err-clause-cause
-returns-in-Err-clause-cause g c = λ is.
-    ⊎_elim
-    (λ e. inr (inr (c.in-Err.ensures.memory (ap Err e))))
-    (λ more. ⊎_elim (λ e. inl (c.in-Err.ensures.read (ap Err e)).1) (λ e. inr (inl (c.in-Err.ensures.write (ap Err e)).1)) more)
-    (trouble_at c.in-Err.fault (sym c.report.ensures.status ∙ is))
+returns-in-Err-clause-cause g c = λ is. (
+  c.in-Err.fault,
+  (
+    cause_at c.in-Err.fault (sym c.report.ensures.status ∙ is)
+        (λ e. c.in-Err.ensures.memory (ap Err e)) (λ e. (c.in-Err.ensures.read (ap Err e)).1) (λ e. (c.in-Err.ensures.write (ap Err e)).1),
+    c.report.ensures.told,
+  ),
+)

@@ -1,0 +1,110 @@
+-- What `trace` prints of the text of a trace, what its word after `--break` means, and what it tells of its faults.
+use Rattle.std.specs.Prelude.{◌≡◌, ◌≢◌, ℕ, ◌⊎◌, List, [], ◌∷◌, ◌++◌, codes, decimal, Option, Some, None, Err}
+use Rattle.std.specs.Io.KnownBytes.{Appends}
+use Rattle.tai_status.specs.Counted.{AppendsFront, device_of, fault_count}
+use Rattle.tai_status.specs.declared.counted.Counted.{Counted}
+use Rattle.hex.specs.Hex.{encode_lower}
+use Rattle.tai_status.specs.Record.{status_record}
+use Rattle.sup_core.specs.State.{State}
+use Rattle.sup_core.specs.Text.{byte_text, phase_name, signal_name}
+use Rattle.sup_trace.specs.declared.breaks.Break.{Break}
+use Rattle.sup_trace.specs.declared.breaks.Break.TheVariants as break
+use Rattle.sup_trace.specs.declared.fault.TraceFault.{TraceFault}
+use Rattle.sup_trace.specs.declared.fault.TraceFaultKind.{TraceFaultKind}
+use Rattle.sup_trace.specs.declared.fault.TraceFaultKind.TheVariants as kind
+use Rattle.sup_trace.specs.Told.{Told, IsTold, replay_of}
+use Rattle.sup_trace.specs.Text.{trace_text}
+use Rattle.sup_trace.specs.Reading.{told_from}
+use Rattle.sup_trace.specs.Explained.{explained}
+use Rattle.sup_trace.specs.Breaks.{IsFirstBreak, HasNoBreak}
+use Rattle.dtools.specs.Sim.{printed}
+use Rattle.dtools.specs.Told.{Tells, usage_text}
+use Rattle.dtools.specs.declared.fault.TraceTrouble.{TraceTrouble}
+use Rattle.dtools.specs.declared.fault.TraceTrouble.TheVariants as trouble
+
+-- The word after `--break`
+
+-- the word that names a break: `byte:C`, `phase:PHASE` or `signal:NAME`
+abbrev pub break_text : Break → List ℕ
+break_text (break.Byte byte) = codes "byte:" ++ byte_text byte
+break_text (break.Phase phase) = codes "phase:" ++ phase_name phase
+break_text (break.Signal sig) = codes "signal:" ++ signal_name sig
+
+-- What is printed
+
+-- the line on the machine after the entries: its phase, and the digits of its status record
+abbrev pub state_text : State → List ℕ
+state_text state =
+    codes "state " ++ phase_name state.phase ++ codes " " ++ encode_lower (status_record state.status) ++ 10 ∷ []
+
+-- a line for each entry, and one on the machine after them
+abbrev pub explanation : Told → List ℕ
+explanation told = printed (explained told) ++ state_text (replay_of told)
+
+-- A line tells the number of the first entry that is such a break, or that there is none.
+abbrev pub IsBreakLine : Told → Break → List ℕ → Type 0
+IsBreakLine told at line =
+    ((number : ℕ) × (IsFirstBreak told at number × (line ≡ codes "break " ++ decimal number ++ 10 ∷ [])))
+    ⊎ (HasNoBreak told at × (line ≡ codes "no break" ++ 10 ∷ []))
+
+-- This is printed of a trace: the explanation, or the line on a break.
+abbrev pub IsShown : Told → Option Break → List ℕ → Type 0
+IsShown told None text = text ≡ explanation told
+IsShown told (Some at) text = IsBreakLine told at text
+
+-- The text is that of a trace, and what is printed of that trace was written.
+pub record Shows (text : List ℕ) (at : Option Break) (held holds : Option (List ℕ)) : Type 0 where
+  pub trace : Told
+  pub is : IsTold trace
+  pub text_is : text ≡ trace_text trace
+  pub shown : List ℕ
+  pub shown_is : IsShown trace at shown
+  pub written : Appends held holds shown
+
+-- The text is that of a trace, and a front of what is printed of that trace was written.
+pub record ShowsFront (text : List ℕ) (at : Option Break) (held holds : Option (List ℕ)) : Type 0 where
+  pub trace : Told
+  pub is : IsTold trace
+  pub text_is : text ≡ trace_text trace
+  pub shown : List ℕ
+  pub shown_is : IsShown trace at shown
+  pub written : AppendsFront held holds shown
+
+-- Faults
+
+abbrev pub kind_name : TraceFaultKind → List ℕ
+kind_name kind.Line = codes "Line"
+kind_name kind.Label = codes "Label"
+kind_name kind.Number = codes "Number"
+kind_name kind.UnknownEvent = codes "UnknownEvent"
+kind_name kind.NotTaken = codes "NotTaken"
+kind_name kind.OutOfMemory = codes "OutOfMemory"
+
+-- what is told of trouble, behind the command's name
+abbrev pub trouble_words : TraceTrouble → List ℕ
+trouble_words (trouble.Refused fault) = codes "line " ++ decimal fault.line ++ codes ": " ++ kind_name fault.kind ++ 10 ∷ []
+trouble_words trouble.OutOfMemory = codes "OutOfMemory" ++ 10 ∷ []
+trouble_words trouble.Write = codes "write fault" ++ 10 ∷ []
+
+abbrev pub trouble_text : TraceTrouble → List ℕ
+trouble_text trouble = codes "trace: " ++ trouble_words trouble
+
+-- what is told of a file that can't be read
+abbrev pub unread_text : List ℕ → List ℕ
+unread_text file = codes "trace: unable to read " ++ (file ++ 10 ∷ [])
+
+-- What trouble comes from. The text is refused for its first fault, or for want of memory at a line; there was no
+-- memory; or the writer failed, after a front of what is printed. Only the writer's fault comes after a write.
+abbrev pub TraceCause : TraceTrouble → List ℕ → Option Break → (unwritten failed : Type 0) → (held holds : Option (List ℕ)) → Type 0
+TraceCause (trouble.Refused fault) text at unwritten failed held holds =
+    unwritten × (fault.kind ≢ kind.OutOfMemory → told_from text ≡ Err fault)
+TraceCause trouble.OutOfMemory text at unwritten failed held holds = unwritten
+TraceCause trouble.Write text at unwritten failed held holds = failed × ShowsFront text at held holds
+
+-- How `trace` ends, by its status. Words are wrong, and nothing is written; or what is printed of a trace was written, to
+-- the end or up to a fault of the writer; or nothing was written.
+pub record TraceEnds {W E : Type 0} (written : W → Option (List ℕ)) (told : E → Option (List ℕ)) (status : ℕ) (old new : Counted W) (faults_old faults_new : Counted E) : Type 0 where
+  pub done : status ≡ 0 → (text : List ℕ) × ((at : Option Break) × Shows text at (written (device_of old)) (written (device_of new)))
+  pub usage : status ≡ 100 → (new ≡ old) × Tells (told (device_of faults_old)) (told (device_of faults_new)) (fault_count faults_old) (fault_count faults_new) usage_text
+  pub trouble : status ≡ 111 → (words : List ℕ) × Tells (told (device_of faults_old)) (told (device_of faults_new)) (fault_count faults_old) (fault_count faults_new) (codes "trace: " ++ words)
+  pub other : (status ≡ 0) ⊎ ((status ≡ 100) ⊎ (status ≡ 111))

@@ -1,0 +1,88 @@
+//! The files of the folder of `envdir`.
+ghost use Rattle.std.specs.Prelude.{IfOk, IsSorted};
+ghost use Rattle.std.specs.String.{string_cmp};
+
+use env_title::EnvFile;
+use std::alloc::{AllocError, Allocator, Global};
+use std::fs::Files;
+use std::io::Read;
+use std::{fs, io};
+
+/// A file of a folder: its name, and all its bytes.
+#[derive(Drop)]
+pub struct FolderFile<A: Allocator = Global> {
+    name: String<A>,
+    bytes: Vec<u8, A>,
+}
+
+/// Reads the files of a folder, in byte order of their names. Those whose names begin with a dot are
+/// passed over. A name that is not text, a folder in the place of a file, and a file that can't be read
+/// are faults.
+pub fn read_folder<R: Files, A: Allocator + Clone>(
+    rt: &R,
+    alloc: &A,
+    dir: &str,
+) -> io::Result<Vec<FolderFile<A>, A>> {
+    let mut files = Vec::new(alloc.clone()?);
+    for name in visible_names(rt, alloc, dir)? {
+        let path = path_in(alloc, dir, name.as_str())?;
+        let mut bytes = Vec::new(alloc.clone()?);
+        fs::open(rt, path.as_str())?.read_to_end(&mut bytes)?;
+        files.push(FolderFile { name, bytes })?;
+    }
+    Ok(files)
+}
+
+/// The names in a folder that do not begin with a dot, in byte order.
+fn visible_names<R: Files, A: Allocator + Clone>(
+    rt: &R,
+    alloc: &A,
+    dir: &str,
+) -> io::Result<Vec<String<A>, A>>
+    ensures { IfOk result (λ names. IsSorted string_cmp names.items) }
+{
+    let mut names = Vec::new(alloc.clone()?);
+    for entry in fs::read_dir(&(rt, alloc), dir)? {
+        let entry = entry?;
+        if !entry.file_name().starts_with('.') {
+            names.push(String::from_str(alloc.clone()?, entry.file_name())?)?;
+        }
+    }
+    names.sort_unstable();
+    Ok(names)
+}
+
+/// The path of a name in a folder.
+fn path_in<A: Allocator + Clone>(
+    alloc: &A,
+    dir: &str,
+    name: &str,
+) -> Result<String<A>, AllocError> {
+    let mut path = String::from_str(alloc.clone()?, dir)?;
+    path.push('/')?;
+    path.push_str(name)?;
+    Ok(path)
+}
+
+/// The files as changes of an environment.
+pub fn env_files<'a, A: Allocator + Clone>(
+    alloc: &A,
+    folder: &'a [FolderFile<A>],
+) -> Result<Vec<EnvFile<'a>, A>, AllocError> {
+    let mut files = Vec::with_capacity(alloc.clone()?, folder.len())?;
+    for file in folder {
+        files.push(EnvFile {
+            name: file.name.as_str(),
+            bytes: file.bytes.as_slice(),
+        })?;
+    }
+    Ok(files)
+}
+
+/// The name of the file at a place, empty where there is none.
+pub fn name_at<A: Allocator>(folder: &[FolderFile<A>], place: usize) -> &str {
+    match folder.get(place) {
+        Some(file) => file.name.as_str(),
+        None => "",
+    }
+}

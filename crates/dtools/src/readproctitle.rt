@@ -1,0 +1,140 @@
+ghost use Rattle.std.specs.Prelude.{◌≡◌, ◌↔◌, ◌<◌, ◌-◌, ◌≢◌, [], ◌∷◌, ◌++◌, length, slice_get, OnOk, IfOk, IfErr, IfSome, IsErrOf};
+ghost use Rattle.std.specs.Io.KnownBytes.{Appends, IsAtEnd};
+ghost use Rattle.tai_status.specs.Counted.{Rose, AppendsFront, device_of, fault_count};
+ghost use Rattle.env_title.specs.Title.{new_title, title_text};
+ghost use Rattle.dtools.specs.Told.{Tells, usage_text};
+ghost use Rattle.dtools.specs.Title.{ShowsRead, WritesTitle, NoTitle, TitleEnds, proctitle_told, proctitle_status};
+
+use crate::fault::ProctitleFault;
+use crate::report::{DONE, REFUSED, TROUBLE, tell, usage};
+use env_title::{Title, TitleFault};
+use std::alloc::Allocator;
+use std::io::{Read, Write};
+use tai_status::{BLOCK, Counted};
+
+/// A title of this length, all dots.
+fn begin_title<A: Allocator + Clone>(alloc: A, len: usize) -> Result<Title<A>, ProctitleFault>
+    ensures ok { IfOk result (λ title. title ≡ new_title len) }
+    ensures short { IsErrOf result ProctitleFault.TooShort ↔ (len < 5) }
+    ensures neither { IfErr result (λ why. (why ≢ ProctitleFault.Read) × (why ≢ ProctitleFault.Write)) }
+{
+    match Title::new(alloc, len) {
+        Ok(title) => Ok(title),
+        Err(TitleFault::TooShort) => Err(ProctitleFault::TooShort),
+        Err(TitleFault::OutOfMemory) => Err(ProctitleFault::OutOfMemory),
+    }
+}
+
+/// The title of this length after the whole input.
+fn read_title<A: Allocator + Clone, D: Read>(
+    alloc: A,
+    len: usize,
+    reader: &mut Counted<D>,
+) -> Result<Title<A>, ProctitleFault>
+    ensures ok { IfOk result (λ title. ShowsRead len (D.remaining (device_of reader.old)) (D.remaining (device_of reader.new)) title) }
+    ensures end { OnOk result (IsAtEnd (D.remaining (device_of reader.new))) }
+    ensures short { IsErrOf result ProctitleFault.TooShort ↔ (len < 5) }
+    ensures unread { IsErrOf result ProctitleFault.TooShort → reader.new ≡ reader.old }
+    ensures fault { IsErrOf result ProctitleFault.Read → Rose (fault_count reader.old) (fault_count reader.new) }
+    ensures neither { IfErr result (λ why. why ≢ ProctitleFault.Write) }
+{
+    let mut title = begin_title(alloc, len)?;
+    let mut bytes = [0; BLOCK];
+    'reads: loop {
+        let Ok(count) = reader.read(&mut bytes) else {
+            return Err(ProctitleFault::Read);
+        };
+        if count == 0 {
+            return Ok(title);
+        }
+        title.push_all(&bytes[..count]);
+    }
+}
+
+/// Writes a title and a newline.
+fn write_title<A: Allocator + Clone, W: Write>(
+    title: &Title<A>,
+    writer: &mut Counted<W>,
+) -> Result<(), ProctitleFault>
+    ensures ok { OnOk result (Appends (W.contents (device_of writer.old)) (W.contents (device_of writer.new)) (title_text title.now ++ 10 ∷ [])) }
+    ensures memory { IsErrOf result ProctitleFault.OutOfMemory → writer.new ≡ writer.old }
+    ensures front { IsErrOf result ProctitleFault.Write → AppendsFront (W.contents (device_of writer.old)) (W.contents (device_of writer.new)) (title_text title.now ++ 10 ∷ []) }
+    ensures fault { IsErrOf result ProctitleFault.Write → Rose (fault_count writer.old) (fault_count writer.new) }
+    ensures neither { IfErr result (λ why. (why ≢ ProctitleFault.TooShort) × (why ≢ ProctitleFault.Read)) }
+{
+    let Ok(mut line) = title.text() else {
+        return Err(ProctitleFault::OutOfMemory);
+    };
+    if line.push(b'\n').is_err() {
+        return Err(ProctitleFault::OutOfMemory);
+    }
+    match writer.write_all(&line) {
+        Ok(()) => Ok(()),
+        Err(_) => Err(ProctitleFault::Write),
+    }
+}
+
+/// Writes the title of this length of the whole input.
+fn show_title<A: Allocator + Clone, D: Read, W: Write>(
+    alloc: A,
+    len: usize,
+    reader: &mut Counted<D>,
+    writer: &mut Counted<W>,
+) -> Result<(), ProctitleFault>
+    ensures ok { OnOk result (WritesTitle len (D.remaining (device_of reader.old)) (W.contents (device_of writer.old)) (W.contents (device_of writer.new))) }
+    ensures end { OnOk result (IsAtEnd (D.remaining (device_of reader.new))) }
+    ensures short { IsErrOf result ProctitleFault.TooShort ↔ (len < 5) }
+    ensures fault { IfErr result (λ why. NoTitle D.remaining W.contents len why reader.old reader.new writer.old writer.new) }
+{
+    let title = read_title(alloc, len, reader)?;
+    write_title(&title, writer)
+}
+
+/// What is told of a fault.
+fn fault_text(fault: ProctitleFault) -> &'static [u8]
+    ensures { result.now ≡ proctitle_told fault }
+{
+    match fault {
+        ProctitleFault::TooShort => b"readproctitle: TooShort\n",
+        ProctitleFault::OutOfMemory => b"readproctitle: OutOfMemory\n",
+        ProctitleFault::Read => b"readproctitle: read fault\n",
+        ProctitleFault::Write => b"readproctitle: write fault\n",
+    }
+}
+
+/// Tells a fault, and answers its status.
+fn report<E: Write>(fault: ProctitleFault, faults: &mut Counted<E>) -> u8
+    ensures status { result ≡ proctitle_status fault }
+    ensures told { Tells (E.contents (device_of faults.old)) (E.contents (device_of faults.new)) (fault_count faults.old) (fault_count faults.new) (proctitle_told fault) }
+{
+    tell(faults, fault_text(fault));
+    match fault {
+        ProctitleFault::TooShort => REFUSED,
+        _ => TROUBLE,
+    }
+}
+
+/// The command `readproctitle`: reads its input to the end, and prints the title of it and a newline. A
+/// title is as long as the last word, in bytes: three dots, and the last bytes of the input but for
+/// NULs, behind dots where these are too few. Answers the status: 0; 100 without a word, and for one of
+/// fewer than 5 bytes; 111 for want of memory and for a fault of the reader or the writer.
+pub fn run_readproctitle<A: Allocator + Clone, D: Read, W: Write, E: Write>(
+    alloc: A,
+    words: &[&str],
+    reader: &mut Counted<D>,
+    writer: &mut Counted<W>,
+    faults: &mut Counted<E>,
+) -> u8
+    ensures usage { length words.now ≡ 0 → (result ≡ 100) × (reader.new ≡ reader.old) × (writer.new ≡ writer.old)
+        × Tells (E.contents (device_of faults.old)) (E.contents (device_of faults.new)) (fault_count faults.old) (fault_count faults.new) usage_text }
+    ensures title { IfSome (slice_get words.now (length words.now - 1)) (λ word.
+        TitleEnds D.remaining W.contents E.contents (length word.now) result reader.old reader.new writer.old writer.new faults.old faults.new) }
+{
+    let Some(word) = words.last() else {
+        return usage(faults);
+    };
+    match show_title(alloc, word.len(), reader, writer) {
+        Ok(()) => DONE,
+        Err(fault) => report(fault, faults),
+    }
+}

@@ -1,0 +1,159 @@
+ghost use Rattle.std.specs.Prelude.{◌≡◌, ◌≢◌, ◌⊎◌, ◌≤◌, ◌++◌, List, ℕ, length, codes, decimal, Err, OnOk, IfOk, IfErr, IsErrOf, Option};
+ghost use Rattle.arrayvec.specs.ArrayString.{array_string_len};
+ghost use Rattle.tai_status.specs.Counted.{Rose, AppendsFront, device_of, fault_count};
+ghost use Rattle.dtools.specs.Told.{Tells, usage_text};
+ghost use Rattle.sup_trace.specs.declared.breaks.Break.{Break};
+ghost use Rattle.dtools.specs.Traced.{Shows, TraceCause, TraceEnds, kind_name, trouble_text, unread_text};
+
+use crate::break_word::read_break;
+use crate::fault::TraceTrouble;
+use crate::report::{DONE, TROUBLE, push_number, tell, tell_parts, usage};
+use crate::shown::shown;
+use crate::trace_words::{WordsFault, parse_words};
+use arrayvec::ArrayString;
+use std::alloc::Allocator;
+use std::fs;
+use std::fs::Files;
+use std::io::{ErrorKind, Write};
+use sup_trace::{Break, TraceFaultKind, read_text};
+use tai_status::Counted;
+
+/// Writes what is printed of the trace whose text this is.
+fn show_text<A: Allocator + Clone, W: Write>(
+    alloc: &A,
+    text: &[u8],
+    at: Option<Break>,
+    writer: &mut Counted<W>,
+) -> Result<(), TraceTrouble>
+    ensures ok { OnOk result (Shows text.now at (W.contents (device_of writer.old)) (W.contents (device_of writer.new))) }
+    ensures cause { IfErr result (λ trouble. TraceCause trouble text.now at (writer.new ≡ writer.old) (Rose (fault_count writer.old) (fault_count writer.new))
+        (W.contents (device_of writer.old)) (W.contents (device_of writer.new))) }
+{
+    let Ok(own) = alloc.clone() else {
+        return Err(TraceTrouble::OutOfMemory);
+    };
+    let told = match read_text(own, text) {
+        Ok(told) => told,
+        Err(fault) => return Err(TraceTrouble::Refused(fault)),
+    };
+    let Ok(own) = alloc.clone() else {
+        return Err(TraceTrouble::OutOfMemory);
+    };
+    let Ok(shown) = shown(own, &told, at) else {
+        return Err(TraceTrouble::OutOfMemory);
+    };
+    match writer.write_all(&shown) {
+        Ok(()) => Ok(()),
+        Err(_) => Err(TraceTrouble::Write),
+    }
+}
+
+/// What is told of trouble.
+fn trouble_text(trouble: TraceTrouble) -> ArrayString<64>
+    ensures { result.bytes ≡ trouble_text trouble }
+{
+    let mut out = ArrayString::new();
+    match trouble {
+        TraceTrouble::Refused(fault) => {
+            out.push_str("trace: line ");
+            push_number(&mut out, fault.line);
+            out.push_str(": ");
+            out.push_str(kind_name(fault.kind));
+        }
+        TraceTrouble::OutOfMemory => out.push_str("trace: OutOfMemory"),
+        TraceTrouble::Write => out.push_str("trace: write fault"),
+    }
+    out.push_str("\n");
+    out
+}
+
+/// The name of why a line is refused.
+fn kind_name(kind: TraceFaultKind) -> &'static str
+    ensures name { result.now ≡ kind_name kind }
+    ensures short { length result.now ≤ 12 }
+{
+    match kind {
+        TraceFaultKind::Line => "Line",
+        TraceFaultKind::Label => "Label",
+        TraceFaultKind::Number => "Number",
+        TraceFaultKind::UnknownEvent => "UnknownEvent",
+        TraceFaultKind::NotTaken => "NotTaken",
+        TraceFaultKind::OutOfMemory => "OutOfMemory",
+    }
+}
+
+/// Tells trouble, and answers its status.
+fn report<E: Write>(trouble: TraceTrouble, faults: &mut Counted<E>) -> u8
+    ensures status { result ≡ 111 }
+    ensures told { Tells (E.contents (device_of faults.old)) (E.contents (device_of faults.new)) (fault_count faults.old) (fault_count faults.new) (trouble_text trouble) }
+{
+    tell(faults, trouble_text(trouble).as_bytes());
+    TROUBLE
+}
+
+/// Prints what this text tells, and answers the status: 0; or 111 for a text that is refused, for want of memory and for a
+/// fault of the writer.
+pub fn trace_bytes<A: Allocator + Clone, W: Write, E: Write>(
+    alloc: &A,
+    text: &[u8],
+    at: Option<Break>,
+    writer: &mut Counted<W>,
+    faults: &mut Counted<E>,
+) -> u8
+    ensures done { result ≡ 0 → Shows text.now at (W.contents (device_of writer.old)) (W.contents (device_of writer.new)) }
+    ensures trouble { result ≢ 0 → (result ≡ 111) × ((trouble : TraceTrouble)
+        × (TraceCause trouble text.now at (writer.new ≡ writer.old) (Rose (fault_count writer.old) (fault_count writer.new))
+        (W.contents (device_of writer.old)) (W.contents (device_of writer.new))
+        × Tells (E.contents (device_of faults.old)) (E.contents (device_of faults.new)) (fault_count faults.old) (fault_count faults.new) (trouble_text trouble))) }
+{
+    match show_text(alloc, text, at, writer) {
+        Ok(()) => DONE,
+        Err(trouble) => report(trouble, faults),
+    }
+}
+
+/// The command `trace FILE [--break SPEC]`: prints what each entry of the trace in the file did, and the machine after them;
+/// or with `--break` the number of the first entry that is what SPEC names, as `read_break` reads it. Answers the status: 0;
+/// 100 for wrong words; 111 for a file that can't be read, a text that is refused, want of memory, and a fault of the writer.
+/// Words are looked at before SPEC, SPEC before the file, and the file before its text.
+pub fn run_trace<R: Files + AllocGlobal, W: Write, E: Write>(
+    rt: &R,
+    words: &[&str],
+    writer: &mut Counted<W>,
+    faults: &mut Counted<E>,
+) -> u8
+    ensures no_words { length words.now ≡ 0 → result ≡ 100 }
+    ensures ends { TraceEnds W.contents E.contents result writer.old writer.new faults.old faults.new }
+{
+    if words.is_empty() {
+        return usage(faults);
+    }
+    let asked = match parse_words(rt.alloc(), words) {
+        Ok(asked) => asked,
+        Err(WordsFault::Wrong) => return usage(faults),
+        Err(WordsFault::OutOfMemory) => return report(TraceTrouble::OutOfMemory, faults),
+    };
+    let at = match asked.at {
+        None => None,
+        Some(spec) => match read_break(spec.as_bytes()) {
+            None => return usage(faults),
+            some => some,
+        },
+    };
+    match fs::read(rt, asked.file) {
+        Ok(text) => trace_bytes(&rt.alloc(), &text, at, writer, faults),
+        Err(fault) if fault.kind() == ErrorKind::OutOfMemory => {
+            report(TraceTrouble::OutOfMemory, faults)
+        }
+        Err(_) => unread(asked.file, faults),
+    }
+}
+
+/// Tells that a file can't be read, and answers the status of that.
+fn unread<E: Write>(file: &str, faults: &mut Counted<E>) -> u8
+    ensures status { result ≡ 111 }
+    ensures told { Tells (E.contents (device_of faults.old)) (E.contents (device_of faults.new)) (fault_count faults.old) (fault_count faults.new) (unread_text file.now) }
+{
+    tell_parts(faults, b"trace: unable to read ", file.as_bytes(), b"\n");
+    TROUBLE
+}

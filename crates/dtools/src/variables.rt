@@ -1,0 +1,60 @@
+//! The environment of this process.
+use env_title::Env;
+use std::alloc::{AllocError, Allocator};
+use std::env::FillError;
+use std::{env, str};
+
+/// The variables of this process, but for those that are not text.
+pub fn machine_env<R: env::Env, A: Allocator + Clone>(
+    rt: &R,
+    alloc: &A,
+) -> Result<Env<A>, AllocError> {
+    let mut variables = Env::new(alloc.clone()?);
+    for place in 0..usize::MAX {
+        let Some(entry) = entry_at(rt, alloc, place)? else {
+            break;
+        };
+        put_entry(&mut variables, alloc, &entry)?;
+    }
+    Ok(variables)
+}
+
+/// The entry at a place, if there are so many.
+fn entry_at<R: env::Env, A: Allocator + Clone>(
+    rt: &R,
+    alloc: &A,
+    place: usize,
+) -> Result<Option<Vec<u8, A>>, AllocError> {
+    let mut bytes = Vec::new(alloc.clone()?);
+    let mut room = 256_usize;
+    for _ in 0..usize::BITS {
+        bytes.resize(room, 0)?;
+        match rt.var_at(place, &mut bytes) {
+            Ok(count) => {
+                bytes.truncate(count);
+                return Ok(Some(bytes));
+            }
+            Err(FillError::NotPresent) => return Ok(None),
+            Err(FillError::TooLong) => room = room.saturating_mul(2),
+        }
+    }
+    Err(AllocError)
+}
+
+/// Puts the variable of an entry `NAME=VALUE`, where it is text.
+fn put_entry<A: Allocator + Clone>(
+    variables: &mut Env<A>,
+    alloc: &A,
+    entry: &[u8],
+) -> Result<(), AllocError> {
+    let Ok(text) = str::from_utf8(entry) else {
+        return Ok(());
+    };
+    match text.split_once('=') {
+        Some((name, value)) if !name.is_empty() => variables.put(
+            String::from_str(alloc.clone()?, name)?,
+            String::from_str(alloc.clone()?, value)?,
+        ),
+        _ => Ok(()),
+    }
+}
