@@ -4,3 +4,4 @@ pub mod Told
 pub mod Traced
 pub mod Title
 pub mod Child
+pub mod Commands

@@ -101,10 +101,3 @@ pub record StampsEnd {D W E C : Type 0} (remaining : D → Option (List ℕ)) (w
   pub cause : status ≢ 0 → (fault : StampFault)
       × (StampCause fault (Rose (fault_count old.reader) (fault_count new.reader)) (Rose (fault_count old.writer) (fault_count new.writer))
       × Tells (told (device_of old.faults)) (told (device_of new.faults)) (fault_count old.faults) (fault_count new.faults) (stamp_told fault))
-
--- The commands
-
--- A word that names no command.
-abbrev pub NamesNoCommand : List ℕ → Type 0
-NamesNoCommand word = (word ≢ codes "sim") × (word ≢ codes "tai64n") × (word ≢ codes "readproctitle")
-    × (word ≢ codes "envdir") × (word ≢ codes "trace")

@@ -1,7 +1,7 @@
 -- What `trace` prints of the text of a trace, what its word after `--break` means, and what it tells of its faults.
 use Rattle.std.specs.Prelude.{◌≡◌, ◌≢◌, ℕ, ◌⊎◌, List, [], ◌∷◌, ◌++◌, codes, decimal, Option, Some, None, Err}
 use Rattle.std.specs.Io.KnownBytes.{Appends}
-use Rattle.tai_status.specs.Counted.{AppendsFront, device_of, fault_count}
+use Rattle.tai_status.specs.Counted.{Rose, AppendsFront, device_of, fault_count}
 use Rattle.tai_status.specs.declared.counted.Counted.{Counted}
 use Rattle.hex.specs.Hex.{encode_lower}
 use Rattle.tai_status.specs.Record.{status_record}
@@ -101,10 +101,26 @@ TraceCause (trouble.Refused fault) text at unwritten failed held holds =
 TraceCause trouble.OutOfMemory text at unwritten failed held holds = unwritten
 TraceCause trouble.Write text at unwritten failed held holds = failed × ShowsFront text at held holds
 
--- How `trace` ends, by its status. Words are wrong, and nothing is written; or what is printed of a trace was written, to
--- the end or up to a fault of the writer; or nothing was written.
+-- Trouble with a text is told, as what it comes from.
+pub record TellsTrouble (unwritten failed : Type 0) (held holds : Option (List ℕ)) (heard hears : Option (List ℕ)) (failures fails : ℕ) : Type 0 where
+  pub why : TraceTrouble
+  pub text : List ℕ
+  pub at : Option Break
+  pub cause : TraceCause why text at unwritten failed held holds
+  pub told : Tells heard hears failures fails (trouble_text why)
+
+-- It is told of a file that it can't be read, and nothing is written.
+pub record TellsUnread (unwritten : Type 0) (heard hears : Option (List ℕ)) (failures fails : ℕ) : Type 0 where
+  pub file : List ℕ
+  pub before : unwritten
+  pub told : Tells heard hears failures fails (unread_text file)
+
+-- How `trace` ends, by its status. Words are wrong, and nothing is written; what is printed of a trace was written to the
+-- end; or there was trouble, or a file that can't be read, and that is told.
 pub record TraceEnds {W E : Type 0} (written : W → Option (List ℕ)) (told : E → Option (List ℕ)) (status : ℕ) (old new : Counted W) (faults_old faults_new : Counted E) : Type 0 where
   pub done : status ≡ 0 → (text : List ℕ) × ((at : Option Break) × Shows text at (written (device_of old)) (written (device_of new)))
   pub usage : status ≡ 100 → (new ≡ old) × Tells (told (device_of faults_old)) (told (device_of faults_new)) (fault_count faults_old) (fault_count faults_new) usage_text
-  pub trouble : status ≡ 111 → (words : List ℕ) × Tells (told (device_of faults_old)) (told (device_of faults_new)) (fault_count faults_old) (fault_count faults_new) (codes "trace: " ++ words)
+  pub trouble : status ≡ 111
+      → TellsTrouble (new ≡ old) (Rose (fault_count old) (fault_count new)) (written (device_of old)) (written (device_of new)) (told (device_of faults_old)) (told (device_of faults_new)) (fault_count faults_old) (fault_count faults_new)
+      ⊎ TellsUnread (new ≡ old) (told (device_of faults_old)) (told (device_of faults_new)) (fault_count faults_old) (fault_count faults_new)
   pub other : (status ≡ 0) ⊎ ((status ≡ 100) ⊎ (status ≡ 111))

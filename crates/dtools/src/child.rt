@@ -1,7 +1,7 @@
 //! The child of `envdir`.
-ghost use Rattle.std.specs.Prelude.{◌≡◌};
-ghost use Rattle.std.specs.Process.{exit_code};
-ghost use Rattle.dtools.specs.Child.{status_of_child};
+ghost use Rattle.std.specs.Prelude.{◌≡◌, ◌++◌, ℕ, List, map, false, IfOk, OnOk};
+ghost use Rattle.std.specs.Process.{command_args, command_program, command_var, clears_env, exit_code, SameEnv, SameProgramAndArgs};
+ghost use Rattle.dtools.specs.Child.{StartsChild, said_after_files, said_after_set, status_of_child};
 
 use crate::report::TROUBLE;
 use env_title::{Env, EnvFile, Variable};
@@ -12,7 +12,11 @@ use std::process::{Command, ExitStatus};
 fn add_arguments<A: Allocator + Clone>(
     command: &mut Command<A>,
     arguments: &[&str],
-) -> Result<(), AllocError> {
+) -> Result<(), AllocError>
+    ensures program { OnOk result (command_program command.new ≡ command_program command.old) }
+    ensures arguments { OnOk result (command_args command.new ≡ command_args command.old ++ map (λ word. word.now) arguments.now) }
+    ensures variables { OnOk result (SameEnv command.old command.new) }
+{
     for argument in arguments {
         command.arg(*argument)?;
     }
@@ -23,7 +27,12 @@ fn add_arguments<A: Allocator + Clone>(
 fn remove_variables<A: Allocator + Clone>(
     command: &mut Command<A>,
     files: &[EnvFile<'_>],
-) -> Result<(), AllocError> {
+) -> Result<(), AllocError>
+    requires { clears_env command.old ≡ false }
+    ensures call { OnOk result (SameProgramAndArgs command.old command.new) }
+    ensures variables { OnOk result ((name : List ℕ) → command_var command.new name ≡ said_after_files files.now name (command_var command.old name)) }
+    ensures others { OnOk result (clears_env command.new ≡ false) }
+{
     for file in files {
         command.env_remove(file.name)?;
     }
@@ -34,7 +43,11 @@ fn remove_variables<A: Allocator + Clone>(
 fn set_variables<A: Allocator + Clone>(
     command: &mut Command<A>,
     variables: &[Variable<A>],
-) -> Result<(), AllocError> {
+) -> Result<(), AllocError>
+    ensures call { OnOk result (SameProgramAndArgs command.old command.new) }
+    ensures variables { OnOk result ((name : List ℕ) → command_var command.new name ≡ said_after_set variables.now name (command_var command.old name)) }
+    ensures others { OnOk result (clears_env command.new ≡ clears_env command.old) }
+{
     for variable in variables {
         command.env(variable.name(), variable.value())?;
     }
@@ -49,7 +62,9 @@ pub fn child_command<A: Allocator + Clone>(
     arguments: &[&str],
     files: &[EnvFile<'_>],
     variables: &Env<A>,
-) -> Result<Command<A>, AllocError> {
+) -> Result<Command<A>, AllocError>
+    ensures { IfOk result (λ command. StartsChild command program.now (map (λ word. word.now) arguments.now) files.now variables.now) }
+{
     let mut command = Command::new(alloc, program)?;
     add_arguments(&mut command, arguments)?;
     remove_variables(&mut command, files)?;

@@ -1,7 +1,6 @@
-ghost use Rattle.std.specs.Prelude.{◌≡◌, ◌<◌, ◌-◌, length, slice_get, codes, IfSome};
-ghost use Rattle.dtools.specs.Told.{RefusesWords, SimEnds, StampsEnd, NamesNoCommand};
-ghost use Rattle.dtools.specs.Title.{TitleEnds};
-ghost use Rattle.dtools.specs.Traced.{TraceEnds};
+ghost use Rattle.std.specs.Prelude.{◌≡◌, length, slice_get, map, drop, IfSome};
+ghost use Rattle.dtools.specs.Told.{RefusesWords};
+ghost use Rattle.dtools.specs.Commands.{CommandEnds};
 
 use crate::devices::Devices;
 use crate::envdir::run_envdir;
@@ -16,6 +15,40 @@ use std::fs::Files;
 use std::io::{Read, Write};
 use std::process::Processes;
 use tai_status::TimeSource;
+
+/// Runs the command of this name over words, and answers its status. A name of no command is
+/// `dtools: usage`, 100.
+fn run_command<R, A, D, W, E, C>(
+    rt: &R,
+    alloc: A,
+    name: &str,
+    words: &[&str],
+    devices: &mut Devices<D, W, E, C>,
+) -> u8
+where
+    R: Files + Env + Processes + AllocGlobal,
+    A: Allocator + Clone,
+    D: Read,
+    W: Write,
+    E: Write,
+    C: TimeSource,
+    ensures ends { CommandEnds D.remaining W.contents E.contents C.readings name.now (map (λ word. word.now) words.now) result devices.old devices.new }
+{
+    let Devices {
+        reader,
+        writer,
+        faults,
+        clock,
+    } = devices;
+    match name {
+        "sim" => run_sim(alloc, words, reader, writer, faults),
+        "tai64n" => run_tai64n(words, reader, writer, faults, clock),
+        "readproctitle" => run_readproctitle(alloc, words, reader, writer, faults),
+        "envdir" => run_envdir(rt, alloc, words, faults),
+        "trace" => run_trace(rt, words, writer, faults),
+        _ => usage(faults),
+    }
+}
 
 /// Runs the command that the first word names, over the words after it, and answers its status. No
 /// word, or one that names no command, is `dtools: usage`, 100.
@@ -33,53 +66,11 @@ where
     E: Write,
     C: TimeSource,
     ensures usage { length words.now ≡ 0 → RefusesWords E.contents result devices.old devices.new }
-    ensures unknown { IfSome (slice_get words.now 0) (λ word. NamesNoCommand word.now → RefusesWords E.contents result devices.old devices.new) }
-    ensures sim { length words.now ≡ 1 → IfSome (slice_get words.now 0) (λ word. word.now ≡ codes "sim")
-        → SimEnds D.remaining W.contents E.contents result devices.old devices.new }
-    ensures tai64n { length words.now ≡ 1 → IfSome (slice_get words.now 0) (λ word. word.now ≡ codes "tai64n")
-        → StampsEnd D.remaining W.contents E.contents C.readings result devices.old devices.new }
-    ensures readproctitle_usage { length words.now ≡ 1 → IfSome (slice_get words.now 0) (λ name. name.now ≡ codes "readproctitle"
-        → RefusesWords E.contents result devices.old devices.new) }
-    ensures readproctitle { 1 < length words.now → IfSome (slice_get words.now 0) (λ name. name.now ≡ codes "readproctitle"
-        → IfSome (slice_get words.now (length words.now - 1)) (λ word. TitleEnds D.remaining W.contents E.contents (length word.now) result
-        devices.old.reader devices.new.reader devices.old.writer devices.new.writer devices.old.faults devices.new.faults)) }
-    ensures envdir_usage { length words.now < 3 → IfSome (slice_get words.now 0) (λ name. name.now ≡ codes "envdir"
-        → RefusesWords E.contents result devices.old devices.new) }
-    ensures envdir { IfSome (slice_get words.now 0) (λ name. name.now ≡ codes "envdir"
-        → (devices.new.reader ≡ devices.old.reader) × (devices.new.writer ≡ devices.old.writer) × (devices.new.clock ≡ devices.old.clock)) }
-    ensures trace_usage { length words.now ≡ 1 → IfSome (slice_get words.now 0) (λ name. name.now ≡ codes "trace"
-        → RefusesWords E.contents result devices.old devices.new) }
-    ensures trace { IfSome (slice_get words.now 0) (λ name. name.now ≡ codes "trace"
-        → (devices.new.reader ≡ devices.old.reader) × (devices.new.clock ≡ devices.old.clock)
-        × TraceEnds W.contents E.contents result devices.old.writer devices.new.writer devices.old.faults devices.new.faults) }
+    ensures command { IfSome (slice_get words.now 0) (λ name. CommandEnds D.remaining W.contents E.contents C.readings name.now
+        (map (λ word. word.now) (drop 1 words.now)) result devices.old devices.new) }
 {
-    let Some((command, rest)) = words.split_first() else {
-        return usage(&mut devices.faults);
-    };
-    match *command {
-        "sim" => run_sim(
-            alloc,
-            rest,
-            &mut devices.reader,
-            &mut devices.writer,
-            &mut devices.faults,
-        ),
-        "tai64n" => run_tai64n(
-            rest,
-            &mut devices.reader,
-            &mut devices.writer,
-            &mut devices.faults,
-            &mut devices.clock,
-        ),
-        "readproctitle" => run_readproctitle(
-            alloc,
-            rest,
-            &mut devices.reader,
-            &mut devices.writer,
-            &mut devices.faults,
-        ),
-        "envdir" => run_envdir(rt, alloc, rest, &mut devices.faults),
-        "trace" => run_trace(rt, rest, &mut devices.writer, &mut devices.faults),
-        _ => usage(&mut devices.faults),
+    match words.split_first() {
+        Some((name, words)) => run_command(rt, alloc, name, words, devices),
+        None => usage(&mut devices.faults),
     }
 }

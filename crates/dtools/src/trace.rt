@@ -112,6 +112,34 @@ pub fn trace_bytes<A: Allocator + Clone, W: Write, E: Write>(
     }
 }
 
+/// Prints what the text in a file tells, and answers the status: that of `trace_bytes`, and 111 for a file that can't be read.
+fn trace_file<R: Files + AllocGlobal, W: Write, E: Write>(
+    rt: &R,
+    file: &str,
+    at: Option<Break>,
+    writer: &mut Counted<W>,
+    faults: &mut Counted<E>,
+) -> u8
+    ensures ends { TraceEnds W.contents E.contents result writer.old writer.new faults.old faults.new }
+{
+    match fs::read(rt, file) {
+        Ok(text) => trace_bytes(&rt.alloc(), &text, at, writer, faults),
+        Err(fault) if fault.kind() == ErrorKind::OutOfMemory => {
+            report(TraceTrouble::OutOfMemory, faults)
+        }
+        Err(_) => unread(file, faults),
+    }
+}
+
+/// Tells that a file can't be read, and answers the status of that.
+fn unread<E: Write>(file: &str, faults: &mut Counted<E>) -> u8
+    ensures status { result ≡ 111 }
+    ensures told { Tells (E.contents (device_of faults.old)) (E.contents (device_of faults.new)) (fault_count faults.old) (fault_count faults.new) (unread_text file.now) }
+{
+    tell_parts(faults, b"trace: unable to read ", file.as_bytes(), b"\n");
+    TROUBLE
+}
+
 /// The command `trace FILE [--break SPEC]`: prints what each entry of the trace in the file did, and the machine after them;
 /// or with `--break` the number of the first entry that is what SPEC names, as `read_break` reads it. Answers the status: 0;
 /// 100 for wrong words; 111 for a file that can't be read, a text that is refused, want of memory, and a fault of the writer.
@@ -140,20 +168,5 @@ pub fn run_trace<R: Files + AllocGlobal, W: Write, E: Write>(
             some => some,
         },
     };
-    match fs::read(rt, asked.file) {
-        Ok(text) => trace_bytes(&rt.alloc(), &text, at, writer, faults),
-        Err(fault) if fault.kind() == ErrorKind::OutOfMemory => {
-            report(TraceTrouble::OutOfMemory, faults)
-        }
-        Err(_) => unread(asked.file, faults),
-    }
-}
-
-/// Tells that a file can't be read, and answers the status of that.
-fn unread<E: Write>(file: &str, faults: &mut Counted<E>) -> u8
-    ensures status { result ≡ 111 }
-    ensures told { Tells (E.contents (device_of faults.old)) (E.contents (device_of faults.new)) (fault_count faults.old) (fault_count faults.new) (unread_text file.now) }
-{
-    tell_parts(faults, b"trace: unable to read ", file.as_bytes(), b"\n");
-    TROUBLE
+    trace_file(rt, asked.file, at, writer, faults)
 }
