@@ -58,8 +58,8 @@ pub set_further : (variables : List Binding) (i : ℕ) (variable : Binding) (bef
     → (name : List ℕ) → said_after_set (drop (i + 1) variables) name (after name) ≡ all name
 set_further variables i variable before after all within is set others so name =
     ap (said_after_set (drop (i + 1) variables) name) (
-      changed name variable.name (Some (Some variable.value)) before after set others
-          ∙ ap (λ b. if b then Some (Some variable.value) else before name) (bytes_eq-sym name variable.name)
+    changed name variable.name (Some (Some variable.value)) before after set others
+    ∙ ap (λ b. if b then Some (Some variable.value) else before name) (bytes_eq-sym name variable.name)
     )
     ∙ ap (λ rest. said_after_set rest name (before name)) (sym (cut variables i variable within is))
     ∙ so name

@@ -81,6 +81,8 @@ fn refuse_words<E: Write>(why: ErrorKind, faults: &mut Counted<E>) -> u8 {
 }
 
 #[cfg(test)]
+mod envdir_tests;
+#[cfg(test)]
 mod tests;
 #[cfg(test)]
 mod trace_tests;

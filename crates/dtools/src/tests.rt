@@ -1,17 +1,15 @@
 use crate::command::run;
 use crate::devices::Devices;
-use crate::envdir::run_envdir;
 use crate::readproctitle::run_readproctitle;
 use crate::sim::run_sim;
 use crate::tai64n::run_tai64n;
+use bumpalo::Bump;
 use std::alloc::Global;
 use std::env::Env;
-use std::fs::{Files, Permissions};
+use std::fs::Files;
 use std::io::Read;
-use std::os::unix::fs::PermissionsExt;
 use std::process::{Abort, Processes};
 use std::test::Fail;
-use std::{env, fs, process};
 use tai_status::{Counted, Label, TimeSource};
 use test_devices::{Slow, Tight};
 
@@ -248,12 +246,8 @@ fn words<R: Files + Env + Processes + AllocGlobal>(rt: &R, words: &[&str]) -> Ra
     }
 }
 
-#[test]
-fn reads_words(rt: HostRuntime) {
-    let table = words(&rt, &["sim", "table"]);
-    assert_eq!(rt;
-        table.out.as_slice(),
-        b"u running: record
+/// What `sim table` prints.
+const TABLE: &str = "u running: record
 u idle: record start
 d running: TERM CONT record
 d idle: record
@@ -275,15 +269,22 @@ k running: KILL
 k idle: nothing
 x running: record
 x idle: record
-"
-            .as_slice()
-    );
+";
+
+#[test]
+fn runs_commands(rt: HostRuntime) {
+    let table = words(&rt, &["sim", "table"]);
+    assert_eq!(rt; table.out.as_slice(), TABLE.as_bytes());
     assert_eq!(rt; table.status, 0);
     assert_eq!(rt; words(&rt, &["sim"]).status, 0);
     assert_eq!(rt; words(&rt, &["tai64n"]).status, 0);
     let title = words(&rt, &["readproctitle", "log: ", "....."]);
     assert_eq!(rt; title.out.as_slice(), b".....\n".as_slice());
     assert_eq!(rt; title.status, 0);
+}
+
+#[test]
+fn refuses_words(rt: HostRuntime) {
     for wrong in [
         [].as_slice(),
         &["nosuch"],
@@ -292,6 +293,7 @@ x idle: record
         &["tai64n", "x"],
         &["readproctitle"],
         &["envdir", "d"],
+        &["trace"],
     ] {
         let ran = words(&rt, wrong);
         assert_eq!(rt; ran.told.as_slice(), b"dtools: usage\n".as_slice());
@@ -373,129 +375,27 @@ fn tells_why_there_is_no_title(rt: HostRuntime) {
     }
 }
 
-/// Runs `envdir` and takes what it told, and its status.
-fn envdir<R: Files + Env + Processes + AllocGlobal>(rt: &R, words: &[&str]) -> (Vec<u8>, u8) {
+#[test]
+fn says_where_memory_is_refused(rt: HostRuntime) {
+    let bump = Bump::new(rt.alloc());
+    bump.set_allocation_limit(Some(0));
+    let mut reader = Counted::new(SERVICE.as_bytes());
+    let mut writer = Counted::new(Vec::new(rt.alloc()));
     let mut faults = Counted::new(Vec::new(rt.alloc()));
-    let status = run_envdir(rt, rt.alloc(), words, &mut faults);
-    (faults.into_device(), status)
-}
-
-/// Makes a new folder for a test, in the place of an old one of this name, with an empty folder `d` in it.
-fn new_folder(rt: &HostRuntime, name: &str) -> Result<String, Fail> {
-    let base = env::temp_dir(rt)?;
-    let own = process::id(rt.process());
-    let folder = format!(in rt.alloc(); "{}/dtools_{name}_{own}", base.as_str())?;
-    if fs::exists(rt, folder.as_str())? {
-        fs::remove_dir_all(rt, folder.as_str())?;
-    }
-    fs::create_dir(rt, folder.as_str())?;
-    let inner = format!(in rt.alloc(); "{folder}/d")?;
-    fs::create_dir(rt, inner.as_str())?;
-    Ok(folder)
-}
-
-/// Writes a file of the folder `d` of a test's folder.
-fn put_file(rt: &HostRuntime, folder: &str, name: &str, bytes: &[u8]) -> Result<(), Fail> {
-    let path = format!(in rt.alloc(); "{folder}/d/{name}")?;
-    fs::write(rt, path.as_str(), bytes)?;
-    Ok(())
-}
-
-#[test]
-fn changes_the_environment(rt: HostRuntime) -> Result<(), Fail> {
-    let folder = new_folder(&rt, "changes")?;
-    put_file(&rt, &folder, "A", b"x y \t\nrest")?;
-    put_file(&rt, &folder, "HOME", b"")?;
-    put_file(&rt, &folder, "C", b"\n")?;
-    put_file(&rt, &folder, "D", b"p\0q")?;
-    put_file(&rt, &folder, ".E", b"\xff")?;
-    let dir = format!(in rt.alloc(); "{folder}/d")?;
-    let out = format!(in rt.alloc(); "{folder}/out")?;
-    let script = format!(in rt.alloc();
-        "echo \"$A|${{HOME-none}}|${{C-none}}|$D|${{E-none}}|${{PATH:+path}}\" >{out}"
-    )?;
-    let (told, status) = envdir(&rt, &[dir.as_str(), "sh", "-c", script.as_str()]);
-    assert_eq!(rt; told.as_slice(), b"".as_slice());
-    assert_eq!(rt; status, 0);
-    let shown = fs::read(&rt, out.as_str())?;
-    assert_eq!(rt; shown.as_slice(), b"x y|none||p\nq|none|path\n".as_slice());
-    // The child is sought in the changed PATH.
-    let tool = format!(in rt.alloc(); "{folder}/dtools_tool")?;
-    fs::write(&rt, tool.as_str(), "#!/bin/sh\nexit 5\n")?;
-    fs::set_permissions(&rt, tool.as_str(), Permissions::from_mode(0o755))?;
-    let (_, missing) = envdir(&rt, &[dir.as_str(), "dtools_tool"]);
-    assert_eq!(rt; missing, 111);
-    put_file(&rt, &folder, "PATH", folder.as_bytes())?;
-    let (told, status) = envdir(&rt, &[dir.as_str(), "dtools_tool"]);
-    assert_eq!(rt; told.as_slice(), b"".as_slice());
-    assert_eq!(rt; status, 5);
-    fs::remove_dir_all(&rt, folder.as_str())?;
-    Ok(())
-}
-
-/// Checks the status of a child that is a shell with this script.
-fn check_child<R: Abort + Files + Env + Processes + AllocGlobal>(
-    rt: &R,
-    dir: &str,
-    script: &str,
-    want: u8,
-) {
-    let (told, status) = envdir(rt, &[dir, "sh", "-c", script]);
-    assert_eq!(rt; told.as_slice(), b"".as_slice());
-    assert_eq!(rt; status, want);
-}
-
-#[test]
-fn answers_the_status_of_a_child(rt: HostRuntime) -> Result<(), Fail> {
-    let folder = new_folder(&rt, "status")?;
-    let dir = format!(in rt.alloc(); "{folder}/d")?;
-    check_child(&rt, dir.as_str(), "exit 7", 7);
-    check_child(&rt, dir.as_str(), "exit 255", 255);
-    check_child(&rt, dir.as_str(), "kill -KILL $$", 111);
-    let missing = envdir(&rt, &[dir.as_str(), "/nosuch/child"]);
+    let status = run_sim(&bump, &[], &mut reader, &mut writer, &mut faults);
+    assert_eq!(rt; status, 111);
     assert_eq!(rt;
-        missing.0.as_slice(),
-        b"envdir: unable to run /nosuch/child\n".as_slice()
+        faults.into_device().as_slice(),
+        b"sim: OutOfMemory\n".as_slice()
     );
-    assert_eq!(rt; missing.1, 111);
-    fs::remove_dir_all(&rt, folder.as_str())?;
-    Ok(())
-}
-
-#[test]
-fn tells_why_there_is_no_child(rt: HostRuntime) -> Result<(), Fail> {
-    for wrong in [[].as_slice(), &["d"]] {
-        let (told, status) = envdir(&rt, wrong);
-        assert_eq!(rt; told.as_slice(), b"dtools: usage\n".as_slice());
-        assert_eq!(rt; status, 100);
-    }
-    let missing = envdir(&rt, &["/nosuch/folder", "true"]);
+    let mut faults = Counted::new(Vec::new(rt.alloc()));
+    let status = run_readproctitle(&bump, &["12345"], &mut reader, &mut writer, &mut faults);
+    assert_eq!(rt; status, 111);
     assert_eq!(rt;
-        missing.0.as_slice(),
-        b"envdir: unable to read /nosuch/folder\n".as_slice()
+        faults.into_device().as_slice(),
+        b"readproctitle: OutOfMemory\n".as_slice()
     );
-    assert_eq!(rt; missing.1, 111);
-    let folder = new_folder(&rt, "refused")?;
-    let dir = format!(in rt.alloc(); "{folder}/d")?;
-    put_file(&rt, &folder, "F=G", b"")?;
-    put_file(&rt, &folder, "Z", b"\xff")?;
-    let equals = envdir(&rt, &[dir.as_str(), "true"]);
-    assert_eq!(rt;
-        equals.0.as_slice(),
-        b"envdir: F=G: NameHasEquals\n".as_slice()
-    );
-    assert_eq!(rt; equals.1, 111);
-    put_file(&rt, &folder, "B", b"\xff")?;
-    let not_text = envdir(&rt, &[dir.as_str(), "true"]);
-    assert_eq!(rt; not_text.0.as_slice(), b"envdir: B: NotText\n".as_slice());
-    assert_eq!(rt; not_text.1, 111);
-    // A folder in the place of a file can't be read.
-    let inner = format!(in rt.alloc(); "{folder}/d/A")?;
-    fs::create_dir(&rt, inner.as_str())?;
-    let unread = envdir(&rt, &[dir.as_str(), "true"]);
-    let want = format!(in rt.alloc(); "envdir: unable to read {dir}\n")?;
-    assert_eq!(rt; unread.0.as_slice(), want.as_bytes());
-    assert_eq!(rt; unread.1, 111);
-    fs::remove_dir_all(&rt, folder.as_str())?;
-    Ok(())
+    // Nothing was read or written.
+    assert_eq!(rt; reader.into_device().len(), SERVICE.len());
+    assert_eq!(rt; writer.into_device().len(), 0);
 }

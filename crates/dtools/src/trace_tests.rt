@@ -1,5 +1,6 @@
 use crate::break_word::read_break;
 use crate::trace::{run_trace, trace_bytes};
+use bumpalo::Bump;
 use std::fs::Files;
 use std::process::Abort;
 use std::test::Fail;
@@ -109,6 +110,20 @@ fn tells_trouble_of_a_text(rt: HostRuntime) {
         faults.into_device().as_slice(),
         b"trace: line 1: Line\n".as_slice()
     );
+    assert!(rt; writer.into_device().is_empty());
+}
+
+#[test]
+fn says_where_memory_is_refused(rt: HostRuntime) {
+    let bump = Bump::new(rt.alloc());
+    bump.set_allocation_limit(Some(0));
+    let mut writer = Counted::new(Vec::new(rt.alloc()));
+    let mut faults = Counted::new(Vec::new(rt.alloc()));
+    let status = trace_bytes(&&bump, TRACE, None, &mut writer, &mut faults);
+    assert_eq!(rt; status, 111);
+    let told = faults.into_device();
+    assert!(rt; told.starts_with(b"trace: "));
+    assert!(rt; told.ends_with(b"OutOfMemory\n"));
     assert!(rt; writer.into_device().is_empty());
 }
 
