@@ -13,6 +13,8 @@ use Rattle.sup_core.specs.declared.event.Event.{Event}
 use Rattle.sup_core.specs.declared.event.Event.TheVariants.{Byte, Started, StartFailed, Death, Clock}
 use Rattle.sup_core.specs.declared.machine.Phase.{Phase}
 use Rattle.sup_core.specs.declared.machine.Phase.TheVariants as phase
+use Rattle.sup_core.specs.declared.reading.EventFault.{EventFault}
+use Rattle.sup_core.specs.declared.reading.EventFault.TheVariants as why
 use Rattle.sup_core.specs.History.{is_among}
 use Rattle.sup_core.specs.Rules.{signals_of, writes}
 
@@ -63,6 +65,13 @@ phase_name phase.Resting = codes "resting"
 phase_name phase.Up = codes "up"
 phase_name phase.Down = codes "down"
 phase_name phase.Gone = codes "gone"
+
+-- why a line is refused
+abbrev pub fault_name : EventFault → List ℕ
+fault_name why.UnknownEvent = codes "UnknownEvent"
+fault_name why.Line = codes "Line"
+fault_name why.Number = codes "Number"
+fault_name why.Label = codes "Label"
 
 -- what was asked, each after a space
 abbrev pub asks_text : List Ask → List ℕ

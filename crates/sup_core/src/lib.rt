@@ -21,7 +21,7 @@ pub use reading::{
     EventFault, read_begin, read_byte, read_event, read_number, read_phase, read_sig, split_field,
 };
 pub use table::table_line;
-pub use text::{answer_text, event_text, phase_name, sig_name};
+pub use text::{answer_text, event_text, fault_name, phase_name, sig_name};
 
 #[cfg(test)]
 mod tests;

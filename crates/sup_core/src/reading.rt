@@ -14,7 +14,7 @@ ghost use Rattle.sup_core.specs.Reading.{fields, IsInRange, byte_of_text, pid_of
 use crate::asks::Sig;
 use crate::event::Event;
 use crate::machine::Phase;
-use crate::text::push_byte;
+use crate::text::{fault_name, push_byte};
 use arrayvec::ArrayString;
 use hex::FromHex;
 use itoa::Buffer;
@@ -24,18 +24,15 @@ use thiserror::Error;
 
 /// Why a line is the text of nothing. The first of these that applies is told.
 #[derive(Clone, Copy, Debug, PartialEq, Eq, Error)]
+#[error("{}", fault_name(*self))]
 pub enum EventFault {
     /// The first word is not known.
-    #[error("UnknownEvent")]
     UnknownEvent,
     /// The number of fields is wrong, or a field that is neither a number nor a label.
-    #[error("Line")]
     Line,
     /// The process number is wrong.
-    #[error("Number")]
     Number,
     /// The label is wrong.
-    #[error("Label")]
     Label,
 }
 

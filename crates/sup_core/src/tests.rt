@@ -457,3 +457,18 @@ fn prints_events(rt: HostRuntime) -> Result<(), Fail> {
     }
     Ok(())
 }
+
+#[test]
+fn shows_faults(rt: HostRuntime) -> Result<(), Fail> {
+    let names = [
+        (EventFault::UnknownEvent, "UnknownEvent"),
+        (EventFault::Line, "Line"),
+        (EventFault::Number, "Number"),
+        (EventFault::Label, "Label"),
+    ];
+    for (fault, name) in names {
+        assert_eq!(rt; fault_name(fault), name);
+        assert_eq!(rt; fault.to_string(rt.alloc())?.as_str(), name);
+    }
+    Ok(())
+}

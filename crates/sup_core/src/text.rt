@@ -4,11 +4,12 @@ ghost use Rattle.arrayvec.specs.ArrayString.{array_string_len};
 ghost use Rattle.tai_status.specs.Label.{IsLabel, label_text};
 ghost use Rattle.sup_core.specs.Rules.{IsEvent};
 ghost use Rattle.sup_core.specs.Reading.{IsInRange};
-ghost use Rattle.sup_core.specs.Text.{byte_text, event_text, answer_text, ask_text, asks_text, signal_name, phase_name, longest};
+ghost use Rattle.sup_core.specs.Text.{byte_text, event_text, answer_text, ask_text, asks_text, signal_name, phase_name, fault_name, longest};
 
 use crate::asks::{Ask, Asks, Reply, Sig};
 use crate::event::Event;
 use crate::machine::Phase;
+use crate::reading::EventFault;
 use arrayvec::ArrayString;
 use itoa::Buffer;
 use std::{fmt, str};
@@ -42,6 +43,19 @@ pub fn phase_name(phase: Phase) -> &'static str
         Phase::Up => "up",
         Phase::Down => "down",
         Phase::Gone => "gone",
+    }
+}
+
+/// The name of why a line is refused.
+pub fn fault_name(why: EventFault) -> &'static str
+    ensures name { result.now ≡ fault_name why }
+    ensures short { length result.now ≤ 12 }
+{
+    match why {
+        EventFault::UnknownEvent => "UnknownEvent",
+        EventFault::Line => "Line",
+        EventFault::Number => "Number",
+        EventFault::Label => "Label",
     }
 }
 
