@@ -205,3 +205,12 @@ parts_of text = slice_split (λ byte. byte == 10) text
 -- what a text tells, or its first fault
 abbrev pub told_from : List ℕ → Result Told TraceFault
 told_from text = told_by_parts 1 Nothing (parts_of text)
+
+-- why a line is refused
+abbrev pub kind_name : TraceFaultKind → List ℕ
+kind_name kind.Line = codes "Line"
+kind_name kind.Label = codes "Label"
+kind_name kind.Number = codes "Number"
+kind_name kind.UnknownEvent = codes "UnknownEvent"
+kind_name kind.NotTaken = codes "NotTaken"
+kind_name kind.OutOfMemory = codes "OutOfMemory"

@@ -18,7 +18,7 @@ mod trace;
 
 pub use breaks::{Break, first_break};
 pub use explained::explain;
-pub use fault::{TraceFault, TraceFaultKind};
+pub use fault::{TraceFault, TraceFaultKind, kind_name};
 pub use law::{texts_of_traces, traces_after_events};
 pub use reading::read_text;
 pub use told::{TraceText, replay};

@@ -162,3 +162,26 @@ fn says_where_reading_wants_memory(rt: HostRuntime) -> Result<(), Fail> {
     assert_eq!(rt; read_text(&none, TEXT)?.entries().len(), 1);
     Ok(())
 }
+
+#[test]
+fn shows_faults(rt: HostRuntime) -> Result<(), Fail> {
+    use TraceFaultKind::{Label, Line, NotTaken, Number, OutOfMemory, UnknownEvent};
+    let names = [
+        (Line, "Line"),
+        (Label, "Label"),
+        (Number, "Number"),
+        (UnknownEvent, "UnknownEvent"),
+        (NotTaken, "NotTaken"),
+        (OutOfMemory, "OutOfMemory"),
+    ];
+    for (kind, name) in names {
+        assert_eq!(rt; kind_name(kind), name);
+        assert_eq!(rt; kind.to_string(rt.alloc())?.as_str(), name);
+    }
+    let fault = TraceFault {
+        line: 2,
+        kind: Number,
+    };
+    assert_eq!(rt; fault.to_string(rt.alloc())?.as_str(), "line 2: Number");
+    Ok(())
+}
