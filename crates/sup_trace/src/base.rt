@@ -9,7 +9,7 @@ ghost use Rattle.sup_trace.specs.Told.{Told, told_of};
 ghost use Rattle.sup_trace.specs.Reading.{folded_of_text, phase_of_text, status_of_bytes, status_of_text, exiting_of_text, until_of_text, is_state, standing, standing_so, Entries, base_said};
 
 use crate::fault::TraceFaultKind;
-use crate::text::digits_of;
+use crate::text::record_digits;
 use hex::FromHex;
 use sup_core::{Machine, Phase, read_number, read_phase, split_field};
 use tai_status::{Label, View, decode, read_text};
@@ -52,7 +52,7 @@ fn read_status(text: &[u8]) -> Option<View>
     ensures { result ≡ status_of_text text.now }
 {
     let view = status_meant(text)?;
-    if digits_of(&view).as_slice() == text {
+    if record_digits(&view).as_slice() == text {
         Some(view)
     } else {
         None

@@ -21,6 +21,7 @@ pub use explained::explain;
 pub use fault::{TraceFault, TraceFaultKind, kind_name};
 pub use law::{texts_of_traces, traces_after_events};
 pub use reading::read_text;
+pub use text::record_digits;
 pub use told::{TraceText, replay};
 pub use trace::{MAX_CAPACITY, Trace};
 

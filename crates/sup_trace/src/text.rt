@@ -107,8 +107,8 @@ fn push_number<A: Allocator>(out: &mut Vec<u8, A>, number: u64) -> Result<(), Al
     push_field(out, buffer.format(number).as_bytes())
 }
 
-/// The digits of a status record.
-pub(crate) fn digits_of(view: &View) -> [u8; 36]
+/// The 36 lower-case hexadecimal digits of a view's status record.
+pub fn record_digits(view: &View) -> [u8; 36]
     ensures { result ≡ encode_lower (status_record view.now) }
 {
     let mut digits = [0; 36];
@@ -120,7 +120,7 @@ pub(crate) fn digits_of(view: &View) -> [u8; 36]
 fn push_record<A: Allocator>(out: &mut Vec<u8, A>, view: &View) -> Result<(), AllocError>
     ensures { OnOk result (out.new.items ≡ out.old.items ++ 32 ∷ encode_lower (status_record view.now)) }
 {
-    push_field(out, &digits_of(view))
+    push_field(out, &record_digits(view))
 }
 
 /// Writes a space and the end of settling or resting at the end of a text.
