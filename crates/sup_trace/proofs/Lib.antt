@@ -6,4 +6,5 @@ mod Written
 mod Places
 pub mod Parts
 pub mod Steps
+pub mod Heard
 pub mod Whole

@@ -1,4 +1,5 @@
-use Rattle.sup_trace.proofs.Whole.{told_from-found, told_from-only}
+use Rattle.sup_trace.proofs.Heard.{told_from-found}
+use Rattle.sup_trace.proofs.Whole.{told_from-only}
 use Rattle.sup_trace.proofs.law.texts_of_traces.Goals as goal
 
 pub returns-clause-read : goal.returns-clause-read
