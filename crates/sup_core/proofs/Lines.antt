@@ -1,12 +1,12 @@
 -- Event lines and begin lines: what is told is read, and what is read is told so.
-use Rattle.std.proofs.Common.{◌≡◌, ℕ, ◌^◌, ◌<◌, ◌≤◌, ◌==◌, ◌&&◌, nat_lt, Bool, true, false, not, List, [], ◌∷◌, ◌++◌, drop, Option, Some, None, Result, Ok, Err, refl, sym, ap, ◌∙◌, arith, decimal, subst, codes}
+use Rattle.std.proofs.Common.{◌≡◌, ℕ, ◌^◌, ◌<◌, ◌≤◌, ◌==◌, nat_lt, Bool, true, false, not, List, [], ◌∷◌, ◌++◌, drop, Option, Some, None, Result, Ok, Err, zero, suc, ◌/◌, ◌%◌, refl, sym, ap, ◌∙◌, arith, decimal, subst, codes}
 use Rattle.std.specs.Prelude.{IfOk, IfSome, if◌then◌else◌, bytes_eq, option_map, ok_or}
 use Rattle.std.specs.List.{AllByRecursion, list_all, onto_first, slice_split, join_with_byte}
-use Rattle.std.specs.Str.Parse.{AllDigits}
-use Rattle.std.specs.Char.{digit_value}
+use Rattle.std.specs.Cmp.Derive.{both_true}
+use Rattle.std.specs.Fmt.{digits, digits_onto, digit_glyph}
+use Rattle.std.proofs.lemmas.Bool.Decides.{nat_tests}
 use Rattle.std.proofs.lemmas.Bool.{and_parts}
 use Rattle.std.proofs.lemmas.Slice.Eq.{bytes_eq-Decides}
-use Rattle.std.proofs.lemmas.Fmt.{decimal_is_IsNumeral}
 use Rattle.std.proofs.lemmas.List.Splits.{slice_split-cons_no, slice_split-cons_yes, join_with_byte-slice_split}
 use Rattle.hex.specs.Hex.{encode_with, encode_lower}
 use Rattle.tai_status.specs.Label.{Tai64n, IsLabel, packed, label_text}
@@ -16,10 +16,12 @@ use Rattle.sup_core.specs.declared.event.Event.{Event}
 use Rattle.sup_core.specs.declared.event.Event.TheVariants.{Byte, Started, StartFailed, Death, Clock}
 use Rattle.sup_core.specs.declared.reading.EventFault.{EventFault}
 use Rattle.sup_core.specs.declared.reading.EventFault.TheVariants as fault
+use Rattle.sup_core.specs.declared.machine.Phase.{Phase}
+use Rattle.sup_core.specs.declared.machine.Phase.TheVariants as phase
 use Rattle.sup_core.specs.declared.reading.Word.{Word}
 use Rattle.sup_core.specs.declared.reading.Word.TheVariants as kind
 use Rattle.sup_core.specs.Rules.{IsEvent}
-use Rattle.sup_core.specs.Text.{byte_text, event_fields, event_text, begin_fields, begin_text}
+use Rattle.sup_core.specs.Text.{byte_text, event_fields, event_text, begin_fields, begin_text, phase_name}
 use Rattle.sup_core.specs.Fields.{word_name}
 use Rattle.sup_core.specs.Reading.{fields, IsInRange, byte_of_text, pid_of_text, label_of_text, byte_event, started, start_event, label_event, event_of, event_from, side_of, begun, side_event, begin_from}
 use Rattle.sup_core.proofs.Spelling.{all_below, all_below-at, TellsByte, TellsPid, TellsLabel, byte_of_text-found, byte_of_text-only, pid_of_text-found, pid_of_text-only, label_of_text-found, label_of_text-only}
@@ -59,23 +61,18 @@ is_solid text = list_all (λ byte. nat_lt 32 byte) text
 avoids_solid_byte : (separator byte : ℕ) → separator ≤ 32 → nat_lt 32 byte ≡ true → not (byte == separator) ≡ true
 avoids_solid_byte separator byte low h = grind (arith)
 
-and_true : (a b : Bool) → a ≡ true → b ≡ true → (a && b) ≡ true
-and_true true true h g = refl
-and_true true false h g = cc g
-and_true false b h g = cc h
-
 pub avoids-solid : (separator : ℕ) (text : List ℕ) → separator ≤ 32 → is_solid text ≡ true → avoids separator text ≡ true
 avoids-solid separator [] low h = refl
 avoids-solid separator (x ∷ xs) low h =
     let parts = and_parts (nat_lt 32 x) (is_solid xs) h in
-    and_true _ _ (avoids_solid_byte separator x low parts.0) (avoids-solid separator xs low parts.1)
+    both_true (avoids_solid_byte separator x low parts.0) (avoids-solid separator xs low parts.1)
 
 -- the field before a space
-pub fields-first : (word rest : List ℕ) → is_solid word ≡ true → fields (word ++ 32 ∷ rest) ≡ word ∷ fields rest
+fields-first : (word rest : List ℕ) → is_solid word ≡ true → fields (word ++ 32 ∷ rest) ≡ word ∷ fields rest
 fields-first word rest h = split-first 32 word rest (avoids-solid 32 word (omega arith) h)
 
 -- the last field
-pub fields-last : (word : List ℕ) → is_solid word ≡ true → fields word ≡ word ∷ []
+fields-last : (word : List ℕ) → is_solid word ≡ true → fields word ≡ word ∷ []
 fields-last word h = split-last 32 word (avoids-solid 32 word (omega arith) h)
 
 abbrev is_solid_text : ℕ → Bool
@@ -88,15 +85,22 @@ solid_table = refl
 byte_text-solid : (byte : ℕ) → byte < 2 ^ 8 → is_solid (byte_text byte) ≡ true
 byte_text-solid byte below = all_below-at is_solid_text 256 byte solid_table below
 
-solid_digit : (c : ℕ) → digit_value c < 10 → nat_lt 32 c ≡ true
-solid_digit c h = grind (arith)
+solid_glyph : (n : ℕ) → nat_lt 32 (digit_glyph false (n % 10)) ≡ true
+solid_glyph n = grind (arith, nat_tests)
 
-solid_digits : (ds : List ℕ) → AllDigits 10 ds → is_solid ds ≡ true
-solid_digits [] h = refl
-solid_digits (c ∷ cs) h = and_true _ _ (solid_digit c h.0) (solid_digits cs h.1)
+solid_digits : (k n : ℕ) (acc : List ℕ) → is_solid acc ≡ true → is_solid (digits_onto k 10 false n acc) ≡ true
+solid_digits zero n acc h = h
+solid_digits (suc k) n acc h =
+    let more = both_true (solid_glyph n) h in
+    let grown = digit_glyph false (n % 10) ∷ acc in
+    elim (n / 10 == 0) as (λ b. is_solid (if b then grown else digits_onto k 10 false (n / 10) grown) ≡ true) [
+      | true ↦ more
+      | false ↦ solid_digits k (n / 10) grown more
+    ]
 
-pub decimal-solid : (n : ℕ) → n < 2 ^ 64 → is_solid (decimal n) ≡ true
-decimal-solid n below = solid_digits (decimal n) (decimal_is_IsNumeral n (omega (arith, below))).0.1
+pub decimal-solid : (n : ℕ) → is_solid (decimal n) ≡ true
+unfolding digits
+decimal-solid n = solid_digits 64 n [] refl
 
 solid_lower : (c : ℕ) → is_lower_digit c ≡ true → nat_lt 32 c ≡ true
 solid_lower c h = grind (arith)
@@ -105,7 +109,7 @@ pub lower-solid : (ds : List ℕ) → list_all is_lower_digit ds ≡ true → is
 lower-solid [] h = refl
 lower-solid (c ∷ cs) h =
     let parts = and_parts (is_lower_digit c) (list_all is_lower_digit cs) h in
-    and_true _ _ (solid_lower c parts.0) (lower-solid cs parts.1)
+    both_true (solid_lower c parts.0) (lower-solid cs parts.1)
 
 label_lower : (text : List ℕ) (label : Tai64n) → from_text text ≡ Ok label → list_all is_lower_digit (drop 1 text) ≡ true
 label_lower text label h = grind (arith)
@@ -114,33 +118,31 @@ pub label_text-solid : (label : Tai64n) → IsLabel label → is_solid (label_te
 label_text-solid label range =
     lower-solid (encode_lower (packed label)) (label_lower (label_text label) label (from_text-label_text label range))
 
+pub phase_name-solid : (phase : Phase) → is_solid (phase_name phase) ≡ true
+phase_name-solid phase.Starting = refl
+phase_name-solid phase.Settling = refl
+phase_name-solid phase.Resting = refl
+phase_name-solid phase.Up = refl
+phase_name-solid phase.Down = refl
+phase_name-solid phase.Gone = refl
+
 -- What is told is read.
 
-two : (word text : List ℕ) → is_solid word ≡ true → is_solid text ≡ true
-    → fields (word ++ 32 ∷ text) ≡ word ∷ text ∷ []
-two word text w t = fields-first word text w ∙ ap (λ (parts : List (List ℕ)). word ∷ parts) (fields-last text t)
-
-three : (word text label : List ℕ) → is_solid word ≡ true → is_solid text ≡ true → is_solid label ≡ true
-    → fields (word ++ 32 ∷ (text ++ 32 ∷ label)) ≡ word ∷ text ∷ label ∷ []
-three word text label w t l =
-    fields-first word (text ++ 32 ∷ label) w ∙ ap (λ (parts : List (List ℕ)). word ∷ parts) (two text label t l)
+-- solid fields are the fields of their line
+pub fields-join : (field : List ℕ) (rest : List (List ℕ)) → AllByRecursion (λ field. is_solid field ≡ true) (field ∷ rest)
+    → fields (join_with_byte 32 (field ∷ rest)) ≡ field ∷ rest
+fields-join field [] h = fields-last field h.0
+fields-join field (next ∷ rest) h =
+    fields-first field (join_with_byte 32 (next ∷ rest)) h.0
+    ∙ ap (λ (parts : List (List ℕ)). field ∷ parts) (fields-join next rest h.1)
 
 -- the fields of an event's line
 pub event_fields-event_text : (event : Event) → IsInRange event → fields (event_text event) ≡ event_fields event
-event_fields-event_text (Byte byte) range = two (codes "byte") (byte_text byte) refl (byte_text-solid byte range)
-event_fields-event_text (Started pid label) range =
-    three (codes "started") (decimal pid) (label_text label) refl (decimal-solid pid (omega (arith, range.1))) (label_text-solid label range.2)
-event_fields-event_text (StartFailed label) range = two (codes "failed") (label_text label) refl (label_text-solid label range)
-event_fields-event_text (Death label) range = two (codes "death") (label_text label) refl (label_text-solid label range)
-event_fields-event_text (Clock label) range = two (codes "clock") (label_text label) refl (label_text-solid label range)
-
--- the fields of an event are solid
-pub event_fields-solid : (event : Event) → IsInRange event → AllByRecursion (λ field. is_solid field ≡ true) (event_fields event)
-event_fields-solid (Byte byte) range = (refl, (byte_text-solid byte range, tt))
-event_fields-solid (Started pid label) range = (refl, (decimal-solid pid (omega (arith, range.1)), (label_text-solid label range.2, tt)))
-event_fields-solid (StartFailed label) range = (refl, (label_text-solid label range, tt))
-event_fields-solid (Death label) range = (refl, (label_text-solid label range, tt))
-event_fields-solid (Clock label) range = (refl, (label_text-solid label range, tt))
+event_fields-event_text (Byte byte) range = fields-join _ _ (refl, (byte_text-solid byte range, tt))
+event_fields-event_text (Started pid label) range = fields-join _ _ (refl, (decimal-solid pid, (label_text-solid label range.2, tt)))
+event_fields-event_text (StartFailed label) range = fields-join _ _ (refl, (label_text-solid label range, tt))
+event_fields-event_text (Death label) range = fields-join _ _ (refl, (label_text-solid label range, tt))
+event_fields-event_text (Clock label) range = fields-join _ _ (refl, (label_text-solid label range, tt))
 
 label_read : (label : Tai64n) → IsLabel label → label_of_text (label_text label) ≡ Some label
 label_read label range = label_of_text-only (label_text label) label (record { range = range; is = refl })
@@ -159,8 +161,8 @@ pub event_from-event_text : (event : Event) → IsInRange event → event_from (
 event_from-event_text event range = ap event_from (event_fields-event_text event range) ∙ event_read event range
 
 side_fields : (down : Bool) (label : Tai64n) → IsLabel label → fields (begin_text down label) ≡ begin_fields down label
-side_fields true label range = three (codes "begin") (codes "down") (label_text label) refl refl (label_text-solid label range)
-side_fields false label range = three (codes "begin") (codes "up") (label_text label) refl refl (label_text-solid label range)
+side_fields true label range = fields-join _ _ (refl, (refl, (label_text-solid label range, tt)))
+side_fields false label range = fields-join _ _ (refl, (refl, (label_text-solid label range, tt)))
 
 begin_read : (down : Bool) (label : Tai64n) → IsLabel label → begin_from (begin_fields down label) ≡ Ok (down, label)
 begin_read true label range = rw (label_read label range) refl

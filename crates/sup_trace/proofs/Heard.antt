@@ -1,7 +1,7 @@
 -- What is read is told so: a text that is read is the text of what it tells.
 use Rattle.std.proofs.Common.{◌≡◌, ℕ, ◌+◌, ◌^◌, ◌<◌, ◌≤◌, ◌==◌, nat_lt, Bool, true, false, not, List, [], ◌∷◌, ◌++◌, map, flat_map, append_assoc, length, Option, Some, None, Result, Ok, Err, refl, sym, ap, ◌∙◌, arith, codes, decimal, subst, ◌⊎◌, inl, inr, ⊎_elim}
 use Rattle.std.specs.Prelude.{IfSome, if◌then◌else◌, bytes_eq}
-use Rattle.std.specs.List.{AllByRecursion, join_with_byte}
+use Rattle.std.specs.List.{join_with_byte}
 use Rattle.std.proofs.lemmas.Slice.Eq.{bytes_eq-Decides}
 use Rattle.std.proofs.lemmas.List.Splits.{join_with_byte-slice_split}
 use Rattle.tai_status.specs.Label.{Tai64n, IsLabel}
@@ -24,6 +24,7 @@ use Rattle.sup_trace.specs.Text.{header, base_fields, base_text, end_text, trace
 use Rattle.sup_trace.specs.Reading.{Heard, Nothing, Header, Entries, Whole, folded_of_text, phase_of_text, status_of_text, exiting_of_text, until_of_text, is_state, standing, standing_so, base_from, base_said, with_entry, entry_said, end_said, later_said, said, at_end, told_by_parts, parts_of, told_from}
 use Rattle.std.proofs.lemmas.List.{map-append, length-append, append-nil}
 use Rattle.sup_trace.proofs.Steps.{followed}
+use Rattle.sup_trace.proofs.Written.{AllByRecursion-joined}
 use Rattle.sup_trace.proofs.Parts.{TellsFolded, folded_of_text-found, phase_of_text-found, TellsStatus, status_of_text-found, exiting_of_text-found, until_of_text-found, is_state-decides}
 
 -- what a choice that succeeds shows
@@ -149,10 +150,6 @@ later_told told line more (word ∷ rest) is h =
       | false ↦ λ at h. inr (entry_told told line more _ (ap event_from is) h)
     ] refl h
 
-all-append : {X : Type 0} (P : X → Type 0) (xs : List X) (x : X) → AllByRecursion P xs → P x → AllByRecursion P (xs ++ x ∷ [])
-all-append P [] x h p = (p, tt)
-all-append P (y ∷ ys) x h p = (h.0, all-append P ys x h.1 p)
-
 -- What was told is so, and these are its lines.
 abbrev IsHeard : Heard → List (List ℕ) → Type 0
 IsHeard Nothing lines = lines ≡ []
@@ -186,7 +183,7 @@ heard_entry told line lines more tells h =
       count = was.count;
       limit = let room = tells.room in rw (length-append told.entries (tells.event ∷ [])) (omega (arith, room));
       taken = AreTaken-append (Opened told.base) told.entries tells.event was.taken (IsEvent-in_range tells.event tells.range) tells.taken;
-      ranges = all-append IsInRange told.entries tells.event was.ranges tells.range;
+      ranges = AllByRecursion-joined IsInRange told.entries (tells.event ∷ []) was.ranges (tells.range, tt);
     } in
     let front : List (List ℕ) = header ∷ base_text told.folded told.base ∷ [] in
     let text : lines ++ line ∷ [] ≡ header ∷ base_text told.folded told.base ∷ map event_text (told.entries ++ tells.event ∷ []) =

@@ -3,6 +3,7 @@ use Rattle.std.proofs.Common.{◌≡◌, ℕ, ◌^◌, ◌<◌, ◌≤◌, ◌&&
 use Rattle.std.specs.Prelude.{◌≢◌, ◌↔◌, not, is_none, IsSomeAnd, IfSome, IfOk, if◌then◌else◌, bytes_eq, option_map}
 use Rattle.std.specs.Result.{result_ok}
 use Rattle.std.specs.Str.Parse.{digits_value}
+use Rattle.std.specs.Cmp.Derive.{both_true}
 use Rattle.std.proofs.lemmas.Bool.{and_parts, eqb-true}
 use Rattle.std.proofs.lemmas.Slice.Eq.{bytes_eq-Decides}
 use Rattle.std.proofs.lemmas.Fmt.{decimal_is_IsNumeral}
@@ -213,11 +214,6 @@ not_want want.Once want.Up = (λ h. refl, λ h e. cc e)
 not_want want.Once want.Down = (λ h. refl, λ h e. cc e)
 not_want want.Once want.Once = (λ h. absurd (h refl), λ h e. cc h)
 
-pub and_true : (a b : Bool) → a ≡ true → b ≡ true → (a && b) ≡ true
-and_true true true h g = refl
-and_true true false h g = cc g
-and_true false b h g = cc h
-
 no : (b : Bool) → (b ≡ false) ↔ (not b ≡ true)
 no true = (λ h. cc h, λ h. cc h)
 no false = (λ h. refl, λ h. refl)
@@ -240,7 +236,7 @@ same_label a b = (
   λ h.
       let sec : a.sec ≡ b.sec = ap (λ (l : Tai64n). l.sec) h in
       let nano : a.nano ≡ b.nano = ap (λ (l : Tai64n). l.nano) h in
-      and_true (a.sec == b.sec) (a.nano == b.nano) (grind (arith, sec)) (grind (arith, nano)),
+      both_true {s = a.sec == b.sec} {t = a.nano == b.nano} (grind (arith, sec)) (grind (arith, nano)),
   λ h.
       let parts = and_parts (a.sec == b.sec) (a.nano == b.nano) h in
       let sec = eqb-true a.sec b.sec parts.0 in
@@ -262,26 +258,26 @@ past_until None = (λ h. absurd h, λ h. cc h)
 -- facts, each decided by a test
 
 two : {A B : Type 0} (a b : Bool) → A ↔ (a ≡ true) → B ↔ (b ≡ true) → (A × B) ↔ ((a && b) ≡ true)
-two a b p q = (λ h. and_true a b (p.0 h.0) (q.0 h.1), λ h. let parts = and_parts a b h in (p.1 parts.0, q.1 parts.1))
+two a b p q = (λ h. both_true (p.0 h.0) (q.0 h.1), λ h. let parts = and_parts a b h in (p.1 parts.0, q.1 parts.1))
 
 three : {A B C : Type 0} (a b c : Bool) → A ↔ (a ≡ true) → B ↔ (b ≡ true) → C ↔ (c ≡ true)
     → (A × B × C) ↔ ((a && b && c) ≡ true)
 three a b c p q r = (
-  λ h. and_true (a && b) c ((two a b p q).0 (h.0, h.1)) (r.0 h.2),
+  λ h. both_true ((two a b p q).0 (h.0, h.1)) (r.0 h.2),
   λ h. let parts = and_parts (a && b) c h in let front = (two a b p q).1 parts.0 in (front.0, front.1, r.1 parts.1),
 )
 
 four : {A B C D : Type 0} (a b c d : Bool) → A ↔ (a ≡ true) → B ↔ (b ≡ true) → C ↔ (c ≡ true) → D ↔ (d ≡ true)
     → (A × B × C × D) ↔ ((a && b && c && d) ≡ true)
 four a b c d p q r s = (
-  λ h. and_true (a && b && c) d ((three a b c p q r).0 (h.0, h.1, h.2)) (s.0 h.3),
+  λ h. both_true ((three a b c p q r).0 (h.0, h.1, h.2)) (s.0 h.3),
   λ h. let parts = and_parts (a && b && c) d h in let front = (three a b c p q r).1 parts.0 in (front.0, front.1, front.2, s.1 parts.1),
 )
 
 five : {A B C D E : Type 0} (a b c d e : Bool) → A ↔ (a ≡ true) → B ↔ (b ≡ true) → C ↔ (c ≡ true) → D ↔ (d ≡ true) → E ↔ (e ≡ true)
     → (A × B × C × D × E) ↔ ((a && b && c && d && e) ≡ true)
 five a b c d e p q r s t = (
-  λ h. and_true (a && b && c && d) e ((four a b c d p q r s).0 (h.0, h.1, h.2, h.3)) (t.0 h.4),
+  λ h. both_true ((four a b c d p q r s).0 (h.0, h.1, h.2, h.3)) (t.0 h.4),
   λ h. let parts = and_parts (a && b && c && d) e h in let front = (four a b c d p q r s).1 parts.0 in (front.0, front.1, front.2, front.3, t.1 parts.1),
 )
 

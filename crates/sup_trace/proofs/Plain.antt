@@ -1,8 +1,7 @@
--- The texts of events and answers have no newline.
-use Rattle.std.proofs.Common.{◌≡◌, ℕ, zero, suc, ◌+◌, ◌/◌, ◌%◌, ◌==◌, ◌&&◌, Bool, true, false, not, List, [], ◌∷◌, ◌++◌, map, refl, ◌∙◌, arith, decimal, codes}
+-- The lines of traces and of what explains them have no newline.
+use Rattle.std.proofs.Common.{◌≡◌, ℕ, zero, suc, ◌+◌, ◌/◌, ◌%◌, length, Option, Some, None, ◌==◌, ◌&&◌, Bool, true, false, not, List, [], ◌∷◌, ◌++◌, map, refl, ◌∙◌, arith, decimal, codes}
 use Rattle.std.specs.Prelude.{if◌then◌else◌, nat_le, slice_index}
-use Rattle.std.specs.List.{AllByRecursion, enumerate_from}
-use Rattle.std.specs.Fmt.{digits, digits_onto, digit_glyph}
+use Rattle.std.specs.List.{AllByRecursion, enumerate_from, join_with_byte}
 use Rattle.std.proofs.lemmas.Bool.Decides.{nat_tests}
 use Rattle.std.proofs.lemmas.List.Folds.{list_all-append}
 use Rattle.hex.specs.Hex.{encode_with, encode_lower, lower_digits}
@@ -17,11 +16,14 @@ use Rattle.sup_core.specs.declared.asks.Sig.TheVariants.{Term, Cont, Stop, Hup, 
 use Rattle.sup_core.specs.declared.event.Event.{Event}
 use Rattle.sup_core.specs.declared.event.Event.TheVariants.{Byte, Started, StartFailed, Death, Clock}
 use Rattle.sup_core.specs.declared.machine.Phase.{Phase}
-use Rattle.sup_core.specs.declared.machine.Phase.TheVariants as phase
+use Rattle.tai_status.specs.Record.{status_record}
+use Rattle.sup_core.specs.State.{State}
 use Rattle.sup_core.specs.History.{phase_of}
 use Rattle.sup_core.specs.Rules.{next, reply_to}
-use Rattle.sup_core.specs.Text.{byte_text, event_text, signal_name, ask_text, asks_text, reply_text, phase_name, answer_text}
+use Rattle.sup_core.specs.Text.{byte_text, event_fields, event_text, signal_name, ask_text, asks_text, reply_text, phase_name, answer_text}
+use Rattle.sup_core.proofs.Lines.{avoids-solid, decimal-solid, phase_name-solid}
 use Rattle.sup_trace.specs.Told.{Told}
+use Rattle.sup_trace.specs.Text.{header, stay_text, until_text, base_fields, end_text, trace_lines}
 use Rattle.sup_trace.specs.Explained.{before, answer_at, explained, explained_line}
 
 abbrev is_plain_byte : ℕ → Bool
@@ -33,24 +35,17 @@ plain-append xs ys p q = list_all-append is_plain_byte xs ys ∙ rw (p, q) refl
 pub plain-cons : (byte : ℕ) (bytes : List ℕ) → is_plain_byte byte ≡ true → IsPlain bytes → IsPlain (byte ∷ bytes)
 plain-cons byte bytes p q = rw p q
 
+pub plain-join : (parts : List (List ℕ)) → AllByRecursion IsPlain parts → IsPlain (join_with_byte 32 parts)
+plain-join [] h = refl
+plain-join (part ∷ []) h = h.0
+plain-join (part ∷ next ∷ rest) h =
+    plain-append part (32 ∷ join_with_byte 32 (next ∷ rest)) h.0
+    (plain-cons 32 (join_with_byte 32 (next ∷ rest)) refl (plain-join (next ∷ rest) h.1))
+
 -- Numbers
 
-glyph_plain : (n : ℕ) → is_plain_byte (digit_glyph false (n % 10)) ≡ true
-glyph_plain n = grind (arith, nat_tests)
-
-plain-digits_onto : (k n : ℕ) (acc : List ℕ) → IsPlain acc → IsPlain (digits_onto k 10 false n acc)
-plain-digits_onto zero n acc p = p
-plain-digits_onto (suc k) n acc p =
-    let more = plain-cons (digit_glyph false (n % 10)) acc (glyph_plain n) p in
-    let rest = plain-digits_onto k (n / 10) (digit_glyph false (n % 10) ∷ acc) more in
-    elim (n / 10 == 0) as (λ b. IsPlain (if b then digit_glyph false (n % 10) ∷ acc else digits_onto k 10 false (n / 10) (digit_glyph false (n % 10) ∷ acc))) [
-      | true ↦ more
-      | false ↦ rest
-    ]
-
 pub plain-decimal : (n : ℕ) → IsPlain (decimal n)
-unfolding digits
-plain-decimal n = plain-digits_onto 64 n [] refl
+plain-decimal n = avoids-solid 10 (decimal n) (omega arith) (decimal-solid n)
 
 -- Hexadecimal digits
 
@@ -85,18 +80,15 @@ plain-byte_text byte =
       | false ↦ λ is. plain-encode_lower (byte ∷ [])
     ] refl
 
--- a word, a space and a field
-word_and : (word field : List ℕ) → IsPlain word → IsPlain field → IsPlain (word ++ 32 ∷ field)
-word_and word field p q = plain-append word (32 ∷ field) p (plain-cons 32 field refl q)
+plain-event_fields : (event : Event) → AllByRecursion IsPlain (event_fields event)
+plain-event_fields (Byte byte) = (refl, (plain-byte_text byte, tt))
+plain-event_fields (Started pid label) = (refl, (plain-decimal pid, (plain-label_text label, tt)))
+plain-event_fields (StartFailed label) = (refl, (plain-label_text label, tt))
+plain-event_fields (Death label) = (refl, (plain-label_text label, tt))
+plain-event_fields (Clock label) = (refl, (plain-label_text label, tt))
 
-pub plain-event_text : (event : Event) → IsPlain (event_text event)
-plain-event_text (Byte byte) = word_and (codes "byte") (byte_text byte) refl (plain-byte_text byte)
-plain-event_text (Started pid label) =
-    word_and (codes "started") (decimal pid ++ 32 ∷ label_text label) refl
-    (word_and (decimal pid) (label_text label) (plain-decimal pid) (plain-label_text label))
-plain-event_text (StartFailed label) = word_and (codes "failed") (label_text label) refl (plain-label_text label)
-plain-event_text (Death label) = word_and (codes "death") (label_text label) refl (plain-label_text label)
-plain-event_text (Clock label) = word_and (codes "clock") (label_text label) refl (plain-label_text label)
+plain-event_text : (event : Event) → IsPlain (event_text event)
+plain-event_text event = plain-join (event_fields event) (plain-event_fields event)
 
 -- Answers
 
@@ -124,13 +116,8 @@ plain-reply_text : (reply : Reply) → IsPlain (reply_text reply)
 plain-reply_text Held = refl
 plain-reply_text (Took asks) = plain-append (codes "took") (asks_text asks) refl (plain-asks_text asks)
 
-pub plain-phase_name : (phase : Phase) → IsPlain (phase_name phase)
-plain-phase_name phase.Starting = refl
-plain-phase_name phase.Settling = refl
-plain-phase_name phase.Resting = refl
-plain-phase_name phase.Up = refl
-plain-phase_name phase.Down = refl
-plain-phase_name phase.Gone = refl
+plain-phase_name : (phase : Phase) → IsPlain (phase_name phase)
+plain-phase_name phase = avoids-solid 10 (phase_name phase) (omega arith) (phase_name-solid phase)
 
 plain-answer_text : (reply : Reply) (phase : Phase) → IsPlain (answer_text reply phase)
 plain-answer_text reply phase =
@@ -154,3 +141,35 @@ plain-lines told place (event ∷ events) = (plain-explained_line told place eve
 
 pub plain-explained : (told : Told) → AllByRecursion IsPlain (explained told)
 plain-explained told = plain-lines told 0 told.entries
+
+-- The lines of a trace's text
+
+plain-header : IsPlain header
+unfolding header
+plain-header = refl
+
+plain-stay_text : (exiting : Bool) → IsPlain (stay_text exiting)
+plain-stay_text true = refl
+plain-stay_text false = refl
+
+plain-until_text : (until : Option Tai64n) → IsPlain (until_text until)
+plain-until_text None = refl
+plain-until_text (Some label) = plain-label_text label
+
+plain-base_fields : (folded : ℕ) (base : State) → AllByRecursion IsPlain (base_fields folded base)
+plain-base_fields folded base =
+    let until = plain-until_text base.until in
+    let digits = plain-encode_lower (status_record base.status) in
+    (refl, (plain-decimal folded, (plain-phase_name base.phase, (digits, (plain-stay_text base.exiting, (until, tt))))))
+
+plain-end_text : (count : ℕ) → IsPlain (end_text count)
+plain-end_text count = plain-append (codes "end ") (decimal count) refl (plain-decimal count)
+
+plain-entries : (events : List Event) (count : ℕ) → AllByRecursion IsPlain (map event_text events ++ end_text count ∷ [])
+plain-entries [] count = (plain-end_text count, tt)
+plain-entries (event ∷ events) count = (plain-event_text event, plain-entries events count)
+
+pub plain-trace_lines : (told : Told) → AllByRecursion IsPlain (trace_lines told)
+plain-trace_lines told =
+    let base = base_fields told.folded told.base in
+    (plain-header, (plain-join base (plain-base_fields told.folded told.base), plain-entries told.entries (length told.entries)))

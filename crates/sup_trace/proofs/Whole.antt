@@ -1,24 +1,22 @@
 -- What is told is read, so a text is read as what it tells, and only that.
-use Rattle.std.proofs.Common.{◌≡◌, ℕ, ◌+◌, ◌<◌, ◌≤◌, ◌==◌, nat_lt, Bool, true, false, not, List, [], ◌∷◌, ◌++◌, map, flat_map, append_assoc, length, Option, Some, None, Result, Ok, Err, refl, sym, ap, ◌∙◌, arith, codes, decimal, subst}
+use Rattle.std.proofs.Common.{◌≡◌, ℕ, ◌+◌, ◌<◌, ◌≤◌, nat_lt, Bool, true, false, not, List, [], ◌∷◌, ◌++◌, map, flat_map, append_assoc, length, Option, Some, None, Result, Ok, Err, refl, sym, ap, ◌∙◌, arith, codes, decimal, subst}
 use Rattle.std.specs.Prelude.{◌≢◌, IfOk, IfErr, MatchResult, IfSome}
-use Rattle.std.specs.List.{AllByRecursion, join_with_byte}
+use Rattle.std.specs.List.{AllByRecursion}
 use Rattle.std.proofs.lemmas.Slice.Eq.{bytes_eq-Decides}
 use Rattle.tai_status.specs.Label.{Tai64n, IsLabel}
+use Rattle.tai_status.specs.LineReader.{IsPlain}
 use Rattle.tai_status.specs.Record.{status_record}
 use Rattle.sup_core.specs.declared.event.Event.{Event}
-use Rattle.sup_core.specs.declared.machine.Phase.{Phase}
 use Rattle.sup_core.specs.History.{History, Opened, Then}
 use Rattle.sup_core.specs.Rules.{takes}
 use Rattle.sup_core.specs.Runs.{AreTaken}
-use Rattle.sup_core.specs.Text.{event_text, event_fields, phase_name}
+use Rattle.sup_core.specs.Text.{event_text, event_fields}
 use Rattle.sup_core.specs.declared.event.Event.TheVariants.{Byte, Started, StartFailed, Death, Clock}
-use Rattle.sup_core.specs.declared.machine.Phase.TheVariants as phase
 use Rattle.hex.specs.Hex.{encode_lower}
 use Rattle.tai_status.proofs.Spelled.{lower-encode, IsBytes-status_record}
-use Rattle.std.proofs.lemmas.Bool.{and_parts}
 use Rattle.sup_core.specs.Reading.{fields, event_from, IsInRange}
 use Rattle.sup_core.proofs.Laws.{followed_by-append}
-use Rattle.sup_core.proofs.Lines.{avoids, is_solid, avoids-solid, split-first, fields-first, fields-last, decimal-solid, lower-solid, label_text-solid, event_fields-solid, event_fields-event_text, event_read}
+use Rattle.sup_core.proofs.Lines.{is_solid, split-first, fields-join, decimal-solid, lower-solid, label_text-solid, phase_name-solid, event_fields-event_text, event_read}
 use Rattle.sup_trace.specs.declared.fault.TraceFault.{TraceFault}
 use Rattle.sup_trace.specs.declared.fault.TraceFaultKind.{TraceFaultKind}
 use Rattle.sup_trace.specs.declared.fault.TraceFaultKind.TheVariants as kind
@@ -27,11 +25,12 @@ use Rattle.sup_trace.specs.Text.{header, stay_text, until_text, base_fields, bas
 use Rattle.sup_trace.specs.Reading.{Nothing, Header, Entries, Whole, base_said, with_entry, entry_said, later_said, said, told_by_parts, parts_of, told_from}
 use Rattle.std.proofs.lemmas.List.{length-append, append-nil}
 use Rattle.sup_trace.proofs.Steps.{goes_on}
-use Rattle.sup_trace.proofs.Parts.{is_state-decides, folded_of_text-only, phase_of_text-only, status_of_text-only, exiting_of_text-only, until_of_text-only, and_true}
+use Rattle.sup_trace.proofs.Parts.{is_state-decides, folded_of_text-only, phase_of_text-only, status_of_text-only, exiting_of_text-only, until_of_text-only}
+use Rattle.sup_trace.proofs.Plain.{plain-trace_lines}
 use Rattle.sup_trace.proofs.Heard.{told_from-found}
 
 -- lines without newlines are the parts of their text
-split_lines : (lines : List (List ℕ)) → AllByRecursion (λ line. avoids 10 line ≡ true) lines
+split_lines : (lines : List (List ℕ)) → AllByRecursion IsPlain lines
     → parts_of (flat_map (λ line. line ++ 10 ∷ []) lines) ≡ lines ++ [] ∷ []
 split_lines [] h = refl
 split_lines (line ∷ lines) h =
@@ -39,47 +38,12 @@ split_lines (line ∷ lines) h =
     ∙ split-first 10 line (flat_map (λ line. line ++ 10 ∷ []) lines) h.0
     ∙ ap (λ (rest : List (List ℕ)). line ∷ rest) (split_lines lines h.1)
 
--- solid fields are the fields of their line
-fields_join : (parts : List (List ℕ)) → (parts ≡ [] → ⊥) → AllByRecursion (λ field. is_solid field ≡ true) parts
-    → fields (join_with_byte 32 parts) ≡ parts
-fields_join [] some h = absurd (some refl)
-fields_join (field ∷ []) some h = fields-last field h.0
-fields_join (field ∷ next ∷ rest) some h =
-    fields-first field (join_with_byte 32 (next ∷ rest)) h.0
-    ∙ ap (λ (parts : List (List ℕ)). field ∷ parts) (fields_join (next ∷ rest) (λ e. cc e) h.1)
-
-avoids-append : (separator : ℕ) (xs ys : List ℕ) → avoids separator xs ≡ true → avoids separator ys ≡ true → avoids separator (xs ++ ys) ≡ true
-avoids-append separator [] ys h g = g
-avoids-append separator (x ∷ xs) ys h g =
-    let parts = and_parts (not (x == separator)) (avoids separator xs) h in
-    and_true _ _ parts.0 (avoids-append separator xs ys parts.1 g)
-
--- a line of solid fields has no newline
-avoids-join : (parts : List (List ℕ)) → AllByRecursion (λ field. is_solid field ≡ true) parts → avoids 10 (join_with_byte 32 parts) ≡ true
-avoids-join [] h = refl
-avoids-join (field ∷ []) h = avoids-solid 10 field (omega arith) h.0
-avoids-join (field ∷ next ∷ rest) h =
-    avoids-append 10 field (32 ∷ join_with_byte 32 (next ∷ rest)) (avoids-solid 10 field (omega arith) h.0)
-    (avoids-join (next ∷ rest) h.1)
-
 -- The header's line
 
 header_said : said Nothing header ≡ Ok Header
 header_said = let same = (bytes_eq-Decides header header).1 refl in rw same refl
 
-avoids-header : avoids 10 header ≡ true
-unfolding header
-avoids-header = refl
-
 -- The base's line
-
-phase_name-solid : (phase : Phase) → is_solid (phase_name phase) ≡ true
-phase_name-solid phase.Starting = refl
-phase_name-solid phase.Settling = refl
-phase_name-solid phase.Resting = refl
-phase_name-solid phase.Up = refl
-phase_name-solid phase.Down = refl
-phase_name-solid phase.Gone = refl
 
 stay_text-solid : (exiting : Bool) → is_solid (stay_text exiting) ≡ true
 stay_text-solid true = refl
@@ -91,12 +55,11 @@ until_text-solid (Some label) h = label_text-solid label h
 
 base_fields-solid : (told : Told) → IsTold told → AllByRecursion (λ field. is_solid field ≡ true) (base_fields told.folded told.base)
 base_fields-solid told h =
-    let count = h.count in
     let digits = encode_lower (status_record told.base.status) in
     let lower = lower-encode (status_record told.base.status) (IsBytes-status_record told.base.status) in (
       refl,
       (
-        decimal-solid told.folded (omega (arith, count)),
+        decimal-solid told.folded,
         (
           phase_name-solid told.base.phase,
           (
@@ -120,7 +83,8 @@ base_read told h =
 
 base_line : (told : Told) → IsTold told → said Header (base_text told.folded told.base) ≡ Ok (Entries (told_of told.base told.folded []))
 base_line told h =
-    ap base_said (fields_join (base_fields told.folded told.base) (λ e. cc e) (base_fields-solid told h)) ∙ base_read told h
+    let same : fields (base_text told.folded told.base) ≡ base_fields told.folded told.base = fields-join _ _ (base_fields-solid told h) in
+    ap base_said same ∙ base_read told h
 
 -- The lines of entries
 
@@ -143,18 +107,17 @@ entry_line told event range room taken =
 
 -- The end line
 
-end_line : (told : Told) → length told.entries ≤ 65536 → said (Entries told) (end_text (length told.entries)) ≡ Ok (Whole told)
-end_line told limit =
-    let solid = decimal-solid (length told.entries) (omega (arith, limit)) in
+end_line : (told : Told) → said (Entries told) (end_text (length told.entries)) ≡ Ok (Whole told)
+end_line told =
     let same = (bytes_eq-Decides (decimal (length told.entries)) (decimal (length told.entries))).1 refl in
-    ap (later_said told) (fields_join (codes "end" ∷ decimal (length told.entries) ∷ []) (λ e. cc e) (refl, (solid, tt)))
+    ap (later_said told) (fields-join (codes "end") (decimal (length told.entries) ∷ []) (refl, (decimal-solid (length told.entries), tt)))
     ∙ rw same refl
 
 -- All lines after the base's
 
-end_parts : (number : ℕ) (told : Told) → length told.entries ≤ 65536
+end_parts : (number : ℕ) (told : Told)
     → told_by_parts number (Entries told) (end_text (length told.entries) ∷ [] ∷ []) ≡ Ok told
-end_parts number told limit = goes_on number (Entries told) (Whole told) (end_text (length told.entries)) ([] ∷ []) (λ e. cc e) (end_line told limit)
+end_parts number told = goes_on number (Entries told) (Whole told) (end_text (length told.entries)) ([] ∷ []) (λ e. cc e) (end_line told)
 
 history_after : (told : Told) (event : Event) → told_history (with_entry told event) ≡ Then (told_history told) event
 history_after told event = followed_by-append (Opened told.base) told.entries (event ∷ [])
@@ -173,7 +136,7 @@ entries_read : (number total : ℕ) (told : Told) (events : List Event) → AllB
 entries_read number total told [] ranges taken is limit =
     let same : total ≡ length told.entries = omega (arith, is) in
     ap (λ (n : ℕ). told_by_parts number (Entries told) (end_text n ∷ [] ∷ [])) same
-    ∙ end_parts number told (omega (arith, same, limit))
+    ∙ end_parts number told
     ∙ ap (λ (es : List Event). Ok (told_of told.base told.folded es)) (sym (append-nil told.entries))
 entries_read number total told (event ∷ events) ranges taken is limit =
     let room : length told.entries < 65536 = omega (arith, is, limit) in
@@ -184,24 +147,6 @@ entries_read number total told (event ∷ events) ranges taken is limit =
     (subst (λ (past : History). AreTaken past events) (sym (history_after told event)) taken.2)
     (omega (arith, is, more)) limit
     ∙ ap (λ (es : List Event). Ok (told_of told.base told.folded es)) (append_assoc told.entries (event ∷ []) events)
-
-avoids-events : (events : List Event) → AllByRecursion IsInRange events → (rest : List (List ℕ)) → AllByRecursion (λ line. avoids 10 line ≡ true) rest
-    → AllByRecursion (λ line. avoids 10 line ≡ true) (map event_text events ++ rest)
-avoids-events [] ranges rest h = h
-avoids-events (event ∷ events) ranges rest h =
-    (avoids-join (event_fields event) (event_fields-solid event ranges.0), avoids-events events ranges.1 rest h)
-
-avoids-lines : (told : Told) → IsTold told → AllByRecursion (λ line. avoids 10 line ≡ true) (trace_lines told)
-avoids-lines told h =
-    let limit = h.limit in
-    let solid = decimal-solid (length told.entries) (omega (arith, limit)) in
-    let end = avoids-join (codes "end" ∷ decimal (length told.entries) ∷ []) (refl, (solid, tt)) in (
-      avoids-header,
-      (
-        avoids-join (base_fields told.folded told.base) (base_fields-solid told h),
-        avoids-events told.entries h.ranges (end_text (length told.entries) ∷ []) (end, tt),
-      ),
-    )
 
 lines_and_end : (told : Told) → trace_lines told ++ [] ∷ []
     ≡ header ∷ base_text told.folded told.base ∷ (map event_text told.entries ++ end_text (length told.entries) ∷ [] ∷ [])
@@ -214,7 +159,7 @@ pub told_from-only : (told : Told) → IsTold told → told_from (trace_text tol
 told_from-only told h =
     let base = told_of told.base told.folded [] in
     let rest = map event_text told.entries ++ end_text (length told.entries) ∷ [] ∷ [] in
-    ap (told_by_parts 1 Nothing) (split_lines (trace_lines told) (avoids-lines told h) ∙ lines_and_end told)
+    ap (told_by_parts 1 Nothing) (split_lines (trace_lines told) (plain-trace_lines told) ∙ lines_and_end told)
     ∙ goes_on 1 Nothing Header header (base_text told.folded told.base ∷ rest) (λ e. cc e) header_said
     ∙ goes_on 2 Header (Entries base) (base_text told.folded told.base) rest (some_parts (map event_text told.entries) _) (base_line told h)
     ∙ entries_read 3 (length told.entries) base told.entries h.ranges h.taken (omega arith) h.limit
