@@ -96,53 +96,56 @@ fn at(second: u64) -> Result<Label, Fail> {
     Ok(Label::from_unix(second, 0).ok_or("a small second has a label")?)
 }
 
+/// Services and their lines: the process, whether it is paused, what is wanted, whether the service is normally up, the
+/// second at which it is told, and the line.
+const SERVICES: [(u32, bool, Want, bool, u64, &str); 7] = [
+    (4711, false, Want::Up, true, 3, "s: up (pid 4711) 2 seconds"),
+    (
+        4711,
+        true,
+        Want::Down,
+        false,
+        3,
+        "s: up (pid 4711) 2 seconds, normally down, paused, want down",
+    ),
+    (
+        0,
+        false,
+        Want::Up,
+        true,
+        0,
+        "s: down 0 seconds, normally up, want up",
+    ),
+    (0, false, Want::Down, false, 11, "s: down 10 seconds"),
+    (
+        1,
+        false,
+        Want::Once,
+        false,
+        1,
+        "s: up (pid 1) 0 seconds, normally down",
+    ),
+    (
+        0,
+        false,
+        Want::Once,
+        true,
+        1,
+        "s: down 0 seconds, normally up",
+    ),
+    (
+        4294967295,
+        true,
+        Want::Up,
+        true,
+        86401,
+        "s: up (pid 4294967295) 86400 seconds, paused",
+    ),
+];
+
 #[test]
 fn lines_of_services(rt: HostRuntime) -> Result<(), Fail> {
-    let rows = [
-        (4711, false, Want::Up, true, 3, "s: up (pid 4711) 2 seconds"),
-        (
-            4711,
-            true,
-            Want::Down,
-            false,
-            3,
-            "s: up (pid 4711) 2 seconds, normally down, paused, want down",
-        ),
-        (
-            0,
-            false,
-            Want::Up,
-            true,
-            0,
-            "s: down 0 seconds, normally up, want up",
-        ),
-        (0, false, Want::Down, false, 11, "s: down 10 seconds"),
-        (
-            1,
-            false,
-            Want::Once,
-            false,
-            1,
-            "s: up (pid 1) 0 seconds, normally down",
-        ),
-        (
-            0,
-            false,
-            Want::Once,
-            true,
-            1,
-            "s: down 0 seconds, normally up",
-        ),
-        (
-            4294967295,
-            true,
-            Want::Up,
-            true,
-            86401,
-            "s: up (pid 4294967295) 86400 seconds, paused",
-        ),
-    ];
-    for (pid, paused, want, normally_up, now, line) in rows {
+    for (pid, paused, want, normally_up, now, line) in SERVICES {
         let view = View::new(at(1)?, pid, paused, want).ok_or("only a process is paused")?;
         let told = stat_line(rt.alloc(), "s", &view, normally_up, &at(now)?)?;
         assert_eq!(rt; told.as_str(), line);
