@@ -4,8 +4,7 @@ use Rattle.std.specs.Io.KnownBytes.{Appends, IsAtEnd}
 use Rattle.tai_status.specs.Counted.{Rose, AppendsFront, device_of, fault_count}
 use Rattle.tai_status.specs.declared.stamp.StampFault.{StampFault}
 use Rattle.tai_status.specs.declared.stamp.StampFault.TheVariants as stamp
-use Rattle.sup_core.specs.declared.reading.EventFault.{EventFault}
-use Rattle.sup_core.specs.declared.reading.EventFault.TheVariants as why
+use Rattle.sup_core.specs.Text.{fault_name}
 use Rattle.tai_status.specs.Label.{Tai64n}
 use Rattle.tai_status.specs.Lines.{StampsAll, StampsFront}
 use Rattle.dtools.specs.Sim.{Refusal, AnswersAll, AnswersUpTo, AnswersFront, printed_table}
@@ -22,12 +21,6 @@ abbrev pub usage_text : List ℕ
 usage_text = codes "dtools: usage" ++ 10 ∷ []
 
 -- The faults of `sim`
-
-abbrev pub fault_name : EventFault → List ℕ
-fault_name why.UnknownEvent = codes "UnknownEvent"
-fault_name why.Line = codes "Line"
-fault_name why.Number = codes "Number"
-fault_name why.Label = codes "Label"
 
 abbrev pub words_of : SimFault → List ℕ
 words_of (fault.Refused line told) = codes "line " ++ decimal line ++ codes ": " ++ fault_name told

@@ -3,18 +3,15 @@ use Rattle.std.specs.Prelude.{◌≡◌, ◌≢◌, ℕ, ◌⊎◌, List, [], �
 use Rattle.std.specs.Io.KnownBytes.{Appends}
 use Rattle.tai_status.specs.Counted.{Rose, AppendsFront, device_of, fault_count}
 use Rattle.tai_status.specs.declared.counted.Counted.{Counted}
-use Rattle.hex.specs.Hex.{encode_lower}
-use Rattle.tai_status.specs.Record.{status_record}
 use Rattle.sup_core.specs.State.{State}
 use Rattle.sup_core.specs.Text.{byte_text, phase_name, signal_name}
 use Rattle.sup_trace.specs.declared.breaks.Break.{Break}
 use Rattle.sup_trace.specs.declared.breaks.Break.TheVariants as break
 use Rattle.sup_trace.specs.declared.fault.TraceFault.{TraceFault}
-use Rattle.sup_trace.specs.declared.fault.TraceFaultKind.{TraceFaultKind}
 use Rattle.sup_trace.specs.declared.fault.TraceFaultKind.TheVariants as kind
 use Rattle.sup_trace.specs.Told.{Told, IsTold, replay_of}
-use Rattle.sup_trace.specs.Text.{trace_text}
-use Rattle.sup_trace.specs.Reading.{told_from}
+use Rattle.sup_trace.specs.Text.{record_digits, trace_text}
+use Rattle.sup_trace.specs.Reading.{kind_name, told_from}
 use Rattle.sup_trace.specs.Explained.{explained}
 use Rattle.sup_trace.specs.Breaks.{IsFirstBreak, HasNoBreak}
 use Rattle.dtools.specs.Sim.{printed}
@@ -35,7 +32,7 @@ break_text (break.Signal sig) = codes "signal:" ++ signal_name sig
 -- the line on the machine after the entries: its phase, and the digits of its status record
 abbrev pub state_text : State → List ℕ
 state_text state =
-    codes "state " ++ phase_name state.phase ++ codes " " ++ encode_lower (status_record state.status) ++ 10 ∷ []
+    codes "state " ++ phase_name state.phase ++ codes " " ++ record_digits state.status ++ 10 ∷ []
 
 -- a line for each entry, and one on the machine after them
 abbrev pub explanation : Told → List ℕ
@@ -71,14 +68,6 @@ pub record ShowsFront (text : List ℕ) (at : Option Break) (held holds : Option
   pub written : AppendsFront held holds shown
 
 -- Faults
-
-abbrev pub kind_name : TraceFaultKind → List ℕ
-kind_name kind.Line = codes "Line"
-kind_name kind.Label = codes "Label"
-kind_name kind.Number = codes "Number"
-kind_name kind.UnknownEvent = codes "UnknownEvent"
-kind_name kind.NotTaken = codes "NotTaken"
-kind_name kind.OutOfMemory = codes "OutOfMemory"
 
 -- what is told of trouble, behind the command's name
 abbrev pub trouble_words : TraceTrouble → List ℕ

@@ -1,15 +1,13 @@
 //! What `trace` prints of a trace.
 ghost use Rattle.std.specs.Prelude.{◌≡◌, ◌++◌, OnOk, IfOk};
-ghost use Rattle.hex.specs.Hex.{encode_lower};
-ghost use Rattle.tai_status.specs.Record.{status_record};
 ghost use Rattle.dtools.specs.Sim.{printed};
 ghost use Rattle.dtools.specs.Traced.{explanation, state_text, IsBreakLine, IsShown};
 
 use itoa::Buffer;
 use std::alloc::{AllocError, Allocator};
 use sup_core::{Machine, phase_name};
-use sup_trace::{Break, TraceText, explain, first_break, replay};
-use tai_status::{Lines, View, encode};
+use sup_trace::{Break, TraceText, explain, first_break, record_digits, replay};
+use tai_status::Lines;
 
 /// What is printed of a trace: the line on a break, or where none is asked for the explanation.
 pub fn shown<A: Allocator + Clone, B: Allocator>(
@@ -60,18 +58,9 @@ fn push_state<A: Allocator>(out: &mut Vec<u8, A>, machine: &Machine) -> Result<(
     out.extend_from_slice(b"state ")?;
     out.extend_from_slice(phase_name(machine.phase()).as_bytes())?;
     out.extend_from_slice(b" ")?;
-    out.extend_from_slice(&digits_of(&machine.view()))?;
+    out.extend_from_slice(&record_digits(&machine.view()))?;
     out.push(b'\n')?;
     Ok(())
-}
-
-/// The digits of a status record.
-fn digits_of(view: &View) -> [u8; 36]
-    ensures { result ≡ encode_lower (status_record view.now) }
-{
-    let mut digits = [0; 36];
-    hex::encode_to_slice(&encode(view), &mut digits).unwrap();
-    digits
 }
 
 /// The line on a break.

@@ -11,7 +11,7 @@ ghost use Rattle.sup_core.specs.declared.asks.Reply.{Reply};
 ghost use Rattle.sup_core.specs.History.{History, Begin, state_of, phase_of};
 ghost use Rattle.sup_core.specs.Rules.{asks_of_begin};
 ghost use Rattle.sup_core.specs.Text.{answer_text, table_text};
-ghost use Rattle.dtools.specs.Told.{fault_name, told_of, status_of, refusal_text, usage_text, Tells, Cause, TableEnds};
+ghost use Rattle.dtools.specs.Told.{told_of, status_of, refusal_text, usage_text, Tells, Cause, TableEnds};
 ghost use Rattle.dtools.specs.Sim.{said, printed, both_sides, printed_table, Refusal, AnswersAll, AnswersUpTo, AnswersFront};
 ghost use Rattle.dtools.specs.Progress.{Stands, Says, Answered, SoFar, text_said};
 
@@ -20,7 +20,9 @@ use crate::report::{DONE, REFUSED, TROUBLE, push_number, tell, usage};
 use arrayvec::ArrayString;
 use std::alloc::Allocator;
 use std::io::{Read, Write};
-use sup_core::{EventFault, Machine, Reply, answer_text, read_begin, read_event, table_line};
+use sup_core::{
+    EventFault, Machine, Reply, answer_text, fault_name, read_begin, read_event, table_line,
+};
 use tai_status::{Block, Counted, DeviceFault, Label, LineFault, LineReader};
 
 /// The most bytes that a line may have, without its newline.
@@ -302,19 +304,6 @@ fn fault_text(fault: SimFault) -> ArrayString<64>
     }
     out.push_str("\n");
     out
-}
-
-/// The name of why a line is refused.
-fn fault_name(why: EventFault) -> &'static str
-    ensures name { result.now ≡ fault_name why }
-    ensures short { length result.now ≤ 12 }
-{
-    match why {
-        EventFault::UnknownEvent => "UnknownEvent",
-        EventFault::Line => "Line",
-        EventFault::Number => "Number",
-        EventFault::Label => "Label",
-    }
 }
 
 /// Tells a fault, and answers its status.

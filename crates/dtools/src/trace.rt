@@ -3,7 +3,7 @@ ghost use Rattle.arrayvec.specs.ArrayString.{array_string_len};
 ghost use Rattle.tai_status.specs.Counted.{Rose, AppendsFront, device_of, fault_count};
 ghost use Rattle.dtools.specs.Told.{Tells, usage_text};
 ghost use Rattle.sup_trace.specs.declared.breaks.Break.{Break};
-ghost use Rattle.dtools.specs.Traced.{Shows, TraceCause, TraceEnds, kind_name, trouble_text, unread_text};
+ghost use Rattle.dtools.specs.Traced.{Shows, TraceCause, TraceEnds, trouble_text, unread_text};
 
 use crate::break_word::read_break;
 use crate::fault::TraceTrouble;
@@ -15,7 +15,7 @@ use std::alloc::Allocator;
 use std::fs;
 use std::fs::Files;
 use std::io::{ErrorKind, Write};
-use sup_trace::{Break, TraceFaultKind, read_text};
+use sup_trace::{Break, kind_name, read_text};
 use tai_status::Counted;
 
 /// Writes what is printed of the trace whose text this is.
@@ -65,21 +65,6 @@ fn trouble_text(trouble: TraceTrouble) -> ArrayString<64>
     }
     out.push_str("\n");
     out
-}
-
-/// The name of why a line is refused.
-fn kind_name(kind: TraceFaultKind) -> &'static str
-    ensures name { result.now ≡ kind_name kind }
-    ensures short { length result.now ≤ 12 }
-{
-    match kind {
-        TraceFaultKind::Line => "Line",
-        TraceFaultKind::Label => "Label",
-        TraceFaultKind::Number => "Number",
-        TraceFaultKind::UnknownEvent => "UnknownEvent",
-        TraceFaultKind::NotTaken => "NotTaken",
-        TraceFaultKind::OutOfMemory => "OutOfMemory",
-    }
 }
 
 /// Tells trouble, and answers its status.

@@ -4,7 +4,7 @@ use Rattle.std.specs.Prelude.{ℕ, Bool, if◌then◌else◌, List, [], ◌∷�
 use Rattle.std.specs.List.{join_with_byte}
 use Rattle.hex.specs.Hex.{encode_lower}
 use Rattle.tai_status.specs.Label.{Tai64n, label_text}
-use Rattle.tai_status.specs.Record.{status_record}
+use Rattle.tai_status.specs.Record.{Status, status_record}
 use Rattle.sup_core.specs.State.{State}
 use Rattle.sup_core.specs.Text.{event_text, phase_name}
 use Rattle.sup_trace.specs.Told.{Told}
@@ -22,11 +22,15 @@ abbrev pub until_text : Option Tai64n → List ℕ
 until_text None = codes "-"
 until_text (Some label) = label_text label
 
+-- the lower-case hexadecimal digits of a status record
+abbrev pub record_digits : Status → List ℕ
+record_digits status = encode_lower (status_record status)
+
 -- the fields of the base's line: the count of folded events; the phase; the digits of the status record; whether
 -- the machine is to end; and the end of its settling or resting
 abbrev pub base_fields : ℕ → State → List (List ℕ)
 base_fields folded base =
-    codes "base" ∷ decimal folded ∷ phase_name base.phase ∷ encode_lower (status_record base.status)
+    codes "base" ∷ decimal folded ∷ phase_name base.phase ∷ record_digits base.status
     ∷ stay_text base.exiting ∷ until_text base.until ∷ []
 
 -- the base's line: its fields, parted by one space

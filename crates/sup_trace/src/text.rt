@@ -1,14 +1,13 @@
 ghost use Rattle.std.specs.Prelude.{◌≡◌, ◌≤◌, ◌+◌, [], ◌∷◌, ◌++◌, List, ℕ, length, decimal, OnOk, IfOk, IfSome, flat_map};
 ghost use Rattle.std.specs.List.{AllByRecursion};
-ghost use Rattle.hex.specs.Hex.{encode_lower};
 ghost use Rattle.tai_status.specs.Label.{Tai64n, IsLabel, label_text};
-ghost use Rattle.tai_status.specs.Record.{Status, IsStatus, status_record};
+ghost use Rattle.tai_status.specs.Record.{Status, IsStatus};
 ghost use Rattle.sup_core.specs.State.{IsState};
 ghost use Rattle.sup_core.specs.Rules.{IsEvent};
 ghost use Rattle.sup_core.specs.Reading.{IsInRange};
 ghost use Rattle.sup_core.specs.Text.{event_text};
 ghost use Rattle.sup_trace.specs.Told.{told_of};
-ghost use Rattle.sup_trace.specs.Text.{base_text, end_text, stay_text, until_text, trace_text};
+ghost use Rattle.sup_trace.specs.Text.{record_digits, base_text, end_text, stay_text, until_text, trace_text};
 
 use itoa::Buffer;
 use std::alloc::{AllocError, Allocator};
@@ -109,7 +108,7 @@ fn push_number<A: Allocator>(out: &mut Vec<u8, A>, number: u64) -> Result<(), Al
 
 /// The 36 lower-case hexadecimal digits of a view's status record.
 pub fn record_digits(view: &View) -> [u8; 36]
-    ensures { result ≡ encode_lower (status_record view.now) }
+    ensures { result ≡ record_digits view.now }
 {
     let mut digits = [0; 36];
     hex::encode_to_slice(&encode(view), &mut digits).unwrap();
@@ -118,7 +117,7 @@ pub fn record_digits(view: &View) -> [u8; 36]
 
 /// Writes a space and the digits of a status record at the end of a text.
 fn push_record<A: Allocator>(out: &mut Vec<u8, A>, view: &View) -> Result<(), AllocError>
-    ensures { OnOk result (out.new.items ≡ out.old.items ++ 32 ∷ encode_lower (status_record view.now)) }
+    ensures { OnOk result (out.new.items ≡ out.old.items ++ 32 ∷ record_digits view.now) }
 {
     push_field(out, &record_digits(view))
 }
