@@ -1,11 +1,13 @@
 -- What a command says of variables after names are taken away and variables are set.
-use Rattle.std.proofs.Common.{◌≡◌, ℕ, suc, ◌+◌, ◌<◌, ◌==◌, ◌||◌, Bool, true, false, List, [], ◌∷◌, drop, drop-cons, length, Option, Some, None, refl, sym, ap, ◌∙◌, arith}
-use Rattle.std.specs.Prelude.{◌≢◌, bytes_eq, option_map, find, get_or, if◌then◌else◌}
+use Rattle.std.proofs.Common.{◌≡◌, ℕ, suc, ◌+◌, ◌<◌, ◌==◌, ◌||◌, Bool, true, false, List, [], ◌∷◌, drop, drop-cons, length, Option, Some, None, refl, sym, ap, ◌∙◌, ◌⊎◌, inl, inr, arith}
+use Rattle.std.specs.Prelude.{◌≢◌, bytes_eq, option_map, find, get_or, slice_get, map, IfSome, if◌then◌else◌}
 use Rattle.std.specs.List.{IsDistinct, AllByRecursion, list_any}
 use Rattle.std.proofs.lemmas.Slice.Eq.{bytes_eq-Decides}
 use Rattle.env_title.specs.Env.{Binding, HasDistinctNames, is_named, value_of}
 use Rattle.env_title.specs.Files.{File, has_file}
-use Rattle.dtools.specs.Child.{said_of, said_after_files, said_after_set}
+use Rattle.dtools.specs.declared.fault.EnvdirFault.{EnvdirFault}
+use Rattle.dtools.specs.declared.fault.EnvdirFault.TheVariants as fault
+use Rattle.dtools.specs.Child.{said_of, said_after_files, said_after_set, name_of, IsFirstFault}
 
 -- that a variable is taken away
 abbrev gone : Option (Option (List ℕ))
@@ -119,3 +121,26 @@ said_whole files variables name distinct =
     ap (said_after_set variables name) (taken_away files name None)
     ∙ set_all variables name (if has_file files name then gone else None) distinct
     ∙ set_or-taken (value_of variables name) (has_file files name)
+
+-- Faults
+
+-- a fault that is of no file
+pub of_no_file : (cause : EnvdirFault) (files : List File) → (cause ≡ fault.OutOfMemory) ⊎ (cause ≡ fault.Unread)
+    → IsFirstFault cause files × (name_of cause files ≡ [])
+of_no_file fault.OutOfMemory files h = (tt, refl)
+of_no_file fault.Unread files h = (tt, refl)
+of_no_file fault.NotRun files h = (tt, refl)
+of_no_file (fault.NameHasEquals place) files (inl h) = cc h
+of_no_file (fault.NameHasEquals place) files (inr h) = cc h
+of_no_file (fault.NotText place) files (inl h) = cc h
+of_no_file (fault.NotText place) files (inr h) = cc h
+
+-- Words
+
+-- a fact of the first two words and the rest, of words and of their texts
+pub two_words : {W : Type 0} (text : W → List ℕ) (words : List W) (P : (first second : List ℕ) (rest : List (List ℕ)) → Type 0)
+    → IfSome (slice_get words 0) (λ first. IfSome (slice_get words 1) (λ second. P (text first) (text second) (map text (drop 2 words))))
+    → IfSome (slice_get (map text words) 0) (λ first. IfSome (slice_get (map text words) 1) (λ second. P first second (drop 2 (map text words))))
+two_words text [] P h = tt
+two_words text (first ∷ []) P h = tt
+two_words text (first ∷ second ∷ rest) P h = h

@@ -1,11 +1,35 @@
 -- The child of `envdir`: what it is started with, its status, and what is told where it is not started.
-use Rattle.std.specs.Prelude.{◌≡◌, ℕ, ℤ, pos, Bool, true, false, List, [], ◌∷◌, ◌++◌, codes, Option, Some, None, bytes_eq, if◌then◌else◌}
+use Rattle.std.specs.Prelude.{◌≡◌, ◌⊎◌, slice_get, ⊤, ℕ, ℤ, pos, Bool, true, false, List, [], ◌∷◌, ◌++◌, codes, Option, Some, None, bytes_eq, if◌then◌else◌}
+use Rattle.std.specs.Option.{option_map_or}
 use Rattle.std.specs.Process.{command_program, command_args, command_var, clears_env}
 use Rattle.std.specs.declared.process.command.Command.{Command}
 use Rattle.env_title.specs.Env.{Binding, value_of}
-use Rattle.env_title.specs.Files.{File, has_file}
+use Rattle.env_title.specs.Files.{File, has_file, env_after}
+use Rattle.env_title.specs.Faults.{first_fault}
+use Rattle.env_title.specs.declared.fault.EnvFault.TheVariants as why
+use Rattle.tai_status.specs.Counted.{device_of, fault_count}
+use Rattle.tai_status.specs.declared.counted.Counted.{Counted}
+use Rattle.dtools.specs.Told.{Tells}
 use Rattle.dtools.specs.declared.fault.EnvdirFault.{EnvdirFault}
 use Rattle.dtools.specs.declared.fault.EnvdirFault.TheVariants as fault
+
+-- A child that was started: its program and arguments, the files that made its environment and the variables of that, and
+-- the status that it ended with.
+pub record Start : Type 0 where
+  pub program : List ℕ
+  pub arguments : List (List ℕ)
+  pub files : List File
+  pub env : List Binding
+  pub status : ℕ
+
+abbrev pub start_of : (program : List ℕ) (arguments : List (List ℕ)) (files : List File) (env : List Binding) (status : ℕ) → Start
+start_of program arguments files env status = record { program = program; arguments = arguments; files = files; env = env; status = status }
+
+-- A starter started these children, in order. It may stop to tell what it started, and doesn't begin again.
+abbrev pub Started : Option (List Start) → Option (List Start) → List Start → Type 0
+Started past None starts = ⊤
+Started None (Some now) starts = ⊥
+Started (Some past) (Some now) starts = now ≡ past ++ starts
 
 -- what a command says of a variable: its value; or, where it has none and a file has its name, that it is taken away
 abbrev pub said_of : (value : Option (List ℕ)) → (has_file : Bool) → Option (Option (List ℕ))
@@ -45,3 +69,42 @@ envdir_told dir child name (fault.NameHasEquals place) = codes "envdir: " ++ (na
 envdir_told dir child name (fault.NotText place) = codes "envdir: " ++ (name ++ (codes ": NotText" ++ 10 ∷ []))
 envdir_told dir child name fault.NotRun = codes "envdir: unable to run " ++ (child ++ 10 ∷ [])
 envdir_told dir child name fault.OutOfMemory = codes "envdir: OutOfMemory" ++ 10 ∷ []
+
+-- the name of the file that a fault is of, empty where it is of none
+abbrev pub name_of : EnvdirFault → List File → List ℕ
+name_of (fault.NameHasEquals place) files = option_map_or (λ file. file.name) (slice_get files place) []
+name_of (fault.NotText place) files = option_map_or (λ file. file.name) (slice_get files place) []
+name_of fault.Unread files = []
+name_of fault.NotRun files = []
+name_of fault.OutOfMemory files = []
+
+-- A fault that is of a file is the first fault of these files.
+abbrev pub IsFirstFault : EnvdirFault → List File → Type 0
+IsFirstFault (fault.NameHasEquals place) files = first_fault files ≡ Some (why.NameHasEquals place)
+IsFirstFault (fault.NotText place) files = first_fault files ≡ Some (why.NotText place)
+IsFirstFault fault.Unread files = ⊤
+IsFirstFault fault.NotRun files = ⊤
+IsFirstFault fault.OutOfMemory files = ⊤
+
+-- How `envdir` ends
+
+-- The child was started once, in the environment that the files of a folder make of these variables, and nothing is told.
+pub record StartsOne {E : Type 0} (past now : Option (List Start)) (program : List ℕ) (arguments : List (List ℕ)) (status : ℕ) (faults tells : Counted E) : Type 0 where
+  pub files : List File
+  pub variables : List Binding
+  pub good : first_fault files ≡ None
+  pub started : Started past now (start_of program arguments files (env_after files variables) status ∷ [])
+  pub untold : tells ≡ faults
+
+-- No child was started, and it is told why.
+pub record StartsNone {E : Type 0} (told : E → Option (List ℕ)) (past now : Option (List Start)) (dir program : List ℕ) (status : ℕ) (faults tells : Counted E) : Type 0 where
+  pub cause : EnvdirFault
+  pub files : List File
+  pub first : IsFirstFault cause files
+  pub started : now ≡ past
+  pub status_is : status ≡ 111
+  pub told_why : Tells (told (device_of faults)) (told (device_of tells)) (fault_count faults) (fault_count tells) (envdir_told dir program (name_of cause files) cause)
+
+abbrev pub EnvdirEnds : {E : Type 0} (told : E → Option (List ℕ)) (past now : Option (List Start)) (dir program : List ℕ) (arguments : List (List ℕ)) (status : ℕ) (faults tells : Counted E) → Type 0
+EnvdirEnds told past now dir program arguments status faults tells =
+    StartsOne past now program arguments status faults tells ⊎ StartsNone told past now dir program status faults tells

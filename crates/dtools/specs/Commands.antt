@@ -1,9 +1,10 @@
 -- How the program ends, by the name of the command and the words after it.
-use Rattle.std.specs.Prelude.{◌≡◌, ◌≢◌, ◌<◌, ◌-◌, ℕ, List, length, slice_get, codes, IfSome, Option}
+use Rattle.std.specs.Prelude.{◌≡◌, ◌≢◌, ◌<◌, ◌-◌, ℕ, List, drop, length, slice_get, codes, IfSome, Option}
 use Rattle.tai_status.specs.Label.{Tai64n}
 use Rattle.dtools.specs.Told.{RefusesWords, SimEnds, StampsEnd}
 use Rattle.dtools.specs.Title.{TitleEnds}
 use Rattle.dtools.specs.Traced.{TraceEnds}
+use Rattle.dtools.specs.Child.{Start, EnvdirEnds}
 use Rattle.dtools.specs.declared.devices.Devices.{Devices}
 
 -- A word that names no command.
@@ -11,16 +12,20 @@ abbrev pub NamesNoCommand : List ℕ → Type 0
 NamesNoCommand word = (word ≢ codes "sim") × (word ≢ codes "tai64n") × (word ≢ codes "readproctitle")
     × (word ≢ codes "envdir") × (word ≢ codes "trace")
 
--- The command of this name was given these words and ended with a status. The functions tell what the devices hold.
-pub record CommandEnds {D W E C : Type 0} (remaining : D → Option (List ℕ)) (written : W → Option (List ℕ)) (told : E → Option (List ℕ)) (readings : C → Option (List Tai64n)) (name : List ℕ) (words : List (List ℕ)) (status : ℕ) (old new : Devices D W E C) : Type 0 where
+-- The command of this name was given these words and ended with a status. The functions tell what the devices hold and what the
+-- starter started.
+pub record CommandEnds {D W E C S : Type 0} (remaining : D → Option (List ℕ)) (written : W → Option (List ℕ)) (told : E → Option (List ℕ)) (readings : C → Option (List Tai64n)) (starts : S → Option (List Start)) (name : List ℕ) (words : List (List ℕ)) (status : ℕ) (old new : Devices D W E C) (starter starter_after : S) : Type 0 where
   pub unknown : NamesNoCommand name → RefusesWords told status old new
   pub sim : name ≡ codes "sim" → length words ≡ 0 → SimEnds remaining written told status old new
   pub tai64n : name ≡ codes "tai64n" → length words ≡ 0 → StampsEnd remaining written told readings status old new
   pub readproctitle_usage : name ≡ codes "readproctitle" → length words ≡ 0 → RefusesWords told status old new
   pub readproctitle : name ≡ codes "readproctitle" → IfSome (slice_get words (length words - 1)) (λ word.
       TitleEnds remaining written told (length word) status old.reader new.reader old.writer new.writer old.faults new.faults)
-  pub envdir_usage : name ≡ codes "envdir" → length words < 2 → RefusesWords told status old new
-  pub envdir : name ≡ codes "envdir" → (new.reader ≡ old.reader) × (new.writer ≡ old.writer) × (new.clock ≡ old.clock)
+  pub envdir_usage : name ≡ codes "envdir" → length words < 2 → RefusesWords told status old new × (starter_after ≡ starter)
+  pub envdir : name ≡ codes "envdir" → IfSome (slice_get words 0) (λ dir. IfSome (slice_get words 1) (λ program.
+      EnvdirEnds told (starts starter) (starts starter_after) dir program (drop 2 words) status old.faults new.faults))
+  pub envdir_silent : name ≡ codes "envdir" → (new.reader ≡ old.reader) × (new.writer ≡ old.writer) × (new.clock ≡ old.clock)
   pub trace_usage : name ≡ codes "trace" → length words ≡ 0 → RefusesWords told status old new
   pub trace : name ≡ codes "trace" → (new.reader ≡ old.reader) × (new.clock ≡ old.clock)
       × TraceEnds written told status old.writer new.writer old.faults new.faults
+  pub no_child : name ≢ codes "envdir" → starter_after ≡ starter

@@ -7,32 +7,34 @@ use crate::envdir::run_envdir;
 use crate::readproctitle::run_readproctitle;
 use crate::report::usage;
 use crate::sim::run_sim;
+use crate::starter::Starter;
 use crate::tai64n::run_tai64n;
 use crate::trace::run_trace;
 use std::alloc::Allocator;
 use std::env::Env;
 use std::fs::Files;
 use std::io::{Read, Write};
-use std::process::Processes;
 use tai_status::TimeSource;
 
 /// Runs the command of this name over words, and answers its status. A name of no command is
 /// `dtools: usage`, 100.
-fn run_command<R, A, D, W, E, C>(
+fn run_command<R, S, A, D, W, E, C>(
     rt: &R,
+    starter: &mut S,
     alloc: A,
     name: &str,
     words: &[&str],
     devices: &mut Devices<D, W, E, C>,
 ) -> u8
 where
-    R: Files + Env + Processes + AllocGlobal,
+    R: Files + Env + AllocGlobal,
+    S: Starter,
     A: Allocator + Clone,
     D: Read,
     W: Write,
     E: Write,
     C: TimeSource,
-    ensures ends { CommandEnds D.remaining W.contents E.contents C.readings name.now (map (λ word. word.now) words.now) result devices.old devices.new }
+    ensures ends { CommandEnds D.remaining W.contents E.contents C.readings S.starts name.now (map (λ word. word.now) words.now) result devices.old devices.new starter.old starter.new }
 {
     let Devices {
         reader,
@@ -44,7 +46,7 @@ where
         "sim" => run_sim(alloc, words, reader, writer, faults),
         "tai64n" => run_tai64n(words, reader, writer, faults, clock),
         "readproctitle" => run_readproctitle(alloc, words, reader, writer, faults),
-        "envdir" => run_envdir(rt, alloc, words, faults),
+        "envdir" => run_envdir(rt, starter, alloc, words, faults),
         "trace" => run_trace(rt, words, writer, faults),
         _ => usage(faults),
     }
@@ -52,25 +54,27 @@ where
 
 /// Runs the command that the first word names, over the words after it, and answers its status. No
 /// word, or one that names no command, is `dtools: usage`, 100.
-pub fn run<R, A, D, W, E, C>(
+pub fn run<R, S, A, D, W, E, C>(
     rt: &R,
+    starter: &mut S,
     alloc: A,
     words: &[&str],
     devices: &mut Devices<D, W, E, C>,
 ) -> u8
 where
-    R: Files + Env + Processes + AllocGlobal,
+    R: Files + Env + AllocGlobal,
+    S: Starter,
     A: Allocator + Clone,
     D: Read,
     W: Write,
     E: Write,
     C: TimeSource,
-    ensures usage { length words.now ≡ 0 → RefusesWords E.contents result devices.old devices.new }
-    ensures command { IfSome (slice_get words.now 0) (λ name. CommandEnds D.remaining W.contents E.contents C.readings name.now
-        (map (λ word. word.now) (drop 1 words.now)) result devices.old devices.new) }
+    ensures usage { length words.now ≡ 0 → RefusesWords E.contents result devices.old devices.new × (starter.new ≡ starter.old) }
+    ensures command { IfSome (slice_get words.now 0) (λ name. CommandEnds D.remaining W.contents E.contents C.readings S.starts name.now
+        (map (λ word. word.now) (drop 1 words.now)) result devices.old devices.new starter.old starter.new) }
 {
     match words.split_first() {
-        Some((name, words)) => run_command(rt, alloc, name, words, devices),
+        Some((name, words)) => run_command(rt, starter, alloc, name, words, devices),
         None => usage(&mut devices.faults),
     }
 }

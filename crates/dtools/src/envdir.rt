@@ -1,62 +1,92 @@
-ghost use Rattle.std.specs.Prelude.{◌≡◌, ◌<◌, ◌⊎◌, ℕ, List, length, slice_get, IfSome};
+ghost use Rattle.std.specs.Prelude.{◌≡◌, ◌<◌, ◌⊎◌, [], ◌∷◌, List, None, drop, length, map, slice_get, IfOk, IfErr, IfSome, IsErr};
 ghost use Rattle.tai_status.specs.Counted.{device_of, fault_count};
+ghost use Rattle.env_title.specs.Env.{Binding};
+ghost use Rattle.env_title.specs.Files.{env_after};
+ghost use Rattle.env_title.specs.Faults.{first_fault};
 ghost use Rattle.dtools.specs.Told.{Tells, usage_text};
-ghost use Rattle.dtools.specs.Child.{envdir_told};
-ghost use Rattle.dtools.specs.declared.fault.EnvdirFault.{EnvdirFault};
+ghost use Rattle.dtools.specs.Child.{Started, start_of, name_of, IsFirstFault, EnvdirEnds, envdir_told};
 
-use crate::child::{child_command, child_status};
 use crate::fault::EnvdirFault;
 use crate::folder::{FolderFile, env_files, name_at, read_folder};
 use crate::report::{TROUBLE, tell, tell_parts, usage};
+use crate::starter::{StartFault, Starter};
 use crate::variables::machine_env;
-use env_title::{EnvFault, apply};
-use std::alloc::{AllocError, Allocator};
+use env_title::{Env as EnvVariables, EnvFault, EnvFile, apply};
+use std::alloc::Allocator;
 use std::env::Env;
 use std::fs::Files;
 use std::io::{Error, ErrorKind, Write};
-use std::process::Processes;
 use tai_status::Counted;
 
-impl From<AllocError> for EnvdirFault {
-    fn from(_error: AllocError) -> EnvdirFault {
-        EnvdirFault::OutOfMemory
-    }
-}
-
-/// What a fault of the system is, where it is not want of memory.
-fn fault_of(error: Error, otherwise: EnvdirFault) -> EnvdirFault {
+/// Why a folder is not read.
+fn fault_of(error: Error) -> EnvdirFault
+    ensures { (result ≡ EnvdirFault.OutOfMemory) ⊎ (result ≡ EnvdirFault.Unread) }
+{
     if error.kind() == ErrorKind::OutOfMemory {
         return EnvdirFault::OutOfMemory;
     }
-    otherwise
+    EnvdirFault::Unread
+}
+
+/// The environment that files make of this one.
+fn changed_env<R: Env, A: Allocator + Clone>(
+    rt: &R,
+    alloc: &A,
+    files: &[EnvFile<'_>],
+) -> Result<EnvVariables<A>, EnvdirFault>
+    ensures ok { IfOk result (λ after. (variables : List Binding) × ((first_fault files.now ≡ None) × (after ≡ env_after files.now variables))) }
+    ensures first { IfErr result (λ why. IsFirstFault why files.now) }
+{
+    let Ok(before) = machine_env(rt, alloc) else {
+        return Err(EnvdirFault::OutOfMemory);
+    };
+    let Ok(own) = alloc.clone() else {
+        return Err(EnvdirFault::OutOfMemory);
+    };
+    match apply(own, files, &before) {
+        Ok(after) => Ok(after),
+        Err(EnvFault::NameHasEquals(place)) => Err(EnvdirFault::NameHasEquals(place)),
+        Err(EnvFault::NotText(place)) => Err(EnvdirFault::NotText(place)),
+        Err(EnvFault::OutOfMemory) => Err(EnvdirFault::OutOfMemory),
+    }
 }
 
 /// Starts a child in the environment that the files of a folder make of this one, and waits for its
 /// end. Answers its status.
-fn run_child<R: Env + Processes, A: Allocator + Clone>(
+fn run_child<R: Env, S: Starter, A: Allocator + Clone>(
     rt: &R,
+    starter: &mut S,
     alloc: &A,
     folder: &[FolderFile<A>],
     program: &str,
     arguments: &[&str],
-) -> Result<u8, EnvdirFault> {
-    let files = env_files(alloc, folder)?;
-    let before = machine_env(rt, alloc)?;
-    let after = match apply(alloc.clone()?, &files, &before) {
-        Ok(after) => after,
-        Err(EnvFault::NameHasEquals(place)) => return Err(EnvdirFault::NameHasEquals(place)),
-        Err(EnvFault::NotText(place)) => return Err(EnvdirFault::NotText(place)),
-        Err(EnvFault::OutOfMemory) => return Err(EnvdirFault::OutOfMemory),
+) -> Result<u8, EnvdirFault>
+    ensures ok { IfOk result (λ status. (variables : List Binding) × ((first_fault folder.now ≡ None) × Started (S.starts starter.old) (S.starts starter.new)
+        (start_of program.now (map (λ word. word.now) arguments.now) folder.now (env_after folder.now variables) status ∷ []))) }
+    ensures none { IsErr result → S.starts starter.new ≡ S.starts starter.old }
+    ensures first { IfErr result (λ why. IsFirstFault why folder.now) }
+{
+    let Ok(files) = env_files(alloc, folder) else {
+        return Err(EnvdirFault::OutOfMemory);
     };
-    let mut command = child_command(alloc.clone()?, program, arguments, &files, &after)?;
-    match command.status(rt) {
-        Ok(status) => Ok(child_status(status)),
-        Err(error) => Err(fault_of(error, EnvdirFault::NotRun)),
+    let after = match changed_env(rt, alloc, &files) {
+        Ok(after) => after,
+        Err(fault) => return Err(fault),
+    };
+    let Ok(own) = alloc.clone() else {
+        return Err(EnvdirFault::OutOfMemory);
+    };
+    match starter.start(own, program, arguments, &files, &after) {
+        Ok(status) => Ok(status),
+        Err(StartFault::NotRun) => Err(EnvdirFault::NotRun),
+        Err(StartFault::OutOfMemory) => Err(EnvdirFault::OutOfMemory),
     }
 }
 
 /// The name of the file that is refused, empty where none is.
-fn refused_name<A: Allocator>(fault: EnvdirFault, folder: &[FolderFile<A>]) -> &str {
+fn refused_name<A: Allocator>(fault: EnvdirFault, folder: &[FolderFile<A>]) -> &str
+    ensures { result.now ≡ name_of fault folder.now }
+{
     match fault {
         EnvdirFault::NameHasEquals(place) | EnvdirFault::NotText(place) => name_at(folder, place),
         _ => "",
@@ -99,37 +129,49 @@ fn report<E: Write>(
     TROUBLE
 }
 
+/// Starts a program with arguments in the environment that the files of a folder make of this one, and answers its status; or
+/// tells why there is none.
+fn run_in_folder<R: Files + Env, S: Starter, A: Allocator + Clone, E: Write>(
+    rt: &R,
+    starter: &mut S,
+    alloc: &A,
+    dir: &str,
+    program: &str,
+    arguments: &[&str],
+    faults: &mut Counted<E>,
+) -> u8
+    ensures ends { EnvdirEnds E.contents (S.starts starter.old) (S.starts starter.new) dir.now program.now (map (λ word. word.now) arguments.now) result faults.old faults.new }
+{
+    let folder = match read_folder(rt, alloc, dir) {
+        Ok(folder) => folder,
+        Err(error) => return report(fault_of(error), dir, program, "", faults),
+    };
+    match run_child(rt, starter, alloc, &folder, program, arguments) {
+        Ok(status) => status,
+        Err(fault) => report(fault, dir, program, refused_name(fault, &folder), faults),
+    }
+}
+
 /// The command `envdir`: starts the program of its second word, with the words after it, in an
 /// environment that the files of the folder of its first word have changed, and waits for its end
 /// (<https://cr.yp.to/daemontools/envdir.html>). The program is sought in the changed `PATH`. Answers the
 /// status of the child, where a signal ended it 111; 100 for less than two words; 111 where the folder
 /// can't be read or applied, where the child can't be started, and for want of memory.
-pub fn run_envdir<R: Files + Env + Processes, A: Allocator + Clone, E: Write>(
+pub fn run_envdir<R: Files + Env, S: Starter, A: Allocator + Clone, E: Write>(
     rt: &R,
+    starter: &mut S,
     alloc: A,
     words: &[&str],
     faults: &mut Counted<E>,
 ) -> u8
-    ensures usage { length words.now < 2 → (result ≡ 100)
+    ensures usage { length words.now < 2 → (result ≡ 100) × (starter.new ≡ starter.old)
         × Tells (E.contents (device_of faults.old)) (E.contents (device_of faults.new)) (fault_count faults.old) (fault_count faults.new) usage_text }
-    // Nothing is told, and the status is the child's; or it is told why there is none, and the status is 111.
-    ensures told { IfSome (slice_get words.now 0) (λ dir. IfSome (slice_get words.now 1) (λ program. (faults.new ≡ faults.old)
-        ⊎ ((result ≡ 111) × ((why : EnvdirFault) × ((name : List ℕ)
-        × Tells (E.contents (device_of faults.old)) (E.contents (device_of faults.new)) (fault_count faults.old) (fault_count faults.new)
-        (envdir_told dir.now program.now name why)))))) }
+    // A child was started and its status is answered; or none was, and it is told why.
+    ensures ends { IfSome (slice_get words.now 0) (λ dir. IfSome (slice_get words.now 1) (λ program.
+        EnvdirEnds E.contents (S.starts starter.old) (S.starts starter.new) dir.now program.now (map (λ word. word.now) (drop 2 words.now)) result faults.old faults.new)) }
 {
     let [dir, program, arguments @ ..] = words else {
         return usage(faults);
     };
-    let folder = match read_folder(rt, &alloc, dir) {
-        Ok(folder) => folder,
-        Err(error) => {
-            let fault = fault_of(error, EnvdirFault::Unread);
-            return report(fault, dir, program, "", faults);
-        }
-    };
-    match run_child(rt, &alloc, &folder, program, arguments) {
-        Ok(status) => status,
-        Err(fault) => report(fault, dir, program, refused_name(fault, &folder), faults),
-    }
+    run_in_folder(rt, starter, &alloc, dir, program, arguments, faults)
 }

@@ -1,4 +1,5 @@
 use crate::envdir::run_envdir;
+use crate::starter::SystemStarter;
 use crate::variables::machine_env;
 use bumpalo::Bump;
 use std::env::{Env, FillError};
@@ -11,8 +12,9 @@ use tai_status::Counted;
 
 /// Runs `envdir` and takes what it told, and its status.
 fn envdir<R: Files + Env + Processes + AllocGlobal>(rt: &R, words: &[&str]) -> (Vec<u8>, u8) {
+    let mut starter = SystemStarter::new(rt);
     let mut faults = Counted::new(Vec::new(rt.alloc()));
-    let status = run_envdir(rt, rt.alloc(), words, &mut faults);
+    let status = run_envdir(rt, &mut starter, rt.alloc(), words, &mut faults);
     (faults.into_device(), status)
 }
 
@@ -158,15 +160,22 @@ fn says_where_memory_is_refused(rt: HostRuntime) -> Result<(), Fail> {
     let words = [dir.as_str(), "sh", "-c", "exit 7"];
     let bump = Bump::new(rt.alloc());
     bump.set_allocation_limit(Some(0));
+    let mut starter = SystemStarter::new(rt);
     let mut faults = Counted::new(Vec::new(rt.alloc()));
-    assert_eq!(rt; run_envdir(&rt, &bump, &words, &mut faults), 111);
+    assert_eq!(rt;
+        run_envdir(&rt, &mut starter, &bump, &words, &mut faults),
+        111
+    );
     assert_eq!(rt;
         faults.into_device().as_slice(),
         b"envdir: OutOfMemory\n".as_slice()
     );
     bump.set_allocation_limit(None);
     let mut faults = Counted::new(Vec::new(rt.alloc()));
-    assert_eq!(rt; run_envdir(&rt, &bump, &words, &mut faults), 7);
+    assert_eq!(rt;
+        run_envdir(&rt, &mut starter, &bump, &words, &mut faults),
+        7
+    );
     assert_eq!(rt; faults.into_device().len(), 0);
     fs::remove_dir_all(&rt, folder.as_str())?;
     Ok(())

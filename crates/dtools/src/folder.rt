@@ -1,11 +1,13 @@
 //! The files of the folder of `envdir`.
-ghost use Rattle.std.specs.Prelude.{IfOk, IsSorted};
+ghost use Rattle.std.specs.Prelude.{◌≡◌, [], slice_get, IfOk, IsSorted};
+ghost use Rattle.std.specs.Option.{option_map_or};
 ghost use Rattle.std.specs.String.{string_cmp};
 
 use env_title::EnvFile;
 use std::alloc::{AllocError, Allocator, Global};
 use std::fs::Files;
 use std::io::Read;
+use std::marker::Model;
 use std::{fs, io};
 
 /// A file of a folder: its name, and all its bytes.
@@ -13,6 +15,15 @@ use std::{fs, io};
 pub struct FolderFile<A: Allocator = Global> {
     name: String<A>,
     bytes: Vec<u8, A>,
+}
+
+impl<A: Allocator> Model for FolderFile<A> {
+    ghost use Rattle.std.specs.Prelude.{string_bytes};
+    ghost use Rattle.env_title.specs.Files.{File};
+
+    ghost Value = { File };
+
+    ghost view = { λ file. record { name = string_bytes file.name; bytes = file.bytes.items } };
 }
 
 /// Reads the files of a folder, in byte order of their names. Those whose names begin with a dot are
@@ -68,7 +79,9 @@ fn path_in<A: Allocator + Clone>(
 pub fn env_files<'a, A: Allocator + Clone>(
     alloc: &A,
     folder: &'a [FolderFile<A>],
-) -> Result<Vec<EnvFile<'a>, A>, AllocError> {
+) -> Result<Vec<EnvFile<'a>, A>, AllocError>
+    ensures { IfOk result (λ files. files.items ≡ folder.now) }
+{
     let mut files = Vec::with_capacity(alloc.clone()?, folder.len())?;
     for file in folder {
         files.push(EnvFile {
@@ -80,7 +93,9 @@ pub fn env_files<'a, A: Allocator + Clone>(
 }
 
 /// The name of the file at a place, empty where there is none.
-pub fn name_at<A: Allocator>(folder: &[FolderFile<A>], place: usize) -> &str {
+pub fn name_at<A: Allocator>(folder: &[FolderFile<A>], place: usize) -> &str
+    ensures { result.now ≡ option_map_or (λ file. file.name) (slice_get folder.now place) [] }
+{
     match folder.get(place) {
         Some(file) => file.name.as_str(),
         None => "",

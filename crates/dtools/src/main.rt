@@ -14,6 +14,7 @@ mod readproctitle;
 mod report;
 mod shown;
 mod sim;
+mod starter;
 mod tai64n;
 mod trace;
 mod trace_words;
@@ -23,6 +24,7 @@ use clock::SystemClock;
 use command::run;
 use devices::Devices;
 use report::{TROUBLE, tell, usage};
+use starter::SystemStarter;
 use std::env;
 use std::io::{ErrorKind, Read, Write};
 use std::process::ExitCode;
@@ -53,7 +55,8 @@ fn run_arguments<D: Read, W: Write, E: Write, C: TimeSource>(
             return refuse_words(ErrorKind::OutOfMemory, &mut devices.faults);
         }
     }
-    run(rt, rt.alloc(), &words, devices)
+    let mut starter = SystemStarter::new(rt);
+    run(rt, &mut starter, rt.alloc(), &words, devices)
 }
 
 /// The program's words, without its own name.

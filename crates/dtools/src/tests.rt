@@ -2,6 +2,7 @@ use crate::command::run;
 use crate::devices::Devices;
 use crate::readproctitle::run_readproctitle;
 use crate::sim::run_sim;
+use crate::starter::SystemStarter;
 use crate::tai64n::run_tai64n;
 use bumpalo::Bump;
 use std::alloc::Global;
@@ -237,7 +238,8 @@ fn words<R: Files + Env + Processes + AllocGlobal>(rt: &R, words: &[&str]) -> Ra
         faults: Counted::new(Vec::new(alloc)),
         clock: Ticks { next: 0 },
     };
-    let status = run(rt, alloc, words, &mut devices);
+    let mut starter = SystemStarter::new(rt);
+    let status = run(rt, &mut starter, alloc, words, &mut devices);
     let Devices { writer, faults, .. } = devices;
     Ran {
         out: writer.into_device(),
