@@ -1,13 +1,14 @@
 -- What a command says of variables after names are taken away and variables are set.
-use Rattle.std.proofs.Common.{◌≡◌, ℕ, suc, ◌+◌, ◌<◌, ◌==◌, ◌||◌, Bool, true, false, List, [], ◌∷◌, drop, drop-cons, length, Option, Some, None, refl, sym, ap, ◌∙◌, ◌⊎◌, inl, inr, arith}
-use Rattle.std.specs.Prelude.{◌≢◌, bytes_eq, option_map, find, get_or, slice_get, map, IfSome, if◌then◌else◌}
-use Rattle.std.specs.List.{IsDistinct, AllByRecursion, list_any}
+use Rattle.std.proofs.Common.{◌≡◌, ℕ, suc, ◌+◌, ◌<◌, ◌||◌, Bool, true, false, List, [], ◌∷◌, drop, drop-cons, length, Option, Some, None, refl, sym, ap, ◌∙◌, ◌⊎◌, inl, inr, arith, subst, String}
+use Rattle.std.proofs.lemmas.List.{length-map, get_or-map}
+use Rattle.std.specs.Prelude.{◌≢◌, bytes_eq, option_map, find, get_or, slice_get, map, string_bytes, string_cmp, IsSorted, IfSome, if◌then◌else◌}
+use Rattle.std.specs.List.{IsDistinct, AllByRecursion}
 use Rattle.std.proofs.lemmas.Slice.Eq.{bytes_eq-Decides}
 use Rattle.env_title.specs.Env.{Binding, HasDistinctNames, is_named, value_of}
 use Rattle.env_title.specs.Files.{File, has_file}
 use Rattle.dtools.specs.declared.fault.EnvdirFault.{EnvdirFault}
 use Rattle.dtools.specs.declared.fault.EnvdirFault.TheVariants as fault
-use Rattle.dtools.specs.Child.{said_of, said_after_files, said_after_set, name_of, IsFirstFault}
+use Rattle.dtools.specs.Child.{said_of, said_after_files, said_after_set, name_of, IsFirstFault, AreInByteOrder}
 
 -- that a variable is taken away
 abbrev gone : Option (Option (List ℕ))
@@ -144,3 +145,16 @@ pub two_words : {W : Type 0} (text : W → List ℕ) (words : List W) (P : (firs
 two_words text [] P h = tt
 two_words text (first ∷ []) P h = tt
 two_words text (first ∷ second ∷ rest) P h = h
+
+-- Names
+
+-- texts in order, by their bytes
+pub in_byte_order : {Z : Type 0} (names : List (String Z)) → IsSorted string_cmp names → AreInByteOrder (map string_bytes names)
+in_byte_order [] h = λ k d low within. absurd (omega (arith, within))
+in_byte_order {Z} (name ∷ names) h = λ k d low within.
+    let texts : length (map string_bytes (name ∷ names)) ≡ length (name ∷ names) = length-map (name ∷ names) string_bytes in
+    let far : k + 1 < length (name ∷ names) = subst (λ (n : ℕ). k + 1 < n) texts within in
+    let near : k < length (name ∷ names) = omega (arith, far) in
+    let later = get_or-map string_bytes (name ∷ names) (k + 1) name d far in
+    let sooner = get_or-map string_bytes (name ∷ names) k name d near in
+    rw (later, sooner) (h k name low far)

@@ -1,5 +1,5 @@
 -- A text that is written in parts.
-use Rattle.std.proofs.Common.{◌≡◌, ℕ, List, [], ◌++◌, Option, Result, Ok, Err, subst, sym, ap, append-nil}
+use Rattle.std.proofs.Common.{◌≡◌, ℕ, List, [], ◌++◌, Option, Result, Ok, Err, subst, sym, append-nil}
 use Rattle.std.specs.Prelude.{OnErr}
 use Rattle.tai_status.specs.Counted.{AppendsFront}
 use Rattle.tai_status.specs.Block.{Emits}

@@ -1,6 +1,8 @@
 -- The child of `envdir`: what it is started with, its status, and what is told where it is not started.
-use Rattle.std.specs.Prelude.{◌≡◌, ◌⊎◌, slice_get, ⊤, ℕ, ℤ, pos, Bool, true, false, List, [], ◌∷◌, ◌++◌, codes, Option, Some, None, bytes_eq, if◌then◌else◌}
+use Rattle.std.specs.Prelude.{◌≡◌, ◌⊎◌, slice_get, map, IsSorted, ⊤, ℕ, ℤ, pos, Bool, true, false, List, [], ◌∷◌, ◌++◌, codes, Option, Some, None, bytes_eq, if◌then◌else◌}
 use Rattle.std.specs.Option.{option_map_or}
+use Rattle.std.specs.Cmp.Lexicographic.{slice_cmp}
+use Rattle.std.specs.Ordering.{nat_cmp}
 use Rattle.std.specs.Process.{command_program, command_args, command_var, clears_env}
 use Rattle.std.specs.declared.process.command.Command.{Command}
 use Rattle.env_title.specs.Env.{Binding, value_of}
@@ -88,10 +90,16 @@ IsFirstFault fault.OutOfMemory files = ⊤
 
 -- How `envdir` ends
 
--- The child was started once, in the environment that the files of a folder make of these variables, and nothing is told.
+-- Names stand in byte order: none is less than the one before it.
+abbrev pub AreInByteOrder : List (List ℕ) → Type 0
+AreInByteOrder names = IsSorted (slice_cmp nat_cmp) names
+
+-- The child was started once, in the environment that the files of a folder, in the byte order of their names, make of
+-- these variables, and nothing is told.
 pub record StartsOne {E : Type 0} (past now : Option (List Start)) (program : List ℕ) (arguments : List (List ℕ)) (status : ℕ) (faults tells : Counted E) : Type 0 where
   pub files : List File
   pub variables : List Binding
+  pub in_order : AreInByteOrder (map (λ file. file.name) files)
   pub good : first_fault files ≡ None
   pub started : Started past now (start_of program arguments files (env_after files variables) status ∷ [])
   pub untold : tells ≡ faults

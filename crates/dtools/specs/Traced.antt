@@ -7,7 +7,6 @@ use Rattle.sup_core.specs.State.{State}
 use Rattle.sup_core.specs.Text.{byte_text, phase_name, signal_name}
 use Rattle.sup_trace.specs.declared.breaks.Break.{Break}
 use Rattle.sup_trace.specs.declared.breaks.Break.TheVariants as break
-use Rattle.sup_trace.specs.declared.fault.TraceFault.{TraceFault}
 use Rattle.sup_trace.specs.declared.fault.TraceFaultKind.TheVariants as kind
 use Rattle.sup_trace.specs.Told.{Told, IsTold, replay_of}
 use Rattle.sup_trace.specs.Text.{record_digits, trace_text}

@@ -1,7 +1,8 @@
 //! The files of the folder of `envdir`.
-ghost use Rattle.std.specs.Prelude.{◌≡◌, [], slice_get, IfOk, IsSorted};
-ghost use Rattle.std.specs.Option.{option_map_or};
+ghost use Rattle.std.specs.Prelude.{◌≡◌, [], map, slice_get, IfOk, IsSorted};
 ghost use Rattle.std.specs.String.{string_cmp};
+ghost use Rattle.std.specs.Option.{option_map_or};
+ghost use Rattle.dtools.specs.Child.{AreInByteOrder};
 
 use env_title::EnvFile;
 use std::alloc::{AllocError, Allocator, Global};
@@ -33,7 +34,9 @@ pub fn read_folder<R: Files, A: Allocator + Clone>(
     rt: &R,
     alloc: &A,
     dir: &str,
-) -> io::Result<Vec<FolderFile<A>, A>> {
+) -> io::Result<Vec<FolderFile<A>, A>>
+    ensures order { IfOk result (λ files. AreInByteOrder (map (λ file. file.name) files.items)) }
+{
     let mut files = Vec::new(alloc.clone()?);
     for name in visible_names(rt, alloc, dir)? {
         let path = path_in(alloc, dir, name.as_str())?;
@@ -50,7 +53,7 @@ fn visible_names<R: Files, A: Allocator + Clone>(
     alloc: &A,
     dir: &str,
 ) -> io::Result<Vec<String<A>, A>>
-    ensures { IfOk result (λ names. IsSorted string_cmp names.items) }
+    ensures order { IfOk result (λ names. IsSorted string_cmp names.items) }
 {
     let mut names = Vec::new(alloc.clone()?);
     for entry in fs::read_dir(&(rt, alloc), dir)? {

@@ -1,4 +1,4 @@
-use Rattle.std.proofs.Common.{◌≡◌, ℕ, List, rules, sym, ap, ◌∙◌}
+use Rattle.std.proofs.Common.{List, rules, ap, ◌∙◌}
 use Rattle.std.specs.Process.{command_var}
 use Rattle.env_title.specs.Env.{Binding}
 use Rattle.dtools.specs.Child.{said_after_files, said_after_set}

@@ -1,4 +1,4 @@
-use Rattle.std.proofs.Common.{◌≡◌, ◌<◌, ℕ, rules, refl, length, subst}
+use Rattle.std.proofs.Common.{◌<◌, ℕ, rules, refl, subst}
 use Rattle.std.proofs.lemmas.List.{length-map}
 use Rattle.dtools.specs.Child.{EnvdirEnds}
 use Rattle.dtools.proofs.Children.{two_words}
@@ -13,8 +13,8 @@ returns-in-envdir g c = record {
     readproctitle_usage = search rules;
     readproctitle = search rules;
     envdir_usage = λ is few.
-      let told = c.run_envdir.ensures.usage (subst (λ (n : ℕ). n < 2) (length-map c.args.words.now (λ word. word.now)) few) in
-      ((told.0, refl, refl, refl, told.2), told.1);
+        let told = c.run_envdir.ensures.usage (subst (λ (n : ℕ). n < 2) (length-map c.args.words.now (λ word. word.now)) few) in
+        ((told.0, refl, refl, refl, told.2), told.1);
     envdir = λ is. two_words (λ word. word.now) c.args.words.now (λ dir program rest. EnvdirEnds g.E.Write.contents (g.S.Starter.starts c.args.starter.now)
         (g.S.Starter.starts c.run_envdir.new.starter) dir program rest c.run_envdir.result c.args.devices.now.faults c.run_envdir.new.faults) c.run_envdir.ensures.ends;
     envdir_silent = search rules;
