@@ -136,16 +136,6 @@ of_no_file (fault.NameHasEquals place) files (inr h) = cc h
 of_no_file (fault.NotText place) files (inl h) = cc h
 of_no_file (fault.NotText place) files (inr h) = cc h
 
--- Words
-
--- a fact of the first two words and the rest, of words and of their texts
-pub two_words : {W : Type 0} (text : W → List ℕ) (words : List W) (P : (first second : List ℕ) (rest : List (List ℕ)) → Type 0)
-    → IfSome (slice_get words 0) (λ first. IfSome (slice_get words 1) (λ second. P (text first) (text second) (map text (drop 2 words))))
-    → IfSome (slice_get (map text words) 0) (λ first. IfSome (slice_get (map text words) 1) (λ second. P first second (drop 2 (map text words))))
-two_words text [] P h = tt
-two_words text (first ∷ []) P h = tt
-two_words text (first ∷ second ∷ rest) P h = h
-
 -- Names
 
 -- texts in order, by their bytes

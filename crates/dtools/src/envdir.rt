@@ -1,4 +1,5 @@
-ghost use Rattle.std.specs.Prelude.{◌≡◌, ◌<◌, ◌⊎◌, [], ◌∷◌, List, None, drop, length, map, slice_get, IfOk, IfErr, IfSome, IsErr};
+ghost use Rattle.std.specs.Prelude.{◌≡◌, ◌≢◌, ◌<◌, ◌⊎◌, [], ◌∷◌, List, None, drop, length, map, slice_get, IfOk, IfErr, IfSome, IsErr};
+ghost use Rattle.std.specs.IoError.{error_kind};
 ghost use Rattle.tai_status.specs.Counted.{device_of, fault_count};
 ghost use Rattle.env_title.specs.Env.{Binding};
 ghost use Rattle.env_title.specs.Files.{env_after};
@@ -20,7 +21,9 @@ use tai_status::Counted;
 
 /// Why a folder is not read.
 fn fault_of(error: Error) -> EnvdirFault
-    ensures { (result ≡ EnvdirFault.OutOfMemory) ⊎ (result ≡ EnvdirFault.Unread) }
+    ensures memory { error_kind error ≡ ErrorKind.OutOfMemory → result ≡ EnvdirFault.OutOfMemory }
+    ensures other { error_kind error ≢ ErrorKind.OutOfMemory → result ≡ EnvdirFault.Unread }
+    ensures either { (result ≡ EnvdirFault.OutOfMemory) ⊎ (result ≡ EnvdirFault.Unread) }
 {
     if error.kind() == ErrorKind::OutOfMemory {
         return EnvdirFault::OutOfMemory;
@@ -36,6 +39,7 @@ fn changed_env<R: Env, A: Allocator + Clone>(
 ) -> Result<EnvVariables<A>, EnvdirFault>
     ensures ok { IfOk result (λ after. (variables : List Binding) × ((first_fault files.now ≡ None) × (after ≡ env_after files.now variables))) }
     ensures first { IfErr result (λ why. IsFirstFault why files.now) }
+    ensures neither { IfErr result (λ why. (why ≢ EnvdirFault.Unread) × (why ≢ EnvdirFault.NotRun)) }
 {
     let Ok(before) = machine_env(rt, alloc) else {
         return Err(EnvdirFault::OutOfMemory);
@@ -65,6 +69,7 @@ fn run_child<R: Env, S: Starter, A: Allocator + Clone>(
         (start_of program.now (map (λ word. word.now) arguments.now) folder.now (env_after folder.now variables) status ∷ []))) }
     ensures none { IsErr result → S.starts starter.new ≡ S.starts starter.old }
     ensures first { IfErr result (λ why. IsFirstFault why folder.now) }
+    ensures read { IfErr result (λ why. why ≢ EnvdirFault.Unread) }
 {
     let Ok(files) = env_files(alloc, folder) else {
         return Err(EnvdirFault::OutOfMemory);

@@ -8,7 +8,7 @@ use Rattle.dtools.proofs.envdir.run_in_folder.Goals as goal
 pub returns-in-Err : goal.returns-in-Err
 returns-in-Err g c =
     let cause = c.fault_of.result in
-    let of_none = of_no_file cause [] c.fault_of.ensures in
+    let of_none = of_no_file cause [] c.fault_of.ensures.either in
     record {
       ends = inr (record {
         cause = cause;
