@@ -1,7 +1,7 @@
--- What a command says of variables after names are taken away and variables are set.
+-- The child of `envdir`: what a command says of variables, faults that are of no file, and names in byte order.
 use Rattle.std.proofs.Common.{◌≡◌, ℕ, suc, ◌+◌, ◌<◌, ◌||◌, Bool, true, false, List, [], ◌∷◌, drop, drop-cons, length, Option, Some, None, refl, sym, ap, ◌∙◌, ◌⊎◌, inl, inr, arith, subst, String}
 use Rattle.std.proofs.lemmas.List.{length-map, get_or-map}
-use Rattle.std.specs.Prelude.{◌≢◌, bytes_eq, option_map, find, get_or, slice_get, map, string_bytes, string_cmp, IsSorted, IfSome, if◌then◌else◌}
+use Rattle.std.specs.Prelude.{◌≢◌, bytes_eq, option_map, find, get_or, map, string_bytes, string_cmp, IsSorted, if◌then◌else◌}
 use Rattle.std.specs.List.{IsDistinct, AllByRecursion}
 use Rattle.std.proofs.lemmas.Slice.Eq.{bytes_eq-Decides}
 use Rattle.env_title.specs.Env.{Binding, HasDistinctNames, is_named, value_of}

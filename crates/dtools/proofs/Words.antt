@@ -1,5 +1,5 @@
 -- Facts of words, and of their texts.
-use Rattle.std.proofs.Common.{◌≡◌, ◌<◌, ℕ, List, [], ◌∷◌, map, drop, length, sym, subst, Some, None, Option}
+use Rattle.std.proofs.Common.{ℕ, List, [], ◌∷◌, map, drop, length, sym, subst, Some, None, Option}
 use Rattle.std.specs.Prelude.{◌-◌, IfSome, option_map, slice_get}
 use Rattle.std.proofs.lemmas.List.{length-map}
 use Rattle.std.proofs.lemmas.Option.{slice_get-map}
