@@ -127,10 +127,11 @@ said_whole files variables name distinct =
 
 -- a fault that is of no file
 pub of_no_file : (cause : EnvdirFault) (files : List File) → (cause ≡ fault.OutOfMemory) ⊎ (cause ≡ fault.Unread)
-    → IsFirstFault cause files × (name_of cause files ≡ [])
-of_no_file fault.OutOfMemory files h = (tt, refl)
-of_no_file fault.Unread files h = (tt, refl)
-of_no_file fault.NotRun files h = (tt, refl)
+    → IsFirstFault cause files × (name_of cause files ≡ []) × (cause ≢ fault.NotRun)
+of_no_file fault.OutOfMemory files h = (tt, refl, λ e. cc e)
+of_no_file fault.Unread files h = (tt, refl, λ e. cc e)
+of_no_file fault.NotRun files (inl h) = cc h
+of_no_file fault.NotRun files (inr h) = cc h
 of_no_file (fault.NameHasEquals place) files (inl h) = cc h
 of_no_file (fault.NameHasEquals place) files (inr h) = cc h
 of_no_file (fault.NotText place) files (inl h) = cc h

@@ -1,5 +1,5 @@
 -- The child of `envdir`: what it is started with, its status, and what is told where it is not started.
-use Rattle.std.specs.Prelude.{◌≡◌, ◌⊎◌, slice_get, map, IsSorted, ⊤, ℕ, ℤ, pos, Bool, true, false, List, [], ◌∷◌, ◌++◌, codes, Option, Some, None, bytes_eq, if◌then◌else◌}
+use Rattle.std.specs.Prelude.{◌≡◌, ◌≢◌, ◌⊎◌, Result, Ok, Err, slice_get, map, IsSorted, ⊤, ℕ, ℤ, pos, Bool, true, false, List, [], ◌∷◌, ◌++◌, codes, Option, Some, None, bytes_eq, if◌then◌else◌}
 use Rattle.std.specs.Option.{option_map_or}
 use Rattle.std.specs.Cmp.Lexicographic.{slice_cmp}
 use Rattle.std.specs.Ordering.{nat_cmp}
@@ -12,22 +12,24 @@ use Rattle.env_title.specs.declared.fault.EnvFault.TheVariants as why
 use Rattle.tai_status.specs.Counted.{device_of, fault_count}
 use Rattle.tai_status.specs.declared.counted.Counted.{Counted}
 use Rattle.dtools.specs.Told.{Tells}
+use Rattle.dtools.specs.declared.starter.StartFault.{StartFault}
+use Rattle.dtools.specs.declared.starter.StartFault.TheVariants as start
 use Rattle.dtools.specs.declared.fault.EnvdirFault.{EnvdirFault}
 use Rattle.dtools.specs.declared.fault.EnvdirFault.TheVariants as fault
 
--- A child that was started: its program and arguments, the files that made its environment and the variables of that, and
--- the status that it ended with.
+-- What a starter was asked to start, and how that ended: a program and arguments, the files that made its environment and
+-- the variables of that, and the status of the child, or why there was none.
 pub record Start : Type 0 where
   pub program : List ℕ
   pub arguments : List (List ℕ)
   pub files : List File
   pub env : List Binding
-  pub status : ℕ
+  pub ended : Result ℕ StartFault
 
-abbrev pub start_of : (program : List ℕ) (arguments : List (List ℕ)) (files : List File) (env : List Binding) (status : ℕ) → Start
-start_of program arguments files env status = record { program = program; arguments = arguments; files = files; env = env; status = status }
+abbrev pub start_of : (program : List ℕ) (arguments : List (List ℕ)) (files : List File) (env : List Binding) (ended : Result ℕ StartFault) → Start
+start_of program arguments files env ended = record { program = program; arguments = arguments; files = files; env = env; ended = ended }
 
--- A starter started these children, in order. It may stop to tell what it started, and doesn't begin again.
+-- A starter was asked for these, in order. It may stop to tell what it was asked, and doesn't begin again.
 abbrev pub Started : Option (List Start) → Option (List Start) → List Start → Type 0
 Started past None starts = ⊤
 Started None (Some now) starts = ⊥
@@ -101,18 +103,34 @@ pub record StartsOne {E : Type 0} (past now : Option (List Start)) (program : Li
   pub variables : List Binding
   pub in_order : AreInByteOrder (map (λ file. file.name) files)
   pub good : first_fault files ≡ None
-  pub started : Started past now (start_of program arguments files (env_after files variables) status ∷ [])
+  pub started : Started past now (start_of program arguments files (env_after files variables) (Ok status) ∷ [])
   pub untold : tells ≡ faults
 
--- No child was started, and it is told why.
-pub record StartsNone {E : Type 0} (told : E → Option (List ℕ)) (past now : Option (List Start)) (dir program : List ℕ) (status : ℕ) (faults tells : Counted E) : Type 0 where
+abbrev pub envdir_fault : StartFault → EnvdirFault
+envdir_fault start.NotRun = fault.NotRun
+envdir_fault start.OutOfMemory = fault.OutOfMemory
+
+-- The starter was asked for the child in the environment that these files make of some variables, and failed for this cause.
+pub record FailsToStart (past now : Option (List Start)) (program : List ℕ) (arguments : List (List ℕ)) (files : List File) (cause : EnvdirFault) : Type 0 where
+  pub variables : List Binding
+  pub failed : StartFault
+  pub cause_is : cause ≡ envdir_fault failed
+  pub asked : Started past now (start_of program arguments files (env_after files variables) (Err failed) ∷ [])
+
+-- There is no child for this cause: the starter was asked for nothing, or failed.
+abbrev pub HasNoChild : (past now : Option (List Start)) (program : List ℕ) (arguments : List (List ℕ)) (files : List File) (cause : EnvdirFault) → Type 0
+HasNoChild past now program arguments files cause =
+    ((now ≡ past) × (cause ≢ fault.NotRun)) ⊎ FailsToStart past now program arguments files cause
+
+-- There was no child, and it is told why.
+pub record StartsNone {E : Type 0} (told : E → Option (List ℕ)) (past now : Option (List Start)) (dir program : List ℕ) (arguments : List (List ℕ)) (status : ℕ) (faults tells : Counted E) : Type 0 where
   pub cause : EnvdirFault
   pub files : List File
   pub first : IsFirstFault cause files
-  pub started : now ≡ past
+  pub none : HasNoChild past now program arguments files cause
   pub status_is : status ≡ 111
   pub told_why : Tells (told (device_of faults)) (told (device_of tells)) (fault_count faults) (fault_count tells) (envdir_told dir program (name_of cause files) cause)
 
 abbrev pub EnvdirEnds : {E : Type 0} (told : E → Option (List ℕ)) (past now : Option (List Start)) (dir program : List ℕ) (arguments : List (List ℕ)) (status : ℕ) (faults tells : Counted E) → Type 0
 EnvdirEnds told past now dir program arguments status faults tells =
-    StartsOne past now program arguments status faults tells ⊎ StartsNone told past now dir program status faults tells
+    StartsOne past now program arguments status faults tells ⊎ StartsNone told past now dir program arguments status faults tells

@@ -1,11 +1,11 @@
-ghost use Rattle.std.specs.Prelude.{◌≡◌, ◌≢◌, ◌<◌, ◌⊎◌, [], ◌∷◌, List, None, drop, length, map, slice_get, IfOk, IfErr, IfSome, IsErr};
+ghost use Rattle.std.specs.Prelude.{◌≡◌, ◌≢◌, ◌<◌, ◌⊎◌, [], ◌∷◌, List, None, drop, length, map, slice_get, IfOk, IfErr, IfSome, Ok};
 ghost use Rattle.std.specs.IoError.{error_kind};
 ghost use Rattle.tai_status.specs.Counted.{device_of, fault_count};
 ghost use Rattle.env_title.specs.Env.{Binding};
 ghost use Rattle.env_title.specs.Files.{env_after};
 ghost use Rattle.env_title.specs.Faults.{first_fault};
 ghost use Rattle.dtools.specs.Told.{Tells, usage_text};
-ghost use Rattle.dtools.specs.Child.{Started, start_of, name_of, IsFirstFault, EnvdirEnds, envdir_told};
+ghost use Rattle.dtools.specs.Child.{Started, start_of, name_of, IsFirstFault, HasNoChild, EnvdirEnds, envdir_told};
 
 use crate::fault::EnvdirFault;
 use crate::folder::{FolderFile, env_files, name_at, read_folder};
@@ -66,8 +66,8 @@ fn run_child<R: Env, S: Starter, A: Allocator + Clone>(
     arguments: &[&str],
 ) -> Result<u8, EnvdirFault>
     ensures ok { IfOk result (λ status. (variables : List Binding) × ((first_fault folder.now ≡ None) × Started (S.starts starter.old) (S.starts starter.new)
-        (start_of program.now (map (λ word. word.now) arguments.now) folder.now (env_after folder.now variables) status ∷ []))) }
-    ensures none { IsErr result → S.starts starter.new ≡ S.starts starter.old }
+        (start_of program.now (map (λ word. word.now) arguments.now) folder.now (env_after folder.now variables) (Ok status) ∷ []))) }
+    ensures none { IfErr result (λ why. HasNoChild (S.starts starter.old) (S.starts starter.new) program.now (map (λ word. word.now) arguments.now) folder.now why) }
     ensures first { IfErr result (λ why. IsFirstFault why folder.now) }
     ensures read { IfErr result (λ why. why ≢ EnvdirFault.Unread) }
 {

@@ -1,5 +1,5 @@
 //! The files of the folder of `envdir`.
-ghost use Rattle.std.specs.Prelude.{◌≡◌, [], map, slice_get, IfOk, IsSorted};
+ghost use Rattle.std.specs.Prelude.{◌≡◌, [], ◌∷◌, ◌++◌, map, string_bytes, slice_get, IfOk, IsSorted};
 ghost use Rattle.std.specs.String.{string_cmp};
 ghost use Rattle.std.specs.Option.{option_map_or};
 ghost use Rattle.dtools.specs.Child.{AreInByteOrder};
@@ -67,11 +67,9 @@ fn visible_names<R: Files, A: Allocator + Clone>(
 }
 
 /// The path of a name in a folder.
-fn path_in<A: Allocator + Clone>(
-    alloc: &A,
-    dir: &str,
-    name: &str,
-) -> Result<String<A>, AllocError> {
+fn path_in<A: Allocator + Clone>(alloc: &A, dir: &str, name: &str) -> Result<String<A>, AllocError>
+    ensures { IfOk result (λ path. string_bytes path ≡ dir.now ++ 47 ∷ name.now) }
+{
     let mut path = String::from_str(alloc.clone()?, dir)?;
     path.push('/')?;
     path.push_str(name)?;

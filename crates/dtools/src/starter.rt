@@ -12,9 +12,9 @@ pub enum StartFault {
     OutOfMemory,
 }
 
-/// Starts programs. Contracts see the children that it started, where it keeps them.
+/// Starts programs. Contracts see what it was asked to start and how that ended, where it keeps that.
 pub trait Starter {
-    ghost use Rattle.std.specs.Prelude.{◌≡◌, ◌∷◌, [], map, Option, List, None, IfOk, IsErr};
+    ghost use Rattle.std.specs.Prelude.{◌∷◌, [], map, Option, List, None};
     ghost use Rattle.dtools.specs.Child.{Start, Started, start_of};
 
     ghost starts: { Self → Option (List Start) } = { λ _. None };
@@ -29,9 +29,8 @@ pub trait Starter {
         files: &[EnvFile<'_>],
         variables: &Env<A>,
     ) -> Result<u8, StartFault>
-        ensures ok { IfOk result (λ status. Started (starts self.old) (starts self.new)
-            (start_of program.now (map (λ word. word.now) arguments.now) files.now variables.now status ∷ [])) }
-        ensures err { IsErr result → starts self.new ≡ starts self.old };
+        ensures asked { Started (starts self.old) (starts self.new)
+            (start_of program.now (map (λ word. word.now) arguments.now) files.now variables.now result ∷ []) };
 }
 
 /// Starts programs on this machine. It tells contracts nothing of what it started.

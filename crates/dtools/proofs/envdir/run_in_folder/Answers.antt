@@ -1,4 +1,4 @@
-use Rattle.std.proofs.Common.{ℕ, List, [], inr, refl, rules, subst, sym}
+use Rattle.std.proofs.Common.{ℕ, List, [], inl, inr, refl, rules, subst, sym}
 use Rattle.tai_status.specs.Counted.{device_of, fault_count}
 use Rattle.dtools.specs.Told.{Tells}
 use Rattle.dtools.specs.Child.{envdir_told}
@@ -14,7 +14,7 @@ returns-in-Err g c =
         cause = cause;
         files = [];
         first = of_none.0;
-        started = refl;
+        none = inl (refl, of_none.2);
         status_is = c.report.ensures.status;
         told_why = subst (λ (name : List ℕ). Tells (g.E.Write.contents (device_of c.args.faults.now)) (g.E.Write.contents (device_of c.report.new.faults)) (fault_count c.args.faults.now) (fault_count c.report.new.faults)
             (envdir_told c.args.dir.now c.args.program.now name cause)) (sym of_none.1) c.report.ensures.told;
@@ -27,7 +27,7 @@ returns g c = record {
     cause = c.in-Err-run_child.fault;
     files = c.deref-in-Err-run_child.result.now;
     first = search rules;
-    started = search rules;
+    none = search rules;
     status_is = c.report-in-Err-run_child.ensures.status;
     told_why = subst (λ (name : List ℕ). Tells (g.E.Write.contents (device_of c.args.faults.now)) (g.E.Write.contents (device_of c.report-in-Err-run_child.new.faults)) (fault_count c.args.faults.now) (fault_count c.report-in-Err-run_child.new.faults)
         (envdir_told c.args.dir.now c.args.program.now name c.in-Err-run_child.fault)) c.refused_name.ensures c.report-in-Err-run_child.ensures.told;
