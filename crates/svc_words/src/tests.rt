@@ -4,6 +4,53 @@ use std::process::Abort;
 use std::test::Fail;
 use tai_status::{Label, View, Want};
 
+/// Services and their lines: the process, whether it is paused, what is wanted, whether the service is normally up, the
+/// second at which it is told, and the line.
+const SERVICES: [(u32, bool, Want, bool, u64, &str); 7] = [
+    (4711, false, Want::Up, true, 3, "s: up (pid 4711) 2 seconds"),
+    (
+        4711,
+        true,
+        Want::Down,
+        false,
+        3,
+        "s: up (pid 4711) 2 seconds, normally down, paused, want down",
+    ),
+    (
+        0,
+        false,
+        Want::Up,
+        true,
+        0,
+        "s: down 0 seconds, normally up, want up",
+    ),
+    (0, false, Want::Down, false, 11, "s: down 10 seconds"),
+    (
+        1,
+        false,
+        Want::Once,
+        false,
+        1,
+        "s: up (pid 1) 0 seconds, normally down",
+    ),
+    (
+        0,
+        false,
+        Want::Once,
+        true,
+        1,
+        "s: down 0 seconds, normally up",
+    ),
+    (
+        4294967295,
+        true,
+        Want::Up,
+        true,
+        86401,
+        "s: up (pid 4294967295) 86400 seconds, paused",
+    ),
+];
+
 /// Whether these words are an order of these bytes to these services.
 fn orders(
     rt: &(impl Alloc + Abort),
@@ -95,53 +142,6 @@ fn says_where_memory_is_refused(rt: HostRuntime) -> Result<(), Fail> {
 fn at(second: u64) -> Result<Label, Fail> {
     Ok(Label::from_unix(second, 0).ok_or("a small second has a label")?)
 }
-
-/// Services and their lines: the process, whether it is paused, what is wanted, whether the service is normally up, the
-/// second at which it is told, and the line.
-const SERVICES: [(u32, bool, Want, bool, u64, &str); 7] = [
-    (4711, false, Want::Up, true, 3, "s: up (pid 4711) 2 seconds"),
-    (
-        4711,
-        true,
-        Want::Down,
-        false,
-        3,
-        "s: up (pid 4711) 2 seconds, normally down, paused, want down",
-    ),
-    (
-        0,
-        false,
-        Want::Up,
-        true,
-        0,
-        "s: down 0 seconds, normally up, want up",
-    ),
-    (0, false, Want::Down, false, 11, "s: down 10 seconds"),
-    (
-        1,
-        false,
-        Want::Once,
-        false,
-        1,
-        "s: up (pid 1) 0 seconds, normally down",
-    ),
-    (
-        0,
-        false,
-        Want::Once,
-        true,
-        1,
-        "s: down 0 seconds, normally up",
-    ),
-    (
-        4294967295,
-        true,
-        Want::Up,
-        true,
-        86401,
-        "s: up (pid 4294967295) 86400 seconds, paused",
-    ),
-];
 
 #[test]
 fn lines_of_services(rt: HostRuntime) -> Result<(), Fail> {
