@@ -17,7 +17,6 @@ mod sim;
 mod starter;
 mod tai64n;
 mod trace;
-mod trace_words;
 mod variables;
 
 use clock::SystemClock;

@@ -9,7 +9,6 @@ use crate::break_word::read_break;
 use crate::fault::TraceTrouble;
 use crate::report::{DONE, TROUBLE, push_number, tell, tell_parts, usage};
 use crate::shown::shown;
-use crate::trace_words::{WordsFault, parse_words};
 use arrayvec::ArrayString;
 use std::alloc::Allocator;
 use std::fs;
@@ -17,6 +16,7 @@ use std::fs::Files;
 use std::io::{ErrorKind, Write};
 use sup_trace::{Break, kind_name, read_text};
 use tai_status::Counted;
+use trace_words::{WordsFault, parse_words};
 
 /// Writes what is printed of the trace whose text this is.
 fn show_text<A: Allocator + Clone, W: Write>(

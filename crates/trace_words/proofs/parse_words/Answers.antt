@@ -1,0 +1,28 @@
+use Rattle.std.proofs.Common.{◌≡◌, ◌∙◌, ap, subst, sym, rules, map, List, ℕ, codes, inl, inr, Err, Ok}
+use Rattle.std.specs.Prelude.{Result, MatchResult, IfOk}
+use Rattle.clap.specs.Words.{FailsBy, HasKind, fault_of, found_of, matches_of, rows_of}
+use Rattle.clap.proofs.WalkLemmas.{first_value-rows}
+use Rattle.trace_words.specs.Words.{asked_of, trace_line}
+use Rattle.trace_words.proofs.Asked.{asked-found, asked-refused, asked-without_file}
+use Rattle.trace_words.proofs.parse_words.Goals as goal
+
+-- src/lib.rt:38:19
+pub returns-in-Err-2-clause-wrong : goal.returns-in-Err-2-clause-wrong
+returns-in-Err-2-clause-wrong c _ =
+    elim c.in-Err-2.ensures.kinds [
+      | inl memory ↦ absurd (search rules)
+      | inr among ↦ asked-refused _ _ among
+    ]
+
+-- src/lib.rt:34:1
+pub returns-in-Some-clause-asked : goal.returns-in-Some-clause-asked
+returns-in-Some-clause-asked c =
+    asked-found _ (rows_of (found_of c.in-Ok.matches)) _ _ c.in-Ok.ensures.kinds c.in-Ok.ensures.matches
+    (c.in-Some.ensures ∙ first_value-rows (found_of c.in-Ok.matches) (codes "FILE"))
+    (c.get_str-in-Some.ensures ∙ first_value-rows (found_of c.in-Ok.matches) (codes "break"))
+
+-- src/lib.rt:31:1
+pub returns-clause-wrong : goal.returns-clause-wrong
+returns-clause-wrong c _ =
+    asked-without_file _ (rows_of (found_of c.in-Ok.matches)) c.in-Ok.ensures.kinds c.in-Ok.ensures.matches
+    (c.in-None.ensures ∙ first_value-rows (found_of c.in-Ok.matches) (codes "FILE"))

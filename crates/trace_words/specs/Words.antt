@@ -1,0 +1,38 @@
+-- What the words of `trace` ask for. The words of a command line are clap's own (https://docs.rs/clap): its specification says
+-- which words a command line takes, and what each argument gets.
+use Rattle.std.specs.Prelude.{List, ℕ, [], ◌∷◌, true, codes, Option, Some, None, option_map}
+use Rattle.clap.specs.Kinds.{Kinds}
+use Rattle.clap.specs.Words.{App, Rule, fault_of, first_of, matches_of, new_app, new_rule, with_rule}
+use Rattle.clap.specs.declared.builder.action.ArgAction.TheVariants.{Set}
+
+-- the word FILE, which must be there
+abbrev pub file_rule : Rule
+file_rule = record (new_rule (codes "FILE")) { required = true; action = Some Set }
+
+-- the option `--break SPEC`
+abbrev pub break_rule : Rule
+break_rule = record (new_rule (codes "break")) { long = Some (codes "break"); action = Some Set }
+
+-- a command line without the program's name, and without the flags for help and version
+abbrev pub without_extras : App → App
+without_extras line = record line {
+  top = record line.top { no_binary_name = true; disable_help_flag = true; disable_version_flag = true };
+}
+
+-- the command line `FILE [--break SPEC]`
+abbrev pub trace_line : App
+trace_line = with_rule (with_rule (without_extras (new_app (codes "trace"))) file_rule) break_rule
+
+-- the file that words name, and what they break at
+abbrev pub given_by : List (List ℕ) → Option (List ℕ × Option (List ℕ))
+given_by words = option_map (λ file. (file, first_of (codes "break") (matches_of trace_line words)))
+    (first_of (codes "FILE") (matches_of trace_line words))
+
+-- The same where a parse of the words has no fault, and nothing where it has one.
+abbrev pub where_faultless : Kinds → List (List ℕ) → Option (List ℕ × Option (List ℕ))
+where_faultless [] words = given_by words
+where_faultless (fault ∷ faults) words = None
+
+-- what words ask for
+unfoldable pub asked_of : List (List ℕ) → Option (List ℕ × Option (List ℕ))
+asked_of words = where_faultless (fault_of trace_line words) words

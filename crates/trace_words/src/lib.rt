@@ -1,0 +1,67 @@
+//! The words of the command `trace`: a file, and what to break at.
+//!
+//! [`parse_words`] reads them with `clap`, as the command line `FILE [--break SPEC]`. It is a crate of its own, so that no
+//! crate above it is checked with the code of a parser of command lines.
+#![tactic(auto)]
+
+ghost use Rattle.std.specs.Prelude.{◌≡◌, map, IfOk, IfErr, Some, None, option_map};
+ghost use Rattle.clap.specs.Words.{FailsBy, fault_of, found_of, matches_of, rows_of};
+ghost use Rattle.trace_words.specs.Words.{asked_of, trace_line};
+
+use clap::error::ErrorKind;
+use clap::{Arg, ArgAction, ArgMatches, Command, Error};
+use std::alloc::Global;
+
+/// What the words of `trace` ask for: a file, and what to break at.
+#[derive(Clone, Copy, Debug, PartialEq, Eq)]
+pub struct TraceWords<'a> {
+    pub file: &'a str,
+    pub at: Option<&'a str>,
+}
+
+/// Why words ask for nothing.
+#[derive(Clone, Copy, Debug, PartialEq, Eq)]
+pub enum WordsFault {
+    Wrong,
+    OutOfMemory,
+}
+
+/// What words ask for, read as `FILE [--break SPEC]`, the option before the file or after it, its
+/// value in the next word or behind `=`. What the command line does not take is `Wrong`.
+pub fn parse_words<'a>(alloc: Global, words: &'a [&'a str]) -> Result<TraceWords<'a>, WordsFault>
+    ensures asked { IfOk result (λ asked. asked_of (map (λ word. word.now) words.entry.now) ≡ Some (asked.file.now, option_map (λ at. at.now) asked.at)) }
+    ensures wrong { IfErr result (λ fault. fault ≡ WordsFault.Wrong → asked_of (map (λ word. word.now) words.entry.now) ≡ None) }
+{
+    let matches = match match_words(alloc, words) {
+        Ok(matches) => matches,
+        Err(fault) if fault.kind() == ErrorKind::OutOfMemory => return Err(WordsFault::OutOfMemory),
+        Err(_) => return Err(WordsFault::Wrong),
+    };
+    match matches.get_str("FILE") {
+        Some(file) => Ok(TraceWords {
+            file,
+            at: matches.get_str("break"),
+        }),
+        None => Err(WordsFault::Wrong),
+    }
+}
+
+/// Matches words with the command line.
+fn match_words<'a>(alloc: Global, words: &'a [&'a str]) -> Result<ArgMatches<'a>, Error>
+    ensures kinds { FailsBy (fault_of trace_line (map (λ word. word.now) words.entry.now)) result }
+    ensures matches { IfOk result (λ matches. rows_of (found_of matches) ≡ matches_of trace_line (map (λ word. word.now) words.entry.now)) }
+{
+    let file = Arg::new(alloc, "FILE")
+        .required(true)
+        .action(ArgAction::Set);
+    let at = Arg::new(alloc, "break")
+        .long("break")
+        .action(ArgAction::Set);
+    Command::new(alloc, "trace")
+        .no_binary_name(true)
+        .disable_help_flag(true)
+        .disable_version_flag(true)
+        .arg(file)?
+        .arg(at)?
+        .try_get_matches_from(words)
+}
