@@ -8,7 +8,11 @@ use Rattle.env_title.specs.Env.{Binding, HasDistinctNames, is_named, value_of}
 use Rattle.env_title.specs.Files.{File, has_file}
 use Rattle.dtools.specs.declared.fault.EnvdirFault.{EnvdirFault}
 use Rattle.dtools.specs.declared.fault.EnvdirFault.TheVariants as fault
-use Rattle.dtools.specs.Child.{said_of, said_after_files, said_after_set, name_of, IsFirstFault, AreInByteOrder}
+use Rattle.std.specs.IoError.{error_kind}
+use Rattle.std.specs.declared.io.Error.{Error}
+use Rattle.std.specs.declared.io.ErrorKind.TheVariants.{OutOfMemory}
+use Rattle.dtools.specs.Around.{IsHeld, IsMissed}
+use Rattle.dtools.specs.Child.{said_of, said_after_files, said_after_set, name_of, IsFirstFault, WasRead, AreInByteOrder}
 
 -- that a variable is taken away
 abbrev gone : Option (Option (List ℕ))
@@ -136,6 +140,28 @@ of_no_file (fault.NameHasEquals place) files (inl h) = cc h
 of_no_file (fault.NameHasEquals place) files (inr h) = cc h
 of_no_file (fault.NotText place) files (inl h) = cc h
 of_no_file (fault.NotText place) files (inr h) = cc h
+
+-- Folders
+
+-- a folder that is not read
+pub not_read : (error : Error) (cause : EnvdirFault) (folder : Option (List File)) (files : List File) → (error_kind error ≡ OutOfMemory → cause ≡ fault.OutOfMemory)
+    → (cause ≡ fault.OutOfMemory) ⊎ (cause ≡ fault.Unread) → IsMissed error folder → WasRead cause folder files
+not_read error fault.OutOfMemory folder files memory either missed = tt
+not_read error fault.Unread folder files memory either missed = missed (λ is. let never = memory is in cc never)
+not_read error fault.NotRun folder files memory (inl h) missed = cc h
+not_read error fault.NotRun folder files memory (inr h) missed = cc h
+not_read error (fault.NameHasEquals place) folder files memory (inl h) missed = cc h
+not_read error (fault.NameHasEquals place) folder files memory (inr h) missed = cc h
+not_read error (fault.NotText place) folder files memory (inl h) missed = cc h
+not_read error (fault.NotText place) folder files memory (inr h) missed = cc h
+
+-- a folder that is read
+pub is_read : (cause : EnvdirFault) (folder : Option (List File)) (files : List File) → cause ≢ fault.Unread → IsHeld folder files → WasRead cause folder files
+is_read fault.Unread folder files readable held = absurd (readable refl)
+is_read fault.OutOfMemory folder files readable held = tt
+is_read fault.NotRun folder files readable held = held
+is_read (fault.NameHasEquals place) folder files readable held = held
+is_read (fault.NotText place) folder files readable held = held
 
 -- Names
 

@@ -12,6 +12,7 @@ use Rattle.env_title.specs.declared.fault.EnvFault.TheVariants as why
 use Rattle.tai_status.specs.Counted.{device_of, fault_count}
 use Rattle.tai_status.specs.declared.counted.Counted.{Counted}
 use Rattle.dtools.specs.Told.{Tells}
+use Rattle.dtools.specs.Around.{IsHeld}
 use Rattle.dtools.specs.declared.starter.StartFault.{StartFault}
 use Rattle.dtools.specs.declared.starter.StartFault.TheVariants as start
 use Rattle.dtools.specs.declared.fault.EnvdirFault.{EnvdirFault}
@@ -97,11 +98,13 @@ abbrev pub AreInByteOrder : List (List ℕ) → Type 0
 AreInByteOrder names = IsSorted (slice_cmp nat_cmp) names
 
 -- The child was started once, in the environment that the files of a folder, in the byte order of their names, make of
--- these variables, and nothing is told.
-pub record StartsOne {E : Type 0} (past now : Option (List Start)) (program : List ℕ) (arguments : List (List ℕ)) (status : ℕ) (faults tells : Counted E) : Type 0 where
+-- the variables around, and nothing is told.
+pub record StartsOne {E : Type 0} (folder : Option (List File)) (around : Option (List Binding)) (past now : Option (List Start)) (program : List ℕ) (arguments : List (List ℕ)) (status : ℕ) (faults tells : Counted E) : Type 0 where
   pub files : List File
-  pub variables : List Binding
+  pub files_are : IsHeld folder files
   pub in_order : AreInByteOrder (map (λ file. file.name) files)
+  pub variables : List Binding
+  pub variables_are : IsHeld around variables
   pub good : first_fault files ≡ None
   pub started : Started past now (start_of program arguments files (env_after files variables) (Ok status) ∷ [])
   pub untold : tells ≡ faults
@@ -110,27 +113,40 @@ abbrev pub envdir_fault : StartFault → EnvdirFault
 envdir_fault start.NotRun = fault.NotRun
 envdir_fault start.OutOfMemory = fault.OutOfMemory
 
--- The starter was asked for the child in the environment that these files make of some variables, and failed for this cause.
-pub record FailsToStart (past now : Option (List Start)) (program : List ℕ) (arguments : List (List ℕ)) (files : List File) (cause : EnvdirFault) : Type 0 where
+-- The starter was asked for the child in the environment that these files make of the variables around, and failed for this
+-- cause.
+pub record FailsToStart (around : Option (List Binding)) (past now : Option (List Start)) (program : List ℕ) (arguments : List (List ℕ)) (files : List File) (cause : EnvdirFault) : Type 0 where
   pub variables : List Binding
+  pub variables_are : IsHeld around variables
   pub failed : StartFault
   pub cause_is : cause ≡ envdir_fault failed
   pub asked : Started past now (start_of program arguments files (env_after files variables) (Err failed) ∷ [])
 
 -- There is no child for this cause: the starter was asked for nothing, or failed.
-abbrev pub HasNoChild : (past now : Option (List Start)) (program : List ℕ) (arguments : List (List ℕ)) (files : List File) (cause : EnvdirFault) → Type 0
-HasNoChild past now program arguments files cause =
-    ((now ≡ past) × (cause ≢ fault.NotRun)) ⊎ FailsToStart past now program arguments files cause
+abbrev pub HasNoChild : (around : Option (List Binding)) (past now : Option (List Start)) (program : List ℕ) (arguments : List (List ℕ)) (files : List File) (cause : EnvdirFault) → Type 0
+HasNoChild around past now program arguments files cause =
+    ((now ≡ past) × (cause ≢ fault.NotRun)) ⊎ FailsToStart around past now program arguments files cause
+
+-- What a fault says of a folder: it is not known to be there; or, where memory sufficed, its files are these.
+abbrev pub WasRead : EnvdirFault → Option (List File) → List File → Type 0
+WasRead fault.Unread folder files = folder ≡ None
+WasRead fault.OutOfMemory folder files = ⊤
+WasRead fault.NotRun folder files = IsHeld folder files
+WasRead (fault.NameHasEquals place) folder files = IsHeld folder files
+WasRead (fault.NotText place) folder files = IsHeld folder files
 
 -- There was no child, and it is told why.
-pub record StartsNone {E : Type 0} (told : E → Option (List ℕ)) (past now : Option (List Start)) (dir program : List ℕ) (arguments : List (List ℕ)) (status : ℕ) (faults tells : Counted E) : Type 0 where
+pub record StartsNone {E : Type 0} (folder : Option (List File)) (around : Option (List Binding)) (told : E → Option (List ℕ)) (past now : Option (List Start)) (dir program : List ℕ) (arguments : List (List ℕ)) (status : ℕ) (faults tells : Counted E) : Type 0 where
   pub cause : EnvdirFault
   pub files : List File
+  pub read : WasRead cause folder files
   pub first : IsFirstFault cause files
-  pub none : HasNoChild past now program arguments files cause
+  pub none : HasNoChild around past now program arguments files cause
   pub status_is : status ≡ 111
   pub told_why : Tells (told (device_of faults)) (told (device_of tells)) (fault_count faults) (fault_count tells) (envdir_told dir program (name_of cause files) cause)
 
-abbrev pub EnvdirEnds : {E : Type 0} (told : E → Option (List ℕ)) (past now : Option (List Start)) (dir program : List ℕ) (arguments : List (List ℕ)) (status : ℕ) (faults tells : Counted E) → Type 0
-EnvdirEnds told past now dir program arguments status faults tells =
-    StartsOne past now program arguments status faults tells ⊎ StartsNone told past now dir program arguments status faults tells
+-- `envdir` over a folder, and the variables around it.
+abbrev pub EnvdirEnds : {E : Type 0} (folder_at : List ℕ → Option (List File)) (around : Option (List Binding)) (told : E → Option (List ℕ)) (past now : Option (List Start)) (dir program : List ℕ) (arguments : List (List ℕ)) (status : ℕ) (faults tells : Counted E) → Type 0
+EnvdirEnds folder_at around told past now dir program arguments status faults tells =
+    StartsOne (folder_at dir) around past now program arguments status faults tells
+    ⊎ StartsNone (folder_at dir) around told past now dir program arguments status faults tells

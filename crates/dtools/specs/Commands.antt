@@ -1,6 +1,8 @@
 -- How the program ends, by the name of the command and the words after it.
 use Rattle.std.specs.Prelude.{◌≡◌, ◌≢◌, ◌<◌, ◌-◌, ℕ, List, drop, length, slice_get, codes, IfSome, Option}
 use Rattle.tai_status.specs.Label.{Tai64n}
+use Rattle.env_title.specs.Env.{Binding}
+use Rattle.env_title.specs.Files.{File}
 use Rattle.tai_status.specs.Counted.{device_of, fault_count}
 use Rattle.dtools.specs.Told.{RefusesWords, SimEnds, TableEnds, StampsEnd}
 use Rattle.dtools.specs.Title.{TitleEnds}
@@ -13,9 +15,9 @@ abbrev pub NamesNoCommand : List ℕ → Type 0
 NamesNoCommand word = (word ≢ codes "sim") × (word ≢ codes "tai64n") × (word ≢ codes "readproctitle")
     × (word ≢ codes "envdir") × (word ≢ codes "trace")
 
--- The command of this name was given these words and ended with a status. The functions tell what the devices hold and what the
--- starter started.
-pub record CommandEnds {D W E C S : Type 0} (remaining : D → Option (List ℕ)) (written : W → Option (List ℕ)) (told : E → Option (List ℕ)) (readings : C → Option (List Tai64n)) (starts : S → Option (List Start)) (name : List ℕ) (words : List (List ℕ)) (status : ℕ) (old new : Devices D W E C) (starter starter_after : S) : Type 0 where
+-- The command of this name was given these words and ended with a status. The functions tell what files, folders and devices
+-- hold, and what the starter started.
+pub record CommandEnds {D W E C S : Type 0} (file_at : List ℕ → Option (List ℕ)) (folder_at : List ℕ → Option (List File)) (around : Option (List Binding)) (remaining : D → Option (List ℕ)) (written : W → Option (List ℕ)) (told : E → Option (List ℕ)) (readings : C → Option (List Tai64n)) (starts : S → Option (List Start)) (name : List ℕ) (words : List (List ℕ)) (status : ℕ) (old new : Devices D W E C) (starter starter_after : S) : Type 0 where
   pub unknown : NamesNoCommand name → RefusesWords told status old new
   pub sim : name ≡ codes "sim" → length words ≡ 0 → SimEnds remaining written told status old new
   pub sim_table : name ≡ codes "sim" → length words ≡ 1 → IfSome (slice_get words 0) (λ word. word ≡ codes "table")
@@ -30,9 +32,9 @@ pub record CommandEnds {D W E C S : Type 0} (remaining : D → Option (List ℕ)
       TitleEnds remaining written told (length word) status old.reader new.reader old.writer new.writer old.faults new.faults)
   pub envdir_usage : name ≡ codes "envdir" → length words < 2 → RefusesWords told status old new × (starter_after ≡ starter)
   pub envdir : name ≡ codes "envdir" → IfSome (slice_get words 0) (λ dir. IfSome (slice_get words 1) (λ program.
-      EnvdirEnds told (starts starter) (starts starter_after) dir program (drop 2 words) status old.faults new.faults))
+      EnvdirEnds folder_at around told (starts starter) (starts starter_after) dir program (drop 2 words) status old.faults new.faults))
   pub envdir_silent : name ≡ codes "envdir" → (new.reader ≡ old.reader) × (new.writer ≡ old.writer) × (new.clock ≡ old.clock)
   pub trace_usage : name ≡ codes "trace" → length words ≡ 0 → RefusesWords told status old new
   pub trace : name ≡ codes "trace" → (new.reader ≡ old.reader) × (new.clock ≡ old.clock)
-      × TraceEnds written told status old.writer new.writer old.faults new.faults
+      × TraceEnds file_at written told words status old.writer new.writer old.faults new.faults
   pub no_child : name ≢ codes "envdir" → starter_after ≡ starter

@@ -1,5 +1,5 @@
 -- What `trace` prints of the text of a trace, what its word after `--break` means, and what it tells of its faults.
-use Rattle.std.specs.Prelude.{◌≡◌, ◌≢◌, ℕ, ◌⊎◌, List, [], ◌∷◌, ◌++◌, codes, decimal, Option, Some, None, Err}
+use Rattle.std.specs.Prelude.{◌≡◌, ◌≢◌, ◌<◌, ◌^◌, ⊤, ℕ, ◌⊎◌, List, [], ◌∷◌, ◌++◌, codes, decimal, Option, Some, None, Err}
 use Rattle.std.specs.Io.KnownBytes.{Appends}
 use Rattle.tai_status.specs.Counted.{Rose, AppendsFront, device_of, fault_count}
 use Rattle.tai_status.specs.declared.counted.Counted.{Counted}
@@ -13,7 +13,9 @@ use Rattle.sup_trace.specs.Text.{record_digits, trace_text}
 use Rattle.sup_trace.specs.Reading.{kind_name, told_from}
 use Rattle.sup_trace.specs.Explained.{explained}
 use Rattle.sup_trace.specs.Breaks.{IsFirstBreak, HasNoBreak}
+use Rattle.trace_words.specs.Words.{asked_of}
 use Rattle.dtools.specs.Sim.{printed}
+use Rattle.dtools.specs.Around.{IsHeld}
 use Rattle.dtools.specs.Told.{Tells, usage_text}
 use Rattle.dtools.specs.declared.fault.TraceTrouble.{TraceTrouble}
 use Rattle.dtools.specs.declared.fault.TraceTrouble.TheVariants as trouble
@@ -25,6 +27,17 @@ abbrev pub break_text : Break → List ℕ
 break_text (break.Byte byte) = codes "byte:" ++ byte_text byte
 break_text (break.Phase phase) = codes "phase:" ++ phase_name phase
 break_text (break.Signal sig) = codes "signal:" ++ signal_name sig
+
+-- A word that may be there names this break, where there is one. A byte is less than 256.
+abbrev pub NamesBreak : Option (List ℕ) → Option Break → Type 0
+NamesBreak None None = ⊤
+NamesBreak (Some word) (Some (break.Byte byte)) = (byte < 2 ^ 8) × (word ≡ break_text (break.Byte byte))
+NamesBreak (Some word) (Some at) = word ≡ break_text at
+NamesBreak _ _ = ⊥
+
+-- Words ask for this file, and for this break where they have one.
+abbrev pub AskFor : (words : List (List ℕ)) (file : List ℕ) (at : Option Break) → Type 0
+AskFor words file at = (word : Option (List ℕ)) × ((asked_of words ≡ Some (file, word)) × NamesBreak word at)
 
 -- What is printed
 
@@ -89,26 +102,57 @@ TraceCause (trouble.Refused fault) text at unwritten failed held holds =
 TraceCause trouble.OutOfMemory text at unwritten failed held holds = unwritten
 TraceCause trouble.Write text at unwritten failed held holds = failed × ShowsFront text at held holds
 
--- Trouble with a text is told, as what it comes from.
-pub record TellsTrouble (unwritten failed : Type 0) (held holds : Option (List ℕ)) (heard hears : Option (List ℕ)) (failures fails : ℕ) : Type 0 where
+-- How `trace` ends
+
+-- What is printed of the trace in a file was written.
+pub record ShowsFile (file : Option (List ℕ)) (at : Option Break) (held holds : Option (List ℕ)) : Type 0 where
+  pub text : List ℕ
+  pub text_is : IsHeld file text
+  pub shows : Shows text at held holds
+
+-- Trouble with a file is told, as what it comes from.
+pub record TellsTrouble (file : Option (List ℕ)) (at : Option Break) (unwritten failed : Type 0) (held holds : Option (List ℕ)) (heard hears : Option (List ℕ)) (failures fails : ℕ) : Type 0 where
   pub why : TraceTrouble
   pub text : List ℕ
-  pub at : Option Break
+  pub text_is : why ≢ trouble.OutOfMemory → IsHeld file text
   pub cause : TraceCause why text at unwritten failed held holds
   pub told : Tells heard hears failures fails (trouble_text why)
 
 -- It is told of a file that it can't be read, and nothing is written.
-pub record TellsUnread (unwritten : Type 0) (heard hears : Option (List ℕ)) (failures fails : ℕ) : Type 0 where
-  pub file : List ℕ
+pub record TellsUnread (file_at : List ℕ → Option (List ℕ)) (file : List ℕ) (unwritten : Type 0) (heard hears : Option (List ℕ)) (failures fails : ℕ) : Type 0 where
+  pub unknown : file_at file ≡ None
   pub before : unwritten
   pub told : Tells heard hears failures fails (unread_text file)
 
--- How `trace` ends, by its status. Words are wrong, and nothing is written; what is printed of a trace was written to the
--- end; or there was trouble, or a file that can't be read, and that is told.
-pub record TraceEnds {W E : Type 0} (written : W → Option (List ℕ)) (told : E → Option (List ℕ)) (status : ℕ) (old new : Counted W) (faults_old faults_new : Counted E) : Type 0 where
-  pub done : status ≡ 0 → (text : List ℕ) × ((at : Option Break) × Shows text at (written (device_of old)) (written (device_of new)))
-  pub usage : status ≡ 100 → (new ≡ old) × Tells (told (device_of faults_old)) (told (device_of faults_new)) (fault_count faults_old) (fault_count faults_new) usage_text
-  pub trouble : status ≡ 111
-      → TellsTrouble (new ≡ old) (Rose (fault_count old) (fault_count new)) (written (device_of old)) (written (device_of new)) (told (device_of faults_old)) (told (device_of faults_new)) (fault_count faults_old) (fault_count faults_new)
-      ⊎ TellsUnread (new ≡ old) (told (device_of faults_old)) (told (device_of faults_new)) (fault_count faults_old) (fault_count faults_new)
-  pub other : (status ≡ 0) ⊎ ((status ≡ 100) ⊎ (status ≡ 111))
+-- `trace` over this file and this break, by its status.
+pub record FileEnds {W E : Type 0} (file_at : List ℕ → Option (List ℕ)) (written : W → Option (List ℕ)) (told : E → Option (List ℕ)) (file : List ℕ) (at : Option Break) (status : ℕ) (old new : Counted W) (faults tells : Counted E) : Type 0 where
+  pub done : status ≡ 0 → ShowsFile (file_at file) at (written (device_of old)) (written (device_of new))
+  pub trouble : status ≢ 0 → (status ≡ 111)
+      × (TellsTrouble (file_at file) at (new ≡ old) (Rose (fault_count old) (fault_count new)) (written (device_of old)) (written (device_of new)) (told (device_of faults)) (told (device_of tells)) (fault_count faults) (fault_count tells)
+      ⊎ TellsUnread file_at file (new ≡ old) (told (device_of faults)) (told (device_of tells)) (fault_count faults) (fault_count tells))
+
+-- Words ask for nothing; nothing is written, and the usage is told.
+pub record TellsUsage {W E : Type 0} (told : E → Option (List ℕ)) (words : List (List ℕ)) (status : ℕ) (old new : Counted W) (faults tells : Counted E) : Type 0 where
+  pub status_is : status ≡ 100
+  pub wrong : (file : List ℕ) (at : Option Break) → AskFor words file at → ⊥
+  pub unwritten : new ≡ old
+  pub told_usage : Tells (told (device_of faults)) (told (device_of tells)) (fault_count faults) (fault_count tells) usage_text
+
+-- There was no memory for the words; nothing is written, and that is told.
+pub record TellsStarved {W E : Type 0} (told : E → Option (List ℕ)) (status : ℕ) (old new : Counted W) (faults tells : Counted E) : Type 0 where
+  pub status_is : status ≡ 111
+  pub unwritten : new ≡ old
+  pub told_memory : Tells (told (device_of faults)) (told (device_of tells)) (fault_count faults) (fault_count tells) (trouble_text trouble.OutOfMemory)
+
+-- What words ask for was done, or there was trouble with it.
+pub record DoesAsked {W E : Type 0} (file_at : List ℕ → Option (List ℕ)) (written : W → Option (List ℕ)) (told : E → Option (List ℕ)) (words : List (List ℕ)) (status : ℕ) (old new : Counted W) (faults tells : Counted E) : Type 0 where
+  pub file : List ℕ
+  pub at : Option Break
+  pub asked : AskFor words file at
+  pub ends : FileEnds file_at written told file at status old new faults tells
+
+-- `trace`, by what its words ask for.
+abbrev pub TraceEnds : {W E : Type 0} (file_at : List ℕ → Option (List ℕ)) (written : W → Option (List ℕ)) (told : E → Option (List ℕ)) (words : List (List ℕ)) (status : ℕ) (old new : Counted W) (faults tells : Counted E) → Type 0
+TraceEnds file_at written told words status old new faults tells =
+    DoesAsked file_at written told words status old new faults tells
+    ⊎ (TellsUsage told words status old new faults tells ⊎ TellsStarved told status old new faults tells)

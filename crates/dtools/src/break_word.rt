@@ -1,8 +1,8 @@
 //! The word after `--break`.
-ghost use Rattle.std.specs.Prelude.{◌≡◌, ◌<◌, ◌^◌, ℕ, IfSome, Some};
+ghost use Rattle.std.specs.Prelude.{◌≡◌, ◌<◌, ◌^◌, ℕ, IfSome, IsNone, Some, Option, option_map};
 ghost use Rattle.sup_core.specs.declared.machine.Phase.{Phase};
 ghost use Rattle.sup_core.specs.declared.asks.Sig.{Sig};
-ghost use Rattle.dtools.specs.Traced.{break_text};
+ghost use Rattle.dtools.specs.Traced.{NamesBreak, break_text};
 
 use sup_core::{read_byte, read_phase, read_sig};
 use sup_trace::Break;
@@ -24,4 +24,18 @@ pub fn read_break(word: &[u8]) -> Option<Break>
         return Some(Break::Signal(read_sig(text)?));
     }
     None
+}
+
+/// The break that the word after `--break` names, where there is one; `None` where it names none.
+pub fn read_spec(spec: Option<&str>) -> Option<Option<Break>>
+    ensures named { IfSome result (λ at. NamesBreak (option_map (λ word. word.now) spec.entry) at) }
+    ensures wrong { IsNone result → (at : Option Break) → NamesBreak (option_map (λ word. word.now) spec.entry) at → ⊥ }
+{
+    let Some(word) = spec else {
+        return Some(None);
+    };
+    match read_break(word.as_bytes()) {
+        Some(at) => Some(Some(at)),
+        None => None,
+    }
 }

@@ -8,11 +8,10 @@ use crate::readproctitle::run_readproctitle;
 use crate::report::usage;
 use crate::sim::run_sim;
 use crate::starter::Starter;
+use crate::surroundings::Surroundings;
 use crate::tai64n::run_tai64n;
 use crate::trace::run_trace;
 use std::alloc::Allocator;
-use std::env::Env;
-use std::fs::Files;
 use std::io::{Read, Write};
 use tai_status::TimeSource;
 
@@ -27,14 +26,14 @@ fn run_command<R, S, A, D, W, E, C>(
     devices: &mut Devices<D, W, E, C>,
 ) -> u8
 where
-    R: Files + Env + AllocGlobal,
+    R: Surroundings + AllocGlobal,
     S: Starter,
     A: Allocator + Clone,
     D: Read,
     W: Write,
     E: Write,
     C: TimeSource,
-    ensures ends { CommandEnds D.remaining W.contents E.contents C.readings S.starts name.now (map (λ word. word.now) words.now) result devices.old devices.new starter.old starter.new }
+    ensures ends { CommandEnds (R.file_at rt.now) (R.folder_at rt.now) (R.known_variables rt.now) D.remaining W.contents E.contents C.readings S.starts name.now (map (λ word. word.now) words.now) result devices.old devices.new starter.old starter.new }
 {
     let Devices {
         reader,
@@ -62,7 +61,7 @@ pub fn run<R, S, A, D, W, E, C>(
     devices: &mut Devices<D, W, E, C>,
 ) -> u8
 where
-    R: Files + Env + AllocGlobal,
+    R: Surroundings + AllocGlobal,
     S: Starter,
     A: Allocator + Clone,
     D: Read,
@@ -70,7 +69,7 @@ where
     E: Write,
     C: TimeSource,
     ensures usage { length words.now ≡ 0 → RefusesWords E.contents result devices.old devices.new × (starter.new ≡ starter.old) }
-    ensures command { IfSome (slice_get words.now 0) (λ name. CommandEnds D.remaining W.contents E.contents C.readings S.starts name.now
+    ensures command { IfSome (slice_get words.now 0) (λ name. CommandEnds (R.file_at rt.now) (R.folder_at rt.now) (R.known_variables rt.now) D.remaining W.contents E.contents C.readings S.starts name.now
         (map (λ word. word.now) (drop 1 words.now)) result devices.old devices.new starter.old starter.new) }
 {
     match words.split_first() {

@@ -5,17 +5,16 @@ ghost use Rattle.env_title.specs.Env.{Binding};
 ghost use Rattle.env_title.specs.Files.{env_after};
 ghost use Rattle.env_title.specs.Faults.{first_fault};
 ghost use Rattle.dtools.specs.Told.{Tells, usage_text};
+ghost use Rattle.dtools.specs.Around.{IsHeld};
 ghost use Rattle.dtools.specs.Child.{Started, start_of, name_of, IsFirstFault, HasNoChild, EnvdirEnds, envdir_told};
 
 use crate::fault::EnvdirFault;
-use crate::folder::{FolderFile, env_files, name_at, read_folder};
+use crate::folder::{FolderFile, env_files, name_at};
 use crate::report::{TROUBLE, tell, tell_parts, usage};
 use crate::starter::{StartFault, Starter};
-use crate::variables::machine_env;
-use env_title::{Env as EnvVariables, EnvFault, EnvFile, apply};
+use crate::surroundings::Surroundings;
+use env_title::{Env, EnvFault, EnvFile, apply};
 use std::alloc::Allocator;
-use std::env::Env;
-use std::fs::Files;
 use std::io::{Error, ErrorKind, Write};
 use tai_status::Counted;
 
@@ -32,16 +31,16 @@ fn fault_of(error: Error) -> EnvdirFault
 }
 
 /// The environment that files make of this one.
-fn changed_env<R: Env, A: Allocator + Clone>(
+fn changed_env<R: Surroundings, A: Allocator + Clone>(
     rt: &R,
     alloc: &A,
     files: &[EnvFile<'_>],
-) -> Result<EnvVariables<A>, EnvdirFault>
-    ensures ok { IfOk result (λ after. (variables : List Binding) × ((first_fault files.now ≡ None) × (after ≡ env_after files.now variables))) }
+) -> Result<Env<A>, EnvdirFault>
+    ensures ok { IfOk result (λ after. (variables : List Binding) × (IsHeld (R.known_variables rt.now) variables × ((first_fault files.now ≡ None) × (after ≡ env_after files.now variables)))) }
     ensures first { IfErr result (λ why. IsFirstFault why files.now) }
     ensures neither { IfErr result (λ why. (why ≢ EnvdirFault.Unread) × (why ≢ EnvdirFault.NotRun)) }
 {
-    let Ok(before) = machine_env(rt, alloc) else {
+    let Ok(before) = rt.variables(alloc) else {
         return Err(EnvdirFault::OutOfMemory);
     };
     let Ok(own) = alloc.clone() else {
@@ -57,7 +56,7 @@ fn changed_env<R: Env, A: Allocator + Clone>(
 
 /// Starts a child in the environment that the files of a folder make of this one, and waits for its
 /// end. Answers its status.
-fn run_child<R: Env, S: Starter, A: Allocator + Clone>(
+fn run_child<R: Surroundings, S: Starter, A: Allocator + Clone>(
     rt: &R,
     starter: &mut S,
     alloc: &A,
@@ -65,9 +64,9 @@ fn run_child<R: Env, S: Starter, A: Allocator + Clone>(
     program: &str,
     arguments: &[&str],
 ) -> Result<u8, EnvdirFault>
-    ensures ok { IfOk result (λ status. (variables : List Binding) × ((first_fault folder.now ≡ None) × Started (S.starts starter.old) (S.starts starter.new)
-        (start_of program.now (map (λ word. word.now) arguments.now) folder.now (env_after folder.now variables) (Ok status) ∷ []))) }
-    ensures none { IfErr result (λ why. HasNoChild (S.starts starter.old) (S.starts starter.new) program.now (map (λ word. word.now) arguments.now) folder.now why) }
+    ensures ok { IfOk result (λ status. (variables : List Binding) × (IsHeld (R.known_variables rt.now) variables × ((first_fault folder.now ≡ None) × Started (S.starts starter.old) (S.starts starter.new)
+        (start_of program.now (map (λ word. word.now) arguments.now) folder.now (env_after folder.now variables) (Ok status) ∷ [])))) }
+    ensures none { IfErr result (λ why. HasNoChild (R.known_variables rt.now) (S.starts starter.old) (S.starts starter.new) program.now (map (λ word. word.now) arguments.now) folder.now why) }
     ensures first { IfErr result (λ why. IsFirstFault why folder.now) }
     ensures read { IfErr result (λ why. why ≢ EnvdirFault.Unread) }
 {
@@ -136,7 +135,7 @@ fn report<E: Write>(
 
 /// Starts a program with arguments in the environment that the files of a folder make of this one, and answers its status; or
 /// tells why there is none.
-fn run_in_folder<R: Files + Env, S: Starter, A: Allocator + Clone, E: Write>(
+fn run_in_folder<R: Surroundings, S: Starter, A: Allocator + Clone, E: Write>(
     rt: &R,
     starter: &mut S,
     alloc: &A,
@@ -145,9 +144,9 @@ fn run_in_folder<R: Files + Env, S: Starter, A: Allocator + Clone, E: Write>(
     arguments: &[&str],
     faults: &mut Counted<E>,
 ) -> u8
-    ensures ends { EnvdirEnds E.contents (S.starts starter.old) (S.starts starter.new) dir.now program.now (map (λ word. word.now) arguments.now) result faults.old faults.new }
+    ensures ends { EnvdirEnds (R.folder_at rt.now) (R.known_variables rt.now) E.contents (S.starts starter.old) (S.starts starter.new) dir.now program.now (map (λ word. word.now) arguments.now) result faults.old faults.new }
 {
-    let folder = match read_folder(rt, alloc, dir) {
+    let folder = match rt.read_folder(alloc, dir) {
         Ok(folder) => folder,
         Err(error) => return report(fault_of(error), dir, program, "", faults),
     };
@@ -162,7 +161,7 @@ fn run_in_folder<R: Files + Env, S: Starter, A: Allocator + Clone, E: Write>(
 /// (<https://cr.yp.to/daemontools/envdir.html>). The program is sought in the changed `PATH`. Answers the
 /// status of the child, where a signal ended it 111; 100 for less than two words; 111 where the folder
 /// can't be read or applied, where the child can't be started, and for want of memory.
-pub fn run_envdir<R: Files + Env, S: Starter, A: Allocator + Clone, E: Write>(
+pub fn run_envdir<R: Surroundings, S: Starter, A: Allocator + Clone, E: Write>(
     rt: &R,
     starter: &mut S,
     alloc: A,
@@ -173,7 +172,7 @@ pub fn run_envdir<R: Files + Env, S: Starter, A: Allocator + Clone, E: Write>(
         × Tells (E.contents (device_of faults.old)) (E.contents (device_of faults.new)) (fault_count faults.old) (fault_count faults.new) usage_text }
     // A child was started and its status is answered; or none was, and it is told why.
     ensures ends { IfSome (slice_get words.now 0) (λ dir. IfSome (slice_get words.now 1) (λ program.
-        EnvdirEnds E.contents (S.starts starter.old) (S.starts starter.new) dir.now program.now (map (λ word. word.now) (drop 2 words.now)) result faults.old faults.new)) }
+        EnvdirEnds (R.folder_at rt.now) (R.known_variables rt.now) E.contents (S.starts starter.old) (S.starts starter.new) dir.now program.now (map (λ word. word.now) (drop 2 words.now)) result faults.old faults.new)) }
 {
     let [dir, program, arguments @ ..] = words else {
         return usage(faults);

@@ -1,9 +1,10 @@
 use crate::envdir::run_envdir;
 use crate::starter::SystemStarter;
+use crate::surroundings::Surroundings;
 use crate::variables::machine_env;
 use bumpalo::Bump;
 use std::env::{Env, FillError};
-use std::fs::{Files, Permissions};
+use std::fs::Permissions;
 use std::os::unix::fs::PermissionsExt;
 use std::process::{Abort, Processes};
 use std::test::Fail;
@@ -11,7 +12,7 @@ use std::{env, fs, process};
 use tai_status::Counted;
 
 /// Runs `envdir` and takes what it told, and its status.
-fn envdir<R: Files + Env + Processes + AllocGlobal>(rt: &R, words: &[&str]) -> (Vec<u8>, u8) {
+fn envdir<R: Surroundings + Processes + AllocGlobal>(rt: &R, words: &[&str]) -> (Vec<u8>, u8) {
     let mut starter = SystemStarter::new(rt);
     let mut faults = Counted::new(Vec::new(rt.alloc()));
     let status = run_envdir(rt, &mut starter, rt.alloc(), words, &mut faults);
@@ -72,7 +73,7 @@ fn changes_the_environment(rt: HostRuntime) -> Result<(), Fail> {
 }
 
 /// Checks the status of a child that is a shell with this script.
-fn check_child<R: Abort + Files + Env + Processes + AllocGlobal>(
+fn check_child<R: Abort + Surroundings + Processes + AllocGlobal>(
     rt: &R,
     dir: &str,
     script: &str,

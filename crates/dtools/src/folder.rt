@@ -27,10 +27,8 @@ impl<A: Allocator> Model for FolderFile<A> {
     ghost view = { λ file. record { name = string_bytes file.name; bytes = file.bytes.items } };
 }
 
-/// Reads the files of a folder, in byte order of their names. Those whose names begin with a dot are
-/// passed over. A name that is not text, a folder in the place of a file, and a file that can't be read
-/// are faults.
-pub fn read_folder<R: Files, A: Allocator + Clone>(
+/// The files of a folder on this machine, as `Surroundings` says.
+pub fn folder_files<R: Files, A: Allocator + Clone>(
     rt: &R,
     alloc: &A,
     dir: &str,
@@ -40,11 +38,17 @@ pub fn read_folder<R: Files, A: Allocator + Clone>(
     let mut files = Vec::new(alloc.clone()?);
     for name in visible_names(rt, alloc, dir)? {
         let path = path_in(alloc, dir, name.as_str())?;
-        let mut bytes = Vec::new(alloc.clone()?);
-        fs::open(rt, path.as_str())?.read_to_end(&mut bytes)?;
+        let bytes = file_bytes(rt, alloc.clone()?, path.as_str())?;
         files.push(FolderFile { name, bytes })?;
     }
     Ok(files)
+}
+
+/// All bytes of the file at a path on this machine.
+pub fn file_bytes<R: Files, A: Allocator>(rt: &R, alloc: A, path: &str) -> io::Result<Vec<u8, A>> {
+    let mut bytes = Vec::new(alloc);
+    fs::open(rt, path)?.read_to_end(&mut bytes)?;
+    Ok(bytes)
 }
 
 /// The names in a folder that do not begin with a dot, in byte order.

@@ -15,6 +15,7 @@ mod report;
 mod shown;
 mod sim;
 mod starter;
+mod surroundings;
 mod tai64n;
 mod trace;
 mod variables;

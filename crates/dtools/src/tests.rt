@@ -3,11 +3,10 @@ use crate::devices::Devices;
 use crate::readproctitle::run_readproctitle;
 use crate::sim::run_sim;
 use crate::starter::SystemStarter;
+use crate::surroundings::Surroundings;
 use crate::tai64n::run_tai64n;
 use bumpalo::Bump;
 use std::alloc::Global;
-use std::env::Env;
-use std::fs::Files;
 use std::io::Read;
 use std::process::{Abort, Processes};
 use std::test::Fail;
@@ -230,7 +229,7 @@ fn stamps_lines(rt: HostRuntime) {
 }
 
 /// Runs words over no input.
-fn words<R: Files + Env + Processes + AllocGlobal>(rt: &R, words: &[&str]) -> Ran {
+fn words<R: Surroundings + Processes + AllocGlobal>(rt: &R, words: &[&str]) -> Ran {
     let alloc = rt.alloc();
     let mut devices = Devices {
         reader: Counted::new(b"".as_slice()),

@@ -1,18 +1,16 @@
-ghost use Rattle.std.specs.Prelude.{◌≡◌, ◌≢◌, ◌⊎◌, ◌≤◌, ◌++◌, List, ℕ, length, codes, decimal, Err, OnOk, IfOk, IfErr, IsErrOf, Option};
+ghost use Rattle.std.specs.Prelude.{◌≡◌, ◌≢◌, [], length, map, OnOk, IfErr};
 ghost use Rattle.arrayvec.specs.ArrayString.{array_string_len};
-ghost use Rattle.tai_status.specs.Counted.{Rose, AppendsFront, device_of, fault_count};
-ghost use Rattle.dtools.specs.Told.{Tells, usage_text};
-ghost use Rattle.sup_trace.specs.declared.breaks.Break.{Break};
-ghost use Rattle.dtools.specs.Traced.{Shows, TraceCause, TraceEnds, trouble_text, unread_text};
+ghost use Rattle.tai_status.specs.Counted.{Rose, device_of, fault_count};
+ghost use Rattle.dtools.specs.Told.{Tells};
+ghost use Rattle.dtools.specs.Traced.{FileEnds, Shows, TellsUsage, TraceCause, TraceEnds, trouble_text, unread_text};
 
-use crate::break_word::read_break;
+use crate::break_word::read_spec;
 use crate::fault::TraceTrouble;
 use crate::report::{DONE, TROUBLE, push_number, tell, tell_parts, usage};
 use crate::shown::shown;
+use crate::surroundings::Surroundings;
 use arrayvec::ArrayString;
 use std::alloc::Allocator;
-use std::fs;
-use std::fs::Files;
 use std::io::{ErrorKind, Write};
 use sup_trace::{Break, kind_name, read_text};
 use tai_status::Counted;
@@ -98,16 +96,16 @@ pub fn trace_bytes<A: Allocator + Clone, W: Write, E: Write>(
 }
 
 /// Prints what the text in a file tells, and answers the status: that of `trace_bytes`, and 111 for a file that can't be read.
-fn trace_file<R: Files + AllocGlobal, W: Write, E: Write>(
+fn trace_file<R: Surroundings + AllocGlobal, W: Write, E: Write>(
     rt: &R,
     file: &str,
     at: Option<Break>,
     writer: &mut Counted<W>,
     faults: &mut Counted<E>,
 ) -> u8
-    ensures ends { TraceEnds W.contents E.contents result writer.old writer.new faults.old faults.new }
+    ensures ends { FileEnds (R.file_at rt.now) W.contents E.contents file.now at result writer.old writer.new faults.old faults.new }
 {
-    match fs::read(rt, file) {
+    match rt.read_file(rt.alloc(), file) {
         Ok(text) => trace_bytes(&rt.alloc(), &text, at, writer, faults),
         Err(fault) if fault.kind() == ErrorKind::OutOfMemory => {
             report(TraceTrouble::OutOfMemory, faults)
@@ -129,14 +127,14 @@ fn unread<E: Write>(file: &str, faults: &mut Counted<E>) -> u8
 /// or with `--break` the number of the first entry that is what SPEC names, as `read_break` reads it. Answers the status: 0;
 /// 100 for wrong words; 111 for a file that can't be read, a text that is refused, want of memory, and a fault of the writer.
 /// Words are looked at before SPEC, SPEC before the file, and the file before its text.
-pub fn run_trace<R: Files + AllocGlobal, W: Write, E: Write>(
+pub fn run_trace<R: Surroundings + AllocGlobal, W: Write, E: Write>(
     rt: &R,
     words: &[&str],
     writer: &mut Counted<W>,
     faults: &mut Counted<E>,
 ) -> u8
-    ensures no_words { length words.now ≡ 0 → result ≡ 100 }
-    ensures ends { TraceEnds W.contents E.contents result writer.old writer.new faults.old faults.new }
+    ensures no_words { length words.now ≡ 0 → TellsUsage E.contents [] result writer.old writer.new faults.old faults.new }
+    ensures ends { TraceEnds (R.file_at rt.now) W.contents E.contents (map (λ word. word.now) words.now) result writer.old writer.new faults.old faults.new }
 {
     if words.is_empty() {
         return usage(faults);
@@ -146,12 +144,8 @@ pub fn run_trace<R: Files + AllocGlobal, W: Write, E: Write>(
         Err(WordsFault::Wrong) => return usage(faults),
         Err(WordsFault::OutOfMemory) => return report(TraceTrouble::OutOfMemory, faults),
     };
-    let at = match asked.at {
-        None => None,
-        Some(spec) => match read_break(spec.as_bytes()) {
-            None => return usage(faults),
-            some => some,
-        },
+    let Some(at) = read_spec(asked.at) else {
+        return usage(faults);
     };
     trace_file(rt, asked.file, at, writer, faults)
 }

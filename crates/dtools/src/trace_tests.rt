@@ -1,7 +1,7 @@
 use crate::break_word::read_break;
+use crate::surroundings::Surroundings;
 use crate::trace::{run_trace, trace_bytes};
 use bumpalo::Bump;
-use std::fs::Files;
 use std::process::Abort;
 use std::test::Fail;
 use std::{env, fs};
@@ -29,7 +29,7 @@ struct Ran {
     status: u8,
 }
 
-fn trace<R: Files + AllocGlobal>(rt: &R, words: &[&str]) -> Ran {
+fn trace<R: Surroundings + AllocGlobal>(rt: &R, words: &[&str]) -> Ran {
     let mut writer = Counted::new(Vec::new(rt.alloc()));
     let mut faults = Counted::new(Vec::new(rt.alloc()));
     let status = run_trace(rt, words, &mut writer, &mut faults);
@@ -41,7 +41,7 @@ fn trace<R: Files + AllocGlobal>(rt: &R, words: &[&str]) -> Ran {
 }
 
 /// Checks what `trace` answers to words.
-fn check<R: Abort + Files + AllocGlobal>(
+fn check<R: Abort + Surroundings + AllocGlobal>(
     rt: &R,
     words: &[&str],
     out: &str,

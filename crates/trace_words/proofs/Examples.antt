@@ -19,7 +19,7 @@ file_behind_dashes : asked_of (codes "--" ∷ codes "--break" ∷ []) ≡ Some (
 unfolding clap_on_literals asked_of
 file_behind_dashes = refl
 
-no_word : asked_of [] ≡ None
+pub no_word : asked_of [] ≡ None
 unfolding clap_on_literals asked_of
 no_word = refl
 

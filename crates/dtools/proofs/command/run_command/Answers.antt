@@ -76,7 +76,7 @@ returns-in-envdir g c =
         readproctitle_usage = search rules;
         readproctitle = search rules;
         envdir_usage = λ is few. let told = c.run_envdir.ensures.usage (subst (λ (n : ℕ). n < 2) count few) in ((told.0, refl, refl, refl, told.2), told.1);
-        envdir = λ is. two_words (λ word. word.now) words (λ dir program rest. EnvdirEnds g.E.Write.contents (g.S.Starter.starts c.args.starter.now)
+        envdir = λ is. two_words (λ word. word.now) words (λ dir program rest. EnvdirEnds (g.R.Surroundings.folder_at c.args.rt.now) (g.R.Surroundings.known_variables c.args.rt.now) g.E.Write.contents (g.S.Starter.starts c.args.starter.now)
             (g.S.Starter.starts c.run_envdir.new.starter) dir program rest c.run_envdir.result c.args.devices.now.faults c.run_envdir.new.faults) c.run_envdir.ensures.ends;
         envdir_silent = search rules;
         trace_usage = search rules;

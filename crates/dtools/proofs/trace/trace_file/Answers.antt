@@ -5,8 +5,6 @@ pub returns-in-Err-2 : goal.returns-in-Err-2
 returns-in-Err-2 g c = record {
   ends = record {
     done = search rules;
-    usage = search rules;
-    trouble = λ is. inr (record { file = c.args.file.now; before = refl; told = c.unread.ensures.told });
-    other = search rules;
+    trouble = λ is. (c.unread.ensures.status, inr (record { unknown = c.in-Err-2.ensures.missing (search rules); before = refl; told = c.unread.ensures.told }));
   };
 }

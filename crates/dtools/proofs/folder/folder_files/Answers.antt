@@ -5,7 +5,7 @@ use Rattle.std.proofs.lemmas.Iterator.Consumers.{YieldsList-end}
 use Rattle.std.specs.Prelude.{string_bytes}
 use Rattle.dtools.specs.Child.{AreInByteOrder}
 use Rattle.dtools.proofs.Children.{in_byte_order}
-use Rattle.dtools.proofs.folder.read_folder.Goals as goal
+use Rattle.dtools.proofs.folder.folder_files.Goals as goal
 
 pub returns : goal.returns
 returns g c =

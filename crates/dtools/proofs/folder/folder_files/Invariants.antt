@@ -1,6 +1,6 @@
 use Rattle.std.proofs.Common.{◌≡◌, map}
 use Rattle.std.specs.Prelude.{string_bytes}
-use Rattle.dtools.proofs.folder.read_folder.Given as goal
+use Rattle.dtools.proofs.folder.folder_files.Given as goal
 
 -- the files so far have the names so far
 abbrev pub invariant-loop-name : goal.invariant-loop-name
