@@ -16,7 +16,9 @@ pub trait Surroundings {
     ghost use Rattle.dtools.specs.Child.{AreInByteOrder};
 
     ghost file_at: { Self → List ℕ → Option (List ℕ) } = { λ _ _. None };
+
     ghost folder_at: { Self → List ℕ → Option (List File) } = { λ _ _. None };
+
     ghost known_variables: { Self → Option (List Binding) } = { λ _. None };
 
     /// All bytes of the file at a path.

@@ -1,10 +1,14 @@
 use crate::break_word::read_break;
+use crate::folder::FolderFile;
 use crate::surroundings::Surroundings;
 use crate::trace::{run_trace, trace_bytes};
 use bumpalo::Bump;
+use env_title::Env;
+use std::alloc::{Alloc, AllocError, Allocator, Global};
+use std::io::ErrorKind;
 use std::process::Abort;
 use std::test::Fail;
-use std::{env, fs};
+use std::{env, fs, io};
 use sup_trace::Break;
 use tai_status::Counted;
 use test_devices::Tight;
@@ -20,6 +24,69 @@ const EXPLAINED: &str =
     "1 byte d: took TERM:4711 CONT:4711 record:400000000000000b00000000671200000064 -> up
 state up 400000000000000b00000000671200000064
 ";
+
+/// A machine that holds one file and no variable, and tells contracts so.
+#[derive(Drop)]
+struct OneFile<'a> {
+    alloc: Global,
+    path: &'a str,
+    bytes: &'a [u8],
+}
+
+impl Alloc for OneFile<'_> {
+    type A = Global;
+
+    fn alloc(&self) -> Global {
+        self.alloc
+    }
+}
+
+impl Surroundings for OneFile<'_> {
+    ghost use Rattle.std.specs.Prelude.{[], Some, None, bytes_eq, if◌then◌else◌};
+
+    ghost file_at = { λ around path. if bytes_eq path around.path.now then Some around.bytes.now else None };
+
+    ghost known_variables = { λ _. Some [] };
+
+    fn read_file<A: Allocator>(&self, alloc: A, path: &str) -> io::Result<Vec<u8, A>> {
+        if path != self.path {
+            return Err(ErrorKind::NotFound.into());
+        }
+        let mut bytes = Vec::new(alloc);
+        bytes.extend_from_slice(self.bytes)?;
+        Ok(bytes)
+    }
+
+    fn read_folder<A: Allocator + Clone>(
+        &self,
+        _alloc: &A,
+        _dir: &str,
+    ) -> io::Result<Vec<FolderFile<A>, A>> {
+        Err(ErrorKind::NotFound.into())
+    }
+
+    fn variables<A: Allocator + Clone>(&self, alloc: &A) -> Result<Env<A>, AllocError> {
+        Ok(Env::new(alloc.clone()?))
+    }
+}
+
+#[test]
+fn reads_the_file_that_words_name(rt: HostRuntime) {
+    let machine = OneFile {
+        alloc: rt.alloc(),
+        path: "t",
+        bytes: TRACE,
+    };
+    let ran = trace(&machine, &["--break", "phase:up", "t"]);
+    assert_eq!(rt; ran.out.as_slice(), b"break 1\n".as_slice());
+    assert_eq!(rt; ran.status, 0);
+    let ran = trace(&machine, &["u"]);
+    assert_eq!(rt;
+        ran.told.as_slice(),
+        b"trace: unable to read u\n".as_slice()
+    );
+    assert_eq!(rt; ran.status, 111);
+}
 
 /// What a run of `trace` wrote, what it told, and its status.
 #[derive(Drop)]

@@ -65,3 +65,6 @@ fn match_words<'a>(alloc: Global, words: &'a [&'a str]) -> Result<ArgMatches<'a>
         .arg(at)?
         .try_get_matches_from(words)
 }
+
+#[cfg(test)]
+mod tests;
