@@ -1,5 +1,5 @@
 -- What words ask for, from what a parse of them gave.
-use Rattle.std.proofs.Common.{◌≡◌, ◌∙◌, List, ℕ, [], ◌∷◌, Option, Some, None, codes, refl, sym, option_map}
+use Rattle.std.proofs.Common.{◌≡◌, ◌∙◌, List, ℕ, [], ◌∷◌, Option, Some, None, codes, refl}
 use Rattle.clap.specs.Words.{IsAmong, Row, fault_of, first_of, matches_of}
 use Rattle.clap.specs.Kinds.{Kinds}
 use Rattle.clap.specs.declared.error.kind.ErrorKind.{ErrorKind}

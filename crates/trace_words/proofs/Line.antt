@@ -1,6 +1,6 @@
 -- The command line of `trace`, as the builder makes it.
-use Rattle.std.proofs.Common.{◌≡◌, ◌∙◌, ap, codes, refl, true}
-use Rattle.clap.specs.Words.{App, app_of, is_simple, new_app}
+use Rattle.std.proofs.Common.{◌≡◌, ◌∙◌, ap, refl, true}
+use Rattle.clap.specs.Words.{App, app_of, is_simple}
 use Rattle.clap.specs.Faults.{is_simple_and_free}
 use Rattle.clap.specs.Simple.{app_of_fields}
 use Rattle.clap.specs.declared.builder.command.Command.{Command}

@@ -11,8 +11,17 @@ fn takes_words(rt: HostRuntime) {
         at: Some("byte:d"),
     };
     assert_eq!(rt; parse_words(rt.alloc(), &["t"]), Ok(file));
-    assert_eq!(rt; parse_words(rt.alloc(), &["t", "--break", "byte:d"]), Ok(with_break));
-    assert_eq!(rt; parse_words(rt.alloc(), &["--break=byte:d", "t"]), Ok(with_break));
-    assert_eq!(rt; parse_words(rt.alloc(), &["t", "u"]), Err(WordsFault::Wrong));
+    assert_eq!(rt;
+        parse_words(rt.alloc(), &["t", "--break", "byte:d"]),
+        Ok(with_break)
+    );
+    assert_eq!(rt;
+        parse_words(rt.alloc(), &["--break=byte:d", "t"]),
+        Ok(with_break)
+    );
+    assert_eq!(rt;
+        parse_words(rt.alloc(), &["t", "u"]),
+        Err(WordsFault::Wrong)
+    );
     assert_eq!(rt; parse_words(rt.alloc(), &[]), Err(WordsFault::Wrong));
 }

@@ -1,8 +1,6 @@
-use Rattle.std.proofs.Common.{◌≡◌, ◌∙◌, ap, subst, sym, rules, map, List, ℕ, codes, inl, inr, Err, Ok}
-use Rattle.std.specs.Prelude.{Result, MatchResult, IfOk}
-use Rattle.clap.specs.Words.{FailsBy, HasKind, fault_of, found_of, matches_of, rows_of}
+use Rattle.std.proofs.Common.{◌∙◌, rules, codes, inl, inr}
+use Rattle.clap.specs.Words.{found_of, rows_of}
 use Rattle.clap.proofs.WalkLemmas.{first_value-rows}
-use Rattle.trace_words.specs.Words.{asked_of, trace_line}
 use Rattle.trace_words.proofs.Asked.{asked-found, asked-refused, asked-without_file}
 use Rattle.trace_words.proofs.parse_words.Goals as goal
 

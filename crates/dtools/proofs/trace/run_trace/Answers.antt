@@ -1,4 +1,4 @@
-use Rattle.std.proofs.Common.{◌≡◌, map, subst, sym, refl, inl, inr, List, ℕ, [], rules}
+use Rattle.std.proofs.Common.{subst, sym, refl, inl, inr, List, ℕ, [], rules}
 use Rattle.sup_trace.specs.declared.breaks.Break.{Break}
 use Rattle.std.specs.Prelude.{Option}
 use Rattle.dtools.specs.Traced.{AskFor}
