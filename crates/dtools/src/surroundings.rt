@@ -15,10 +15,13 @@ pub trait Surroundings {
     ghost use Rattle.dtools.specs.Around.{IsHeld, IsMissed};
     ghost use Rattle.dtools.specs.Child.{AreInByteOrder};
 
+    // the bytes of the file at a path
     ghost file_at: { Self → List ℕ → Option (List ℕ) } = { λ _ _. None };
 
+    // the files of a folder, as `read_folder` gives them
     ghost folder_at: { Self → List ℕ → Option (List File) } = { λ _ _. None };
 
+    // the variables of the process
     ghost known_variables: { Self → Option (List Binding) } = { λ _. None };
 
     /// All bytes of the file at a path.
