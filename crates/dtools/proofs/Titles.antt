@@ -1,8 +1,7 @@
 -- What `readproctitle` read and how it ended.
 use Rattle.std.proofs.Common.{◌≡◌, ℕ, ◌<◌, ◌++◌, List, Option, ap, ◌∙◌, arith, inl, inr}
 use Rattle.std.specs.Io.KnownBytes.{Consumes}
-use Rattle.tai_status.specs.Counted.{device_of, fault_count}
-use Rattle.tai_status.specs.declared.counted.Counted.{Counted}
+use Rattle.tai_status.specs.Counted.{Fails, Works, CountsRead, Wrote, WroteFront, Gives, GivesNothing, IsRead, Rose, AppendsFront, Device}
 use Rattle.env_title.specs.Title.{TitleParts, new_title, pushed}
 use Rattle.env_title.proofs.Pushes.{pushed-pushed}
 use Rattle.dtools.specs.declared.fault.ProctitleFault.{ProctitleFault}
@@ -20,33 +19,33 @@ ShowsRead-further {len} {before} {now} {after} more s read is = record {
 }
 
 -- It ended by a fault.
-pub TitleEnds-fault : {D W E : Type 0} (remaining : D → Option (List ℕ)) (written : W → Option (List ℕ)) (told : E → Option (List ℕ)) (len status : ℕ)
-    (reader reads : Counted D) (writer writes : Counted W) (faults tells : Counted E) (why : ProctitleFault)
-    → status ≡ proctitle_status why → (len < 5 → why ≡ fault.TooShort) → NoTitle remaining written len why reader reads writer writes
-    → Tells (told (device_of faults)) (told (device_of tells)) (fault_count faults) (fault_count tells) (proctitle_told why)
-    → TitleEnds remaining written told len status reader reads writer writes faults tells
-TitleEnds-fault remaining written told len status reader reads writer writes faults tells fault.TooShort is short cause telling = record {
+pub TitleEnds-fault : (len status : ℕ)
+    (reader reads writer writes faults tells : Device) (why : ProctitleFault)
+    → status ≡ proctitle_status why → (len < 5 → why ≡ fault.TooShort) → NoTitle len why reader reads writer writes
+    → Tells faults tells (proctitle_told why)
+    → TitleEnds len status reader reads writer writes faults tells
+TitleEnds-fault len status reader reads writer writes faults tells fault.TooShort is short cause telling = record {
   done = λ z. absurd (omega (arith, is, z));
   short = λ _. is;
   refused = λ _. (cause.0, (cause.1.0, (cause.1.1, telling)));
   trouble = λ z. absurd (omega (arith, is, z));
   other = inr (inl is);
 }
-TitleEnds-fault remaining written told len status reader reads writer writes faults tells fault.OutOfMemory is short cause telling = record {
+TitleEnds-fault len status reader reads writer writes faults tells fault.OutOfMemory is short cause telling = record {
   done = λ z. absurd (omega (arith, is, z));
   short = λ l. (let e : fault.OutOfMemory ≡ fault.TooShort = short l in absurd (cc e));
   refused = λ z. absurd (omega (arith, is, z));
   trouble = λ _. (fault.OutOfMemory, (cause, telling));
   other = inr (inr is);
 }
-TitleEnds-fault remaining written told len status reader reads writer writes faults tells fault.Read is short cause telling = record {
+TitleEnds-fault len status reader reads writer writes faults tells fault.Read is short cause telling = record {
   done = λ z. absurd (omega (arith, is, z));
   short = λ l. (let e : fault.Read ≡ fault.TooShort = short l in absurd (cc e));
   refused = λ z. absurd (omega (arith, is, z));
   trouble = λ _. (fault.Read, (cause, telling));
   other = inr (inr is);
 }
-TitleEnds-fault remaining written told len status reader reads writer writes faults tells fault.Write is short cause telling = record {
+TitleEnds-fault len status reader reads writer writes faults tells fault.Write is short cause telling = record {
   done = λ z. absurd (omega (arith, is, z));
   short = λ l. (let e : fault.Write ≡ fault.TooShort = short l in absurd (cc e));
   refused = λ z. absurd (omega (arith, is, z));

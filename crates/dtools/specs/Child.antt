@@ -9,8 +9,7 @@ use Rattle.env_title.specs.Env.{Binding, value_of}
 use Rattle.env_title.specs.Files.{File, has_file, env_after}
 use Rattle.env_title.specs.Faults.{first_fault}
 use Rattle.env_title.specs.declared.fault.EnvFault.TheVariants as why
-use Rattle.tai_status.specs.Counted.{device_of, fault_count}
-use Rattle.tai_status.specs.declared.counted.Counted.{Counted}
+use Rattle.tai_status.specs.Counted.{Device}
 use Rattle.dtools.specs.Told.{Tells}
 use Rattle.dtools.specs.Around.{IsHeld}
 use Rattle.dtools.specs.declared.starter.StartFault.{StartFault}
@@ -99,7 +98,7 @@ AreInByteOrder names = IsSorted (slice_cmp nat_cmp) names
 
 -- The child was started once, in the environment that the files of a folder, in the byte order of their names, make of
 -- the variables around, and nothing is told.
-pub record StartsOne {E : Type 0} (folder : Option (List File)) (around : Option (List Binding)) (past now : Option (List Start)) (program : List ℕ) (arguments : List (List ℕ)) (status : ℕ) (faults tells : Counted E) : Type 0 where
+pub record StartsOne (folder : Option (List File)) (around : Option (List Binding)) (past now : Option (List Start)) (program : List ℕ) (arguments : List (List ℕ)) (status : ℕ) (faults tells : Device) : Type 0 where
   pub files : List File
   pub files_are : IsHeld folder files
   pub in_order : AreInByteOrder (map (λ file. file.name) files)
@@ -136,17 +135,17 @@ WasRead (fault.NameHasEquals place) folder files = IsHeld folder files
 WasRead (fault.NotText place) folder files = IsHeld folder files
 
 -- There was no child, and it is told why.
-pub record StartsNone {E : Type 0} (folder : Option (List File)) (around : Option (List Binding)) (told : E → Option (List ℕ)) (past now : Option (List Start)) (dir program : List ℕ) (arguments : List (List ℕ)) (status : ℕ) (faults tells : Counted E) : Type 0 where
+pub record StartsNone (folder : Option (List File)) (around : Option (List Binding)) (past now : Option (List Start)) (dir program : List ℕ) (arguments : List (List ℕ)) (status : ℕ) (faults tells : Device) : Type 0 where
   pub cause : EnvdirFault
   pub files : List File
   pub read : WasRead cause folder files
   pub first : IsFirstFault cause files
   pub none : HasNoChild around past now program arguments files cause
   pub status_is : status ≡ 111
-  pub told_why : Tells (told (device_of faults)) (told (device_of tells)) (fault_count faults) (fault_count tells) (envdir_told dir program (name_of cause files) cause)
+  pub told_why : Tells faults tells (envdir_told dir program (name_of cause files) cause)
 
 -- `envdir` over a folder, and the variables around it.
-abbrev pub EnvdirEnds : {E : Type 0} (folder_at : List ℕ → Option (List File)) (around : Option (List Binding)) (told : E → Option (List ℕ)) (past now : Option (List Start)) (dir program : List ℕ) (arguments : List (List ℕ)) (status : ℕ) (faults tells : Counted E) → Type 0
-EnvdirEnds folder_at around told past now dir program arguments status faults tells =
+abbrev pub EnvdirEnds : (folder_at : List ℕ → Option (List File)) (around : Option (List Binding)) (past now : Option (List Start)) (dir program : List ℕ) (arguments : List (List ℕ)) (status : ℕ) (faults tells : Device) → Type 0
+EnvdirEnds folder_at around past now dir program arguments status faults tells =
     StartsOne (folder_at dir) around past now program arguments status faults tells
-    ⊎ StartsNone (folder_at dir) around told past now dir program arguments status faults tells
+    ⊎ StartsNone (folder_at dir) around past now dir program arguments status faults tells

@@ -1,5 +1,6 @@
 pub mod Sim
 pub mod Progress
+pub mod Console
 pub mod Told
 pub mod Around
 pub mod Traced

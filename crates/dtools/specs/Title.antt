@@ -1,9 +1,8 @@
 -- What `readproctitle` prints: the title of its input, by the readproctitle page of daemontools
 -- (cr.yp.to/daemontools/readproctitle.html).
 use Rattle.std.specs.Prelude.{◌≡◌, ℕ, ◌<◌, ◌⊎◌, List, [], ◌∷◌, ◌++◌, codes, Option, Some}
-use Rattle.std.specs.Io.KnownBytes.{Appends, Consumes, IsAtEnd}
-use Rattle.tai_status.specs.Counted.{Rose, AppendsFront, device_of, fault_count}
-use Rattle.tai_status.specs.declared.counted.Counted.{Counted}
+use Rattle.std.specs.Io.KnownBytes.{Appends, Consumes}
+use Rattle.tai_status.specs.Counted.{AppendsFront, Device, Fails, IsRead}
 use Rattle.env_title.specs.Title.{TitleParts, new_title, pushed, title_text}
 use Rattle.dtools.specs.declared.fault.ProctitleFault.{ProctitleFault}
 use Rattle.dtools.specs.declared.fault.ProctitleFault.TheVariants as fault
@@ -49,20 +48,20 @@ ProctitleCause fault.Write short starved read written = written
 
 -- Why there is no title of this length: it is under 5 bytes, and nothing was read; there was no memory; the reader
 -- failed; or the writer did, after a front of the title of the whole input. But for that nothing is written.
-abbrev pub NoTitle : {D W : Type 0} → (D → Option (List ℕ)) → (W → Option (List ℕ)) → ℕ → ProctitleFault → (reader reads : Counted D) (writer writes : Counted W) → Type 0
-NoTitle remaining written len why reader reads writer writes = ProctitleCause why
+abbrev pub NoTitle : ℕ → ProctitleFault → (reader reads : Device) (writer writes : Device) → Type 0
+NoTitle len why reader reads writer writes = ProctitleCause why
     ((len < 5) × ((reads ≡ reader) × (writes ≡ writer)))
     (writes ≡ writer)
-    (Rose (fault_count reader) (fault_count reads) × (writes ≡ writer))
-    (Rose (fault_count writer) (fault_count writes)
-    × (IsAtEnd (remaining (device_of reads)) × WritesTitleFront len (remaining (device_of reader)) (written (device_of writer)) (written (device_of writes))))
+    (Fails reader reads × (writes ≡ writer))
+    (Fails writer writes
+    × (IsRead reads × WritesTitleFront len reader.bytes writer.bytes writes.bytes))
 
 -- `readproctitle` with a last word of this length, by its status: the bytes of its devices, and the devices before and after.
-pub record TitleEnds {D W E : Type 0} (remaining : D → Option (List ℕ)) (written : W → Option (List ℕ)) (told : E → Option (List ℕ)) (len status : ℕ) (reader reads : Counted D) (writer writes : Counted W) (faults tells : Counted E) : Type 0 where
-  pub done : status ≡ 0 → IsAtEnd (remaining (device_of reads)) × WritesTitle len (remaining (device_of reader)) (written (device_of writer)) (written (device_of writes))
+pub record TitleEnds (len status : ℕ) (reader reads : Device) (writer writes : Device) (faults tells : Device) : Type 0 where
+  pub done : status ≡ 0 → IsRead reads × WritesTitle len reader.bytes writer.bytes writes.bytes
   pub short : len < 5 → status ≡ 100
   pub refused : status ≡ 100 → (len < 5) × ((reads ≡ reader) × ((writes ≡ writer)
-      × Tells (told (device_of faults)) (told (device_of tells)) (fault_count faults) (fault_count tells) (proctitle_told fault.TooShort)))
-  pub trouble : status ≡ 111 → (why : ProctitleFault) × (NoTitle remaining written len why reader reads writer writes
-      × Tells (told (device_of faults)) (told (device_of tells)) (fault_count faults) (fault_count tells) (proctitle_told why))
+      × Tells faults tells (proctitle_told fault.TooShort)))
+  pub trouble : status ≡ 111 → (why : ProctitleFault) × (NoTitle len why reader reads writer writes
+      × Tells faults tells (proctitle_told why))
   pub other : (status ≡ 0) ⊎ ((status ≡ 100) ⊎ (status ≡ 111))

@@ -1,20 +1,18 @@
 -- What a command tells of its faults, and with which status it ends.
-use Rattle.std.specs.Prelude.{◌≡◌, ◌≢◌, IfSome, ℕ, ◌⊎◌, List, [], ◌∷◌, ◌++◌, codes, decimal, Option}
-use Rattle.std.specs.Io.KnownBytes.{Appends, IsAtEnd}
-use Rattle.tai_status.specs.Counted.{Rose, AppendsFront, device_of, fault_count}
+use Rattle.std.specs.Prelude.{◌≡◌, ◌≢◌, IfSome, ℕ, ◌⊎◌, List, [], ◌∷◌, ◌++◌, codes, decimal}
+use Rattle.tai_status.specs.Counted.{Device, Fails, Wrote, WroteFront, IsRead}
 use Rattle.tai_status.specs.declared.stamp.StampFault.{StampFault}
 use Rattle.tai_status.specs.declared.stamp.StampFault.TheVariants as stamp
 use Rattle.sup_core.specs.Text.{fault_name}
-use Rattle.tai_status.specs.Label.{Tai64n}
 use Rattle.tai_status.specs.Lines.{StampsAll, StampsFront}
 use Rattle.dtools.specs.Sim.{Refusal, AnswersAll, AnswersUpTo, AnswersFront, printed_table}
-use Rattle.dtools.specs.declared.devices.Devices.{Devices}
+use Rattle.dtools.specs.Console.{Console}
 use Rattle.dtools.specs.declared.fault.SimFault.{SimFault}
 use Rattle.dtools.specs.declared.fault.SimFault.TheVariants as fault
 
--- A text was told; or the fault writer, of which these are the counts of faults, failed after a front of it.
-abbrev pub Tells : (held holds : Option (List ℕ)) (before after : ℕ) → List ℕ → Type 0
-Tells held holds before after text = Appends held holds text ⊎ (AppendsFront held holds text × Rose before after)
+-- A text was told; or the fault writer failed after a front of it.
+abbrev pub Tells : (old new : Device) → List ℕ → Type 0
+Tells old new text = Wrote old new text ⊎ (WroteFront old new text × Fails old new)
 
 -- what is told of wrong words
 abbrev pub usage_text : List ℕ
@@ -64,33 +62,33 @@ StampCause stamp.Write read written = written
 -- How a command ends
 
 -- Words are wrong: nothing is read or written, and the usage is told.
-abbrev pub RefusesWords : {D W E C : Type 0} → (E → Option (List ℕ)) → ℕ → (old new : Devices D W E C) → Type 0
-RefusesWords contents status old new =
-    (status ≡ 100) × (new.reader ≡ old.reader) × (new.writer ≡ old.writer) × (new.clock ≡ old.clock)
-    × Tells (contents (device_of old.faults)) (contents (device_of new.faults)) (fault_count old.faults) (fault_count new.faults) usage_text
+abbrev pub RefusesWords : ℕ → (old new : Console) → Type 0
+RefusesWords status old new =
+    (status ≡ 100) × (new.reader ≡ old.reader) × (new.writer ≡ old.writer) × (new.readings ≡ old.readings)
+    × Tells old.faults new.faults usage_text
 
 -- `sim`, by its status: the bytes of its devices, and the devices before and after.
-pub record SimEnds {D W E C : Type 0} (remaining : D → Option (List ℕ)) (written : W → Option (List ℕ)) (told : E → Option (List ℕ)) (status : ℕ) (old new : Devices D W E C) : Type 0 where
-  pub done : status ≡ 0 → AnswersAll (remaining (device_of old.reader)) (written (device_of old.writer)) (written (device_of new.writer)) × IsAtEnd (remaining (device_of new.reader))
-  pub refused : status ≡ 100 → (refusal : Refusal) × (AnswersUpTo (remaining (device_of old.reader)) (written (device_of old.writer)) (written (device_of new.writer)) refusal
-      × Tells (told (device_of old.faults)) (told (device_of new.faults)) (fault_count old.faults) (fault_count new.faults) (refusal_text refusal))
-  pub trouble : status ≡ 111 → AnswersFront (remaining (device_of old.reader)) (remaining (device_of new.reader)) (written (device_of old.writer)) (written (device_of new.writer))
+pub record SimEnds (status : ℕ) (old new : Console) : Type 0 where
+  pub done : status ≡ 0 → AnswersAll old.reader.bytes old.writer.bytes new.writer.bytes × IsRead new.reader
+  pub refused : status ≡ 100 → (refusal : Refusal) × (AnswersUpTo old.reader.bytes old.writer.bytes new.writer.bytes refusal
+      × Tells old.faults new.faults (refusal_text refusal))
+  pub trouble : status ≡ 111 → AnswersFront old.reader.bytes new.reader.bytes old.writer.bytes new.writer.bytes
   pub cause : status ≡ 111 → (fault : SimFault)
-      × (Cause fault (Rose (fault_count old.reader) (fault_count new.reader)) (Rose (fault_count old.writer) (fault_count new.writer)) ((new.reader ≡ old.reader) × (new.writer ≡ old.writer))
-      × Tells (told (device_of old.faults)) (told (device_of new.faults)) (fault_count old.faults) (fault_count new.faults) (told_of fault))
+      × (Cause fault (Fails old.reader new.reader) (Fails old.writer new.writer) ((new.reader ≡ old.reader) × (new.writer ≡ old.writer))
+      × Tells old.faults new.faults (told_of fault))
   pub other : (status ≡ 0) ⊎ ((status ≡ 100) ⊎ (status ≡ 111))
 
--- `sim table`, by its status: what is written and what is told before and after, and the faults of both writers.
-pub record TableEnds (status : ℕ) (held holds heard hears : Option (List ℕ)) (written writes failed fails : ℕ) : Type 0 where
-  pub done : status ≡ 0 → Appends held holds printed_table
-  pub trouble : status ≢ 0 → (status ≡ 111) × (Rose written writes × (AppendsFront held holds printed_table × Tells heard hears failed fails (told_of fault.Write)))
+-- `sim table`, by its status.
+pub record TableEnds (status : ℕ) (writer writes faults tells : Device) : Type 0 where
+  pub done : status ≡ 0 → Wrote writer writes printed_table
+  pub trouble : status ≢ 0 → (status ≡ 111) × (Fails writer writes × (WroteFront writer writes printed_table × Tells faults tells (told_of fault.Write)))
 
 -- `tai64n`, by its status: the bytes of its devices, the readings of its clock, and the devices before and after.
-pub record StampsEnd {D W E C : Type 0} (remaining : D → Option (List ℕ)) (written : W → Option (List ℕ)) (told : E → Option (List ℕ)) (readings : C → Option (List Tai64n)) (status : ℕ) (old new : Devices D W E C) : Type 0 where
-  pub done : status ≡ 0 → IsAtEnd (remaining (device_of new.reader)) × IfSome (remaining (device_of old.reader)) (λ input. (count : ℕ)
-      × StampsAll input (readings old.clock) (readings new.clock) (written (device_of old.writer)) (written (device_of new.writer)) count)
-  pub trouble : status ≢ 0 → (status ≡ 111) × StampsFront (remaining (device_of old.reader)) (remaining (device_of new.reader)) (readings old.clock) (readings new.clock)
-      (written (device_of old.writer)) (written (device_of new.writer))
+pub record StampsEnd (status : ℕ) (old new : Console) : Type 0 where
+  pub done : status ≡ 0 → IsRead new.reader × IfSome old.reader.bytes (λ input. (count : ℕ)
+      × StampsAll input old.readings new.readings old.writer.bytes new.writer.bytes count)
+  pub trouble : status ≢ 0 → (status ≡ 111) × StampsFront old.reader.bytes new.reader.bytes old.readings new.readings
+      old.writer.bytes new.writer.bytes
   pub cause : status ≢ 0 → (fault : StampFault)
-      × (StampCause fault (Rose (fault_count old.reader) (fault_count new.reader)) (Rose (fault_count old.writer) (fault_count new.writer))
-      × Tells (told (device_of old.faults)) (told (device_of new.faults)) (fault_count old.faults) (fault_count new.faults) (stamp_told fault))
+      × (StampCause fault (Fails old.reader new.reader) (Fails old.writer new.writer)
+      × Tells old.faults new.faults (stamp_told fault))

@@ -1,8 +1,7 @@
 -- What `trace` prints of the text of a trace, what its word after `--break` means, and what it tells of its faults.
 use Rattle.std.specs.Prelude.{◌≡◌, ◌≢◌, ◌<◌, ◌^◌, ⊤, ℕ, ◌⊎◌, List, [], ◌∷◌, ◌++◌, codes, decimal, Option, Some, None, Err}
 use Rattle.std.specs.Io.KnownBytes.{Appends}
-use Rattle.tai_status.specs.Counted.{Rose, AppendsFront, device_of, fault_count}
-use Rattle.tai_status.specs.declared.counted.Counted.{Counted}
+use Rattle.tai_status.specs.Counted.{AppendsFront, Fails, Device}
 use Rattle.sup_core.specs.State.{State}
 use Rattle.sup_core.specs.Text.{byte_text, phase_name, signal_name}
 use Rattle.sup_trace.specs.declared.breaks.Break.{Break}
@@ -111,48 +110,48 @@ pub record ShowsFile (file : Option (List ℕ)) (at : Option Break) (held holds 
   pub shows : Shows text at held holds
 
 -- Trouble with a file is told, as what it comes from.
-pub record TellsTrouble (file : Option (List ℕ)) (at : Option Break) (unwritten failed : Type 0) (held holds : Option (List ℕ)) (heard hears : Option (List ℕ)) (failures fails : ℕ) : Type 0 where
+pub record TellsTrouble (file : Option (List ℕ)) (at : Option Break) (unwritten failed : Type 0) (held holds : Option (List ℕ)) (faults tells : Device) : Type 0 where
   pub why : TraceTrouble
   pub text : List ℕ
   pub text_is : why ≢ trouble.OutOfMemory → IsHeld file text
   pub cause : TraceCause why text at unwritten failed held holds
-  pub told : Tells heard hears failures fails (trouble_text why)
+  pub told : Tells faults tells (trouble_text why)
 
 -- It is told of a file that it can't be read, and nothing is written.
-pub record TellsUnread (file_at : List ℕ → Option (List ℕ)) (file : List ℕ) (unwritten : Type 0) (heard hears : Option (List ℕ)) (failures fails : ℕ) : Type 0 where
+pub record TellsUnread (file_at : List ℕ → Option (List ℕ)) (file : List ℕ) (unwritten : Type 0) (faults tells : Device) : Type 0 where
   pub unknown : file_at file ≡ None
   pub before : unwritten
-  pub told : Tells heard hears failures fails (unread_text file)
+  pub told : Tells faults tells (unread_text file)
 
 -- `trace` over this file and this break, by its status.
-pub record FileEnds {W E : Type 0} (file_at : List ℕ → Option (List ℕ)) (written : W → Option (List ℕ)) (told : E → Option (List ℕ)) (file : List ℕ) (at : Option Break) (status : ℕ) (old new : Counted W) (faults tells : Counted E) : Type 0 where
-  pub done : status ≡ 0 → ShowsFile (file_at file) at (written (device_of old)) (written (device_of new))
+pub record FileEnds (file_at : List ℕ → Option (List ℕ)) (file : List ℕ) (at : Option Break) (status : ℕ) (old new : Device) (faults tells : Device) : Type 0 where
+  pub done : status ≡ 0 → ShowsFile (file_at file) at old.bytes new.bytes
   pub trouble : status ≢ 0 → (status ≡ 111)
-      × (TellsTrouble (file_at file) at (new ≡ old) (Rose (fault_count old) (fault_count new)) (written (device_of old)) (written (device_of new)) (told (device_of faults)) (told (device_of tells)) (fault_count faults) (fault_count tells)
-      ⊎ TellsUnread file_at file (new ≡ old) (told (device_of faults)) (told (device_of tells)) (fault_count faults) (fault_count tells))
+      × (TellsTrouble (file_at file) at (new ≡ old) (Fails old new) old.bytes new.bytes faults tells
+      ⊎ TellsUnread file_at file (new ≡ old) faults tells)
 
 -- Words ask for nothing; nothing is written, and the usage is told.
-pub record TellsUsage {W E : Type 0} (told : E → Option (List ℕ)) (words : List (List ℕ)) (status : ℕ) (old new : Counted W) (faults tells : Counted E) : Type 0 where
+pub record TellsUsage (words : List (List ℕ)) (status : ℕ) (old new : Device) (faults tells : Device) : Type 0 where
   pub status_is : status ≡ 100
   pub wrong : (file : List ℕ) (at : Option Break) → AskFor words file at → ⊥
   pub unwritten : new ≡ old
-  pub told_usage : Tells (told (device_of faults)) (told (device_of tells)) (fault_count faults) (fault_count tells) usage_text
+  pub told_usage : Tells faults tells usage_text
 
 -- There was no memory for the words; nothing is written, and that is told.
-pub record TellsStarved {W E : Type 0} (told : E → Option (List ℕ)) (status : ℕ) (old new : Counted W) (faults tells : Counted E) : Type 0 where
+pub record TellsStarved (status : ℕ) (old new : Device) (faults tells : Device) : Type 0 where
   pub status_is : status ≡ 111
   pub unwritten : new ≡ old
-  pub told_memory : Tells (told (device_of faults)) (told (device_of tells)) (fault_count faults) (fault_count tells) (trouble_text trouble.OutOfMemory)
+  pub told_memory : Tells faults tells (trouble_text trouble.OutOfMemory)
 
 -- What words ask for was done, or there was trouble with it.
-pub record DoesAsked {W E : Type 0} (file_at : List ℕ → Option (List ℕ)) (written : W → Option (List ℕ)) (told : E → Option (List ℕ)) (words : List (List ℕ)) (status : ℕ) (old new : Counted W) (faults tells : Counted E) : Type 0 where
+pub record DoesAsked (file_at : List ℕ → Option (List ℕ)) (words : List (List ℕ)) (status : ℕ) (old new : Device) (faults tells : Device) : Type 0 where
   pub file : List ℕ
   pub at : Option Break
   pub asked : AskFor words file at
-  pub ends : FileEnds file_at written told file at status old new faults tells
+  pub ends : FileEnds file_at file at status old new faults tells
 
 -- `trace`, by what its words ask for.
-abbrev pub TraceEnds : {W E : Type 0} (file_at : List ℕ → Option (List ℕ)) (written : W → Option (List ℕ)) (told : E → Option (List ℕ)) (words : List (List ℕ)) (status : ℕ) (old new : Counted W) (faults tells : Counted E) → Type 0
-TraceEnds file_at written told words status old new faults tells =
-    DoesAsked file_at written told words status old new faults tells
-    ⊎ (TellsUsage told words status old new faults tells ⊎ TellsStarved told status old new faults tells)
+abbrev pub TraceEnds : (file_at : List ℕ → Option (List ℕ)) (words : List (List ℕ)) (status : ℕ) (old new : Device) (faults tells : Device) → Type 0
+TraceEnds file_at words status old new faults tells =
+    DoesAsked file_at words status old new faults tells
+    ⊎ (TellsUsage words status old new faults tells ⊎ TellsStarved status old new faults tells)

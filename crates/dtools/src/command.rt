@@ -33,7 +33,7 @@ where
     W: Write,
     E: Write,
     C: TimeSource,
-    ensures ends { CommandEnds (R.file_at rt.now) (R.folder_at rt.now) (R.known_variables rt.now) D.remaining W.contents E.contents C.readings S.starts name.now (map (λ word. word.now) words.now) result devices.old devices.new starter.old starter.new }
+    ensures ends { CommandEnds (R.file_at rt.now) (R.folder_at rt.now) (R.known_variables rt.now) S.starts name.now (map (λ word. word.now) words.now) result devices.old devices.new starter.old starter.new }
 {
     let Devices {
         reader,
@@ -42,12 +42,12 @@ where
         clock,
     } = devices;
     match name {
-        "sim" => run_sim(alloc, words, reader, writer, faults),
-        "tai64n" => run_tai64n(words, reader, writer, faults, clock),
-        "readproctitle" => run_readproctitle(alloc, words, reader, writer, faults),
-        "envdir" => run_envdir(rt, starter, alloc, words, faults),
-        "trace" => run_trace(rt, words, writer, faults),
-        _ => usage(faults),
+        "sim" => return run_sim(alloc, words, reader, writer, faults),
+        "tai64n" => return run_tai64n(words, reader, writer, faults, clock),
+        "readproctitle" => return run_readproctitle(alloc, words, reader, writer, faults),
+        "envdir" => return run_envdir(rt, starter, alloc, words, faults),
+        "trace" => return run_trace(rt, words, writer, faults),
+        _ => return usage(faults),
     }
 }
 
@@ -68,8 +68,8 @@ where
     W: Write,
     E: Write,
     C: TimeSource,
-    ensures usage { length words.now ≡ 0 → RefusesWords E.contents result devices.old devices.new × (starter.new ≡ starter.old) }
-    ensures command { IfSome (slice_get words.now 0) (λ name. CommandEnds (R.file_at rt.now) (R.folder_at rt.now) (R.known_variables rt.now) D.remaining W.contents E.contents C.readings S.starts name.now
+    ensures usage { length words.now ≡ 0 → RefusesWords result devices.old devices.new × (starter.new ≡ starter.old) }
+    ensures command { IfSome (slice_get words.now 0) (λ name. CommandEnds (R.file_at rt.now) (R.folder_at rt.now) (R.known_variables rt.now) S.starts name.now
         (map (λ word. word.now) (drop 1 words.now)) result devices.old devices.new starter.old starter.new) }
 {
     match words.split_first() {

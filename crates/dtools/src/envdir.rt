@@ -1,6 +1,5 @@
 ghost use Rattle.std.specs.Prelude.{◌≡◌, ◌≢◌, ◌<◌, ◌⊎◌, [], ◌∷◌, List, None, drop, length, map, slice_get, IfOk, IfErr, IfSome, Ok};
 ghost use Rattle.std.specs.IoError.{error_kind};
-ghost use Rattle.tai_status.specs.Counted.{device_of, fault_count};
 ghost use Rattle.env_title.specs.Env.{Binding};
 ghost use Rattle.env_title.specs.Files.{env_after};
 ghost use Rattle.env_title.specs.Faults.{first_fault};
@@ -16,7 +15,7 @@ use crate::surroundings::Surroundings;
 use env_title::{Env, EnvFault, EnvFile, apply};
 use std::alloc::Allocator;
 use std::io::{Error, ErrorKind, Write};
-use tai_status::Counted;
+use tai_status::Output;
 
 /// Why a folder is not read.
 fn fault_of(error: Error) -> EnvdirFault
@@ -103,10 +102,10 @@ fn report<E: Write>(
     dir: &str,
     program: &str,
     name: &str,
-    faults: &mut Counted<E>,
+    faults: &mut Output<E>,
 ) -> u8
     ensures status { result ≡ 111 }
-    ensures told { Tells (E.contents (device_of faults.old)) (E.contents (device_of faults.new)) (fault_count faults.old) (fault_count faults.new)
+    ensures told { Tells faults.old faults.new
         (envdir_told dir.now program.now name.now fault) }
 {
     match fault {
@@ -142,9 +141,9 @@ fn run_in_folder<R: Surroundings, S: Starter, A: Allocator + Clone, E: Write>(
     dir: &str,
     program: &str,
     arguments: &[&str],
-    faults: &mut Counted<E>,
+    faults: &mut Output<E>,
 ) -> u8
-    ensures ends { EnvdirEnds (R.folder_at rt.now) (R.known_variables rt.now) E.contents (S.starts starter.old) (S.starts starter.new) dir.now program.now (map (λ word. word.now) arguments.now) result faults.old faults.new }
+    ensures ends { EnvdirEnds (R.folder_at rt.now) (R.known_variables rt.now) (S.starts starter.old) (S.starts starter.new) dir.now program.now (map (λ word. word.now) arguments.now) result faults.old faults.new }
 {
     let folder = match rt.read_folder(alloc, dir) {
         Ok(folder) => folder,
@@ -166,13 +165,13 @@ pub fn run_envdir<R: Surroundings, S: Starter, A: Allocator + Clone, E: Write>(
     starter: &mut S,
     alloc: A,
     words: &[&str],
-    faults: &mut Counted<E>,
+    faults: &mut Output<E>,
 ) -> u8
     ensures usage { length words.now < 2 → (result ≡ 100) × (starter.new ≡ starter.old)
-        × Tells (E.contents (device_of faults.old)) (E.contents (device_of faults.new)) (fault_count faults.old) (fault_count faults.new) usage_text }
+        × Tells faults.old faults.new usage_text }
     // A child was started and its status is answered; or none was, and it is told why.
     ensures ends { IfSome (slice_get words.now 0) (λ dir. IfSome (slice_get words.now 1) (λ program.
-        EnvdirEnds (R.folder_at rt.now) (R.known_variables rt.now) E.contents (S.starts starter.old) (S.starts starter.new) dir.now program.now (map (λ word. word.now) (drop 2 words.now)) result faults.old faults.new)) }
+        EnvdirEnds (R.folder_at rt.now) (R.known_variables rt.now) (S.starts starter.old) (S.starts starter.new) dir.now program.now (map (λ word. word.now) (drop 2 words.now)) result faults.old faults.new)) }
 {
     let [dir, program, arguments @ ..] = words else {
         return usage(faults);

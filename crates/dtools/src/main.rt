@@ -28,7 +28,7 @@ use starter::SystemStarter;
 use std::env;
 use std::io::{ErrorKind, Read, Write};
 use std::process::ExitCode;
-use tai_status::{Counted, TimeSource};
+use tai_status::{Counted, Output, TimeSource};
 
 fn main(rt: HostRuntime) -> ExitCode {
     let mut devices = Devices {
@@ -75,7 +75,7 @@ fn arguments(rt: &HostRuntime) -> Result<Vec<String>, ErrorKind> {
 }
 
 /// Tells why the words could not be had: for want of memory, or since they are no text.
-fn refuse_words<E: Write>(why: ErrorKind, faults: &mut Counted<E>) -> u8 {
+fn refuse_words<E: Write>(why: ErrorKind, faults: &mut Output<E>) -> u8 {
     if why == ErrorKind::OutOfMemory {
         tell(faults, b"dtools: OutOfMemory\n");
         return TROUBLE;

@@ -1,6 +1,6 @@
 ghost use Rattle.std.specs.Prelude.{◌≡◌, ◌↔◌, ◌<◌, ◌-◌, ◌≢◌, [], ◌∷◌, ◌++◌, length, slice_get, OnOk, IfOk, IfErr, IfSome, IsErrOf};
 ghost use Rattle.std.specs.Io.KnownBytes.{Appends, IsAtEnd};
-ghost use Rattle.tai_status.specs.Counted.{Rose, AppendsFront, device_of, fault_count};
+ghost use Rattle.tai_status.specs.Counted.{Fails, Works, CountsRead, Wrote, WroteFront, Gives, GivesNothing, IsRead};
 ghost use Rattle.env_title.specs.Title.{new_title, title_text};
 ghost use Rattle.dtools.specs.Told.{Tells, usage_text};
 ghost use Rattle.dtools.specs.Title.{ShowsRead, WritesTitle, NoTitle, TitleEnds, proctitle_told, proctitle_status};
@@ -10,7 +10,7 @@ use crate::report::{DONE, REFUSED, TROUBLE, tell, usage};
 use env_title::{Title, TitleFault};
 use std::alloc::Allocator;
 use std::io::{Read, Write};
-use tai_status::{BLOCK, Counted};
+use tai_status::{BLOCK, Input, Output};
 
 /// A title of this length, all dots.
 fn begin_title<A: Allocator + Clone>(alloc: A, len: usize) -> Result<Title<A>, ProctitleFault>
@@ -29,13 +29,13 @@ fn begin_title<A: Allocator + Clone>(alloc: A, len: usize) -> Result<Title<A>, P
 fn read_title<A: Allocator + Clone, D: Read>(
     alloc: A,
     len: usize,
-    reader: &mut Counted<D>,
+    reader: &mut Input<D>,
 ) -> Result<Title<A>, ProctitleFault>
-    ensures ok { IfOk result (λ title. ShowsRead len (D.remaining (device_of reader.old)) (D.remaining (device_of reader.new)) title) }
-    ensures end { OnOk result (IsAtEnd (D.remaining (device_of reader.new))) }
+    ensures ok { IfOk result (λ title. ShowsRead len reader.old.bytes reader.new.bytes title) }
+    ensures end { OnOk result (IsRead reader.new) }
     ensures short { IsErrOf result ProctitleFault.TooShort ↔ (len < 5) }
     ensures unread { IsErrOf result ProctitleFault.TooShort → reader.new ≡ reader.old }
-    ensures fault { IsErrOf result ProctitleFault.Read → Rose (fault_count reader.old) (fault_count reader.new) }
+    ensures fault { IsErrOf result ProctitleFault.Read → Fails reader.old reader.new }
     ensures neither { IfErr result (λ why. why ≢ ProctitleFault.Write) }
 {
     let mut title = begin_title(alloc, len)?;
@@ -54,12 +54,12 @@ fn read_title<A: Allocator + Clone, D: Read>(
 /// Writes a title and a newline.
 fn write_title<A: Allocator + Clone, W: Write>(
     title: &Title<A>,
-    writer: &mut Counted<W>,
+    writer: &mut Output<W>,
 ) -> Result<(), ProctitleFault>
-    ensures ok { OnOk result (Appends (W.contents (device_of writer.old)) (W.contents (device_of writer.new)) (title_text title.now ++ 10 ∷ [])) }
+    ensures ok { OnOk result (Wrote writer.old writer.new (title_text title.now ++ 10 ∷ [])) }
     ensures memory { IsErrOf result ProctitleFault.OutOfMemory → writer.new ≡ writer.old }
-    ensures front { IsErrOf result ProctitleFault.Write → AppendsFront (W.contents (device_of writer.old)) (W.contents (device_of writer.new)) (title_text title.now ++ 10 ∷ []) }
-    ensures fault { IsErrOf result ProctitleFault.Write → Rose (fault_count writer.old) (fault_count writer.new) }
+    ensures front { IsErrOf result ProctitleFault.Write → WroteFront writer.old writer.new (title_text title.now ++ 10 ∷ []) }
+    ensures fault { IsErrOf result ProctitleFault.Write → Fails writer.old writer.new }
     ensures neither { IfErr result (λ why. (why ≢ ProctitleFault.TooShort) × (why ≢ ProctitleFault.Read)) }
 {
     let Ok(mut line) = title.text() else {
@@ -78,13 +78,13 @@ fn write_title<A: Allocator + Clone, W: Write>(
 fn show_title<A: Allocator + Clone, D: Read, W: Write>(
     alloc: A,
     len: usize,
-    reader: &mut Counted<D>,
-    writer: &mut Counted<W>,
+    reader: &mut Input<D>,
+    writer: &mut Output<W>,
 ) -> Result<(), ProctitleFault>
-    ensures ok { OnOk result (WritesTitle len (D.remaining (device_of reader.old)) (W.contents (device_of writer.old)) (W.contents (device_of writer.new))) }
-    ensures end { OnOk result (IsAtEnd (D.remaining (device_of reader.new))) }
+    ensures ok { OnOk result (WritesTitle len reader.old.bytes writer.old.bytes writer.new.bytes) }
+    ensures end { OnOk result (IsRead reader.new) }
     ensures short { IsErrOf result ProctitleFault.TooShort ↔ (len < 5) }
-    ensures fault { IfErr result (λ why. NoTitle D.remaining W.contents len why reader.old reader.new writer.old writer.new) }
+    ensures fault { IfErr result (λ why. NoTitle len why reader.old reader.new writer.old writer.new) }
 {
     let title = read_title(alloc, len, reader)?;
     write_title(&title, writer)
@@ -103,9 +103,9 @@ fn fault_text(fault: ProctitleFault) -> &'static [u8]
 }
 
 /// Tells a fault, and answers its status.
-fn report<E: Write>(fault: ProctitleFault, faults: &mut Counted<E>) -> u8
+fn report<E: Write>(fault: ProctitleFault, faults: &mut Output<E>) -> u8
     ensures status { result ≡ proctitle_status fault }
-    ensures told { Tells (E.contents (device_of faults.old)) (E.contents (device_of faults.new)) (fault_count faults.old) (fault_count faults.new) (proctitle_told fault) }
+    ensures told { Tells faults.old faults.new (proctitle_told fault) }
 {
     tell(faults, fault_text(fault));
     match fault {
@@ -121,14 +121,14 @@ fn report<E: Write>(fault: ProctitleFault, faults: &mut Counted<E>) -> u8
 pub fn run_readproctitle<A: Allocator + Clone, D: Read, W: Write, E: Write>(
     alloc: A,
     words: &[&str],
-    reader: &mut Counted<D>,
-    writer: &mut Counted<W>,
-    faults: &mut Counted<E>,
+    reader: &mut Input<D>,
+    writer: &mut Output<W>,
+    faults: &mut Output<E>,
 ) -> u8
     ensures usage { length words.now ≡ 0 → (result ≡ 100) × (reader.new ≡ reader.old) × (writer.new ≡ writer.old)
-        × Tells (E.contents (device_of faults.old)) (E.contents (device_of faults.new)) (fault_count faults.old) (fault_count faults.new) usage_text }
+        × Tells faults.old faults.new usage_text }
     ensures title { IfSome (slice_get words.now (length words.now - 1)) (λ word.
-        TitleEnds D.remaining W.contents E.contents (length word.now) result reader.old reader.new writer.old writer.new faults.old faults.new) }
+        TitleEnds (length word.now) result reader.old reader.new writer.old writer.new faults.old faults.new) }
 {
     let Some(word) = words.last() else {
         return usage(faults);

@@ -2,13 +2,13 @@
 ghost use Rattle.std.specs.Prelude.{◌≡◌, ◌+◌, ◌≤◌, ◌++◌, decimal, OnOk, OnErr};
 ghost use Rattle.std.specs.Io.KnownBytes.{Appends};
 ghost use Rattle.arrayvec.specs.ArrayString.{array_string_len};
-ghost use Rattle.tai_status.specs.Counted.{Rose, AppendsFront, device_of, fault_count};
+ghost use Rattle.tai_status.specs.Counted.{Fails, Works, CountsRead, Wrote, WroteFront, Gives, GivesNothing, IsRead};
 ghost use Rattle.dtools.specs.Told.{Tells, usage_text};
 
 use arrayvec::ArrayString;
 use itoa::Buffer;
 use std::io::Write;
-use tai_status::{Block, Counted, DeviceFault};
+use tai_status::{Block, DeviceFault, Output};
 
 /// The status of a command that did what it was asked.
 pub const DONE: u8 = 0;
@@ -20,8 +20,8 @@ pub const REFUSED: u8 = 100;
 pub const TROUBLE: u8 = 111;
 
 /// Tells a fault. That the fault writer failed is passed over.
-pub fn tell<E: Write>(faults: &mut Counted<E>, text: &[u8])
-    ensures { Tells (E.contents (device_of faults.old)) (E.contents (device_of faults.new)) (fault_count faults.old) (fault_count faults.new) text.now }
+pub fn tell<E: Write>(faults: &mut Output<E>, text: &[u8])
+    ensures { Tells faults.old faults.new text.now }
 {
     match faults.write_all(text) {
         Ok(()) => {}
@@ -31,8 +31,8 @@ pub fn tell<E: Write>(faults: &mut Counted<E>, text: &[u8])
 
 /// Tells a fault in three parts, as one write where they are short. That the fault writer failed is
 /// passed over.
-pub fn tell_parts<E: Write>(faults: &mut Counted<E>, first: &[u8], second: &[u8], third: &[u8])
-    ensures { Tells (E.contents (device_of faults.old)) (E.contents (device_of faults.new)) (fault_count faults.old) (fault_count faults.new) (first.now ++ (second.now ++ third.now)) }
+pub fn tell_parts<E: Write>(faults: &mut Output<E>, first: &[u8], second: &[u8], third: &[u8])
+    ensures { Tells faults.old faults.new (first.now ++ (second.now ++ third.now)) }
 {
     match write_parts(faults, first, second, third) {
         Ok(()) => {}
@@ -42,14 +42,14 @@ pub fn tell_parts<E: Write>(faults: &mut Counted<E>, first: &[u8], second: &[u8]
 
 /// Writes three pieces.
 fn write_parts<W: Write>(
-    writer: &mut Counted<W>,
+    writer: &mut Output<W>,
     first: &[u8],
     second: &[u8],
     third: &[u8],
 ) -> Result<(), DeviceFault>
-    ensures ok { OnOk result (Appends (W.contents (device_of writer.old)) (W.contents (device_of writer.new)) (first.now ++ (second.now ++ third.now))) }
-    ensures err { OnErr result (AppendsFront (W.contents (device_of writer.old)) (W.contents (device_of writer.new)) (first.now ++ (second.now ++ third.now))) }
-    ensures fault { OnErr result (Rose (fault_count writer.old) (fault_count writer.new)) }
+    ensures ok { OnOk result (Wrote writer.old writer.new (first.now ++ (second.now ++ third.now))) }
+    ensures err { OnErr result (WroteFront writer.old writer.new (first.now ++ (second.now ++ third.now))) }
+    ensures fault { OnErr result (Fails writer.old writer.new) }
 {
     let mut line = Block::new();
     line.put(first, writer)?;
@@ -58,9 +58,9 @@ fn write_parts<W: Write>(
 }
 
 /// Tells that the words are wrong, and answers the status of that.
-pub fn usage<E: Write>(faults: &mut Counted<E>) -> u8
+pub fn usage<E: Write>(faults: &mut Output<E>) -> u8
     ensures status { result ≡ 100 }
-    ensures told { Tells (E.contents (device_of faults.old)) (E.contents (device_of faults.new)) (fault_count faults.old) (fault_count faults.new) usage_text }
+    ensures told { Tells faults.old faults.new usage_text }
 {
     tell(faults, b"dtools: usage\n");
     REFUSED

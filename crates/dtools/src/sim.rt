@@ -1,7 +1,7 @@
 ghost use Rattle.std.specs.Prelude.{◌≡◌, ◌≤◌, ◌<◌, ◌+◌, ◌^◌, [], ◌∷◌, ◌++◌, length, slice_get, codes, OnOk, OnErr, IfOk, IfErr, IfSome, IsErrOf, Err, Option, List, ℕ, ◌≢◌, ◌⊎◌, flat_map};
 ghost use Rattle.std.specs.Io.KnownBytes.{Appends, IsAtEnd};
 ghost use Rattle.arrayvec.specs.ArrayString.{array_string_len};
-ghost use Rattle.tai_status.specs.Counted.{Rose, AppendsFront, device_of, read_count, fault_count};
+ghost use Rattle.tai_status.specs.Counted.{Fails, Works, CountsRead, Wrote, WroteFront, Gives, GivesNothing, IsRead};
 ghost use Rattle.tai_status.specs.Block.{Emits};
 ghost use Rattle.tai_status.specs.LineReader.{IsPlain};
 ghost use Rattle.sup_core.specs.declared.reading.EventFault.{EventFault};
@@ -23,7 +23,7 @@ use std::io::{Read, Write};
 use sup_core::{
     EventFault, Machine, Reply, answer_text, fault_name, read_begin, read_event, table_line,
 };
-use tai_status::{Block, Counted, DeviceFault, Label, LineFault, LineReader};
+use tai_status::{Block, DeviceFault, Input, Label, LineFault, LineReader, Output};
 
 /// The most bytes that a line may have, without its newline.
 const LINE_BOUND: usize = 65_536;
@@ -70,13 +70,13 @@ impl Session {
 
 impl Session {
     /// Writes the answers that wait.
-    fn flush<W: Write>(&mut self, writer: &mut Counted<W>) -> Result<(), SimFault>
-        ensures ok { OnOk result (Appends (W.contents (device_of writer.old)) (W.contents (device_of writer.new)) self.old.waiting) }
+    fn flush<W: Write>(&mut self, writer: &mut Output<W>) -> Result<(), SimFault>
+        ensures ok { OnOk result (Wrote writer.old writer.new self.old.waiting) }
         ensures waiting { OnOk result (self.new.waiting ≡ []) }
-        ensures err { OnErr result (AppendsFront (W.contents (device_of writer.old)) (W.contents (device_of writer.new)) self.old.waiting) }
+        ensures err { OnErr result (WroteFront writer.old writer.new self.old.waiting) }
         ensures why { IfErr result (λ fault. fault ≡ SimFault.Write) }
-        ensures fault { OnErr result (Rose (fault_count writer.old) (fault_count writer.new)) }
-        ensures faults { OnOk result (fault_count writer.new ≡ fault_count writer.old) }
+        ensures fault { OnErr result (Fails writer.old writer.new) }
+        ensures faults { OnOk result (Works writer.old writer.new) }
         ensures machine { self.new.machine ≡ self.old.machine }
         ensures count { self.new.count ≡ self.old.count }
     {
@@ -87,12 +87,12 @@ impl Session {
     }
 
     /// Puts an answer behind those that wait.
-    fn put<W: Write>(&mut self, text: &[u8], writer: &mut Counted<W>) -> Result<(), SimFault>
-        ensures ok { OnOk result (Emits (W.contents (device_of writer.old)) (W.contents (device_of writer.new)) self.old.waiting self.new.waiting (text.now ++ 10 ∷ [])) }
-        ensures err { OnErr result (AppendsFront (W.contents (device_of writer.old)) (W.contents (device_of writer.new)) (self.old.waiting ++ (text.now ++ 10 ∷ []))) }
+    fn put<W: Write>(&mut self, text: &[u8], writer: &mut Output<W>) -> Result<(), SimFault>
+        ensures ok { OnOk result (Emits writer.old.bytes writer.new.bytes self.old.waiting self.new.waiting (text.now ++ 10 ∷ [])) }
+        ensures err { OnErr result (WroteFront writer.old writer.new (self.old.waiting ++ (text.now ++ 10 ∷ []))) }
         ensures why { IfErr result (λ fault. fault ≡ SimFault.Write) }
-        ensures fault { OnErr result (Rose (fault_count writer.old) (fault_count writer.new)) }
-        ensures faults { OnOk result (fault_count writer.new ≡ fault_count writer.old) }
+        ensures fault { OnErr result (Fails writer.old writer.new) }
+        ensures faults { OnOk result (Works writer.old writer.new) }
         ensures machine { self.new.machine ≡ self.old.machine }
         ensures count { self.new.count ≡ self.old.count }
     {
@@ -103,12 +103,12 @@ impl Session {
     }
 
     /// What is told of the next line where it is refused. The answers that wait are written first.
-    fn refuse<W: Write>(&mut self, why: EventFault, writer: &mut Counted<W>) -> SimFault
+    fn refuse<W: Write>(&mut self, why: EventFault, writer: &mut Output<W>) -> SimFault
         requires { self.old.count < 2 ^ 63 }
         ensures told { (number : ℕ) (told : EventFault) → result ≡ SimFault.Refused number told
-            → (number ≡ self.old.count + 1) × (told ≡ why) × Appends (W.contents (device_of writer.old)) (W.contents (device_of writer.new)) self.old.waiting }
+            → (number ≡ self.old.count + 1) × (told ≡ why) × Wrote writer.old writer.new self.old.waiting }
         ensures write { result ≡ SimFault.Write
-            → AppendsFront (W.contents (device_of writer.old)) (W.contents (device_of writer.new)) self.old.waiting × Rose (fault_count writer.old) (fault_count writer.new) }
+            → WroteFront writer.old writer.new self.old.waiting × Fails writer.old writer.new }
         ensures neither { (result ≢ SimFault.Read) × (result ≢ SimFault.OutOfMemory) }
     {
         match self.flush(writer) {
@@ -124,19 +124,19 @@ impl Session {
     fn answer_line<W: Write>(
         &mut self,
         line: &[u8],
-        writer: &mut Counted<W>,
+        writer: &mut Output<W>,
     ) -> Result<(), SimFault>
         requires { self.old.count < 2 ^ 63 }
         ensures ok { OnOk result ((past : Option History) → Stands past self.old.machine
-            → Answered past line.now self.new.machine (W.contents (device_of writer.old)) (W.contents (device_of writer.new)) self.old.waiting self.new.waiting) }
+            → Answered past line.now self.new.machine writer.old.bytes writer.new.bytes self.old.waiting self.new.waiting) }
         ensures count { OnOk result (self.new.count ≡ self.old.count + 1) }
         ensures refused { (number : ℕ) (why : EventFault) → IsErrOf result (SimFault.Refused number why)
-            → (number ≡ self.old.count + 1) × Appends (W.contents (device_of writer.old)) (W.contents (device_of writer.new)) self.old.waiting
+            → (number ≡ self.old.count + 1) × Wrote writer.old writer.new self.old.waiting
             × ((past : Option History) → Stands past self.old.machine → said past line.now ≡ Err why) }
         ensures write { IsErrOf result SimFault.Write → (past : Option History) → Stands past self.old.machine
-            → AppendsFront (W.contents (device_of writer.old)) (W.contents (device_of writer.new)) (self.old.waiting ++ text_said (said past line.now)) }
-        ensures fault { IsErrOf result SimFault.Write → Rose (fault_count writer.old) (fault_count writer.new) }
-        ensures faults { OnOk result (fault_count writer.new ≡ fault_count writer.old) }
+            → WroteFront writer.old writer.new (self.old.waiting ++ text_said (said past line.now)) }
+        ensures fault { IsErrOf result SimFault.Write → Fails writer.old writer.new }
+        ensures faults { OnOk result (Works writer.old writer.new) }
         ensures neither { IfErr result (λ fault. (fault ≢ SimFault.Read) × (fault ≢ SimFault.OutOfMemory)) }
     {
         match self.answer(line) {
@@ -155,24 +155,24 @@ impl Session {
     fn answer_pending<A: Allocator, W: Write>(
         &mut self,
         lines: &mut LineReader<A>,
-        writer: &mut Counted<W>,
+        writer: &mut Output<W>,
     ) -> Result<(), SimFault>
         requires { self.old.count + length lines.old.pending ≤ 2 ^ 63 }
         ensures ok { OnOk result ((before now held : Option (List ℕ))
-            → SoFar before now held (W.contents (device_of writer.old)) lines.old.pending self.old.waiting self.old.machine self.old.count
-            → SoFar before now held (W.contents (device_of writer.new)) lines.new.pending self.new.waiting self.new.machine self.new.count) }
+            → SoFar before now held writer.old.bytes lines.old.pending self.old.waiting self.old.machine self.old.count
+            → SoFar before now held writer.new.bytes lines.new.pending self.new.waiting self.new.machine self.new.count) }
         ensures waiting { OnOk result (self.new.waiting ≡ []) }
         ensures plain { OnOk result (IsPlain lines.new.pending) }
         ensures room { OnOk result (self.new.count + length lines.new.pending ≤ self.old.count + length lines.old.pending) }
         ensures bound { lines.new.bound ≡ lines.old.bound }
         ensures refused { (number : ℕ) (why : EventFault) → IsErrOf result (SimFault.Refused number why) → (before now held : Option (List ℕ))
-            → SoFar before now held (W.contents (device_of writer.old)) lines.old.pending self.old.waiting self.old.machine self.old.count
-            → AnswersUpTo before held (W.contents (device_of writer.new)) (record { line = number; why = why }) }
+            → SoFar before now held writer.old.bytes lines.old.pending self.old.waiting self.old.machine self.old.count
+            → AnswersUpTo before held writer.new.bytes (record { line = number; why = why }) }
         ensures write { IsErrOf result SimFault.Write → (before now held : Option (List ℕ))
-            → SoFar before now held (W.contents (device_of writer.old)) lines.old.pending self.old.waiting self.old.machine self.old.count
-            → AnswersFront before now held (W.contents (device_of writer.new)) }
-        ensures fault { IsErrOf result SimFault.Write → Rose (fault_count writer.old) (fault_count writer.new) }
-        ensures faults { OnOk result (fault_count writer.new ≡ fault_count writer.old) }
+            → SoFar before now held writer.old.bytes lines.old.pending self.old.waiting self.old.machine self.old.count
+            → AnswersFront before now held writer.new.bytes }
+        ensures fault { IsErrOf result SimFault.Write → Fails writer.old writer.new }
+        ensures faults { OnOk result (Works writer.old writer.new) }
         ensures neither { IfErr result (λ fault. (fault ≢ SimFault.Read) × (fault ≢ SimFault.OutOfMemory)) }
     {
         'each: while lines.take_line() {
@@ -185,21 +185,21 @@ impl Session {
     fn answer_rest<A: Allocator, W: Write>(
         &mut self,
         lines: &mut LineReader<A>,
-        writer: &mut Counted<W>,
+        writer: &mut Output<W>,
     ) -> Result<(), SimFault>
         requires room { self.old.count + length lines.old.pending ≤ 2 ^ 63 }
         requires plain { IsPlain lines.old.pending }
         requires waiting { self.old.waiting ≡ [] }
         ensures all { OnOk result ((before now held : Option (List ℕ))
-            → SoFar before now held (W.contents (device_of writer.old)) lines.old.pending self.old.waiting self.old.machine self.old.count
-            → IsAtEnd now → AnswersAll before held (W.contents (device_of writer.new))) }
+            → SoFar before now held writer.old.bytes lines.old.pending self.old.waiting self.old.machine self.old.count
+            → IsAtEnd now → AnswersAll before held writer.new.bytes) }
         ensures refused { (number : ℕ) (why : EventFault) → IsErrOf result (SimFault.Refused number why) → (before now held : Option (List ℕ))
-            → SoFar before now held (W.contents (device_of writer.old)) lines.old.pending self.old.waiting self.old.machine self.old.count
-            → IsAtEnd now → AnswersUpTo before held (W.contents (device_of writer.new)) (record { line = number; why = why }) }
+            → SoFar before now held writer.old.bytes lines.old.pending self.old.waiting self.old.machine self.old.count
+            → IsAtEnd now → AnswersUpTo before held writer.new.bytes (record { line = number; why = why }) }
         ensures write { IsErrOf result SimFault.Write → (before now held : Option (List ℕ))
-            → SoFar before now held (W.contents (device_of writer.old)) lines.old.pending self.old.waiting self.old.machine self.old.count
-            → AnswersFront before now held (W.contents (device_of writer.new)) }
-        ensures fault { IsErrOf result SimFault.Write → Rose (fault_count writer.old) (fault_count writer.new) }
+            → SoFar before now held writer.old.bytes lines.old.pending self.old.waiting self.old.machine self.old.count
+            → AnswersFront before now held writer.new.bytes }
+        ensures fault { IsErrOf result SimFault.Write → Fails writer.old writer.new }
         ensures neither { IfErr result (λ fault. (fault ≢ SimFault.Read) × (fault ≢ SimFault.OutOfMemory)) }
     {
         if !lines.take_rest() {
@@ -213,18 +213,18 @@ impl Session {
 /// Answers the lines of a reader, one answer a line, up to the first line that is refused.
 fn answer_lines<A: Allocator, D: Read, W: Write>(
     alloc: A,
-    reader: &mut Counted<D>,
-    writer: &mut Counted<W>,
+    reader: &mut Input<D>,
+    writer: &mut Output<W>,
 ) -> Result<(), SimFault>
-    ensures all { OnOk result (AnswersAll (D.remaining (device_of reader.old)) (W.contents (device_of writer.old)) (W.contents (device_of writer.new))) }
-    ensures end { OnOk result (IsAtEnd (D.remaining (device_of reader.new))) }
+    ensures all { OnOk result (AnswersAll reader.old.bytes writer.old.bytes writer.new.bytes) }
+    ensures end { OnOk result (IsRead reader.new) }
     ensures refused { (number : ℕ) (why : EventFault) → IsErrOf result (SimFault.Refused number why)
-        → AnswersUpTo (D.remaining (device_of reader.old)) (W.contents (device_of writer.old)) (W.contents (device_of writer.new)) (record { line = number; why = why }) }
+        → AnswersUpTo reader.old.bytes writer.old.bytes writer.new.bytes (record { line = number; why = why }) }
     ensures memory { IsErrOf result SimFault.OutOfMemory → (reader.new ≡ reader.old) × (writer.new ≡ writer.old) }
     ensures read { IsErrOf result SimFault.Read
-        → AnswersFront (D.remaining (device_of reader.old)) (D.remaining (device_of reader.new)) (W.contents (device_of writer.old)) (W.contents (device_of writer.new)) × Rose (fault_count reader.old) (fault_count reader.new) }
+        → AnswersFront reader.old.bytes reader.new.bytes writer.old.bytes writer.new.bytes × Fails reader.old reader.new }
     ensures write { IsErrOf result SimFault.Write
-        → AnswersFront (D.remaining (device_of reader.old)) (D.remaining (device_of reader.new)) (W.contents (device_of writer.old)) (W.contents (device_of writer.new)) × Rose (fault_count writer.old) (fault_count writer.new) }
+        → AnswersFront reader.old.bytes reader.new.bytes writer.old.bytes writer.new.bytes × Fails writer.old writer.new }
 {
     let Ok(mut lines) = LineReader::new(alloc, LINE_BOUND) else {
         return Err(SimFault::OutOfMemory);
@@ -307,9 +307,9 @@ fn fault_text(fault: SimFault) -> ArrayString<64>
 }
 
 /// Tells a fault, and answers its status.
-fn report<E: Write>(fault: SimFault, faults: &mut Counted<E>) -> u8
+fn report<E: Write>(fault: SimFault, faults: &mut Output<E>) -> u8
     ensures status { result ≡ status_of fault }
-    ensures told { Tells (E.contents (device_of faults.old)) (E.contents (device_of faults.new)) (fault_count faults.old) (fault_count faults.new) (told_of fault) }
+    ensures told { Tells faults.old faults.new (told_of fault) }
 {
     tell(faults, fault_text(fault).as_bytes());
     match fault {
@@ -351,17 +351,17 @@ fn whole_table() -> ArrayString<2048>
 /// `sim` without words: answers the lines of the input.
 fn answer_input<A: Allocator, D: Read, W: Write, E: Write>(
     alloc: A,
-    reader: &mut Counted<D>,
-    writer: &mut Counted<W>,
-    faults: &mut Counted<E>,
+    reader: &mut Input<D>,
+    writer: &mut Output<W>,
+    faults: &mut Output<E>,
 ) -> u8
-    ensures done { result ≡ 0 → AnswersAll (D.remaining (device_of reader.old)) (W.contents (device_of writer.old)) (W.contents (device_of writer.new)) × IsAtEnd (D.remaining (device_of reader.new)) }
-    ensures refused { result ≡ 100 → (refusal : Refusal) × (AnswersUpTo (D.remaining (device_of reader.old)) (W.contents (device_of writer.old)) (W.contents (device_of writer.new)) refusal
-        × Tells (E.contents (device_of faults.old)) (E.contents (device_of faults.new)) (fault_count faults.old) (fault_count faults.new) (refusal_text refusal)) }
-    ensures trouble { result ≡ 111 → AnswersFront (D.remaining (device_of reader.old)) (D.remaining (device_of reader.new)) (W.contents (device_of writer.old)) (W.contents (device_of writer.new)) }
+    ensures done { result ≡ 0 → AnswersAll reader.old.bytes writer.old.bytes writer.new.bytes × IsRead reader.new }
+    ensures refused { result ≡ 100 → (refusal : Refusal) × (AnswersUpTo reader.old.bytes writer.old.bytes writer.new.bytes refusal
+        × Tells faults.old faults.new (refusal_text refusal)) }
+    ensures trouble { result ≡ 111 → AnswersFront reader.old.bytes reader.new.bytes writer.old.bytes writer.new.bytes }
     ensures cause { result ≡ 111 → (fault : SimFault)
-        × (Cause fault (Rose (fault_count reader.old) (fault_count reader.new)) (Rose (fault_count writer.old) (fault_count writer.new)) ((reader.new ≡ reader.old) × (writer.new ≡ writer.old))
-        × Tells (E.contents (device_of faults.old)) (E.contents (device_of faults.new)) (fault_count faults.old) (fault_count faults.new) (told_of fault)) }
+        × (Cause fault (Fails reader.old reader.new) (Fails writer.old writer.new) ((reader.new ≡ reader.old) × (writer.new ≡ writer.old))
+        × Tells faults.old faults.new (told_of fault)) }
     ensures status { (result ≡ 0) ⊎ ((result ≡ 100) ⊎ (result ≡ 111)) }
 {
     match answer_lines(alloc, reader, writer) {
@@ -371,11 +371,11 @@ fn answer_input<A: Allocator, D: Read, W: Write, E: Write>(
 }
 
 /// `sim table`: prints the table of the control bytes.
-fn show_table<W: Write, E: Write>(writer: &mut Counted<W>, faults: &mut Counted<E>) -> u8
-    ensures done { result ≡ 0 → Appends (W.contents (device_of writer.old)) (W.contents (device_of writer.new)) printed_table }
-    ensures trouble { result ≢ 0 → (result ≡ 111) × (Rose (fault_count writer.old) (fault_count writer.new)
-        × (AppendsFront (W.contents (device_of writer.old)) (W.contents (device_of writer.new)) printed_table
-        × Tells (E.contents (device_of faults.old)) (E.contents (device_of faults.new)) (fault_count faults.old) (fault_count faults.new) (told_of SimFault.Write))) }
+fn show_table<W: Write, E: Write>(writer: &mut Output<W>, faults: &mut Output<E>) -> u8
+    ensures done { result ≡ 0 → Wrote writer.old writer.new printed_table }
+    ensures trouble { result ≢ 0 → (result ≡ 111) × (Fails writer.old writer.new
+        × (WroteFront writer.old writer.new printed_table
+        × Tells faults.old faults.new (told_of SimFault.Write))) }
     ensures status { (result ≡ 0) ⊎ (result ≡ 111) }
 {
     match writer.write_all(whole_table().as_bytes()) {
@@ -391,34 +391,33 @@ fn show_table<W: Write, E: Write>(writer: &mut Counted<W>, faults: &mut Counted<
 pub fn run_sim<A: Allocator, D: Read, W: Write, E: Write>(
     alloc: A,
     words: &[&str],
-    reader: &mut Counted<D>,
-    writer: &mut Counted<W>,
-    faults: &mut Counted<E>,
+    reader: &mut Input<D>,
+    writer: &mut Output<W>,
+    faults: &mut Output<E>,
 ) -> u8
     // No line is refused, and the answers to all are written.
     ensures done { length words.now ≡ 0 → result ≡ 0
-        → AnswersAll (D.remaining (device_of reader.old)) (W.contents (device_of writer.old)) (W.contents (device_of writer.new)) × IsAtEnd (D.remaining (device_of reader.new)) }
+        → AnswersAll reader.old.bytes writer.old.bytes writer.new.bytes × IsRead reader.new }
     // A line is refused, the answers to the lines before it are written, and it is told.
     ensures refused { length words.now ≡ 0 → result ≡ 100
-        → (refusal : Refusal) × (AnswersUpTo (D.remaining (device_of reader.old)) (W.contents (device_of writer.old)) (W.contents (device_of writer.new)) refusal
-        × Tells (E.contents (device_of faults.old)) (E.contents (device_of faults.new)) (fault_count faults.old) (fault_count faults.new) (refusal_text refusal)) }
+        → (refusal : Refusal) × (AnswersUpTo reader.old.bytes writer.old.bytes writer.new.bytes refusal
+        × Tells faults.old faults.new (refusal_text refusal)) }
     // A front of the answers to what was read is written.
     ensures trouble { length words.now ≡ 0 → result ≡ 111
-        → AnswersFront (D.remaining (device_of reader.old)) (D.remaining (device_of reader.new)) (W.contents (device_of writer.old)) (W.contents (device_of writer.new)) }
+        → AnswersFront reader.old.bytes reader.new.bytes writer.old.bytes writer.new.bytes }
     // The reader or the writer failed, or there was no memory, and nothing was read or written. It is told which.
     ensures cause { length words.now ≡ 0 → result ≡ 111 → (fault : SimFault)
-        × (Cause fault (Rose (fault_count reader.old) (fault_count reader.new)) (Rose (fault_count writer.old) (fault_count writer.new)) ((reader.new ≡ reader.old) × (writer.new ≡ writer.old))
-        × Tells (E.contents (device_of faults.old)) (E.contents (device_of faults.new)) (fault_count faults.old) (fault_count faults.new) (told_of fault)) }
+        × (Cause fault (Fails reader.old reader.new) (Fails writer.old writer.new) ((reader.new ≡ reader.old) × (writer.new ≡ writer.old))
+        × Tells faults.old faults.new (told_of fault)) }
     ensures status { (result ≡ 0) ⊎ ((result ≡ 100) ⊎ (result ≡ 111)) }
     // The table is written, or the writer failed after a front of it, and that is told.
     ensures table { length words.now ≡ 1 → IfSome (slice_get words.now 0) (λ word. word.now ≡ codes "table") → (reader.new ≡ reader.old)
-        × TableEnds result (W.contents (device_of writer.old)) (W.contents (device_of writer.new)) (E.contents (device_of faults.old)) (E.contents (device_of faults.new))
-        (fault_count writer.old) (fault_count writer.new) (fault_count faults.old) (fault_count faults.new) }
+        × TableEnds result writer.old writer.new faults.old faults.new }
     ensures wrong_word { length words.now ≡ 1 → IfSome (slice_get words.now 0) (λ word. word.now ≢ codes "table")
         → (result ≡ 100) × (reader.new ≡ reader.old) × (writer.new ≡ writer.old)
-        × Tells (E.contents (device_of faults.old)) (E.contents (device_of faults.new)) (fault_count faults.old) (fault_count faults.new) usage_text }
+        × Tells faults.old faults.new usage_text }
     ensures usage { 1 < length words.now → (result ≡ 100) × (reader.new ≡ reader.old) × (writer.new ≡ writer.old)
-        × Tells (E.contents (device_of faults.old)) (E.contents (device_of faults.new)) (fault_count faults.old) (fault_count faults.new) usage_text }
+        × Tells faults.old faults.new usage_text }
 {
     let Some((word, further)) = words.split_first() else {
         return answer_input(alloc, reader, writer, faults);

@@ -1,6 +1,6 @@
 ghost use Rattle.std.specs.Prelude.{◌≡◌, ◌≢◌, [], length, map, OnOk, IfErr};
 ghost use Rattle.arrayvec.specs.ArrayString.{array_string_len};
-ghost use Rattle.tai_status.specs.Counted.{Rose, device_of, fault_count};
+ghost use Rattle.tai_status.specs.Counted.{Fails, Works, CountsRead, Wrote, WroteFront, Gives, GivesNothing, IsRead};
 ghost use Rattle.dtools.specs.Told.{Tells};
 ghost use Rattle.dtools.specs.Traced.{FileEnds, Shows, TellsUsage, TraceCause, TraceEnds, trouble_text, unread_text};
 
@@ -13,7 +13,7 @@ use arrayvec::ArrayString;
 use std::alloc::Allocator;
 use std::io::{ErrorKind, Write};
 use sup_trace::{Break, kind_name, read_text};
-use tai_status::Counted;
+use tai_status::Output;
 use trace_words::{WordsFault, parse_words};
 
 /// Writes what is printed of the trace whose text this is.
@@ -21,11 +21,11 @@ fn show_text<A: Allocator + Clone, W: Write>(
     alloc: &A,
     text: &[u8],
     at: Option<Break>,
-    writer: &mut Counted<W>,
+    writer: &mut Output<W>,
 ) -> Result<(), TraceTrouble>
-    ensures ok { OnOk result (Shows text.now at (W.contents (device_of writer.old)) (W.contents (device_of writer.new))) }
-    ensures cause { IfErr result (λ trouble. TraceCause trouble text.now at (writer.new ≡ writer.old) (Rose (fault_count writer.old) (fault_count writer.new))
-        (W.contents (device_of writer.old)) (W.contents (device_of writer.new))) }
+    ensures ok { OnOk result (Shows text.now at writer.old.bytes writer.new.bytes) }
+    ensures cause { IfErr result (λ trouble. TraceCause trouble text.now at (writer.new ≡ writer.old) (Fails writer.old writer.new)
+        writer.old.bytes writer.new.bytes) }
 {
     let Ok(own) = alloc.clone() else {
         return Err(TraceTrouble::OutOfMemory);
@@ -66,9 +66,9 @@ fn trouble_text(trouble: TraceTrouble) -> ArrayString<64>
 }
 
 /// Tells trouble, and answers its status.
-fn report<E: Write>(trouble: TraceTrouble, faults: &mut Counted<E>) -> u8
+fn report<E: Write>(trouble: TraceTrouble, faults: &mut Output<E>) -> u8
     ensures status { result ≡ 111 }
-    ensures told { Tells (E.contents (device_of faults.old)) (E.contents (device_of faults.new)) (fault_count faults.old) (fault_count faults.new) (trouble_text trouble) }
+    ensures told { Tells faults.old faults.new (trouble_text trouble) }
 {
     tell(faults, trouble_text(trouble).as_bytes());
     TROUBLE
@@ -80,14 +80,14 @@ pub fn trace_bytes<A: Allocator + Clone, W: Write, E: Write>(
     alloc: &A,
     text: &[u8],
     at: Option<Break>,
-    writer: &mut Counted<W>,
-    faults: &mut Counted<E>,
+    writer: &mut Output<W>,
+    faults: &mut Output<E>,
 ) -> u8
-    ensures done { result ≡ 0 → Shows text.now at (W.contents (device_of writer.old)) (W.contents (device_of writer.new)) }
+    ensures done { result ≡ 0 → Shows text.now at writer.old.bytes writer.new.bytes }
     ensures trouble { result ≢ 0 → (result ≡ 111) × ((trouble : TraceTrouble)
-        × (TraceCause trouble text.now at (writer.new ≡ writer.old) (Rose (fault_count writer.old) (fault_count writer.new))
-        (W.contents (device_of writer.old)) (W.contents (device_of writer.new))
-        × Tells (E.contents (device_of faults.old)) (E.contents (device_of faults.new)) (fault_count faults.old) (fault_count faults.new) (trouble_text trouble))) }
+        × (TraceCause trouble text.now at (writer.new ≡ writer.old) (Fails writer.old writer.new)
+        writer.old.bytes writer.new.bytes
+        × Tells faults.old faults.new (trouble_text trouble))) }
 {
     match show_text(alloc, text, at, writer) {
         Ok(()) => DONE,
@@ -100,10 +100,10 @@ fn trace_file<R: Surroundings + AllocGlobal, W: Write, E: Write>(
     rt: &R,
     file: &str,
     at: Option<Break>,
-    writer: &mut Counted<W>,
-    faults: &mut Counted<E>,
+    writer: &mut Output<W>,
+    faults: &mut Output<E>,
 ) -> u8
-    ensures ends { FileEnds (R.file_at rt.now) W.contents E.contents file.now at result writer.old writer.new faults.old faults.new }
+    ensures ends { FileEnds (R.file_at rt.now) file.now at result writer.old writer.new faults.old faults.new }
 {
     match rt.read_file(rt.alloc(), file) {
         Ok(text) => trace_bytes(&rt.alloc(), &text, at, writer, faults),
@@ -115,9 +115,9 @@ fn trace_file<R: Surroundings + AllocGlobal, W: Write, E: Write>(
 }
 
 /// Tells that a file can't be read, and answers the status of that.
-fn unread<E: Write>(file: &str, faults: &mut Counted<E>) -> u8
+fn unread<E: Write>(file: &str, faults: &mut Output<E>) -> u8
     ensures status { result ≡ 111 }
-    ensures told { Tells (E.contents (device_of faults.old)) (E.contents (device_of faults.new)) (fault_count faults.old) (fault_count faults.new) (unread_text file.now) }
+    ensures told { Tells faults.old faults.new (unread_text file.now) }
 {
     tell_parts(faults, b"trace: unable to read ", file.as_bytes(), b"\n");
     TROUBLE
@@ -130,11 +130,11 @@ fn unread<E: Write>(file: &str, faults: &mut Counted<E>) -> u8
 pub fn run_trace<R: Surroundings + AllocGlobal, W: Write, E: Write>(
     rt: &R,
     words: &[&str],
-    writer: &mut Counted<W>,
-    faults: &mut Counted<E>,
+    writer: &mut Output<W>,
+    faults: &mut Output<E>,
 ) -> u8
-    ensures no_words { length words.now ≡ 0 → TellsUsage E.contents [] result writer.old writer.new faults.old faults.new }
-    ensures ends { TraceEnds (R.file_at rt.now) W.contents E.contents (map (λ word. word.now) words.now) result writer.old writer.new faults.old faults.new }
+    ensures no_words { length words.now ≡ 0 → TellsUsage [] result writer.old writer.new faults.old faults.new }
+    ensures ends { TraceEnds (R.file_at rt.now) (map (λ word. word.now) words.now) result writer.old writer.new faults.old faults.new }
 {
     if words.is_empty() {
         return usage(faults);

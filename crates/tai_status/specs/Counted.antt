@@ -1,19 +1,13 @@
--- A device with counts of its reads and of its faults.
-use Rattle.std.specs.Prelude.{◌≡◌, ℕ, ◌-◌, ◌^◌, ◌<◌, ◌⊎◌, List, take, Option}
-use Rattle.std.specs.Io.KnownBytes.{Appends}
-use Rattle.tai_status.specs.declared.counted.Counted.{Counted}
+-- A device with counts of its reads and of its faults, and what calls do to it.
+use Rattle.std.specs.Prelude.{◌≡◌, ℕ, ◌-◌, ◌^◌, ◌<◌, ◌≤◌, ◌⊎◌, List, take, Option}
+use Rattle.std.specs.Io.KnownBytes.{Appends, Consumes, Keeps, IsAtEnd}
 
--- the reader or writer itself
-abbrev pub device_of : {D : Type 0} → Counted D → D
-device_of counted = counted.device
-
--- how often it was read
-abbrev pub read_count : {D : Type 0} → Counted D → ℕ
-read_count counted = counted.reads
-
--- how many of its calls failed
-abbrev pub fault_count : {D : Type 0} → Counted D → ℕ
-fault_count counted = counted.faults
+-- A device as contracts see it: the bytes that a reader has left or that a writer holds, where they are known, how
+-- often it was read, and how many of its calls failed.
+pub record Device : Type 0 where
+  pub bytes : Option (List ℕ)
+  pub reads : ℕ
+  pub faults : ℕ
 
 -- The count rose, or stands at its end.
 abbrev pub Rose : ℕ → ℕ → Type 0
@@ -23,3 +17,35 @@ Rose old new = (old < new) ⊎ (new ≡ 2 ^ 64 - 1)
 pub record AppendsFront (old new : Option (List ℕ)) (piece : List ℕ) : Type 0 where
   pub count : ℕ
   pub front : Appends old new (take count piece)
+
+-- The device failed: its count of faults rose, or stands at its end.
+abbrev pub Fails : (old new : Device) → Type 0
+Fails old new = Rose old.faults new.faults
+
+-- No call of the device failed.
+abbrev pub Works : (old new : Device) → Type 0
+Works old new = new.faults ≡ old.faults
+
+-- The device was read, at most 2^48 times in all.
+abbrev pub CountsRead : (old new : Device) → Type 0
+CountsRead old new = (old.reads < new.reads) × (new.reads ≤ 2 ^ 48)
+
+-- This text was written to the device.
+abbrev pub Wrote : (old new : Device) → List ℕ → Type 0
+Wrote old new text = Appends old.bytes new.bytes text
+
+-- A front of this text was written to the device.
+abbrev pub WroteFront : (old new : Device) → List ℕ → Type 0
+WroteFront old new text = AppendsFront old.bytes new.bytes text
+
+-- These bytes were read from the device.
+abbrev pub Gives : (old new : Device) → List ℕ → Type 0
+Gives old new bytes = Consumes old.bytes new.bytes bytes
+
+-- No byte of the device was read.
+abbrev pub GivesNothing : (old new : Device) → Type 0
+GivesNothing old new = Keeps old.bytes new.bytes
+
+-- All of the device was read.
+abbrev pub IsRead : Device → Type 0
+IsRead device = IsAtEnd device.bytes

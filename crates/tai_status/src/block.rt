@@ -1,9 +1,8 @@
 ghost use Rattle.std.specs.Prelude.{◌≡◌, ◌++◌, ◌+◌, ◌-◌, ◌≤◌, [], List, ℕ, length, take, ◌<◌, OnOk, IfOk, OnErr};
-ghost use Rattle.std.specs.Io.KnownBytes.{Appends};
-ghost use Rattle.tai_status.specs.Counted.{Rose, AppendsFront, device_of, fault_count};
+ghost use Rattle.tai_status.specs.Counted.{Fails, Works, Wrote, WroteFront};
 ghost use Rattle.tai_status.specs.Block.{Emits};
 
-use super::counted::{Counted, DeviceFault};
+use super::counted::{DeviceFault, Output};
 use std::io::Write;
 use std::marker::Model;
 
@@ -66,12 +65,12 @@ impl Block {
 
     /// Writes what is pending. After a fault a front of it may be written, and what is pending then is
     /// not promised: it is not to be written again.
-    pub fn flush<W: Write>(&mut self, writer: &mut Counted<W>) -> Result<(), DeviceFault>
-        ensures ok { OnOk result (Appends (W.contents (device_of writer.old)) (W.contents (device_of writer.new)) self.old) }
+    pub fn flush<W: Write>(&mut self, writer: &mut Output<W>) -> Result<(), DeviceFault>
+        ensures ok { OnOk result (Wrote writer.old writer.new self.old) }
         ensures empty { OnOk result (self.new ≡ []) }
-        ensures err { OnErr result (AppendsFront (W.contents (device_of writer.old)) (W.contents (device_of writer.new)) self.old) }
-        ensures faults { OnOk result (fault_count writer.new ≡ fault_count writer.old) }
-        ensures fault { OnErr result (Rose (fault_count writer.old) (fault_count writer.new)) }
+        ensures err { OnErr result (WroteFront writer.old writer.new self.old) }
+        ensures faults { OnOk result (Works writer.old writer.new) }
+        ensures fault { OnErr result (Fails writer.old writer.new) }
     {
         writer.write_all(self.as_slice())?;
         self.clear();
@@ -82,12 +81,12 @@ impl Block {
     pub fn put<W: Write>(
         &mut self,
         piece: &[u8],
-        writer: &mut Counted<W>,
+        writer: &mut Output<W>,
     ) -> Result<(), DeviceFault>
-        ensures ok { OnOk result (Emits (W.contents (device_of writer.old)) (W.contents (device_of writer.new)) self.old self.new piece.now) }
-        ensures err { OnErr result (AppendsFront (W.contents (device_of writer.old)) (W.contents (device_of writer.new)) (self.old ++ piece.now)) }
-        ensures faults { OnOk result (fault_count writer.new ≡ fault_count writer.old) }
-        ensures fault { OnErr result (Rose (fault_count writer.old) (fault_count writer.new)) }
+        ensures ok { OnOk result (Emits writer.old.bytes writer.new.bytes self.old self.new piece.now) }
+        ensures err { OnErr result (WroteFront writer.old writer.new (self.old ++ piece.now)) }
+        ensures faults { OnOk result (Works writer.old writer.new) }
+        ensures fault { OnErr result (Fails writer.old writer.new) }
     {
         let mut at = 0;
         while at < piece.len() {
@@ -100,13 +99,13 @@ impl Block {
     fn put_part<W: Write>(
         &mut self,
         piece: &[u8],
-        writer: &mut Counted<W>,
+        writer: &mut Output<W>,
     ) -> Result<usize, DeviceFault>
-        ensures ok { IfOk result (λ count. Emits (W.contents (device_of writer.old)) (W.contents (device_of writer.new)) self.old self.new (take count piece.now)) }
+        ensures ok { IfOk result (λ count. Emits writer.old.bytes writer.new.bytes self.old self.new (take count piece.now)) }
         ensures count { IfOk result (λ count. (count ≤ length piece.now) × (0 < length piece.now → 0 < count)) }
-        ensures err { OnErr result (AppendsFront (W.contents (device_of writer.old)) (W.contents (device_of writer.new)) self.old) }
-        ensures faults { OnOk result (fault_count writer.new ≡ fault_count writer.old) }
-        ensures fault { OnErr result (Rose (fault_count writer.old) (fault_count writer.new)) }
+        ensures err { OnErr result (WroteFront writer.old writer.new self.old) }
+        ensures faults { OnOk result (Works writer.old writer.new) }
+        ensures fault { OnErr result (Fails writer.old writer.new) }
     {
         if self.room() == 0 {
             self.flush(writer)?;
@@ -121,12 +120,12 @@ impl Block {
         &mut self,
         first: &[u8],
         second: &[u8],
-        writer: &mut Counted<W>,
+        writer: &mut Output<W>,
     ) -> Result<(), DeviceFault>
-        ensures ok { OnOk result (Emits (W.contents (device_of writer.old)) (W.contents (device_of writer.new)) self.old self.new (first.now ++ second.now)) }
-        ensures err { OnErr result (AppendsFront (W.contents (device_of writer.old)) (W.contents (device_of writer.new)) (self.old ++ (first.now ++ second.now))) }
-        ensures faults { OnOk result (fault_count writer.new ≡ fault_count writer.old) }
-        ensures fault { OnErr result (Rose (fault_count writer.old) (fault_count writer.new)) }
+        ensures ok { OnOk result (Emits writer.old.bytes writer.new.bytes self.old self.new (first.now ++ second.now)) }
+        ensures err { OnErr result (WroteFront writer.old writer.new (self.old ++ (first.now ++ second.now))) }
+        ensures faults { OnOk result (Works writer.old writer.new) }
+        ensures fault { OnErr result (Fails writer.old writer.new) }
     {
         self.put(first, writer)?;
         self.put(second, writer)

@@ -1,7 +1,9 @@
 ghost use Rattle.std.specs.Prelude.{◌≡◌, ◌≤◌, ◌<◌, ◌^◌, OnOk, OnErr, IfOk, length};
-ghost use Rattle.std.specs.Io.KnownBytes.{Appends, ReadConsumes, WriteAppends};
+ghost use Rattle.std.specs.Io.KnownBytes.{ReadConsumes, WriteAppends};
+ghost use Rattle.tai_status.specs.Counted.{Fails, Works, CountsRead, Wrote, WroteFront};
 
 use std::io::{ErrorKind, Read, Write};
+use std::marker::{Model, PhantomData};
 
 /// How often a device is read at most, and how often one write is tried.
 const MOST_READS: u64 = 1 << 48;
@@ -10,44 +12,82 @@ const MOST_READS: u64 = 1 << 48;
 #[derive(Clone, Copy, Debug, PartialEq, Eq)]
 pub struct DeviceFault;
 
-/// A reader or a writer, with counts of its reads and of its faults.
+/// The way of a device that is read.
+#[derive(Clone, Copy)]
+pub struct In;
+
+/// The way of a device that is written.
+#[derive(Clone, Copy)]
+pub struct Out;
+
+/// What can be used this way: contracts see the bytes that it has left, or that it holds.
+pub trait Used<Way> {
+    ghost use Rattle.std.specs.Prelude.{ℕ, Option, List};
+
+    ghost bytes: { Self → Option (List ℕ) };
+}
+
+impl<D: Read> Used<In> for D {
+    ghost bytes = { D.remaining };
+}
+
+impl<D: Write> Used<Out> for D {
+    ghost bytes = { D.contents };
+}
+
+/// A reader or a writer, with counts of its reads and of its faults. Which of the two it is follows
+/// from its use.
 ///
 /// A fault is answered only where the count of faults rose in that call, or stood at its end. After
 /// 2^48 reads each further one is a fault, so that every loop over a reader ends.
 #[derive(Drop)]
-pub struct Counted<D> {
+pub struct Counted<D: Used<Way>, Way> {
     device: D,
     reads: u64,
     faults: u64,
-    ghost bounded: { reads ≤ 2 ^ 48 },
+    way: PhantomData<Way>,
 }
 
-impl<D> Counted<D> {
-    ghost use Rattle.tai_status.specs.Counted.{Rose, device_of, read_count, fault_count};
+/// A reader with counts.
+pub type Input<D> = Counted<D, In>;
 
+/// A writer with counts.
+pub type Output<D> = Counted<D, Out>;
+
+impl<D: Used<Way>, Way> Model for Counted<D, Way> {
+    ghost use Rattle.std.specs.Prelude.{◌≤◌, ◌^◌};
+    ghost use Rattle.tai_status.specs.Counted.{Device};
+
+    ghost Value = { Device };
+
+    ghost view = { λ c. record { bytes = D.bytes c.device; reads = c.reads; faults = c.faults } };
+
+    ghost invariant = { λ c. c.reads ≤ 2 ^ 48 };
+}
+
+impl<D: Used<Way>, Way> Counted<D, Way> {
     /// The device, not read and without a fault yet.
-    pub fn new(device: D) -> Counted<D>
-        ensures device { device_of result ≡ device }
-        ensures reads { read_count result ≡ 0 }
-        ensures faults { fault_count result ≡ 0 }
+    pub fn new(device: D) -> Counted<D, Way>
+        ensures { result ≡ record { bytes = D.bytes device; reads = 0; faults = 0 } }
     {
         Counted {
             device,
             reads: 0,
             faults: 0,
+            way: PhantomData,
         }
     }
 
     /// The number of faults so far. It stops at `u64::MAX`.
     pub fn faults(&self) -> u64
-        ensures { result ≡ fault_count self.now }
+        ensures { result ≡ self.now.faults }
     {
         self.faults
     }
 
     /// The number of reads so far, 2^48 at most.
     pub fn reads(&self) -> u64
-        ensures count { result ≡ read_count self.now }
+        ensures count { result ≡ self.now.reads }
         ensures bounded { result ≤ 2 ^ 48 }
     {
         self.reads
@@ -55,7 +95,7 @@ impl<D> Counted<D> {
 
     /// The device itself.
     pub fn into_device(self) -> D
-        ensures { result ≡ device_of self }
+        ensures { D.bytes result ≡ self.bytes }
     {
         let Self { device, .. } = self;
         device
@@ -63,25 +103,23 @@ impl<D> Counted<D> {
 
     /// Counts a fault. The count stops at its end.
     fn count_fault(&mut self) -> DeviceFault
-        ensures rose { Rose (fault_count self.old) (fault_count self.new) }
-        ensures device { device_of self.new ≡ device_of self.old }
-        ensures reads { read_count self.new ≡ read_count self.old }
+        ensures rose { Fails self.old self.new }
+        ensures bytes { self.new.bytes ≡ self.old.bytes }
+        ensures reads { self.new.reads ≡ self.old.reads }
     {
         self.faults = self.faults.saturating_add(1);
         DeviceFault
     }
 }
 
-impl<D: Read> Counted<D> {
-    ghost use Rattle.tai_status.specs.Counted.{Rose, device_of, read_count, fault_count};
-
+impl<D: Read> Counted<D, In> {
     /// Reads once, and again where a read was interrupted. No byte is lost at a fault.
     pub fn read(&mut self, into: &mut [u8]) -> Result<usize, DeviceFault>
         ensures bound { IfOk result (λ count. count ≤ length into.new) }
-        ensures bytes { ReadConsumes (D.remaining (device_of self.old)) (D.remaining (device_of self.new)) result into.new }
-        ensures reads { OnOk result (read_count self.old < read_count self.new) }
-        ensures faults { OnOk result (fault_count self.new ≡ fault_count self.old) }
-        ensures fault { OnErr result (Rose (fault_count self.old) (fault_count self.new)) }
+        ensures bytes { ReadConsumes self.old.bytes self.new.bytes result into.new }
+        ensures reads { OnOk result (CountsRead self.old self.new) }
+        ensures faults { OnOk result (Works self.old self.new) }
+        ensures fault { OnErr result (Fails self.old self.new) }
     {
         while self.reads < MOST_READS {
             self.reads += 1;
@@ -98,18 +136,16 @@ impl<D: Read> Counted<D> {
     }
 }
 
-impl<D: Write> Counted<D> {
-    ghost use Rattle.tai_status.specs.Counted.{Rose, AppendsFront, device_of, read_count, fault_count};
-
+impl<D: Write> Counted<D, Out> {
     /// Writes a front of the piece, and again where a write was interrupted. That none of its bytes
     /// was taken is a fault.
     pub fn write(&mut self, piece: &[u8]) -> Result<usize, DeviceFault>
         ensures bound { IfOk result (λ count. count ≤ length piece.now) }
         ensures some { IfOk result (λ count. 0 < length piece.now → 0 < count) }
-        ensures bytes { WriteAppends (D.contents (device_of self.old)) (D.contents (device_of self.new)) result piece.now }
-        ensures reads { read_count self.new ≡ read_count self.old }
-        ensures faults { OnOk result (fault_count self.new ≡ fault_count self.old) }
-        ensures fault { OnErr result (Rose (fault_count self.old) (fault_count self.new)) }
+        ensures bytes { WriteAppends self.old.bytes self.new.bytes result piece.now }
+        ensures reads { self.new.reads ≡ self.old.reads }
+        ensures faults { OnOk result (Works self.old self.new) }
+        ensures fault { OnErr result (Fails self.old self.new) }
     {
         for _ in 0..MOST_READS {
             match self.device.write(piece) {
@@ -131,11 +167,11 @@ impl<D: Write> Counted<D> {
 
     /// Writes the whole piece. After a fault a front of it is written.
     pub fn write_all(&mut self, piece: &[u8]) -> Result<(), DeviceFault>
-        ensures ok { OnOk result (Appends (D.contents (device_of self.old)) (D.contents (device_of self.new)) piece.now) }
-        ensures err { OnErr result (AppendsFront (D.contents (device_of self.old)) (D.contents (device_of self.new)) piece.now) }
-        ensures reads { read_count self.new ≡ read_count self.old }
-        ensures faults { OnOk result (fault_count self.new ≡ fault_count self.old) }
-        ensures fault { OnErr result (Rose (fault_count self.old) (fault_count self.new)) }
+        ensures ok { OnOk result (Wrote self.old self.new piece.now) }
+        ensures err { OnErr result (WroteFront self.old self.new piece.now) }
+        ensures reads { self.new.reads ≡ self.old.reads }
+        ensures faults { OnOk result (Works self.old self.new) }
+        ensures fault { OnErr result (Fails self.old self.new) }
     {
         let mut at = 0;
         while at < piece.len() {

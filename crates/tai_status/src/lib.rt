@@ -13,7 +13,7 @@ mod record;
 mod stamp;
 
 pub use block::{BLOCK, Block};
-pub use counted::{Counted, DeviceFault};
+pub use counted::{Counted, DeviceFault, In, Input, Out, Output, Used};
 pub use decoding::decode;
 pub use label::{Label, LabelFault, pack, text};
 pub use laws::{lines_in_turn, one_record};

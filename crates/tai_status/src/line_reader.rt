@@ -1,10 +1,9 @@
 ghost use Rattle.std.specs.Prelude.{◌≡◌, ◌↔◌, ◌<◌, ◌≤◌, ◌+◌, ◌-◌, ◌^◌, [], length, take, slice_range, true, false, OnOk, OnErr, IfOk, IsErrOf};
-ghost use Rattle.std.specs.Io.KnownBytes.{Keeps, Consumes, IsAtEnd};
-ghost use Rattle.tai_status.specs.Counted.{Rose, device_of, read_count, fault_count};
+ghost use Rattle.tai_status.specs.Counted.{Fails, Works, CountsRead, Gives, GivesNothing, IsRead};
 ghost use Rattle.tai_status.specs.LineReader.{IsPlain, TakesLine, Fills};
 
 use crate::block::BLOCK;
-use crate::counted::{Counted, DeviceFault};
+use crate::counted::{DeviceFault, Input};
 use memchr::memchr;
 use std::alloc::{AllocError, Allocator, Global};
 use std::io::Read;
@@ -114,16 +113,16 @@ impl<A: Allocator> LineReader<A> {
     /// Reads once, behind what is pending. Answers whether bytes came: none come at the end of the
     /// input alone. That a line is too long is told before anything more is read. The line that was
     /// given last is given up.
-    pub fn fill<D: Read>(&mut self, reader: &mut Counted<D>) -> Result<bool, LineFault>
-        ensures filled { OnOk result (Fills (D.remaining (device_of reader.old)) (D.remaining (device_of reader.new)) self.old self.new) }
-        ensures end { IfOk result (λ more. more ≡ false → IsAtEnd (D.remaining (device_of reader.new)) × (self.new.pending ≡ self.old.pending)) }
-        ensures kept { OnErr result ((self.new.pending ≡ self.old.pending) × Keeps (D.remaining (device_of reader.old)) (D.remaining (device_of reader.new))) }
+    pub fn fill<D: Read>(&mut self, reader: &mut Input<D>) -> Result<bool, LineFault>
+        ensures filled { OnOk result (Fills reader.old.bytes reader.new.bytes self.old self.new) }
+        ensures end { IfOk result (λ more. more ≡ false → IsRead reader.new × (self.new.pending ≡ self.old.pending)) }
+        ensures kept { OnErr result ((self.new.pending ≡ self.old.pending) × GivesNothing reader.old reader.new) }
         ensures bound { self.new.bound ≡ self.old.bound }
         ensures long { IsErrOf result LineFault.TooLong ↔ (self.old.bound < length self.old.pending) }
-        ensures read { IsErrOf result LineFault.Read → Rose (fault_count reader.old) (fault_count reader.new) }
-        ensures reads { OnOk result (read_count reader.old < read_count reader.new) }
+        ensures read { IsErrOf result LineFault.Read → Fails reader.old reader.new }
+        ensures reads { OnOk result (CountsRead reader.old reader.new) }
         ensures block { OnOk result (length self.new.pending ≤ length self.old.pending + 32768) }
-        ensures faults { OnOk result (fault_count reader.new ≡ fault_count reader.old) }
+        ensures faults { OnOk result (Works reader.old reader.new) }
     {
         if self.end - self.start == self.bytes.len() {
             return Err(LineFault::TooLong);
@@ -135,16 +134,16 @@ impl<A: Allocator> LineReader<A> {
     }
 
     /// Moves what is pending to the front, and reads once into the room behind it.
-    fn read_more<D: Read>(&mut self, reader: &mut Counted<D>) -> Result<usize, DeviceFault>
+    fn read_more<D: Read>(&mut self, reader: &mut Input<D>) -> Result<usize, DeviceFault>
         requires { length self.old.pending ≤ self.old.bound }
-        ensures filled { OnOk result (Fills (D.remaining (device_of reader.old)) (D.remaining (device_of reader.new)) self.old self.new) }
-        ensures end { IfOk result (λ count. count ≡ 0 → IsAtEnd (D.remaining (device_of reader.new)) × (self.new.pending ≡ self.old.pending)) }
-        ensures kept { OnErr result ((self.new.pending ≡ self.old.pending) × Keeps (D.remaining (device_of reader.old)) (D.remaining (device_of reader.new))) }
+        ensures filled { OnOk result (Fills reader.old.bytes reader.new.bytes self.old self.new) }
+        ensures end { IfOk result (λ count. count ≡ 0 → IsRead reader.new × (self.new.pending ≡ self.old.pending)) }
+        ensures kept { OnErr result ((self.new.pending ≡ self.old.pending) × GivesNothing reader.old reader.new) }
         ensures bound { self.new.bound ≡ self.old.bound }
-        ensures read { OnErr result (Rose (fault_count reader.old) (fault_count reader.new)) }
-        ensures reads { OnOk result (read_count reader.old < read_count reader.new) }
+        ensures read { OnErr result (Fails reader.old reader.new) }
+        ensures reads { OnOk result (CountsRead reader.old reader.new) }
         ensures block { OnOk result (length self.new.pending ≤ length self.old.pending + 32768) }
-        ensures faults { OnOk result (fault_count reader.new ≡ fault_count reader.old) }
+        ensures faults { OnOk result (Works reader.old reader.new) }
     {
         let len = self.end - self.start;
         move_to_front(self.bytes.as_mut_slice(), self.start, self.end);
@@ -175,18 +174,18 @@ fn read_into<D: Read>(
     bytes: &mut [u8],
     at: usize,
     limit: usize,
-    reader: &mut Counted<D>,
+    reader: &mut Input<D>,
 ) -> Result<usize, DeviceFault>
     requires order { at ≤ limit }
     requires within { limit ≤ length bytes.old }
     ensures front { take at bytes.new ≡ take at bytes.old }
     ensures bound { IfOk result (λ count. at + count ≤ limit) }
-    ensures bytes { IfOk result (λ count. Consumes (D.remaining (device_of reader.old)) (D.remaining (device_of reader.new)) (slice_range bytes.new at (at + count))) }
-    ensures end { IfOk result (λ count. count ≡ 0 → at < limit → IsAtEnd (D.remaining (device_of reader.new))) }
-    ensures kept { OnErr result (Keeps (D.remaining (device_of reader.old)) (D.remaining (device_of reader.new))) }
-    ensures read { OnErr result (Rose (fault_count reader.old) (fault_count reader.new)) }
-    ensures reads { OnOk result (read_count reader.old < read_count reader.new) }
-    ensures faults { OnOk result (fault_count reader.new ≡ fault_count reader.old) }
+    ensures bytes { IfOk result (λ count. Gives reader.old reader.new (slice_range bytes.new at (at + count))) }
+    ensures end { IfOk result (λ count. count ≡ 0 → at < limit → IsRead reader.new) }
+    ensures kept { OnErr result (GivesNothing reader.old reader.new) }
+    ensures read { OnErr result (Fails reader.old reader.new) }
+    ensures reads { OnOk result (CountsRead reader.old reader.new) }
+    ensures faults { OnOk result (Works reader.old reader.new) }
 {
     reader.read(&mut bytes[at..limit])
 }

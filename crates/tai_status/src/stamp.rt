@@ -1,14 +1,13 @@
 ghost use Rattle.std.specs.Prelude.{Bool, ◌≡◌, ◌+◌, ◌<◌, ◌≤◌, ◌++◌, [], ◌∷◌, List, ℕ, Some, length, take, not, if◌then◌else◌, OnOk, OnErr, IfOk, IfSome, IsErrOf};
-ghost use Rattle.std.specs.Io.KnownBytes.{IsAtEnd};
 ghost use Rattle.std.specs.Io.BufRead.{take_through};
 ghost use Rattle.tai_status.specs.Lines.{stamp};
-ghost use Rattle.tai_status.specs.Counted.{Rose, AppendsFront, device_of, fault_count};
+ghost use Rattle.tai_status.specs.Counted.{Fails, Works, WroteFront, IsRead};
 ghost use Rattle.tai_status.specs.Lines.{Gave, StampsAll, StampsFront};
 ghost use Rattle.tai_status.specs.Block.{Emits};
 ghost use Rattle.tai_status.specs.Stamping.{Stamps, StampsUpTo, is_inside, begun, stamped_on};
 
 use super::block::{BLOCK, Block};
-use super::counted::{Counted, DeviceFault};
+use super::counted::{DeviceFault, Input, Output};
 use super::label::{Label, text};
 use memchr::memchr;
 use std::io::{Read, Write};
@@ -64,17 +63,17 @@ fn stamp_part<E: Write, C: TimeSource>(
     bytes: &[u8],
     inside: bool,
     block: &mut Block,
-    writer: &mut Counted<E>,
+    writer: &mut Output<E>,
     clock: &mut C,
 ) -> Result<Part, DeviceFault>
     requires { 0 < length bytes.now }
     ensures part { IfOk result (λ part. (0 < part.len) × (part.len ≤ length bytes.now)) }
     ensures ok { IfOk result (λ part. Stamps inside (take part.len bytes.now) (C.readings clock.old) (C.readings clock.new)
-        (E.contents (device_of writer.old)) (E.contents (device_of writer.new)) block.old block.new (not part.ends) (if inside then 0 else 1)) }
+        writer.old.bytes writer.new.bytes block.old block.new (not part.ends) (if inside then 0 else 1)) }
     ensures err { OnErr result (StampsUpTo inside bytes.now (C.readings clock.old) (C.readings clock.new)
-        (E.contents (device_of writer.old)) (E.contents (device_of writer.new)) block.old) }
-    ensures fault { OnErr result (Rose (fault_count writer.old) (fault_count writer.new)) }
-    ensures faults { OnOk result (fault_count writer.new ≡ fault_count writer.old) }
+        writer.old.bytes writer.new.bytes block.old) }
+    ensures fault { OnErr result (Fails writer.old writer.new) }
+    ensures faults { OnOk result (Works writer.old writer.new) }
 {
     let part = first_part(bytes);
     if inside {
@@ -90,18 +89,18 @@ fn stamp_block<E: Write, C: TimeSource>(
     bytes: &[u8],
     inside: &mut bool,
     block: &mut Block,
-    writer: &mut Counted<E>,
+    writer: &mut Output<E>,
     clock: &mut C,
 ) -> Result<u64, DeviceFault>
     requires { block.old ≡ [] }
     ensures ok { IfOk result (λ count. Stamps inside.old bytes.now (C.readings clock.old) (C.readings clock.new)
-        (E.contents (device_of writer.old)) (E.contents (device_of writer.new)) [] [] inside.new count) }
+        writer.old.bytes writer.new.bytes [] [] inside.new count) }
     ensures lines { IfOk result (λ count. count ≤ length bytes.now) }
     ensures empty { OnOk result (block.new ≡ []) }
     ensures err { OnErr result (StampsUpTo inside.old bytes.now (C.readings clock.old) (C.readings clock.new)
-        (E.contents (device_of writer.old)) (E.contents (device_of writer.new)) []) }
-    ensures fault { OnErr result (Rose (fault_count writer.old) (fault_count writer.new)) }
-    ensures faults { OnOk result (fault_count writer.new ≡ fault_count writer.old) }
+        writer.old.bytes writer.new.bytes []) }
+    ensures fault { OnErr result (Fails writer.old writer.new) }
+    ensures faults { OnOk result (Works writer.old writer.new) }
 {
     let count = stamp_parts(bytes, inside, block, writer, clock)?;
     block.flush(writer)?;
@@ -120,16 +119,16 @@ fn stamp_parts<E: Write, C: TimeSource>(
     bytes: &[u8],
     inside: &mut bool,
     block: &mut Block,
-    writer: &mut Counted<E>,
+    writer: &mut Output<E>,
     clock: &mut C,
 ) -> Result<u64, DeviceFault>
     ensures ok { IfOk result (λ count. Stamps inside.old bytes.now (C.readings clock.old) (C.readings clock.new)
-        (E.contents (device_of writer.old)) (E.contents (device_of writer.new)) block.old block.new inside.new count) }
+        writer.old.bytes writer.new.bytes block.old block.new inside.new count) }
     ensures lines { IfOk result (λ count. count ≤ length bytes.now) }
     ensures err { OnErr result (StampsUpTo inside.old bytes.now (C.readings clock.old) (C.readings clock.new)
-        (E.contents (device_of writer.old)) (E.contents (device_of writer.new)) block.old) }
-    ensures fault { OnErr result (Rose (fault_count writer.old) (fault_count writer.new)) }
-    ensures faults { OnOk result (fault_count writer.new ≡ fault_count writer.old) }
+        writer.old.bytes writer.new.bytes block.old) }
+    ensures fault { OnErr result (Fails writer.old writer.new) }
+    ensures faults { OnOk result (Works writer.old writer.new) }
 {
     let mut at = 0;
     let mut count = 0;
@@ -144,17 +143,17 @@ fn stamp_parts<E: Write, C: TimeSource>(
 
 /// Writes each line after the text of a label and a space. A label is read for each line, at its first byte. Answers the number of lines.
 pub fn stamp_lines<D: Read, E: Write, C: TimeSource>(
-    reader: &mut Counted<D>,
-    writer: &mut Counted<E>,
+    reader: &mut Input<D>,
+    writer: &mut Output<E>,
     clock: &mut C,
 ) -> Result<u64, StampFault>
-    ensures done { IfOk result (λ count. IfSome (D.remaining (device_of reader.old)) (λ input.
-        StampsAll input (C.readings clock.old) (C.readings clock.new) (E.contents (device_of writer.old)) (E.contents (device_of writer.new)) count)) }
-    ensures end { OnOk result (IsAtEnd (D.remaining (device_of reader.new))) }
-    ensures front { OnErr result (StampsFront (D.remaining (device_of reader.old)) (D.remaining (device_of reader.new))
-        (C.readings clock.old) (C.readings clock.new) (E.contents (device_of writer.old)) (E.contents (device_of writer.new))) }
-    ensures read { IsErrOf result StampFault.Read → Rose (fault_count reader.old) (fault_count reader.new) }
-    ensures write { IsErrOf result StampFault.Write → Rose (fault_count writer.old) (fault_count writer.new) }
+    ensures done { IfOk result (λ count. IfSome reader.old.bytes (λ input.
+        StampsAll input (C.readings clock.old) (C.readings clock.new) writer.old.bytes writer.new.bytes count)) }
+    ensures end { OnOk result (IsRead reader.new) }
+    ensures front { OnErr result (StampsFront reader.old.bytes reader.new.bytes
+        (C.readings clock.old) (C.readings clock.new) writer.old.bytes writer.new.bytes) }
+    ensures read { IsErrOf result StampFault.Read → Fails reader.old reader.new }
+    ensures write { IsErrOf result StampFault.Write → Fails writer.old writer.new }
 {
     let mut bytes = [0; BLOCK];
     let mut block = Block::new();
@@ -190,12 +189,12 @@ fn put_line<E: Write>(
     label: &Label,
     bytes: &[u8],
     block: &mut Block,
-    writer: &mut Counted<E>,
+    writer: &mut Output<E>,
 ) -> Result<(), DeviceFault>
-    ensures ok { OnOk result (Emits (E.contents (device_of writer.old)) (E.contents (device_of writer.new)) block.old block.new (stamp label.now ++ bytes.now)) }
-    ensures err { OnErr result (AppendsFront (E.contents (device_of writer.old)) (E.contents (device_of writer.new)) (block.old ++ (stamp label.now ++ bytes.now))) }
-    ensures faults { OnOk result (fault_count writer.new ≡ fault_count writer.old) }
-    ensures fault { OnErr result (Rose (fault_count writer.old) (fault_count writer.new)) }
+    ensures ok { OnOk result (Emits writer.old.bytes writer.new.bytes block.old block.new (stamp label.now ++ bytes.now)) }
+    ensures err { OnErr result (WroteFront writer.old writer.new (block.old ++ (stamp label.now ++ bytes.now))) }
+    ensures faults { OnOk result (Works writer.old writer.new) }
+    ensures fault { OnErr result (Fails writer.old writer.new) }
 {
     block.put_both(&stamp_bytes(label), bytes, writer)
 }

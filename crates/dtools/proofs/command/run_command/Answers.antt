@@ -8,6 +8,7 @@ use Rattle.dtools.proofs.command.run_command.Goals as goal
 
 pub returns-in-sim : goal.returns-in-sim
 returns-in-sim g c =
+    rw (← c.devices.view_is) (
     let words = c.args.words.now in
     let count = length-map words (λ word. word.now) in
     record {
@@ -33,10 +34,11 @@ returns-in-sim g c =
         trace = search rules;
         no_child = search rules;
       };
-    }
+    })
 
 pub returns-in-readproctitle : goal.returns-in-readproctitle
 returns-in-readproctitle g c =
+    rw (← c.devices.view_is) (
     let words = c.args.words.now in
     let count = length-map words (λ word. word.now) in
     record {
@@ -49,8 +51,8 @@ returns-in-readproctitle g c =
         tai64n = search rules;
         tai64n_usage = search rules;
         readproctitle_usage = λ is none. let told = c.run_readproctitle.ensures.usage (subst (λ (n : ℕ). n ≡ 0) count none) in (told.0, told.1, told.2, refl, told.3);
-        readproctitle = λ is. last_word (λ word. word.now) words (λ text. TitleEnds g.D.Read.remaining g.W.Write.contents g.E.Write.contents (length text) c.run_readproctitle.result c.args.devices.now.reader c.run_readproctitle.new.reader
-            c.args.devices.now.writer c.run_readproctitle.new.writer c.args.devices.now.faults c.run_readproctitle.new.faults) c.run_readproctitle.ensures.title;
+        readproctitle = λ is. last_word (λ word. word.now) words (λ text. TitleEnds (length text) c.run_readproctitle.result c.devices.inside.reader c.run_readproctitle.new.reader
+            c.devices.inside.writer c.run_readproctitle.new.writer c.devices.inside.faults c.run_readproctitle.new.faults) c.run_readproctitle.ensures.title;
         envdir_usage = search rules;
         envdir = search rules;
         envdir_silent = search rules;
@@ -58,10 +60,11 @@ returns-in-readproctitle g c =
         trace = search rules;
         no_child = search rules;
       };
-    }
+    })
 
 pub returns-in-envdir : goal.returns-in-envdir
 returns-in-envdir g c =
+    rw (← c.devices.view_is) (
     let words = c.args.words.now in
     let count = length-map words (λ word. word.now) in
     record {
@@ -76,11 +79,11 @@ returns-in-envdir g c =
         readproctitle_usage = search rules;
         readproctitle = search rules;
         envdir_usage = λ is few. let told = c.run_envdir.ensures.usage (subst (λ (n : ℕ). n < 2) count few) in ((told.0, refl, refl, refl, told.2), told.1);
-        envdir = λ is. two_words (λ word. word.now) words (λ dir program rest. EnvdirEnds (g.R.Surroundings.folder_at c.args.rt.now) (g.R.Surroundings.known_variables c.args.rt.now) g.E.Write.contents (g.S.Starter.starts c.args.starter.now)
-            (g.S.Starter.starts c.run_envdir.new.starter) dir program rest c.run_envdir.result c.args.devices.now.faults c.run_envdir.new.faults) c.run_envdir.ensures.ends;
+        envdir = λ is. two_words (λ word. word.now) words (λ dir program rest. EnvdirEnds (g.R.Surroundings.folder_at c.args.rt.now) (g.R.Surroundings.known_variables c.args.rt.now) (g.S.Starter.starts c.args.starter.now)
+            (g.S.Starter.starts c.run_envdir.new.starter) dir program rest c.run_envdir.result c.devices.inside.faults c.run_envdir.new.faults) c.run_envdir.ensures.ends;
         envdir_silent = search rules;
         trace_usage = search rules;
         trace = search rules;
         no_child = search rules;
       };
-    }
+    })

@@ -1,25 +1,24 @@
 use Rattle.std.proofs.Common.{List, ℕ, [], ◌∷◌, ◌++◌, subst}
 use Rattle.std.specs.Prelude.{codes}
-use Rattle.tai_status.specs.Counted.{device_of, fault_count}
 use Rattle.dtools.specs.Told.{Tells}
 use Rattle.dtools.proofs.envdir.report.Goals as goal
 
 pub returns-in-Unread-clause-told : goal.returns-in-Unread-clause-told
 returns-in-Unread-clause-told g c =
     rw c.in-Unread.is
-    (subst (λ (t : List ℕ). Tells (g.E.Write.contents (device_of c.args.faults.now)) (g.E.Write.contents (device_of c.tell_parts.new.faults)) (fault_count c.args.faults.now) (fault_count c.tell_parts.new.faults)
+    (subst (λ (t : List ℕ). Tells c.args.faults.now c.tell_parts.new.faults
     (codes "envdir: unable to read " ++ (t ++ 10 ∷ []))) c.as_bytes.ensures.value c.tell_parts.ensures)
 
 pub returns-in-NotRun-clause-told : goal.returns-in-NotRun-clause-told
 returns-in-NotRun-clause-told g c =
     rw c.in-NotRun.is
-    (subst (λ (t : List ℕ). Tells (g.E.Write.contents (device_of c.args.faults.now)) (g.E.Write.contents (device_of c.tell_parts-in-NotRun.new.faults)) (fault_count c.args.faults.now) (fault_count c.tell_parts-in-NotRun.new.faults)
+    (subst (λ (t : List ℕ). Tells c.args.faults.now c.tell_parts-in-NotRun.new.faults
     (codes "envdir: unable to run " ++ (t ++ 10 ∷ []))) c.as_bytes-in-NotRun.ensures.value c.tell_parts-in-NotRun.ensures)
 
 pub returns-in-NameHasEquals-clause-told : goal.returns-in-NameHasEquals-clause-told
 returns-in-NameHasEquals-clause-told g c =
     rw c.in-NameHasEquals.is
-    (subst (λ (t : List ℕ). Tells (g.E.Write.contents (device_of c.args.faults.now)) (g.E.Write.contents (device_of c.tell_parts-in-NameHasEquals.new.faults)) (fault_count c.args.faults.now) (fault_count c.tell_parts-in-NameHasEquals.new.faults)
+    (subst (λ (t : List ℕ). Tells c.args.faults.now c.tell_parts-in-NameHasEquals.new.faults
     (codes "envdir: " ++ (t ++ (codes ": NameHasEquals" ++ 10 ∷ [])))) c.as_bytes-in-NameHasEquals.ensures.value c.tell_parts-in-NameHasEquals.ensures)
 
 pub returns-in-OutOfMemory-clause-told : goal.returns-in-OutOfMemory-clause-told

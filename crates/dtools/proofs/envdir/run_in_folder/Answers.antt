@@ -1,5 +1,4 @@
 use Rattle.std.proofs.Common.{ℕ, List, [], inl, inr, refl, rules, subst, sym}
-use Rattle.tai_status.specs.Counted.{device_of, fault_count}
 use Rattle.dtools.specs.Told.{Tells}
 use Rattle.dtools.specs.Child.{envdir_told}
 use Rattle.dtools.proofs.Children.{is_read, not_read, of_no_file}
@@ -17,7 +16,7 @@ returns-in-Err g c =
         first = of_none.0;
         none = inl (refl {a = g.S.Starter.starts c.args.starter.now}, of_none.2);
         status_is = c.report.ensures.status;
-        told_why = subst (λ (name : List ℕ). Tells (g.E.Write.contents (device_of c.args.faults.now)) (g.E.Write.contents (device_of c.report.new.faults)) (fault_count c.args.faults.now) (fault_count c.report.new.faults)
+        told_why = subst (λ (name : List ℕ). Tells c.args.faults.now c.report.new.faults
             (envdir_told c.args.dir.now c.args.program.now name cause)) (sym of_none.1) c.report.ensures.told;
       });
     }
@@ -31,7 +30,7 @@ returns g c = record {
     first = search rules;
     none = search rules;
     status_is = c.report-in-Err-run_child.ensures.status;
-    told_why = subst (λ (name : List ℕ). Tells (g.E.Write.contents (device_of c.args.faults.now)) (g.E.Write.contents (device_of c.report-in-Err-run_child.new.faults)) (fault_count c.args.faults.now) (fault_count c.report-in-Err-run_child.new.faults)
+    told_why = subst (λ (name : List ℕ). Tells c.args.faults.now c.report-in-Err-run_child.new.faults
         (envdir_told c.args.dir.now c.args.program.now name c.in-Err-run_child.fault)) c.refused_name.ensures c.report-in-Err-run_child.ensures.told;
   });
 }

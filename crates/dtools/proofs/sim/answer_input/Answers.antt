@@ -1,5 +1,4 @@
 use Rattle.std.proofs.Common.{Err, sym, ap, subst, ◌∙◌, ⊎_elim}
-use Rattle.tai_status.specs.Counted.{device_of, fault_count}
 use Rattle.dtools.specs.declared.fault.SimFault.{SimFault}
 use Rattle.dtools.specs.Told.{Tells, told_of}
 use Rattle.dtools.proofs.Steps.{refusal_at, trouble_at, cause_at, unmoved}
@@ -11,7 +10,7 @@ returns-in-Err-clause-refused g c = λ is.
       found.0,
       (
         c.in-Err.ensures.refused found.0.line found.0.why (ap Err found.1),
-        subst (λ (f : SimFault). Tells (g.E.Write.contents (device_of c.args.faults.now)) (g.E.Write.contents (device_of c.report.new.faults)) (fault_count c.args.faults.now) (fault_count c.report.new.faults) (told_of f)) found.1 c.report.ensures.told,
+        subst (λ (f : SimFault). Tells c.args.faults.now c.report.new.faults (told_of f)) found.1 c.report.ensures.told,
       ),
     )
 
@@ -19,7 +18,7 @@ pub returns-in-Err-clause-trouble : goal.returns-in-Err-clause-trouble
 returns-in-Err-clause-trouble g c = λ is.
     ⊎_elim
     (λ e. let same = c.in-Err.ensures.memory (ap Err e) in
-    unmoved _ _ _ _ (ap (λ r. g.D.Read.remaining (device_of r)) same.0) (ap (λ w. g.W.Write.contents (device_of w)) same.1))
+    unmoved _ _ _ _ (ap (λ r. r.bytes) same.0) (ap (λ w. w.bytes) same.1))
     (λ more. ⊎_elim (λ e. (c.in-Err.ensures.read (ap Err e)).0) (λ e. (c.in-Err.ensures.write (ap Err e)).0) more)
     (trouble_at c.in-Err.fault (sym c.report.ensures.status ∙ is))
 

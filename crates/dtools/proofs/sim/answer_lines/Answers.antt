@@ -1,7 +1,7 @@
-use Rattle.std.proofs.Common.{◌≡◌, ◌≤◌, ◌+◌, ◌^◌, ℕ, Err, length, subst, sym, ap, ◌∙◌, arith, refl}
+use Rattle.std.proofs.Common.{◌≡◌, ◌+◌, ℕ, Err, length, subst, sym, ap, ◌∙◌, arith, refl}
 use Rattle.std.proofs.lemmas.Result.{err_from_is_err_and, on_ok_weaker}
 use Rattle.tai_status.specs.LineReader.{Given}
-use Rattle.tai_status.specs.Counted.{Rose, device_of, read_count, fault_count}
+use Rattle.tai_status.specs.Counted.{Rose}
 use Rattle.sup_core.specs.declared.reading.EventFault.TheVariants as fault
 use Rattle.dtools.proofs.Steps.{SoFar-begin, SoFar-filled, long_refused, read_failed, told_as}
 use Rattle.dtools.proofs.sim.answer_lines.Goals as goal
@@ -14,10 +14,11 @@ reads-init g c = (
   (let n = c.new-session.ensures.count in let p : length c.in-Ok.lines.pending ≡ 0 = ap (λ (l : Given). length l.pending) c.in-Ok.ensures in omega (arith, n, p)),
   refl,
   refl,
+  (let n = c.new-session.ensures.count in let p : length c.in-Ok.lines.pending ≡ 0 = ap (λ (l : Given). length l.pending) c.in-Ok.ensures in omega (arith, n, p)),
 )
 
 pub answer_pending-requires : goal.answer_pending-requires
-answer_pending-requires g c = let room = c.reads.invariant.3 in let most : read_count c.reads.reader ≤ 2 ^ 48 = c.reads.reader.bounded in omega (arith, room, most)
+answer_pending-requires g c = let room = c.reads.invariant.6 in omega (arith, room)
 
 pub returns-in_err-answer_pending-clause-refused : goal.returns-in_err-answer_pending-clause-refused
 returns-in_err-answer_pending-clause-refused g c = λ number why is.
@@ -30,9 +31,10 @@ reads-preserved g c =
       SoFar-filled s c.in-Ok-true.ensures.filled,
       c.in_ok-answer_pending.ensures.waiting,
       c.in-Ok-true.ensures.bound ∙ c.in_ok-answer_pending.ensures.bound ∙ c.reads.invariant.2,
-      (let was = c.reads.invariant.3 in let left = c.in_ok-answer_pending.ensures.room in let more = c.in-Ok-true.ensures.block in let read = c.in-Ok-true.ensures.reads in omega (arith, was, left, more, read)),
+      (let was = c.reads.invariant.3 in let left = c.in_ok-answer_pending.ensures.room in let more = c.in-Ok-true.ensures.block in let read = c.in-Ok-true.ensures.reads.0 in omega (arith, was, left, more, read)),
       c.in-Ok-true.ensures.faults ∙ c.reads.invariant.4,
       c.in_ok-answer_pending.ensures.faults ∙ c.reads.invariant.5,
+      (let was = c.reads.invariant.3 in let left = c.in_ok-answer_pending.ensures.room in let more = c.in-Ok-true.ensures.block in let read = c.in-Ok-true.ensures.reads in omega (arith, was, left, more, read.0, read.1)),
     )
 
 pub returns-in-Ok-false-clause-all : goal.returns-in-Ok-false-clause-all
@@ -48,7 +50,7 @@ returns-in-Ok-false-clause-refused g c = λ number why is.
 pub returns-in-Ok-false-clause-write : goal.returns-in-Ok-false-clause-write
 returns-in-Ok-false-clause-write g c = λ is.
     let s = SoFar-filled (c.in_ok-answer_pending.ensures.ok _ _ _ c.reads.invariant.0) c.in-Ok-false.ensures.filled in
-    (c.answer_rest.ensures.write is _ _ _ s, subst (λ (n : ℕ). Rose n (fault_count c.answer_rest.new.writer)) (c.in_ok-answer_pending.ensures.faults ∙ c.reads.invariant.5) (c.answer_rest.ensures.fault is))
+    (c.answer_rest.ensures.write is _ _ _ s, subst (λ (n : ℕ). Rose n c.answer_rest.new.writer.faults) (c.in_ok-answer_pending.ensures.faults ∙ c.reads.invariant.5) (c.answer_rest.ensures.fault is))
 
 pub returns-in-Err-TooLong-clause-refused : goal.returns-in-Err-TooLong-clause-refused
 returns-in-Err-TooLong-clause-refused g c = λ number why is.
@@ -57,11 +59,11 @@ returns-in-Err-TooLong-clause-refused g c = λ number why is.
     (c.in-Err-TooLong.ensures.long.0 (ap Err c.in-Err-TooLong.field-0-is)) c.in_ok-answer_pending.ensures.plain in
     let number_is : c.answer_pending.new.self.count + 1 ≡ number = cc is in
     let why_is : fault.Line ≡ why = cc is in
-    told_as (g.D.Read.remaining (device_of c.args.reader.now)) (g.W.Write.contents (device_of c.args.writer.now)) (g.W.Write.contents (device_of c.answer_pending.new.writer)) number_is why_is all
+    told_as c.args.reader.now.bytes c.args.writer.now.bytes c.answer_pending.new.writer.bytes number_is why_is all
 
 pub returns-in-Err-Read-clause-read : goal.returns-in-Err-Read-clause-read
 returns-in-Err-Read-clause-read g c = λ is.
     let s = c.in_ok-answer_pending.ensures.ok _ _ _ c.reads.invariant.0 in (
       read_failed s c.in_ok-answer_pending.ensures.waiting c.in-Err-Read.ensures.kept.1,
-      subst (λ (n : ℕ). Rose n (fault_count c.fill.new.reader)) c.reads.invariant.4 (c.in-Err-Read.ensures.read (ap Err c.in-Err-Read.field-0-is)),
+      subst (λ (n : ℕ). Rose n c.fill.new.reader.faults) c.reads.invariant.4 (c.in-Err-Read.ensures.read (ap Err c.in-Err-Read.field-0-is)),
     )

@@ -11,11 +11,11 @@ pub returns-then-count-eq0-clause-done : goal.returns-then-count-eq0-clause-done
 returns-then-count-eq0-clause-done g c =
     let none = c.if-count-eq0.true in
     let bytes = c.in-Ok.ensures.bytes in
-    SoFar-end _ _ _ c.reads.invariant.0 (subst (λ (n : ℕ). Consumes (g.D.Read.remaining c.reads.reader.device) (g.D.Read.remaining c.read.new.self.device) (take n c.read.new.into)) none bytes.0) (bytes.1 none (grind (arith, common_steps)))
+    SoFar-end _ _ _ c.reads.invariant.0 (subst (λ (n : ℕ). Consumes c.reads.reader.bytes c.read.new.self.bytes (take n c.read.new.into)) none bytes.0) (bytes.1 none (grind (arith, common_steps)))
 
 pub reads-preserved : goal.reads-preserved
 reads-preserved g c = (
-  SoFar-then c.reads.invariant.0 (subst (λ (t : List ℕ). Consumes (g.D.Read.remaining c.reads.reader.device) (g.D.Read.remaining c.read.new.self.device) t) (grind (arith, common_steps)) c.in-Ok.ensures.bytes.0) c.in-Ok-stamp_block.ensures.ok,
+  SoFar-then c.reads.invariant.0 (subst (λ (t : List ℕ). Consumes c.reads.reader.bytes c.read.new.self.bytes t) (grind (arith, common_steps)) c.in-Ok.ensures.bytes.0) c.in-Ok-stamp_block.ensures.ok,
   grind (arith, common_steps),
   grind (arith, common_steps),
   grind (arith, common_steps),
@@ -24,4 +24,4 @@ reads-preserved g c = (
 
 pub returns-in-Err-stamp_block-clause-front : goal.returns-in-Err-stamp_block-clause-front
 returns-in-Err-stamp_block-clause-front g c =
-    SoFar-unwritten c.reads.invariant.0 (subst (λ (t : List ℕ). Consumes (g.D.Read.remaining c.reads.reader.device) (g.D.Read.remaining c.read.new.self.device) t) (grind (arith, common_steps)) c.in-Ok.ensures.bytes.0) c.in-Err-stamp_block.ensures.err
+    SoFar-unwritten c.reads.invariant.0 (subst (λ (t : List ℕ). Consumes c.reads.reader.bytes c.read.new.self.bytes t) (grind (arith, common_steps)) c.in-Ok.ensures.bytes.0) c.in-Err-stamp_block.ensures.err

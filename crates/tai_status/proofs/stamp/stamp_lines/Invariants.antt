@@ -4,8 +4,8 @@ use Rattle.tai_status.proofs.stamp.stamp_lines.Given as goal
 
 abbrev pub invariant-reads : goal.invariant-reads
 invariant-reads g l =
-    SoFar (g.D.Read.remaining l.fn.reader.device) (g.D.Read.remaining l.reader.device) (g.C.TimeSource.readings l.fn.clock) (g.C.TimeSource.readings l.clock)
-    (g.E.Write.contents l.fn.writer.device) (g.E.Write.contents l.writer.device) l.inside l.lines
+    SoFar l.fn.reader.bytes l.reader.bytes (g.C.TimeSource.readings l.fn.clock) (g.C.TimeSource.readings l.clock)
+    l.fn.writer.bytes l.writer.bytes l.inside l.lines
     × (l.block ≡ []) × (l.lines ≤ 32768 * l.reader.reads) × (l.writer.faults ≡ l.fn.writer.faults) × (l.reader.faults ≡ l.fn.reader.faults)
 
 abbrev pub decreases-reads : goal.decreases-reads

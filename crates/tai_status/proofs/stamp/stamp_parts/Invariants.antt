@@ -5,7 +5,7 @@ use Rattle.tai_status.proofs.stamp.stamp_parts.Given as goal
 abbrev pub invariant-loop-at : goal.invariant-loop-at
 invariant-loop-at g l =
     Stamps l.fn.inside (take l.at l.bytes) (g.C.TimeSource.readings l.fn.clock) (g.C.TimeSource.readings l.clock)
-    (g.E.Write.contents l.fn.writer.device) (g.E.Write.contents l.writer.device) l.fn.block l.block l.inside l.count
+    l.fn.writer.bytes l.writer.bytes l.fn.block l.block l.inside l.count
     × (l.at ≤ length l.bytes) × (l.count ≤ l.at) × (l.writer.faults ≡ l.fn.writer.faults)
 
 abbrev pub decreases-loop-at : goal.decreases-loop-at

@@ -1,6 +1,5 @@
 use Rattle.std.proofs.Common.{◌≡◌, ◌++◌, ◌+◌, ℕ, List, [], Err, refl, sym, subst, ap, ◌∙◌, append-nil}
-use Rattle.std.specs.Io.KnownBytes.{Appends}
-use Rattle.tai_status.specs.Counted.{AppendsFront, device_of}
+use Rattle.tai_status.specs.Counted.{Wrote, WroteFront}
 use Rattle.sup_core.specs.declared.reading.EventFault.{EventFault}
 use Rattle.dtools.specs.declared.fault.SimFault.TheVariants as fault
 use Rattle.dtools.specs.Sim.{said}
@@ -12,7 +11,7 @@ returns-in-Err-clause-refused g c = λ number why is.
     let same : c.refuse.result ≡ fault.Refused number why = cc is in
     let told = c.refuse.ensures.told number why same in (
       told.0 ∙ ap (λ (n : ℕ). n + 1) c.in-Err.ensures.count,
-      subst (λ (t : List ℕ). Appends (g.W.Write.contents (device_of c.args.writer.now)) (g.W.Write.contents (device_of c.refuse.new.writer)) t) c.in-Err.ensures.waiting told.2,
+      subst (λ (t : List ℕ). Wrote c.args.writer.now c.refuse.new.writer t) c.in-Err.ensures.waiting told.2,
       λ past stands. c.in-Err.ensures.refused c.in-Err.why refl past stands ∙ ap (λ (w : EventFault). Err w) (sym told.1),
     )
 
@@ -21,5 +20,5 @@ returns-in-Err-clause-write g c = λ is past stands.
     let same : c.refuse.result ≡ fault.Write = cc is in
     let front = c.refuse.ensures.write same in
     let nothing : text_said (said past c.args.line.now) ≡ [] = ap text_said (c.in-Err.ensures.refused c.in-Err.why refl past stands) in
-    subst (λ (t : List ℕ). AppendsFront (g.W.Write.contents (device_of c.args.writer.now)) (g.W.Write.contents (device_of c.refuse.new.writer)) t)
+    subst (λ (t : List ℕ). WroteFront c.args.writer.now c.refuse.new.writer t)
     (c.in-Err.ensures.waiting ∙ sym (append-nil c.args.self.now.waiting) ∙ ap (λ (t : List ℕ). c.args.self.now.waiting ++ t) (sym nothing)) front.0

@@ -1,6 +1,5 @@
 use Rattle.std.proofs.Common.{Err, sym, ap, ◌∙◌, arith}
 use Rattle.std.proofs.lemmas.Result.{err_from_is_err_and}
-use Rattle.tai_status.specs.Counted.{device_of}
 use Rattle.dtools.proofs.Steps.{SoFar-further, SoFar-line_refused, SoFar-line_unwritten, SoFar-flushed, flush_failed, room_after, on_ok_both}
 use Rattle.dtools.proofs.sim.Session.answer_pending.Goals as goal
 
@@ -20,7 +19,7 @@ returns-in_err-answer_line-clause-refused g c = λ number why is before now held
     let passed = err_from_is_err_and c.from_residual.result c.from_residual.ensures.1 in
     let told = c.in_err-answer_line.ensures.refused number why (ap Err (sym passed.2) ∙ sym passed.1 ∙ is) in
     let s = c.each.invariant.0 before now held first in
-    SoFar-line_refused (g.W.Write.contents (device_of c.answer_line.new.writer)) s why (c.take_line.ensures.taken c.each-test.true) c.line.ensures
+    SoFar-line_refused c.answer_line.new.writer.bytes s why (c.take_line.ensures.taken c.each-test.true) c.line.ensures
     told.0 (told.2 s.past s.stands) told.1
 
 pub returns-in_err-answer_line-clause-write : goal.returns-in_err-answer_line-clause-write
@@ -34,7 +33,7 @@ pub returns-clause-ok : goal.returns-clause-ok
 returns-clause-ok g c =
     on_ok_both c.flush.result
     (λ w none. λ before now held first.
-    SoFar-flushed (g.W.Write.contents (device_of c.flush.new.writer)) (c.each.invariant.0 before now held first) (c.take_line.ensures.none c.each-test.false).1
+    SoFar-flushed c.flush.new.writer.bytes (c.each.invariant.0 before now held first) (c.take_line.ensures.none c.each-test.false).1
     w none c.flush.ensures.machine c.flush.ensures.count)
     c.flush.ensures.ok c.flush.ensures.waiting
 

@@ -1,16 +1,15 @@
 use Rattle.std.proofs.Common.{◌≡◌, ◌≤◌, ◌+◌, ℕ, List, length, Option}
-use Rattle.tai_status.specs.Counted.{device_of, fault_count}
 use Rattle.dtools.specs.Progress.{SoFar}
 use Rattle.dtools.proofs.sim.Session.answer_pending.Given as goal
 
 abbrev pub invariant-each : goal.invariant-each
 invariant-each g l =
     ((before now held : Option (List ℕ))
-    → SoFar before now held (g.W.Write.contents (device_of l.fn.writer)) l.fn.lines.pending l.fn.self.waiting l.fn.self.machine l.fn.self.count
-    → SoFar before now held (g.W.Write.contents (device_of l.writer)) l.lines.pending l.self.waiting l.self.machine l.self.count)
+    → SoFar before now held l.fn.writer.bytes l.fn.lines.pending l.fn.self.waiting l.fn.self.machine l.fn.self.count
+    → SoFar before now held l.writer.bytes l.lines.pending l.self.waiting l.self.machine l.self.count)
     × (l.self.count + length l.lines.pending ≤ l.fn.self.count + length l.fn.lines.pending)
     × (l.lines.bound ≡ l.fn.lines.bound)
-    × (fault_count l.writer ≡ fault_count l.fn.writer)
+    × (l.writer.faults ≡ l.fn.writer.faults)
 
 abbrev pub decreases-each : goal.decreases-each
 decreases-each g l = length l.lines.pending

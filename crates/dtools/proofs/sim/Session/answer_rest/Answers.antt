@@ -1,6 +1,5 @@
 use Rattle.std.proofs.Common.{Err, sym, ap, ◌∙◌}
 use Rattle.std.proofs.lemmas.Result.{err_from_is_err_and, on_ok_weaker}
-use Rattle.tai_status.specs.Counted.{device_of}
 use Rattle.dtools.proofs.Steps.{not_nothing, rest_refused, rest_unwritten, rest_answered, rest_unflushed, on_err_of}
 use Rattle.dtools.proofs.sim.Session.answer_rest.Goals as goal
 
@@ -9,7 +8,7 @@ returns-in_err-answer_line-clause-refused g c = λ number why is before now held
     let passed = err_from_is_err_and c.from_residual.result c.from_residual.ensures.1 in
     let told = c.in_err-answer_line.ensures.refused number why (ap Err (sym passed.2) ∙ sym passed.1 ∙ is) in
     let some = not_nothing c.args.lines.now.pending c.if-not-take_rest.false c.take_rest.ensures.none in
-    rest_refused (g.W.Write.contents (device_of c.answer_line.new.writer)) s why some c.requires.plain end
+    rest_refused c.answer_line.new.writer.bytes s why some c.requires.plain end
     (c.line.ensures ∙ (c.take_rest.ensures.taken c.if-not-take_rest.false).0) told.0 (told.2 s.past s.stands) told.1
 
 pub returns-in_err-answer_line-clause-write : goal.returns-in_err-answer_line-clause-write
@@ -24,7 +23,7 @@ returns-clause-all g c =
     let some = not_nothing c.args.lines.now.pending c.if-not-take_rest.false c.take_rest.ensures.none in
     on_ok_weaker c.flush.result
     (λ w. λ before now held s end.
-    rest_answered (g.W.Write.contents (device_of c.flush.new.writer)) s some c.requires.plain end
+    rest_answered c.flush.new.writer.bytes s some c.requires.plain end
     (c.line.ensures ∙ (c.take_rest.ensures.taken c.if-not-take_rest.false).0) (c.in_ok-answer_line.ensures.ok s.past s.stands) w)
     c.flush.ensures.ok
 

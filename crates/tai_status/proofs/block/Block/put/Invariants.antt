@@ -4,7 +4,7 @@ use Rattle.tai_status.proofs.block.Block.put.Given as goal
 
 abbrev pub invariant-loop-at : goal.invariant-loop-at
 invariant-loop-at g l =
-    Emits (g.W.Write.contents l.fn.writer.device) (g.W.Write.contents l.writer.device) l.fn.self l.self (take l.at l.piece)
+    Emits l.fn.writer.bytes l.writer.bytes l.fn.self l.self (take l.at l.piece)
     × (l.at ≤ length l.piece) × (l.writer.faults ≡ l.fn.writer.faults)
 
 abbrev pub decreases-loop-at : goal.decreases-loop-at
