@@ -8,29 +8,29 @@ use Rattle.tai_status.specs.Label.{Tai64n}
 use Rattle.tai_status.specs.Counted.{AppendsFront}
 use Rattle.tai_status.specs.Lines.{stamp, Gave}
 use Rattle.tai_status.specs.Block.{Emits}
-use Rattle.tai_status.specs.Stamping.{stamped_on, is_inside, Stamps, StampsUpTo}
+use Rattle.tai_status.specs.Stamping.{stamped_on, is_inside, StampsPart, StampsUpTo}
 use Rattle.tai_status.proofs.Known.{Emits-then, Emits-front}
-use Rattle.tai_status.proofs.Stamped.{Stamps-inside, Stamps-start, StampsUpTo-inside, StampsUpTo-start, StampsUpTo-more, Stamps-then, Stamps-failed}
+use Rattle.tai_status.proofs.Stamped.{StampsPart-inside, StampsPart-start, StampsUpTo-inside, StampsUpTo-start, StampsUpTo-more, StampsPart-then, StampsPart-failed}
 
 -- A part
 
 pub part_on : {d e : Option (List ℕ)} {p q ys : List ℕ} (xs : List ℕ) (n : ℕ) (past : Option (List Tai64n)) (inside ends : Bool)
     → inside ≡ true → ys ≡ take n xs → take n xs ≡ take_through 10 xs → ((i : Bool) → is_inside i (take_through 10 xs) ≡ not ends)
-    → Emits d e p q ys → Stamps inside (take n xs) past past d e p q (not ends) (if inside then 0 else 1)
+    → Emits d e p q ys → StampsPart inside (take n xs) past past d e p q (not ends) (if inside then 0 else 1)
 part_on {d} {e} {p} {q} {ys} xs n past inside ends is same front after m =
-    let put = Stamps-inside xs past (subst (λ (t : List ℕ). Emits d e p q t) (same ∙ front) m) in
-    let ended = subst (λ (v : Bool). Stamps true (take_through 10 xs) past past d e p q v 0) (after true) put in
-    let whole = subst (λ (t : List ℕ). Stamps true t past past d e p q (not ends) 0) (sym front) ended in
-    subst (λ (v : Bool). Stamps v (take n xs) past past d e p q (not ends) (if v then 0 else 1)) (sym is) whole
+    let put = StampsPart-inside xs past (subst (λ (t : List ℕ). Emits d e p q t) (same ∙ front) m) in
+    let ended = subst (λ (v : Bool). StampsPart true (take_through 10 xs) past past d e p q v 0) (after true) put in
+    let whole = subst (λ (t : List ℕ). StampsPart true t past past d e p q (not ends) 0) (sym front) ended in
+    subst (λ (v : Bool). StampsPart v (take n xs) past past d e p q (not ends) (if v then 0 else 1)) (sym is) whole
 
 pub part_new : {d e : Option (List ℕ)} {p q ys : List ℕ} (xs : List ℕ) (n : ℕ) (a b : Option (List Tai64n)) (label : Tai64n) (inside ends : Bool)
     → inside ≡ false → 0 < length xs → ys ≡ take n xs → take n xs ≡ take_through 10 xs → ((i : Bool) → is_inside i (take_through 10 xs) ≡ not ends)
-    → Gave a b (label ∷ []) → Emits d e p q (stamp label ++ ys) → Stamps inside (take n xs) a b d e p q (not ends) (if inside then 0 else 1)
+    → Gave a b (label ∷ []) → Emits d e p q (stamp label ++ ys) → StampsPart inside (take n xs) a b d e p q (not ends) (if inside then 0 else 1)
 part_new {d} {e} {p} {q} {ys} xs n a b label inside ends is some same front after g m =
-    let put = Stamps-start label xs some g (subst (λ (t : List ℕ). Emits d e p q (stamp label ++ t)) (same ∙ front) m) in
-    let ended = subst (λ (v : Bool). Stamps false (take_through 10 xs) a b d e p q v 1) (after false) put in
-    let whole = subst (λ (t : List ℕ). Stamps false t a b d e p q (not ends) 1) (sym front) ended in
-    subst (λ (v : Bool). Stamps v (take n xs) a b d e p q (not ends) (if v then 0 else 1)) (sym is) whole
+    let put = StampsPart-start label xs some g (subst (λ (t : List ℕ). Emits d e p q (stamp label ++ t)) (same ∙ front) m) in
+    let ended = subst (λ (v : Bool). StampsPart false (take_through 10 xs) a b d e p q v 1) (after false) put in
+    let whole = subst (λ (t : List ℕ). StampsPart false t a b d e p q (not ends) 1) (sym front) ended in
+    subst (λ (v : Bool). StampsPart v (take n xs) a b d e p q (not ends) (if v then 0 else 1)) (sym is) whole
 
 up_to_all : {i : Bool} {a b : Option (List Tai64n)} {d e : Option (List ℕ)} {p : List ℕ} (xs : List ℕ) (n : ℕ) → StampsUpTo i (take n xs) a b d e p → StampsUpTo i xs a b d e p
 up_to_all {i} {a} {b} {d} {e} {p} xs n s = subst (λ (t : List ℕ). StampsUpTo i t a b d e p) (take-append-drop n xs) (StampsUpTo-more (drop n xs) s)
@@ -56,22 +56,22 @@ rest_is : (xs : List ℕ) (at : ℕ) → take (length xs - at) (drop at xs) ≡ 
 rest_is xs at = take_rest xs at
 
 pub parts_further : {i j k : Bool} {a b c : Option (List Tai64n)} {d e f : Option (List ℕ)} {p q r : List ℕ} {m o : ℕ} (xs : List ℕ) (at n more : ℕ)
-    → more ≡ o → Stamps i (take at xs) a b d e p q j m → Stamps j (take n (take (length xs - at) (drop at xs))) b c e f q r k o
-    → Stamps i (take (at + n) xs) a c d f p r k (m + more)
+    → more ≡ o → StampsPart i (take at xs) a b d e p q j m → StampsPart j (take n (take (length xs - at) (drop at xs))) b c e f q r k o
+    → StampsPart i (take (at + n) xs) a c d f p r k (m + more)
 parts_further {i} {j} {k} {a} {b} {c} {d} {e} {f} {p} {q} {r} {m} {o} xs at n more same s t =
-    subst (λ (u : ℕ). Stamps i (take (at + n) xs) a c d f p r k (m + u)) (sym same) (subst (λ (v : List ℕ). Stamps i v a c d f p r k (m + o)) (sym (take-add at n xs))
-    (Stamps-then s (subst (λ (v : List ℕ). Stamps j (take n v) b c e f q r k o) (rest_is xs at) t)))
+    subst (λ (u : ℕ). StampsPart i (take (at + n) xs) a c d f p r k (m + u)) (sym same) (subst (λ (v : List ℕ). StampsPart i v a c d f p r k (m + o)) (sym (take-add at n xs))
+    (StampsPart-then s (subst (λ (v : List ℕ). StampsPart j (take n v) b c e f q r k o) (rest_is xs at) t)))
 
 pub parts_failed : {i j : Bool} {a b c : Option (List Tai64n)} {d e f : Option (List ℕ)} {p q : List ℕ} {m : ℕ} (xs : List ℕ) (at : ℕ)
-    → Stamps i (take at xs) a b d e p q j m → StampsUpTo j (take (length xs - at) (drop at xs)) b c e f q → StampsUpTo i xs a c d f p
+    → StampsPart i (take at xs) a b d e p q j m → StampsUpTo j (take (length xs - at) (drop at xs)) b c e f q → StampsUpTo i xs a c d f p
 parts_failed {i} {j} {a} {b} {c} {d} {e} {f} {p} {q} {m} xs at s t =
     subst (λ (v : List ℕ). StampsUpTo i v a c d f p) (take-append-drop at xs)
-    (Stamps-failed s (subst (λ (v : List ℕ). StampsUpTo j v b c e f q) (rest_is xs at) t))
+    (StampsPart-failed s (subst (λ (v : List ℕ). StampsUpTo j v b c e f q) (rest_is xs at) t))
 
 -- The end of a block
 
 pub flushed : {i j : Bool} {xs p q : List ℕ} {a b : Option (List Tai64n)} {d e f : Option (List ℕ)} {n : ℕ}
-    → p ≡ [] → Stamps i xs a b d e p q j n → Appends e f q → Stamps i xs a b d f [] [] j n
+    → p ≡ [] → StampsPart i xs a b d e p q j n → Appends e f q → StampsPart i xs a b d f [] [] j n
 flushed {i} {j} {xs} {p} {q} {a} {b} {d} {e} {f} {n} none s w =
     let last : Emits e f q [] [] = record { written = q; wrote = w; whole = refl } in
     let text = subst (λ (v : List ℕ). Emits d f p [] v) (append-nil (stamped_on i s.labels xs)) (Emits-then s.text last) in
@@ -85,7 +85,7 @@ flushed {i} {j} {xs} {p} {q} {a} {b} {d} {e} {f} {n} none s w =
     }
 
 pub unflushed : {i j : Bool} {xs p q : List ℕ} {a b : Option (List Tai64n)} {d e f : Option (List ℕ)} {n : ℕ}
-    → p ≡ [] → Stamps i xs a b d e p q j n → AppendsFront e f q → StampsUpTo i xs a b d f []
+    → p ≡ [] → StampsPart i xs a b d e p q j n → AppendsFront e f q → StampsUpTo i xs a b d f []
 unflushed {i} {j} {xs} {p} {q} {a} {b} {d} {e} {f} {n} none s w =
     let front = Emits-front [] s.text (subst (λ (v : List ℕ). AppendsFront e f v) (sym (append-nil q)) w) in
     let text = subst (λ (v : List ℕ). AppendsFront d f (p ++ v)) (append-nil (stamped_on i s.labels xs)) front in

@@ -2,16 +2,15 @@
 use Rattle.std.proofs.Common.{◌≡◌, ℕ, zero, suc, ◌+◌, ◌-◌, ◌<◌, ◌==◌, Bool, true, false, not, List, [], ◌∷◌, ◌++◌, length, take, get_or, Option, Some, None, refl, sym, subst, ap, ◌∙◌, arith, add-one, append_assoc, append-nil, length-append}
 use Rattle.std.specs.List.{onto_first}
 use Rattle.std.specs.Io.BufRead.{take_through}
-use Rattle.std.specs.Io.KnownBytes.{Keeps, Appends, Consumes, IsAtEnd}
+use Rattle.std.specs.Io.KnownBytes.{Keeps, Appends, Consumes}
 use Rattle.tai_status.specs.Label.{Tai64n}
-use Rattle.tai_status.specs.Counted.{AppendsFront}
-use Rattle.tai_status.specs.Lines.{lines_of, stamp, stamped, Gave, StampsAll, StampsFront}
+use Rattle.tai_status.specs.Counted.{Device, AppendsFront, Gives, GivesNothing}
+use Rattle.tai_status.specs.Lines.{Desk, desk, lines_of, stamp, stamped, Gave, Stamps, StampsFront}
 use Rattle.tai_status.specs.Block.{Emits}
-use Rattle.tai_status.specs.Stamping.{stamped_on, begun, is_inside, Stamps, StampsUpTo, SoFar}
+use Rattle.tai_status.specs.Stamping.{stamped_on, begun, is_inside, StampsPart, StampsUpTo, SoFar}
 use Rattle.memchr.specs.Find.{NoneBefore, Nowhere, Passes, is_byte}
 use Rattle.tai_status.proofs.Known.{Emits-none, Keeps-same, Emits-then, Emits-front, AppendsFront-more}
 use Rattle.std.proofs.Math.Seq.{take-length}
-use Rattle.std.specs.Prelude.{IfSome}
 
 take_through-on : (b : ℕ) (bs : List ℕ) → (b == 10) ≡ false → take_through 10 (b ∷ bs) ≡ b ∷ take_through 10 bs
 take_through-on b bs e = grind (arith, e)
@@ -174,9 +173,9 @@ length-lines text = sym (reads text).count_new
 -- Readings
 
 pub Gave-then : (a b c : Option (List Tai64n)) (gs hs : List Tai64n) → Gave a b gs → Gave b c hs → Gave a c (gs ++ hs)
-Gave-then a b None gs hs k l = tt
-Gave-then a None (Some zs) gs hs k l = absurd l
-Gave-then None (Some ys) (Some zs) gs hs k l = absurd k
+Gave-then None b c gs hs k l = tt
+Gave-then (Some xs) None c gs hs k l = absurd k
+Gave-then (Some xs) (Some ys) None gs hs k l = absurd l
 Gave-then (Some xs) (Some ys) (Some zs) gs hs k l = l ∙ ap (λ (t : List Tai64n). t ++ hs) k ∙ append_assoc xs gs hs
 
 pub Gave-none : (a : Option (List Tai64n)) → Gave a a []
@@ -185,9 +184,9 @@ Gave-none (Some xs) = sym (append-nil xs)
 
 -- Stamped so far
 
-pub Stamps-none : (inside : Bool) (past : Option (List Tai64n)) (held : Option (List ℕ)) (pending : List ℕ) → Emits held held pending pending []
-    → Stamps inside [] past past held held pending pending inside 0
-Stamps-none inside past held pending e = record {
+pub StampsPart-none : (inside : Bool) (past : Option (List Tai64n)) (held : Option (List ℕ)) (pending : List ℕ) → Emits held held pending pending []
+    → StampsPart inside [] past past held held pending pending inside 0
+StampsPart-none inside past held pending e = record {
   labels = [];
   gave = Gave-none past;
   each = refl;
@@ -196,9 +195,9 @@ Stamps-none inside past held pending e = record {
   count_is = refl;
 }
 
-pub Stamps-then : {i j k : Bool} {xs ys : List ℕ} {a b c : Option (List Tai64n)} {d e f : Option (List ℕ)} {p q r : List ℕ} {m n : ℕ}
-    → Stamps i xs a b d e p q j m → Stamps j ys b c e f q r k n → Stamps i (xs ++ ys) a c d f p r k (m + n)
-Stamps-then {i} {j} {k} {xs} {ys} {a} {b} {c} {d} {e} {f} {p} {q} {r} {m} {n} s t =
+pub StampsPart-then : {i j k : Bool} {xs ys : List ℕ} {a b c : Option (List Tai64n)} {d e f : Option (List ℕ)} {p q r : List ℕ} {m n : ℕ}
+    → StampsPart i xs a b d e p q j m → StampsPart j ys b c e f q r k n → StampsPart i (xs ++ ys) a c d f p r k (m + n)
+StampsPart-then {i} {j} {k} {xs} {ys} {a} {b} {c} {d} {e} {f} {p} {q} {r} {m} {n} s t =
     let then : begun (is_inside i xs) ys ≡ begun j ys = ap (λ (v : Bool). begun v ys) (sym s.after_is) in
     let text = stamped_on-append i s.labels t.labels xs ys s.each in
     let same : stamped_on i (s.labels ++ t.labels) (xs ++ ys) ≡ stamped_on i s.labels xs ++ stamped_on j t.labels ys =
@@ -220,9 +219,9 @@ StampsUpTo-more {i} {xs} {a} {b} {d} {e} {p} ys s =
     ap (λ (v : List ℕ). p ++ v) more.1 ∙ sym (append_assoc p (stamped_on i s.labels xs) more.0) in
     record { labels = s.labels; gave = s.gave; text = subst (λ (v : List ℕ). AppendsFront d e v) (sym same) (AppendsFront-more more.0 s.text) }
 
-pub Stamps-failed : {i j : Bool} {xs ys : List ℕ} {a b c : Option (List Tai64n)} {d e f : Option (List ℕ)} {p q : List ℕ} {m : ℕ}
-    → Stamps i xs a b d e p q j m → StampsUpTo j ys b c e f q → StampsUpTo i (xs ++ ys) a c d f p
-Stamps-failed {i} {j} {xs} {ys} {a} {b} {c} {d} {e} {f} {p} {q} {m} s t =
+pub StampsPart-failed : {i j : Bool} {xs ys : List ℕ} {a b c : Option (List Tai64n)} {d e f : Option (List ℕ)} {p q : List ℕ} {m : ℕ}
+    → StampsPart i xs a b d e p q j m → StampsUpTo j ys b c e f q → StampsUpTo i (xs ++ ys) a c d f p
+StampsPart-failed {i} {j} {xs} {ys} {a} {b} {c} {d} {e} {f} {p} {q} {m} s t =
     let same : stamped_on i (s.labels ++ t.labels) (xs ++ ys) ≡ stamped_on i s.labels xs ++ stamped_on j t.labels ys =
     stamped_on-append i s.labels t.labels xs ys s.each
     ∙ ap (λ (v : Bool). stamped_on i s.labels xs ++ stamped_on v t.labels ys) (sym s.after_is) in
@@ -234,9 +233,9 @@ Stamps-failed {i} {j} {xs} {ys} {a} {b} {c} {d} {e} {f} {p} {q} {m} s t =
 
 -- A part
 
-pub Stamps-inside : (xs : List ℕ) (past : Option (List Tai64n)) {d e : Option (List ℕ)} {p q : List ℕ} → Emits d e p q (take_through 10 xs)
-    → Stamps true (take_through 10 xs) past past d e p q (is_inside true (take_through 10 xs)) 0
-Stamps-inside xs past {d} {e} {p} {q} m = record {
+pub StampsPart-inside : (xs : List ℕ) (past : Option (List Tai64n)) {d e : Option (List ℕ)} {p q : List ℕ} → Emits d e p q (take_through 10 xs)
+    → StampsPart true (take_through 10 xs) past past d e p q (is_inside true (take_through 10 xs)) 0
+StampsPart-inside xs past {d} {e} {p} {q} m = record {
   labels = [];
   gave = Gave-none past;
   each = sym (begun-inside xs);
@@ -245,10 +244,10 @@ Stamps-inside xs past {d} {e} {p} {q} m = record {
   count_is = sym (begun-inside xs);
 }
 
-pub Stamps-start : (label : Tai64n) (xs : List ℕ) {a b : Option (List Tai64n)} {d e : Option (List ℕ)} {p q : List ℕ} → 0 < length xs
+pub StampsPart-start : (label : Tai64n) (xs : List ℕ) {a b : Option (List Tai64n)} {d e : Option (List ℕ)} {p q : List ℕ} → 0 < length xs
     → Gave a b (label ∷ []) → Emits d e p q (stamp label ++ take_through 10 xs)
-    → Stamps false (take_through 10 xs) a b d e p q (is_inside false (take_through 10 xs)) 1
-Stamps-start label xs {a} {b} {d} {e} {p} {q} some g m = record {
+    → StampsPart false (take_through 10 xs) a b d e p q (is_inside false (take_through 10 xs)) 1
+StampsPart-start label xs {a} {b} {d} {e} {p} {q} some g m = record {
   labels = label ∷ [];
   gave = g;
   each = sym (begun-start xs some);
@@ -339,69 +338,63 @@ Consumes-Keeps (Some xs) None c bs k l = absurd k
 Consumes-Keeps (Some xs) (Some ys) None bs k l = absurd l
 Consumes-Keeps (Some xs) (Some ys) (Some zs) bs k l = k ∙ ap (λ (t : List ℕ). bs ++ t) (sym l)
 
-pub Consumes-all : (input : List ℕ) (b : Option (List ℕ)) (bs : List ℕ) → Consumes (Some input) b bs → IsAtEnd b → input ≡ bs
-Consumes-all input None bs k l = absurd k
-Consumes-all input (Some ys) bs k l = k ∙ ap (λ (t : List ℕ). bs ++ t) l ∙ append-nil bs
-
 pub Consumes-none : (a : Option (List ℕ)) → Consumes a a []
 Consumes-none None = tt
 Consumes-none (Some xs) = refl
 
-pub SoFar-none : (before : Option (List ℕ)) (past : Option (List Tai64n)) (held : Option (List ℕ)) → SoFar before before past past held held false 0
-SoFar-none before past held = record {
+pub SoFar-none : (d : Desk) → SoFar d d false 0
+SoFar-none d = record {
   bytes = [];
-  read = Consumes-none before;
-  stamps = Stamps-none false past held [] (Emits-none held held [] (Keeps-same held));
+  read = Consumes-none d.reader.bytes;
+  stamps = StampsPart-none false d.readings d.writer.bytes [] (Emits-none d.writer.bytes d.writer.bytes [] (Keeps-same d.writer.bytes));
 }
 
-pub SoFar-then : {a b c : Option (List ℕ)} {d e f : Option (List Tai64n)} {p q r : Option (List ℕ)} {i j : Bool} {m n : ℕ} {xs : List ℕ}
-    → SoFar a b d e p q i m → Consumes b c xs → Stamps i xs e f q r [] [] j n → SoFar a c d f p r j (m + n)
-SoFar-then {a} {b} {c} {d} {e} {f} {p} {q} {r} {i} {j} {m} {n} {xs} s k t = record {
+pub SoFar-then : {a b c : Desk} {i j : Bool} {m n : ℕ} {xs : List ℕ} → SoFar a b i m → Gives b.reader c.reader xs
+    → StampsPart i xs b.readings c.readings b.writer.bytes c.writer.bytes [] [] j n → SoFar a c j (m + n)
+SoFar-then {a} {b} {c} {i} {j} {m} {n} {xs} s k t = record {
   bytes = s.bytes ++ xs;
-  read = Consumes-then a b c s.bytes xs s.read k;
-  stamps = Stamps-then s.stamps t;
+  read = Consumes-then a.reader.bytes b.reader.bytes c.reader.bytes s.bytes xs s.read k;
+  stamps = StampsPart-then s.stamps t;
 }
 
 wrote_all : {held holds : Option (List ℕ)} {bytes : List ℕ} → Emits held holds [] [] bytes → Appends held holds bytes
 wrote_all {held} {holds} {bytes} e = subst (λ (t : List ℕ). Appends held holds t) (sym (append-nil e.written) ∙ e.whole) e.wrote
 
-pub SoFar-end : (a b c : Option (List ℕ)) {d e : Option (List Tai64n)} {p q : Option (List ℕ)} {i : Bool} {n : ℕ}
-    → SoFar a b d e p q i n → Consumes b c [] → IsAtEnd c → IfSome a (λ input. StampsAll input d e p q n)
-SoFar-end None b c s k l = tt
-SoFar-end (Some input) b c {d} {e} {p} {q} {i} {n} s k l =
-    let whole : input ≡ s.bytes = Consumes-all input c (s.bytes ++ []) (Consumes-then (Some input) b c s.bytes [] s.read k) l ∙ append-nil s.bytes in
-    let counted : length (lines_of input) ≡ begun false s.bytes = ap (λ (t : List ℕ). length (lines_of t)) whole ∙ length-lines s.bytes in
-    let text : stamped s.stamps.labels (lines_of input) ≡ stamped_on false s.stamps.labels s.bytes =
-    ap (λ (t : List ℕ). stamped s.stamps.labels (lines_of t)) whole ∙ stamped-lines s.stamps.labels s.bytes in
-    record {
+-- A read gave no byte.
+pub SoFar-nothing : {a b : Desk} {i : Bool} {n : ℕ} (reads : Device) → SoFar a b i n → Gives b.reader reads [] → SoFar a (desk reads b.writer b.readings) i n
+SoFar-nothing {a} {b} reads s k = record {
+  bytes = s.bytes;
+  read = subst (λ (t : List ℕ). Consumes a.reader.bytes reads.bytes t) (append-nil s.bytes) (Consumes-then a.reader.bytes b.reader.bytes reads.bytes s.bytes [] s.read k);
+  stamps = s.stamps;
+}
+
+-- A read failed.
+pub SoFar-unread : {a b : Desk} {i : Bool} {n : ℕ} (reads : Device) → SoFar a b i n → GivesNothing b.reader reads → SoFar a (desk reads b.writer b.readings) i n
+SoFar-unread {a} {b} reads s k = record {
+  bytes = s.bytes;
+  read = Consumes-Keeps a.reader.bytes b.reader.bytes reads.bytes s.bytes s.read k;
+  stamps = s.stamps;
+}
+
+pub SoFar-all : {a b : Desk} {i : Bool} {n : ℕ} → SoFar a b i n → Stamps a b n
+SoFar-all {a} {b} {i} {n} s =
+    let counted = length-lines s.bytes in record {
+      bytes = s.bytes;
       labels = s.stamps.labels;
+      read = s.read;
       gave = s.stamps.gave;
       each = s.stamps.each ∙ sym counted;
-      text = subst (λ (t : List ℕ). Appends p q t) (sym text) (wrote_all s.stamps.text);
+      text = subst (λ (t : List ℕ). Appends a.writer.bytes b.writer.bytes t) (sym (stamped-lines s.stamps.labels s.bytes)) (wrote_all s.stamps.text);
       count_is = s.stamps.count_is ∙ sym counted;
     }
 
-pub SoFar-unread : (a b c : Option (List ℕ)) {d e : Option (List Tai64n)} {p q : Option (List ℕ)} {i : Bool} {n : ℕ}
-    → SoFar a b d e p q i n → Keeps b c → StampsFront a c d e p q
-SoFar-unread a b c {d} {e} {p} {q} {i} {n} s k =
-    let text = stamped-lines s.stamps.labels s.bytes in record {
-      bytes = s.bytes;
-      labels = s.stamps.labels;
-      read = Consumes-Keeps a b c s.bytes s.read k;
-      gave = s.stamps.gave;
-      text = record {
-        count = length (stamped s.stamps.labels (lines_of s.bytes));
-        front = subst (λ (t : List ℕ). Appends p q t) (sym text ∙ sym (take-length _)) (wrote_all s.stamps.text);
-      };
-    }
-
-pub SoFar-unwritten : {a b c : Option (List ℕ)} {d e f : Option (List Tai64n)} {p q r : Option (List ℕ)} {i : Bool} {n : ℕ} {xs : List ℕ}
-    → SoFar a b d e p q i n → Consumes b c xs → StampsUpTo i xs e f q r [] → StampsFront a c d f p r
-SoFar-unwritten {a} {b} {c} {d} {e} {f} {p} {q} {r} {i} {n} {xs} s k t =
-    let all = Stamps-failed s.stamps t in record {
+pub SoFar-unwritten : {a b c : Desk} {i : Bool} {n : ℕ} {xs : List ℕ} → SoFar a b i n → Gives b.reader c.reader xs
+    → StampsUpTo i xs b.readings c.readings b.writer.bytes c.writer.bytes [] → StampsFront a c
+SoFar-unwritten {a} {b} {c} {i} {n} {xs} s k t =
+    let all = StampsPart-failed s.stamps t in record {
       bytes = s.bytes ++ xs;
       labels = all.labels;
-      read = Consumes-then a b c s.bytes xs s.read k;
+      read = Consumes-then a.reader.bytes b.reader.bytes c.reader.bytes s.bytes xs s.read k;
       gave = all.gave;
-      text = subst (λ (v : List ℕ). AppendsFront p r v) (sym (stamped-lines all.labels (s.bytes ++ xs))) all.text;
+      text = subst (λ (v : List ℕ). AppendsFront a.writer.bytes c.writer.bytes v) (sym (stamped-lines all.labels (s.bytes ++ xs))) all.text;
     }

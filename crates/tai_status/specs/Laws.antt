@@ -1,20 +1,24 @@
 -- What is true of the definitions, in plain words.
-use Rattle.std.specs.Prelude.{◌≡◌, ◌↔◌, ◌<◌, ℕ, List, [], ◌∷◌, ◌++◌, length, flat_map}
+use Rattle.std.specs.Prelude.{◌≡◌, ◌↔◌, ◌<◌, ℕ, List, [], ◌∷◌, ◌++◌, length, map, flat_map}
 use Rattle.tai_status.specs.Record.{Status, IsRecord, status_record}
 use Rattle.tai_status.specs.LineReader.{IsPlain}
-use Rattle.tai_status.specs.Lines.{lines_of, texts_of}
+use Rattle.tai_status.specs.Lines.{lines_of, texts_of, without_newline}
 
--- The bytes before the first newline are the first line, and the other lines are those of what comes after it.
+-- The bytes up to the first newline are the first line, and the other lines are those of what comes after it.
 abbrev pub FirstLine : Type 0
-FirstLine = (line rest : List ℕ) → IsPlain line → texts_of (line ++ 10 ∷ rest) ≡ line ∷ texts_of rest
+FirstLine = (line rest : List ℕ) → IsPlain line → lines_of (line ++ 10 ∷ rest) ≡ (line ++ 10 ∷ []) ∷ lines_of rest
 
 -- A rest without a newline is the last line, where it is not empty.
 abbrev pub LastLine : Type 0
-LastLine = (line : List ℕ) → 0 < length line → IsPlain line → texts_of line ≡ line ∷ []
+LastLine = (line : List ℕ) → 0 < length line → IsPlain line → lines_of line ≡ line ∷ []
 
 -- The lines of a text with their newlines, joined, are the text.
 abbrev pub WholeText : Type 0
 WholeText = (text : List ℕ) → flat_map (λ line. line) (lines_of text) ≡ text
+
+-- The texts of lines are the lines without their newlines.
+abbrev pub TextsOfLines : Type 0
+TextsOfLines = (text : List ℕ) → texts_of text ≡ map without_newline (lines_of text)
 
 -- A status has one record.
 abbrev pub OneRecord : Type 0

@@ -1,8 +1,8 @@
 -- A reader of lines: the line that it gave last, the bytes that were read and not yet given, and the
 -- most bytes that a line may have.
-use Rattle.std.specs.Prelude.{◌≡◌, ℕ, ◌==◌, true, not, List, ◌∷◌, ◌++◌, Option}
+use Rattle.std.specs.Prelude.{◌≡◌, ℕ, ◌==◌, true, not, List, ◌∷◌, ◌++◌}
 use Rattle.std.specs.List.{list_all}
-use Rattle.std.specs.Io.KnownBytes.{Consumes}
+use Rattle.tai_status.specs.Counted.{Device, Gives}
 
 pub record Given : Type 0 where
   pub line : List ℕ
@@ -20,8 +20,8 @@ pub record TakesLine (old new : Given) : Type 0 where
   pub bound : new.bound ≡ old.bound
 
 -- A read added bytes to those that are pending.
-pub record Fills (before after : Option (List ℕ)) (old new : Given) : Type 0 where
+pub record Fills (reader reads : Device) (old new : Given) : Type 0 where
   pub bytes : List ℕ
-  pub read : Consumes before after bytes
+  pub read : Gives reader reads bytes
   pub pending : new.pending ≡ old.pending ++ bytes
   pub bound : new.bound ≡ old.bound

@@ -1,9 +1,8 @@
 -- The lines of a text, and their stamps.
-use Rattle.std.specs.Prelude.{◌≡◌, ℕ, ◌==◌, if◌then◌else◌, List, [], ◌∷◌, ◌++◌, length, Option, Some, None, ⊤}
+use Rattle.std.specs.Prelude.{◌≡◌, ℕ, ◌==◌, not, filter, if◌then◌else◌, List, [], ◌∷◌, ◌++◌, length, map, Option, Some, None, ⊤}
 use Rattle.std.specs.List.{onto_first}
-use Rattle.std.specs.Io.KnownBytes.{Appends, Consumes}
 use Rattle.tai_status.specs.Label.{Tai64n, label_text}
-use Rattle.tai_status.specs.Counted.{AppendsFront}
+use Rattle.tai_status.specs.Counted.{Device, Gives, Wrote, WroteFront}
 
 -- the lines of a text, each with its newline, which the last one may lack
 abbrev pub lines_of : List ℕ → List (List ℕ)
@@ -15,6 +14,10 @@ abbrev pub texts_of : List ℕ → List (List ℕ)
 texts_of [] = []
 texts_of (byte ∷ bytes) = if byte == 10 then [] ∷ texts_of bytes else onto_first byte (texts_of bytes)
 
+-- a line without its newline
+abbrev pub without_newline : List ℕ → List ℕ
+without_newline line = filter (λ byte. not (byte == 10)) line
+
 -- what stands before a line: its label's text and a space
 unfoldable pub stamp : Tai64n → List ℕ
 stamp label = label_text label ++ 32 ∷ []
@@ -25,24 +28,35 @@ stamped labels [] = []
 stamped [] (line ∷ lines) = []
 stamped (label ∷ labels) (line ∷ lines) = stamp label ++ line ++ stamped labels lines
 
--- A clock gave these labels, in order. It may stop to tell what it gave, and doesn't begin again.
+-- A clock gave these labels, in order. A clock that tells what it gave goes on telling it.
 abbrev pub Gave : Option (List Tai64n) → Option (List Tai64n) → List Tai64n → Type 0
-Gave past None labels = ⊤
-Gave None (Some now) labels = ⊥
+Gave None now labels = ⊤
+Gave (Some past) None labels = ⊥
 Gave (Some past) (Some now) labels = now ≡ past ++ labels
 
--- All the input was stamped, with one reading for each line.
-pub record StampsAll (input : List ℕ) (past now : Option (List Tai64n)) (held holds : Option (List ℕ)) (count : ℕ) : Type 0 where
-  pub labels : List Tai64n
-  pub gave : Gave past now labels
-  pub each : length labels ≡ length (lines_of input)
-  pub text : Appends held holds (stamped labels (lines_of input))
-  pub count_is : count ≡ length (lines_of input)
+-- Where stamping goes on: what is read, what is written, and what the clock gave.
+pub record Desk : Type 0 where
+  pub reader : Device
+  pub writer : Device
+  pub readings : Option (List Tai64n)
 
--- What was written is a front of the stamped text of the bytes that were read.
-pub record StampsFront (before after : Option (List ℕ)) (past now : Option (List Tai64n)) (held holds : Option (List ℕ)) : Type 0 where
+abbrev pub desk : Device → Device → Option (List Tai64n) → Desk
+desk reader writer readings = record { reader = reader; writer = writer; readings = readings }
+
+-- Bytes were read, of so many lines, and each line was written behind its stamp, with one reading of the clock for each.
+pub record Stamps (old new : Desk) (count : ℕ) : Type 0 where
   pub bytes : List ℕ
   pub labels : List Tai64n
-  pub read : Consumes before after bytes
-  pub gave : Gave past now labels
-  pub text : AppendsFront held holds (stamped labels (lines_of bytes))
+  pub read : Gives old.reader new.reader bytes
+  pub gave : Gave old.readings new.readings labels
+  pub each : length labels ≡ length (lines_of bytes)
+  pub text : Wrote old.writer new.writer (stamped labels (lines_of bytes))
+  pub count_is : count ≡ length (lines_of bytes)
+
+-- Bytes were read, and a front of their stamped lines was written.
+pub record StampsFront (old new : Desk) : Type 0 where
+  pub bytes : List ℕ
+  pub labels : List Tai64n
+  pub read : Gives old.reader new.reader bytes
+  pub gave : Gave old.readings new.readings labels
+  pub text : WroteFront old.writer new.writer (stamped labels (lines_of bytes))

@@ -2,11 +2,10 @@
 --
 -- `inside` says that the bytes go on a line that has begun.
 use Rattle.std.specs.Prelude.{◌≡◌, ℕ, ◌+◌, ◌==◌, Bool, true, false, not, List, [], ◌∷◌, ◌++◌, length, Option}
-use Rattle.std.specs.Io.KnownBytes.{Consumes}
 use Rattle.tai_status.specs.Label.{Tai64n}
-use Rattle.tai_status.specs.Counted.{AppendsFront}
+use Rattle.tai_status.specs.Counted.{AppendsFront, Gives}
 use Rattle.tai_status.specs.Block.{Emits}
-use Rattle.tai_status.specs.Lines.{stamp, Gave}
+use Rattle.tai_status.specs.Lines.{Desk, stamp, Gave}
 
 -- the number of lines that begin
 abbrev pub begun : Bool → List ℕ → ℕ
@@ -27,7 +26,7 @@ stamped_on false (label ∷ labels) (byte ∷ bytes) =
     stamp label ++ byte ∷ stamped_on (not (byte == 10)) labels bytes
 
 -- These bytes were stamped.
-pub record Stamps (inside : Bool) (bytes : List ℕ) (past now : Option (List Tai64n)) (held holds : Option (List ℕ)) (pending left : List ℕ) (after : Bool) (count : ℕ) : Type 0 where
+pub record StampsPart (inside : Bool) (bytes : List ℕ) (past now : Option (List Tai64n)) (held holds : Option (List ℕ)) (pending left : List ℕ) (after : Bool) (count : ℕ) : Type 0 where
   pub labels : List Tai64n
   pub gave : Gave past now labels
   pub each : length labels ≡ begun inside bytes
@@ -42,7 +41,7 @@ pub record StampsUpTo (inside : Bool) (bytes : List ℕ) (past now : Option (Lis
   pub text : AppendsFront held holds (pending ++ stamped_on inside labels bytes)
 
 -- All that was read is stamped and written.
-pub record SoFar (before after : Option (List ℕ)) (past now : Option (List Tai64n)) (held holds : Option (List ℕ)) (inside : Bool) (count : ℕ) : Type 0 where
+pub record SoFar (old new : Desk) (inside : Bool) (count : ℕ) : Type 0 where
   pub bytes : List ℕ
-  pub read : Consumes before after bytes
-  pub stamps : Stamps false bytes past now held holds [] [] inside count
+  pub read : Gives old.reader new.reader bytes
+  pub stamps : StampsPart false bytes old.readings new.readings old.writer.bytes new.writer.bytes [] [] inside count

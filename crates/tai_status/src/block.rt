@@ -1,6 +1,6 @@
 ghost use Rattle.std.specs.Prelude.{◌≡◌, ◌++◌, ◌+◌, ◌-◌, ◌≤◌, [], List, ℕ, length, take, ◌<◌, OnOk, IfOk, OnErr};
 ghost use Rattle.tai_status.specs.Counted.{Fails, Works, Wrote, WroteFront};
-ghost use Rattle.tai_status.specs.Block.{Emits};
+ghost use Rattle.tai_status.specs.Block.{Puts};
 
 use super::counted::{DeviceFault, Output};
 use std::io::Write;
@@ -83,7 +83,7 @@ impl Block {
         piece: &[u8],
         writer: &mut Output<W>,
     ) -> Result<(), DeviceFault>
-        ensures ok { OnOk result (Emits writer.old.bytes writer.new.bytes self.old self.new piece.now) }
+        ensures ok { OnOk result (Puts writer.old writer.new self.old self.new piece.now) }
         ensures err { OnErr result (WroteFront writer.old writer.new (self.old ++ piece.now)) }
         ensures faults { OnOk result (Works writer.old writer.new) }
         ensures fault { OnErr result (Fails writer.old writer.new) }
@@ -101,7 +101,7 @@ impl Block {
         piece: &[u8],
         writer: &mut Output<W>,
     ) -> Result<usize, DeviceFault>
-        ensures ok { IfOk result (λ count. Emits writer.old.bytes writer.new.bytes self.old self.new (take count piece.now)) }
+        ensures ok { IfOk result (λ count. Puts writer.old writer.new self.old self.new (take count piece.now)) }
         ensures count { IfOk result (λ count. (count ≤ length piece.now) × (0 < length piece.now → 0 < count)) }
         ensures err { OnErr result (WroteFront writer.old writer.new self.old) }
         ensures faults { OnOk result (Works writer.old writer.new) }
@@ -122,7 +122,7 @@ impl Block {
         second: &[u8],
         writer: &mut Output<W>,
     ) -> Result<(), DeviceFault>
-        ensures ok { OnOk result (Emits writer.old.bytes writer.new.bytes self.old self.new (first.now ++ second.now)) }
+        ensures ok { OnOk result (Puts writer.old writer.new self.old self.new (first.now ++ second.now)) }
         ensures err { OnErr result (WroteFront writer.old writer.new (self.old ++ (first.now ++ second.now))) }
         ensures faults { OnOk result (Works writer.old writer.new) }
         ensures fault { OnErr result (Fails writer.old writer.new) }

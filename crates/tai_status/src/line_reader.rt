@@ -13,7 +13,8 @@ use thiserror::Error;
 /// Why there is no next line.
 #[derive(Clone, Copy, Debug, PartialEq, Eq, Error)]
 pub enum LineFault {
-    /// More bytes than a line may have are there, and none of them is a newline.
+    /// More bytes wait than a line may have, so no more is read. Once the lines among them are taken, none of
+    /// these bytes is a newline.
     #[error("TooLong")]
     TooLong,
     /// The reader failed.
@@ -97,10 +98,12 @@ impl<A: Allocator> LineReader<A> {
         }
     }
 
-    /// Gives all that was read and not yet given, as the last line of an input that has ended.
+    /// Gives all that was read and not yet given, as the last line of an input that has ended. Answers
+    /// whether there was such a line. Nothing is pending after it.
     pub fn take_rest(&mut self) -> bool
-        ensures taken { result ≡ true → (self.new.line ≡ self.old.pending) × (self.new.pending ≡ []) }
+        ensures taken { result ≡ true → self.new.line ≡ self.old.pending }
         ensures none { result ≡ false ↔ (self.old.pending ≡ []) }
+        ensures emptied { self.new.pending ≡ [] }
         ensures bound { self.new.bound ≡ self.old.bound }
     {
         let some = self.start < self.end;
@@ -114,7 +117,8 @@ impl<A: Allocator> LineReader<A> {
     /// input alone. That a line is too long is told before anything more is read. The line that was
     /// given last is given up.
     pub fn fill<D: Read>(&mut self, reader: &mut Input<D>) -> Result<bool, LineFault>
-        ensures filled { OnOk result (Fills reader.old.bytes reader.new.bytes self.old self.new) }
+        ensures filled { OnOk result (Fills reader.old reader.new self.old self.new) }
+        ensures more { IfOk result (λ more. more ≡ true → length self.old.pending < length self.new.pending) }
         ensures end { IfOk result (λ more. more ≡ false → IsRead reader.new × (self.new.pending ≡ self.old.pending)) }
         ensures kept { OnErr result ((self.new.pending ≡ self.old.pending) × GivesNothing reader.old reader.new) }
         ensures bound { self.new.bound ≡ self.old.bound }
@@ -136,7 +140,8 @@ impl<A: Allocator> LineReader<A> {
     /// Moves what is pending to the front, and reads once into the room behind it.
     fn read_more<D: Read>(&mut self, reader: &mut Input<D>) -> Result<usize, DeviceFault>
         requires { length self.old.pending ≤ self.old.bound }
-        ensures filled { OnOk result (Fills reader.old.bytes reader.new.bytes self.old self.new) }
+        ensures filled { OnOk result (Fills reader.old reader.new self.old self.new) }
+        ensures grew { IfOk result (λ count. length self.new.pending ≡ length self.old.pending + count) }
         ensures end { IfOk result (λ count. count ≡ 0 → IsRead reader.new × (self.new.pending ≡ self.old.pending)) }
         ensures kept { OnErr result ((self.new.pending ≡ self.old.pending) × GivesNothing reader.old reader.new) }
         ensures bound { self.new.bound ≡ self.old.bound }

@@ -2,9 +2,9 @@ ghost use Rattle.std.specs.Prelude.{Bool, ◌≡◌, ◌+◌, ◌<◌, ◌≤◌
 ghost use Rattle.std.specs.Io.BufRead.{take_through};
 ghost use Rattle.tai_status.specs.Lines.{stamp};
 ghost use Rattle.tai_status.specs.Counted.{Fails, Works, WroteFront, IsRead};
-ghost use Rattle.tai_status.specs.Lines.{Gave, StampsAll, StampsFront};
-ghost use Rattle.tai_status.specs.Block.{Emits};
-ghost use Rattle.tai_status.specs.Stamping.{Stamps, StampsUpTo, is_inside, begun, stamped_on};
+ghost use Rattle.tai_status.specs.Lines.{desk, Gave, Stamps, StampsFront};
+ghost use Rattle.tai_status.specs.Block.{Puts};
+ghost use Rattle.tai_status.specs.Stamping.{StampsPart, StampsUpTo, is_inside, begun, stamped_on};
 
 use super::block::{BLOCK, Block};
 use super::counted::{DeviceFault, Input, Output};
@@ -68,7 +68,7 @@ fn stamp_part<E: Write, C: TimeSource>(
 ) -> Result<Part, DeviceFault>
     requires { 0 < length bytes.now }
     ensures part { IfOk result (λ part. (0 < part.len) × (part.len ≤ length bytes.now)) }
-    ensures ok { IfOk result (λ part. Stamps inside (take part.len bytes.now) (C.readings clock.old) (C.readings clock.new)
+    ensures ok { IfOk result (λ part. StampsPart inside (take part.len bytes.now) (C.readings clock.old) (C.readings clock.new)
         writer.old.bytes writer.new.bytes block.old block.new (not part.ends) (if inside then 0 else 1)) }
     ensures err { OnErr result (StampsUpTo inside bytes.now (C.readings clock.old) (C.readings clock.new)
         writer.old.bytes writer.new.bytes block.old) }
@@ -93,7 +93,7 @@ fn stamp_block<E: Write, C: TimeSource>(
     clock: &mut C,
 ) -> Result<u64, DeviceFault>
     requires { block.old ≡ [] }
-    ensures ok { IfOk result (λ count. Stamps inside.old bytes.now (C.readings clock.old) (C.readings clock.new)
+    ensures ok { IfOk result (λ count. StampsPart inside.old bytes.now (C.readings clock.old) (C.readings clock.new)
         writer.old.bytes writer.new.bytes [] [] inside.new count) }
     ensures lines { IfOk result (λ count. count ≤ length bytes.now) }
     ensures empty { OnOk result (block.new ≡ []) }
@@ -122,7 +122,7 @@ fn stamp_parts<E: Write, C: TimeSource>(
     writer: &mut Output<E>,
     clock: &mut C,
 ) -> Result<u64, DeviceFault>
-    ensures ok { IfOk result (λ count. Stamps inside.old bytes.now (C.readings clock.old) (C.readings clock.new)
+    ensures ok { IfOk result (λ count. StampsPart inside.old bytes.now (C.readings clock.old) (C.readings clock.new)
         writer.old.bytes writer.new.bytes block.old block.new inside.new count) }
     ensures lines { IfOk result (λ count. count ≤ length bytes.now) }
     ensures err { OnErr result (StampsUpTo inside.old bytes.now (C.readings clock.old) (C.readings clock.new)
@@ -141,19 +141,26 @@ fn stamp_parts<E: Write, C: TimeSource>(
     Ok(count)
 }
 
-/// Writes each line after the text of a label and a space. A label is read for each line, at its first byte. Answers the number of lines.
+/// Writes each line after the text of a label and a space. A label is read for each line, at its first
+/// byte. What a read gave is written before the next read. Answers the number of lines.
 pub fn stamp_lines<D: Read, E: Write, C: TimeSource>(
     reader: &mut Input<D>,
     writer: &mut Output<E>,
     clock: &mut C,
 ) -> Result<u64, StampFault>
-    ensures done { IfOk result (λ count. IfSome reader.old.bytes (λ input.
-        StampsAll input (C.readings clock.old) (C.readings clock.new) writer.old.bytes writer.new.bytes count)) }
+    // All lines are stamped and written.
+    ensures done { IfOk result (λ count. Stamps (desk reader.old writer.old (C.readings clock.old))
+        (desk reader.new writer.new (C.readings clock.new)) count) }
     ensures end { OnOk result (IsRead reader.new) }
-    ensures front { OnErr result (StampsFront reader.old.bytes reader.new.bytes
-        (C.readings clock.old) (C.readings clock.new) writer.old.bytes writer.new.bytes) }
-    ensures read { IsErrOf result StampFault.Read → Fails reader.old reader.new }
-    ensures write { IsErrOf result StampFault.Write → Fails writer.old writer.new }
+    ensures works { OnOk result (Works reader.old reader.new × Works writer.old writer.new) }
+    // The reader failed, and all lines that it gave are stamped and written.
+    ensures read { IsErrOf result StampFault.Read → (count : ℕ) × Stamps (desk reader.old writer.old (C.readings clock.old))
+        (desk reader.new writer.new (C.readings clock.new)) count }
+    ensures unread { IsErrOf result StampFault.Read → Fails reader.old reader.new × Works writer.old writer.new }
+    // The writer failed, after a front of the stamped text of what was read.
+    ensures write { IsErrOf result StampFault.Write → StampsFront (desk reader.old writer.old (C.readings clock.old))
+        (desk reader.new writer.new (C.readings clock.new)) }
+    ensures unwritten { IsErrOf result StampFault.Write → Works reader.old reader.new × Fails writer.old writer.new }
 {
     let mut bytes = [0; BLOCK];
     let mut block = Block::new();
@@ -191,7 +198,7 @@ fn put_line<E: Write>(
     block: &mut Block,
     writer: &mut Output<E>,
 ) -> Result<(), DeviceFault>
-    ensures ok { OnOk result (Emits writer.old.bytes writer.new.bytes block.old block.new (stamp label.now ++ bytes.now)) }
+    ensures ok { OnOk result (Puts writer.old writer.new block.old block.new (stamp label.now ++ bytes.now)) }
     ensures err { OnErr result (WroteFront writer.old writer.new (block.old ++ (stamp label.now ++ bytes.now))) }
     ensures faults { OnOk result (Works writer.old writer.new) }
     ensures fault { OnErr result (Fails writer.old writer.new) }
