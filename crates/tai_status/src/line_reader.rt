@@ -123,6 +123,8 @@ impl<A: Allocator> LineReader<A> {
         ensures kept { OnErr result ((self.new.pending ≡ self.old.pending) × GivesNothing reader.old reader.new) }
         ensures bound { self.new.bound ≡ self.old.bound }
         ensures long { IsErrOf result LineFault.TooLong ↔ (self.old.bound < length self.old.pending) }
+        ensures untouched { IsErrOf result LineFault.TooLong → reader.new ≡ reader.old }
+        ensures short { OnOk result (length self.old.pending ≤ self.old.bound) }
         ensures read { IsErrOf result LineFault.Read → Fails reader.old reader.new }
         ensures reads { OnOk result (CountsRead reader.old reader.new) }
         ensures block { OnOk result (length self.new.pending ≤ length self.old.pending + 32768) }

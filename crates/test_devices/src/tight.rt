@@ -4,11 +4,13 @@ use std::alloc::Global;
 use std::io;
 use std::io::{ErrorKind, Write};
 
-/// A writer that holds so many bytes. Once it is full it takes none, or fails.
+/// A writer that holds so many bytes, and is interrupted before each write. Once it is full it takes none,
+/// or fails.
 #[derive(Drop)]
 pub struct Tight {
     held: Vec<u8>,
     room: usize,
+    ready: bool,
     fails: bool,
 }
 
@@ -20,6 +22,7 @@ impl Tight {
         Tight {
             held: Vec::new(alloc),
             room,
+            ready: false,
             fails: false,
         }
     }
@@ -31,6 +34,7 @@ impl Tight {
         Tight {
             held: Vec::new(alloc),
             room,
+            ready: false,
             fails: true,
         }
     }
@@ -49,8 +53,12 @@ impl Write for Tight {
     ghost contents = { λ tight. Some tight.held.items };
 
     fn write(&mut self, buf: &[u8]) -> io::Result<usize> {
+        self.ready = !self.ready;
+        if !self.ready {
+            return Err(io::Error::from(ErrorKind::Interrupted));
+        }
         let count = buf.len().min(self.room);
-        if count == 0 && self.fails {
+        if count == 0 && !buf.is_empty() && self.fails {
             return Err(io::Error::from(ErrorKind::Other));
         }
         match self.held.extend_from_slice(&buf[..count]) {

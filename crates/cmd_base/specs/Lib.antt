@@ -1,0 +1,4 @@
+pub mod Console
+pub mod Told
+pub mod Held
+pub mod Printed

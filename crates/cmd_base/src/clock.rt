@@ -1,0 +1,37 @@
+//! The clock of the machine.
+use std::time::{Clock, SystemTime, UNIX_EPOCH};
+use tai_status::{Label, TimeSource};
+
+/// The machine's clock. Where it can't be read it repeats its last reading, at first the label of Unix
+/// second 0. It tells contracts nothing of what it gave.
+#[derive(Drop)]
+pub struct SystemClock<R: Clock + Drop> {
+    runtime: R,
+    last: Label,
+}
+
+impl<R: Clock + Drop> SystemClock<R> {
+    /// The clock of this runtime.
+    pub fn new(runtime: R) -> SystemClock<R> {
+        SystemClock {
+            runtime,
+            last: Label::from_unix(0, 0).unwrap_or(Label::MAX),
+        }
+    }
+}
+
+/// The label of the machine's present time, where it can be read.
+fn read_clock<R: Clock>(runtime: &R) -> Option<Label> {
+    let now = SystemTime::now(runtime).ok()?;
+    let since = now.duration_since(UNIX_EPOCH).ok()?;
+    Label::from_unix(since.as_secs(), since.subsec_nanos())
+}
+
+impl<R: Clock + Drop> TimeSource for SystemClock<R> {
+    fn now(&mut self) -> Label {
+        if let Some(label) = read_clock(&self.runtime) {
+            self.last = label;
+        }
+        self.last
+    }
+}

@@ -1,0 +1,49 @@
+-- How `tai64n` ends: by the tai64n page of daemontools (cr.yp.to/daemontools/tai64n.html).
+use Rattle.std.specs.Prelude.{◌≡◌, ◌≢◌, ℕ, List, [], ◌∷◌, ◌++◌, codes, Option}
+use Rattle.tai_status.specs.Label.{Tai64n}
+use Rattle.tai_status.specs.Counted.{Fails, Works, IsRead, Tells}
+use Rattle.tai_status.specs.Lines.{Desk, desk, Stamps, StampsFront}
+use Rattle.tai_status.specs.declared.stamp.StampFault.{StampFault}
+use Rattle.tai_status.specs.declared.stamp.StampFault.TheVariants as fault
+use Rattle.cmd_base.specs.Console.{Console, EndsWell}
+use Rattle.cmd_base.specs.Told.{RefusesWords}
+
+-- what is told of a fault
+abbrev pub stamp_told : StampFault → List ℕ
+stamp_told fault.Read = codes "tai64n: Read" ++ 10 ∷ []
+stamp_told fault.Write = codes "tai64n: Write" ++ 10 ∷ []
+
+-- where a command stamps, with what the clock gave so far
+abbrev pub desk_of : Console → Option (List Tai64n) → Desk
+desk_of at readings = desk at.reader at.writer readings
+
+-- The whole input was stamped, no device failed, and nothing is told.
+pub record StampsInput (past now : Option (List Tai64n)) (old new : Console) : Type 0 where
+  pub lines : ℕ
+  pub stamps : Stamps (desk_of old past) (desk_of new now) lines
+  pub end : IsRead new.reader
+  pub well : EndsWell old new
+
+-- What a fault comes from. The reader failed, and the lines that it gave are stamped and written; or the writer failed, after
+-- a front of the stamped lines.
+abbrev pub StampCause : StampFault → (past now : Option (List Tai64n)) (old new : Console) → Type 0
+StampCause fault.Read past now old new = Fails old.reader new.reader × Works old.writer new.writer
+    × ((lines : ℕ) × Stamps (desk_of old past) (desk_of new now) lines)
+StampCause fault.Write past now old new = Works old.reader new.reader × Fails old.writer new.writer
+    × StampsFront (desk_of old past) (desk_of new now)
+
+-- A device failed, and it is told which.
+pub record StampsNoFurther (past now : Option (List Tai64n)) (old new : Console) : Type 0 where
+  pub fault : StampFault
+  pub cause : StampCause fault past now old new
+  pub told : Tells old.faults new.faults (stamp_told fault)
+
+-- `tai64n` without words, by its status.
+pub record StampsByStatus (status : ℕ) (past now : Option (List Tai64n)) (old new : Console) : Type 0 where
+  pub done : status ≡ 0 → StampsInput past now old new
+  pub trouble : status ≢ 0 → (status ≡ 111) × StampsNoFurther past now old new
+
+-- `tai64n` takes no words.
+abbrev pub StampsEnd : (words : List (List ℕ)) (status : ℕ) (past now : Option (List Tai64n)) (old new : Console) → Type 0
+StampsEnd [] status past now old new = StampsByStatus status past now old new
+StampsEnd (word ∷ words) status past now old new = RefusesWords status old new

@@ -1,0 +1,11 @@
+//! The commands that read an input to its end and write what becomes of it: `tai64n` and `readproctitle`.
+#![tactic(auto)]
+
+mod proctitle;
+mod stamping;
+
+pub use proctitle::run_readproctitle;
+pub use stamping::run_tai64n;
+
+#[cfg(test)]
+mod tests;

@@ -1,0 +1,55 @@
+//! The command `tai64n`.
+ghost use Rattle.std.specs.Prelude.{◌≡◌, ◌<◌, length, map};
+ghost use Rattle.cmd_base.specs.Console.{console};
+ghost use Rattle.cmd_filters.specs.Stamped.{StampsByStatus, StampsEnd, stamp_told};
+
+use cmd_base::{DONE, TROUBLE, report, usage};
+use std::io::{Read, Write};
+use tai_status::{Input, Output, StampFault, TimeSource, stamp_lines};
+
+/// The command `tai64n`: writes each line of the reader behind the text of a label and a space, with
+/// one reading of the clock for each line, at its first byte
+/// (<https://cr.yp.to/daemontools/tai64n.html>). It takes no words. Answers the status: 0; 100 for wrong
+/// words; 111 for a fault of the reader or the writer.
+pub fn run_tai64n<D: Read, W: Write, E: Write, C: TimeSource>(
+    words: &[&str],
+    reader: &mut Input<D>,
+    writer: &mut Output<W>,
+    faults: &mut Output<E>,
+    clock: &mut C,
+) -> u8
+    ensures ends { StampsEnd (map (λ word. word.now) words.now) result (C.readings clock.old) (C.readings clock.new)
+        (console reader.old writer.old faults.old) (console reader.new writer.new faults.new) }
+    ensures unasked { 0 < length words.now → clock.new ≡ clock.old }
+{
+    if words.is_empty() {
+        return stamp_input(reader, writer, faults, clock);
+    }
+    usage(faults)
+}
+
+/// Stamps the whole input.
+fn stamp_input<D: Read, W: Write, E: Write, C: TimeSource>(
+    reader: &mut Input<D>,
+    writer: &mut Output<W>,
+    faults: &mut Output<E>,
+    clock: &mut C,
+) -> u8
+    ensures ends { StampsByStatus result (C.readings clock.old) (C.readings clock.new)
+        (console reader.old writer.old faults.old) (console reader.new writer.new faults.new) }
+{
+    match stamp_lines(reader, writer, clock) {
+        Ok(_) => DONE,
+        Err(fault) => report(faults, fault_text(fault), TROUBLE),
+    }
+}
+
+/// What is told of a fault.
+fn fault_text(fault: StampFault) -> &'static [u8]
+    ensures { result.now ≡ stamp_told fault }
+{
+    match fault {
+        StampFault::Read => b"tai64n: Read\n",
+        StampFault::Write => b"tai64n: Write\n",
+    }
+}

@@ -1,0 +1,91 @@
+-- What `sim` tells of its faults, and how it ends.
+use Rattle.std.specs.Prelude.{◌≡◌, ℕ, ◌⊎◌, List, [], ◌∷◌, ◌++◌, bytes_eq, codes, decimal, MatchBool}
+use Rattle.tai_status.specs.Counted.{Device, Fails, Works, Wrote, WroteFront, IsRead, Tells}
+use Rattle.sup_core.specs.Text.{fault_name}
+use Rattle.cmd_base.specs.Console.{Console, EndsWell}
+use Rattle.cmd_base.specs.Told.{RefusesWords}
+use Rattle.cmd_sim.specs.Sim.{Refusal, AnswersAll, AnswersUpTo, AnswersFront, printed_table}
+use Rattle.cmd_sim.specs.declared.fault.SimFault.{SimFault}
+use Rattle.cmd_sim.specs.declared.fault.SimFault.TheVariants as fault
+
+-- Faults
+
+abbrev pub words_of : SimFault → List ℕ
+words_of (fault.Refused line why) = codes "line " ++ decimal line ++ codes ": " ++ fault_name why
+words_of fault.OutOfMemory = codes "OutOfMemory"
+words_of fault.Read = codes "read fault"
+words_of fault.Write = codes "write fault"
+
+abbrev pub told_of : SimFault → List ℕ
+told_of fault = codes "sim: " ++ words_of fault ++ 10 ∷ []
+
+abbrev pub status_of : SimFault → ℕ
+status_of (fault.Refused line why) = 100
+status_of fault.OutOfMemory = 111
+status_of fault.Read = 111
+status_of fault.Write = 111
+
+-- `sim` without words
+
+-- No line is refused, the answers to all are written, no device failed, and nothing is told.
+pub record AnswersInput (old new : Console) : Type 0 where
+  pub answers : AnswersAll old.reader old.writer new.writer
+  pub end : IsRead new.reader
+  pub well : EndsWell old new
+
+-- A line is refused, the answers to the lines before it are written, not much more is read, and it is told.
+pub record RefusesLine (old new : Console) : Type 0 where
+  pub refusal : Refusal
+  pub answers : AnswersUpTo old.reader new.reader old.writer new.writer refusal
+  pub reads : Works old.reader new.reader
+  pub writes : Works old.writer new.writer
+  pub told : Tells old.faults new.faults (told_of (fault.Refused refusal.line refusal.why))
+
+-- What a fault comes from: there was no memory, and nothing was read or written; or a device failed, after a front of the
+-- answers to what was read.
+abbrev pub SimCause : SimFault → (old new : Console) → Type 0
+SimCause (fault.Refused line why) old new = ⊥
+SimCause fault.OutOfMemory old new = (new.reader ≡ old.reader) × (new.writer ≡ old.writer)
+SimCause fault.Read old new = Fails old.reader new.reader × AnswersFront old.reader new.reader old.writer new.writer
+SimCause fault.Write old new = Fails old.writer new.writer × AnswersFront old.reader new.reader old.writer new.writer
+
+-- There is trouble, and it is told what it comes from.
+pub record TellsTrouble (old new : Console) : Type 0 where
+  pub fault : SimFault
+  pub cause : SimCause fault old new
+  pub told : Tells old.faults new.faults (told_of fault)
+
+-- By the status: all lines are answered, one is refused, or there is trouble.
+abbrev pub AnswersByStatus : (status : ℕ) (old new : Console) → Type 0
+AnswersByStatus status old new =
+    ((status ≡ 0) × AnswersInput old new) ⊎ (((status ≡ 100) × RefusesLine old new) ⊎ ((status ≡ 111) × TellsTrouble old new))
+
+-- `sim table`
+
+-- The table was written, no device failed, and nothing is told.
+pub record PrintsTable (writer writes faults tells : Device) : Type 0 where
+  pub written : Wrote writer writes printed_table
+  pub works : Works writer writes
+  pub untold : tells ≡ faults
+
+-- The writer failed after a front of the table, and that is told.
+pub record PrintsNoTable (writer writes faults tells : Device) : Type 0 where
+  pub front : WroteFront writer writes printed_table
+  pub failed : Fails writer writes
+  pub told : Tells faults tells (told_of fault.Write)
+
+-- The table, by the status.
+abbrev pub TableByStatus : (status : ℕ) (writer writes faults tells : Device) → Type 0
+TableByStatus status writer writes faults tells =
+    ((status ≡ 0) × PrintsTable writer writes faults tells) ⊎ ((status ≡ 111) × PrintsNoTable writer writes faults tells)
+
+-- The same where nothing is read.
+abbrev pub TableEnds : (status : ℕ) (old new : Console) → Type 0
+TableEnds status old new = (new.reader ≡ old.reader) × TableByStatus status old.writer new.writer old.faults new.faults
+
+-- `sim` answers its input, `sim table` prints the table, and other words are wrong.
+abbrev pub SimEnds : (words : List (List ℕ)) (status : ℕ) (old new : Console) → Type 0
+SimEnds [] status old new = AnswersByStatus status old new
+SimEnds (word ∷ []) status old new =
+    MatchBool (bytes_eq word (codes "table")) (TableEnds status old new) (RefusesWords status old new)
+SimEnds (word ∷ more ∷ words) status old new = RefusesWords status old new

@@ -1,0 +1,3 @@
+pub mod Sim
+pub mod Progress
+pub mod Ends
