@@ -1,14 +1,17 @@
 -- Laws of histories: the state of a history is all that later events depend on.
-use Rattle.std.proofs.Common.{◌≡◌, ℕ, zero, suc, ◌+◌, ◌<◌, true, false, length, take, drop, get_or, append_assoc, append-nil, add-one, List, [], ◌∷◌, ◌++◌, refl, sym, subst, if◌then◌else◌, ◌∙◌, ap, arith}
+use Rattle.std.proofs.Common.{◌≡◌, ℕ, zero, suc, ◌+◌, ◌<◌, Bool, true, false, length, take, drop, get_or, append_assoc, append-nil, add-one, List, [], ◌∷◌, ◌++◌, refl, sym, subst, if◌then◌else◌, ◌∙◌, ap, arith}
 use Rattle.std.specs.List.{AllByRecursion}
 use Rattle.std.proofs.lemmas.List.{take_more}
+use Rattle.tai_status.specs.Label.{Tai64n}
 use Rattle.sup_core.specs.declared.event.Event.{Event}
 use Rattle.sup_core.specs.declared.event.Event.TheVariants.{Byte, Started, StartFailed, Death, Clock}
 use Rattle.sup_core.specs.declared.asks.Ask.{Ask}
 use Rattle.sup_core.specs.declared.asks.Reply.TheVariants.{Took, Held}
-use Rattle.sup_core.specs.History.{History, Begin, Opened, Then, state_of, ends_in_failure, is_resting, phase_of}
+use Rattle.sup_core.specs.declared.machine.Phase.{Phase}
+use Rattle.sup_core.specs.declared.machine.Phase.TheVariants as phase
+use Rattle.sup_core.specs.History.{History, Begin, Opened, Then, state_of, ends_in_failure, is_resting, phase_of, until_of}
 use Rattle.sup_core.specs.Runs.{AreTaken, after, asks_along, followed_by, replies_to, taken_of}
-use Rattle.sup_core.specs.Rules.{reply_to, IsEvent, next, takes, asks_of}
+use Rattle.sup_core.specs.Rules.{reply_to, IsEvent, next, is_taken, takes, asks_of}
 
 -- a history rests exactly where it ends in a failed start
 pub ends_in_failure-phase : (past : History) → ends_in_failure past ≡ is_resting (phase_of past)
@@ -186,6 +189,31 @@ taken_of-all past (event ∷ events) h = rw (h.1, taken_of-all (Then past event)
 
 pub after-all : (past : History) (events : List Event) → AreTaken past events → after past events ≡ followed_by past events
 after-all past events h = after-taken_of past events ∙ ap (followed_by past) (taken_of-all past events h)
+
+-- What is taken of two lists, one after the other.
+pub taken_of-append : (past : History) (xs ys : List Event)
+    → taken_of past (xs ++ ys) ≡ taken_of past xs ++ taken_of (after past xs) ys
+taken_of-append past [] ys = refl
+taken_of-append past (x ∷ xs) ys =
+    elim (takes past x) as (λ t. (if t then x ∷ taken_of (Then past x) (xs ++ ys) else taken_of past (xs ++ ys))
+    ≡ (if t then x ∷ taken_of (Then past x) xs else taken_of past xs) ++ taken_of (after (if t then Then past x else past) xs) ys) [
+      | true ↦ ap (λ (events : List Event). x ∷ events) (taken_of-append (Then past x) xs ys)
+      | false ↦ taken_of-append past xs ys
+    ]
+
+-- Where supervise is done, nothing more is taken.
+pub takes-gone : (past : History) (event : Event) → phase_of past ≡ phase.Gone → takes past event ≡ false
+takes-gone past event gone = ap (λ (p : Phase). is_taken p (until_of past) event) gone
+
+pub after-gone : (past : History) (events : List Event) → phase_of past ≡ phase.Gone → after past events ≡ past
+after-gone past [] gone = refl
+after-gone past (event ∷ events) gone =
+    ap (λ (p : History). after p events) (next-held past event (takes-gone past event gone)) ∙ after-gone past events gone
+
+-- Supervise is not done where it begins.
+pub begin-not_gone : (down : Bool) (label : Tai64n) → phase_of (Begin down label) ≡ phase.Gone → ⊥
+begin-not_gone true label h = cc h
+begin-not_gone false label h = cc h
 
 pub AreTaken-taken_of : (past : History) (events : List Event) → AllByRecursion IsEvent events → AreTaken past (taken_of past events)
 AreTaken-taken_of past [] h = tt

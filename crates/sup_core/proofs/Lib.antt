@@ -4,3 +4,5 @@ pub mod Spelling
 pub mod Lines
 pub mod Records
 pub mod Counts
+pub mod Standing
+pub mod Plain

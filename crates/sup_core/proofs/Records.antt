@@ -10,7 +10,7 @@ use Rattle.sup_core.specs.declared.event.Event.{Event}
 use Rattle.sup_core.specs.declared.event.Event.TheVariants.{Byte, Started, StartFailed, Death, Clock}
 use Rattle.sup_core.specs.Asks.{records_of, records_in}
 use Rattle.sup_core.specs.History.{History, Then, runs, pid_of, status_of, calls_for_start}
-use Rattle.sup_core.specs.Rules.{signals_of, signals_after, writes, record_of, start_of, asks_of, takes, next, reply_to}
+use Rattle.sup_core.specs.Rules.{signals_of, signals_after, writes, record_of, start_of, asks_of, asks_of_begin, takes, next, reply_to}
 
 records_of-append : (xs ys : List Ask) → records_of (xs ++ ys) ≡ records_of xs ++ records_of ys
 records_of-append [] ys = refl
@@ -56,6 +56,12 @@ records_of-asks_of past event =
     ∙ ap (λ records. records ++ records_of start) (records_of-append (signals_after past event) record_asks)
     ∙ between _ _ _ (signals_none past event) (start_none (Then past event))
     ∙ written (writes event) (Then past event)
+
+-- The one record that is asked for where supervise begins is that of its status.
+pub records_of-asks_of_begin : (history : History) → records_of (asks_of_begin history) ≡ status_record (status_of history) ∷ []
+records_of-asks_of_begin history =
+    records_of-append (record_of history) (start_of history)
+    ∙ ap (λ (records : List (List ℕ)). records_of (record_of history) ++ records) (start_none history)
 
 -- what is not written stays
 pub status_of-unwritten : (past : History) (event : Event) → writes event ≡ false → status_of (Then past event) ≡ status_of past

@@ -1,12 +1,12 @@
--- The parts of a line, as reading goes through it.
-use Rattle.std.specs.Prelude.{ℕ, Bool, List, [], ◌∷◌, codes, Option, Some, None, Result, Err, ok_or}
+-- The parts of a line, as reading goes through it. But for `fields_after`, these are words of private functions alone:
+-- what reading a line answers is said in specs/Reading.
+use Rattle.std.specs.Prelude.{ℕ, List, [], ◌∷◌, codes, Option, Some, None, Result, Err, ok_or}
 use Rattle.tai_status.specs.Label.{Tai64n}
-use Rattle.sup_core.specs.declared.event.Event.{Event}
 use Rattle.sup_core.specs.declared.reading.Word.{Word}
 use Rattle.sup_core.specs.declared.reading.Word.TheVariants as word
 use Rattle.sup_core.specs.declared.reading.EventFault.{EventFault}
 use Rattle.sup_core.specs.declared.reading.EventFault.TheVariants as fault
-use Rattle.sup_core.specs.Reading.{fields, byte_of_text, label_of_text, start_event, start_fault, side_event, side_fault}
+use Rattle.sup_core.specs.Reading.{fields, byte_of_text, label_of_text}
 
 -- the first word of an event's line
 abbrev pub word_name : Word → List ℕ
@@ -35,11 +35,3 @@ sole_label other = Err fault.Line
 abbrev pub sole_byte : List (List ℕ) → Result ℕ EventFault
 sole_byte (text ∷ []) = ok_or (byte_of_text text) fault.Line
 sole_byte other = Err fault.Line
-
--- a start, of the two fields left
-abbrev pub start_from : List (List ℕ) → Result Event EventFault
-start_from rest = ok_or (start_event rest) (start_fault rest)
-
--- a beginning, of the two fields left
-abbrev pub side_from : List (List ℕ) → Result (Bool × Tai64n) EventFault
-side_from rest = ok_or (side_event rest) (side_fault rest)

@@ -9,6 +9,7 @@ mod asks;
 mod event;
 mod law;
 mod machine;
+mod ranges;
 mod reading;
 mod table;
 mod text;
@@ -18,7 +19,8 @@ pub use event::Event;
 pub use law::histories_of_one_state;
 pub use machine::{Machine, Phase};
 pub use reading::{
-    EventFault, read_begin, read_byte, read_event, read_number, read_phase, read_sig, split_field,
+    EventFault, read_begin, read_byte, read_event, read_label, read_number, read_phase, read_sig,
+    split_field,
 };
 pub use table::table_line;
 pub use text::{answer_text, event_text, fault_name, phase_name, sig_name};

@@ -6,6 +6,7 @@ ghost use Rattle.sup_core.specs.State.{IsState, is_gone};
 
 use crate::asks::{Ask, Asks, Reply, Sig};
 use crate::event::Event;
+use crate::ranges::{label_in_range, view_in_range};
 use crate::table::{control_bytes, taken_events};
 use std::marker::Model;
 use tai_status::{Label, View, Want, encode};
@@ -141,7 +142,7 @@ impl Machine {
         ensures range { IsStatus result }
         ensures stands { IsState self.now }
     {
-        in_range(&self.view)
+        view_in_range(&self.view)
     }
 
     /// Whether supervise is done, and takes nothing more.
@@ -350,7 +351,7 @@ impl Machine {
         ensures range { IsStatus self.new.status }
     {
         let reply = self.advance(event);
-        // For the last clause.
+        // What it tells is in range: the last clause.
         let _ = self.view();
         reply
     }
@@ -401,36 +402,4 @@ fn can_stand(phase: Phase, view: &View, exiting: bool, until: &Option<Label>) ->
         Phase::Down => idle && !exiting && view.want != Want::Up && until.is_none(),
         Phase::Gone => idle && exiting && until.is_none(),
     }
-}
-
-/// A view, and that it is one whose record can be read again: callers are told so by a clause alone.
-fn in_range(view: &View) -> View
-    ensures view { result ≡ view.now }
-    ensures range { IsStatus result }
-{
-    View {
-        label: label_in_range(&view.label),
-        pid: pid_in_range(view.pid),
-        paused: view.paused,
-        want: view.want,
-    }
-}
-
-/// A label, and that it is one.
-fn label_in_range(label: &Label) -> Label
-    ensures label { result ≡ label.now }
-    ensures range { IsLabel result }
-{
-    Label {
-        sec: label.sec,
-        nano: label.nano,
-    }
-}
-
-/// A process number, and that it fits its type.
-fn pid_in_range(pid: u32) -> u32
-    ensures pid { result ≡ pid }
-    ensures range { result < 2 ^ 32 }
-{
-    pid
 }

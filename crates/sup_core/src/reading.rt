@@ -1,30 +1,28 @@
-ghost use Rattle.std.specs.Prelude.{◌≡◌, ◌^◌, ℕ, decimal, Bool, Some, IfOk, Ok, ◌==◌, ◌<◌, ◌∷◌, [], length, position, IfSome, IsTrue, ◌↔◌};
+ghost use Rattle.std.specs.Prelude.{◌≡◌, ◌^◌, ℕ, decimal, Bool, Some, IfOk, Ok, ◌==◌, ◌<◌, ◌∷◌, [], length, position, IfSome, IsTrue, ◌↔◌, ok_or};
 ghost use Rattle.hex.specs.Hex.{encode_lower};
 ghost use Rattle.std.specs.Option.{option_copied};
-ghost use Rattle.tai_status.specs.Label.{Tai64n, IsLabel};
+ghost use Rattle.tai_status.specs.Label.{Tai64n, IsLabel, label_text};
 ghost use Rattle.sup_core.specs.declared.asks.Sig.{Sig};
 ghost use Rattle.sup_core.specs.declared.machine.Phase.{Phase};
 ghost use Rattle.sup_core.specs.declared.event.Event.{Event};
 ghost use Rattle.sup_core.specs.declared.reading.Word.{Word};
 ghost use Rattle.sup_core.specs.Rules.{IsEvent};
 ghost use Rattle.sup_core.specs.Text.{byte_text, event_text, begin_text, signal_name, phase_name};
-ghost use Rattle.sup_core.specs.Fields.{word_name, fields_after, sole, sole_label, sole_byte, start_from, side_from};
-ghost use Rattle.sup_core.specs.Reading.{fields, IsInRange, byte_of_text, pid_of_text, label_of_text, event_from, begin_from};
+ghost use Rattle.sup_core.specs.Fields.{word_name, fields_after, sole, sole_label, sole_byte};
+ghost use Rattle.sup_core.specs.Reading.{fields, IsInRange, byte_of_text, pid_of_text, label_of_text, start_event, start_fault, side_event, side_fault, event_from, begin_from};
 
 use crate::asks::Sig;
 use crate::event::Event;
 use crate::machine::Phase;
-use crate::text::{fault_name, push_byte};
+use crate::text::push_byte;
 use arrayvec::ArrayString;
 use hex::FromHex;
 use itoa::Buffer;
 use std::str;
 use tai_status::{Label, read_text};
-use thiserror::Error;
 
 /// Why a line is the text of nothing. The first of these that applies is told.
-#[derive(Clone, Copy, Debug, PartialEq, Eq, Error)]
-#[error("{}", fault_name(*self))]
+#[derive(Clone, Copy, Debug, PartialEq, Eq)]
 pub enum EventFault {
     /// The first word is not known.
     UnknownEvent,
@@ -158,10 +156,12 @@ fn parse_number(field: &[u8]) -> Option<u64>
     }
 }
 
-/// The label whose text this is.
+/// The label whose text this is: `@` and its 24 lower-case hexadecimal digits.
 #[tactic(auto, unfolding(crate::specs::Reading::label_of_text))]
-fn read_label(text: &[u8]) -> Option<Label>
-    ensures { result ≡ label_of_text text.now }
+pub fn read_label(text: &[u8]) -> Option<Label>
+    ensures found { IfSome result (λ label. IsLabel label × (text.now ≡ label_text label)) }
+    ensures only { (label : Tai64n) → IsLabel label → text.now ≡ label_text label → result ≡ Some label }
+    ensures exact { result ≡ label_of_text text.now }
 {
     read_text(text).ok()
 }
@@ -215,7 +215,8 @@ fn sole_byte(rest: Option<&[u8]>) -> Result<u8, EventFault>
 
 /// The start of the two fields left.
 fn read_start(rest: Option<&[u8]>) -> Result<Event, EventFault>
-    ensures { result ≡ start_from (fields_after (option_copied rest.entry)) }
+    ensures { let left = fields_after (option_copied rest.entry) in
+        result ≡ ok_or (start_event left) (start_fault left) }
 {
     let (field, rest) = split_field(rest.ok_or(EventFault::Line)?);
     let text = sole(rest).ok_or(EventFault::Line)?;
@@ -311,7 +312,8 @@ fn tell_begin(line: &[u8]) -> Result<(bool, Label), EventFault>
 
 /// Whether there is a `down` file, and the label, of the two fields left.
 fn read_side(rest: Option<&[u8]>) -> Result<(bool, Label), EventFault>
-    ensures { result ≡ side_from (fields_after (option_copied rest.entry)) }
+    ensures { let left = fields_after (option_copied rest.entry) in
+        result ≡ ok_or (side_event left) (side_fault left) }
 {
     let (side, rest) = split_field(rest.ok_or(EventFault::Line)?);
     let down = match side {

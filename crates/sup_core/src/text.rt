@@ -9,9 +9,11 @@ ghost use Rattle.sup_core.specs.Text.{byte_text, event_text, answer_text, ask_te
 use crate::asks::{Ask, Asks, Reply, Sig};
 use crate::event::Event;
 use crate::machine::Phase;
+use crate::ranges::label_in_range;
 use crate::reading::EventFault;
 use arrayvec::ArrayString;
 use itoa::Buffer;
+use std::error::Error;
 use std::{fmt, str};
 use tai_status::{Label, text};
 
@@ -81,6 +83,19 @@ impl fmt::Display for Phase {
     }
 }
 
+impl fmt::Display for EventFault {
+    ghost use Rattle.std.specs.Prelude.{Some};
+    ghost use Rattle.sup_core.specs.Text.{fault_name};
+
+    ghost output = { λ s. Some (fault_name s) };
+
+    fn fmt<W: fmt::Write>(&self, f: &mut fmt::Formatter<W>) -> fmt::Result {
+        f.write_str(fault_name(*self))
+    }
+}
+
+impl Error for EventFault {}
+
 impl fmt::Display for Event {
     ghost use Rattle.std.specs.Prelude.{Some};
     ghost use Rattle.sup_core.specs.Text.{event_text};
@@ -129,8 +144,8 @@ fn push_label<const N: usize>(out: &mut ArrayString<N>, label: &Label)
     ensures len { array_string_len out.new ≡ array_string_len out.old + 25 }
     ensures range { IsLabel label.now }
 {
-    let _ = &label.sec;
-    let bytes = text(label);
+    let label = label_in_range(label);
+    let bytes = text(&label);
     out.push_str(ascii(&bytes));
 }
 

@@ -1,6 +1,6 @@
 -- What is read is told so: a text that is read is the text of what it tells.
 use Rattle.std.proofs.Common.{◌≡◌, ℕ, ◌+◌, ◌^◌, ◌<◌, ◌≤◌, ◌==◌, nat_lt, Bool, true, false, not, List, [], ◌∷◌, ◌++◌, map, flat_map, append_assoc, length, Option, Some, None, Result, Ok, Err, refl, sym, ap, ◌∙◌, arith, codes, decimal, subst, ◌⊎◌, inl, inr, ⊎_elim}
-use Rattle.std.specs.Prelude.{IfSome, if◌then◌else◌, bytes_eq}
+use Rattle.std.specs.Prelude.{IfSome, IfErr, if◌then◌else◌, bytes_eq}
 use Rattle.std.specs.List.{join_with_byte}
 use Rattle.std.proofs.lemmas.Slice.Eq.{bytes_eq-Decides}
 use Rattle.std.proofs.lemmas.List.Splits.{join_with_byte-slice_split}
@@ -9,23 +9,25 @@ use Rattle.tai_status.specs.Record.{Status, IsStatus}
 use Rattle.sup_core.specs.declared.event.Event.{Event}
 use Rattle.sup_core.specs.declared.machine.Phase.{Phase}
 use Rattle.sup_core.specs.declared.reading.EventFault.{EventFault}
-use Rattle.sup_core.specs.State.{State, IsState}
+use Rattle.sup_core.specs.State.{State, IsState, is_state}
 use Rattle.sup_core.specs.History.{Opened}
 use Rattle.sup_core.specs.Rules.{takes}
 use Rattle.sup_core.specs.Text.{event_text}
 use Rattle.sup_core.specs.Reading.{fields, event_from, IsInRange}
+use Rattle.sup_core.proofs.Standing.{is_state-decides}
 use Rattle.sup_core.proofs.Laws.{AreTaken-append}
 use Rattle.sup_core.proofs.Lines.{event_text-event_from, IsEvent-in_range}
 use Rattle.sup_core.proofs.Fields.{split_some_part}
+use Rattle.sup_trace.specs.declared.fault.TraceFault.{TraceFault}
 use Rattle.sup_trace.specs.declared.fault.TraceFaultKind.{TraceFaultKind}
 use Rattle.sup_trace.specs.declared.fault.TraceFaultKind.TheVariants as kind
 use Rattle.sup_trace.specs.Told.{Told, told_of, told_history, IsTold}
-use Rattle.sup_trace.specs.Text.{header, base_fields, base_text, end_text, trace_lines, trace_text}
-use Rattle.sup_trace.specs.Reading.{Heard, Nothing, Header, Entries, Whole, folded_of_text, phase_of_text, status_of_text, exiting_of_text, until_of_text, is_state, standing, standing_so, base_from, base_said, with_entry, entry_said, end_said, later_said, said, at_end, told_by_parts, parts_of, told_from}
+use Rattle.sup_trace.specs.Text.{header, front_lines, lines_text, base_fields, base_text, end_text, trace_lines, trace_text}
+use Rattle.sup_trace.specs.Reading.{Heard, Nothing, Header, Entries, Whole, folded_of_text, phase_of_text, status_of_text, exiting_of_text, until_of_text, standing, state_of_parts, base_from, base_result, with_entry, entry_result, end_result, later_result, line_result, at_end, told_by_parts, parts_of, told_from, HasEntryAt, ReadsEntry, heard_along}
 use Rattle.std.proofs.lemmas.List.{map-append, length-append, append-nil}
-use Rattle.sup_trace.proofs.Steps.{followed}
+use Rattle.sup_trace.proofs.Steps.{followed, along_after, some_rest, fault_after_entry}
 use Rattle.sup_trace.proofs.Written.{AllByRecursion-joined}
-use Rattle.sup_trace.proofs.Parts.{TellsFolded, folded_of_text-found, phase_of_text-found, TellsStatus, status_of_text-found, exiting_of_text-found, until_of_text-found, is_state-decides}
+use Rattle.sup_trace.proofs.Parts.{TellsFolded, folded_of_text-found, phase_of_text-found, TellsStatus, status_of_text-found, exiting_of_text-found, until_of_text-found}
 
 -- what a choice that succeeds shows
 test_true : {A E : Type 0} (test : Bool) (a : Result A E) (e : E) (x : A) → (if test then a else Err e) ≡ Ok x → (test ≡ true) × (a ≡ Ok x)
@@ -33,7 +35,7 @@ test_true true a e x h = (refl, h)
 test_true false a e x h = cc h
 
 -- the header
-header_told : (line : List ℕ) (more : Heard) → said Nothing line ≡ Ok more → (line ≡ header) × (more ≡ Header)
+header_told : (line : List ℕ) (more : Heard) → line_result Nothing line ≡ Ok more → (line ≡ header) × (more ≡ Header)
 header_told line more h =
     let is = test_true (bytes_eq line header) (Ok Header) kind.Line more h in
     ((bytes_eq-Decides line header).0 is.0, let e : Header ≡ more = cc is.1 in sym e)
@@ -57,7 +59,7 @@ based : (more : Heard) (ft pt st et ut : List ℕ) (f : Option ℕ) (p : Option 
     → folded_of_text ft ≡ f → phase_of_text pt ≡ p → status_of_text st ≡ s → exiting_of_text et ≡ e → until_of_text ut ≡ u
     → base_from f (standing p s e) u ≡ Ok more → TellsBase (codes "base" ∷ ft ∷ pt ∷ st ∷ et ∷ ut ∷ []) more
 based more ft pt st et ut (Some f) (Some p) (Some s) (Some e) (Some u) fi pi si ei ui h =
-    let base = standing_so (p, s, e) u in
+    let base = state_of_parts (p, s, e) u in
     let stands = test_true (is_state base) (Ok (Entries (told_of base f []))) kind.Line more h in
     let folded = some_of (TellsFolded ft) (folded_of_text ft) f (folded_of_text-found ft) fi in
     let phase = phase_of_text-found pt p pi in
@@ -80,7 +82,7 @@ based more ft pt st et ut (Some f) (Some p) None e u fi pi si ei ui h = cc h
 based more ft pt st et ut (Some f) (Some p) (Some s) None u fi pi si ei ui h = cc h
 based more ft pt st et ut (Some f) (Some p) (Some s) (Some e) None fi pi si ei ui h = cc h
 
-base_told : (parts : List (List ℕ)) (more : Heard) → base_said parts ≡ Ok more → TellsBase parts more
+base_told : (parts : List (List ℕ)) (more : Heard) → base_result parts ≡ Ok more → TellsBase parts more
 base_told (word ∷ ft ∷ pt ∷ st ∷ et ∷ ut ∷ []) more h =
     let is = test_true (bytes_eq word (codes "base")) _ kind.Line more h in
     let name = (bytes_eq-Decides word (codes "base")).0 is.0 in
@@ -111,7 +113,7 @@ lt-from_not : (m n : ℕ) → not (nat_lt m n) ≡ false → m < n
 lt-from_not m n h = grind (arith)
 
 entry_told : (told : Told) (line : List ℕ) (more : Heard) (r : Result Event EventFault) → r ≡ event_from (fields line)
-    → entry_said told r ≡ Ok more → TellsEntry told line more
+    → entry_result told r ≡ Ok more → TellsEntry told line more
 entry_told told line more (Err fault) is h = cc h
 entry_told told line more (Ok event) is h =
     let text = event_text-event_from line (Ok event) is in
@@ -127,7 +129,7 @@ entry_told told line more (Ok event) is h =
     }
 
 -- the end line
-end_told : (told : Told) (parts : List (List ℕ)) (more : Heard) → end_said told parts ≡ Ok more
+end_told : (told : Told) (parts : List (List ℕ)) (more : Heard) → end_result told parts ≡ Ok more
     → (parts ≡ decimal (length told.entries) ∷ []) × (more ≡ Whole told)
 end_told told (count ∷ []) more h =
     let is = test_true (bytes_eq count (decimal (length told.entries))) (Ok (Whole told)) kind.Number more h in
@@ -135,12 +137,12 @@ end_told told (count ∷ []) more h =
 end_told told [] more h = cc h
 end_told told (a ∷ b ∷ rest) more h = cc h
 
-later_told : (told : Told) (line : List ℕ) (more : Heard) (parts : List (List ℕ)) → parts ≡ fields line → later_said told parts ≡ Ok more
+later_told : (told : Told) (line : List ℕ) (more : Heard) (parts : List (List ℕ)) → parts ≡ fields line → later_result told parts ≡ Ok more
     → ((line ≡ end_text (length told.entries)) × (more ≡ Whole told)) ⊎ TellsEntry told line more
 later_told told line more [] is h = cc h
 later_told told line more (word ∷ rest) is h =
     elim (bytes_eq word (codes "end")) as (λ b. bytes_eq word (codes "end") ≡ b
-    → (if b then end_said told rest else entry_said told (event_from (word ∷ rest))) ≡ Ok more
+    → (if b then end_result told rest else entry_result told (event_from (word ∷ rest))) ≡ Ok more
     → ((line ≡ end_text (length told.entries)) × (more ≡ Whole told)) ⊎ TellsEntry told line more) [
       | true ↦ λ at h.
           let ends = end_told told rest more h in
@@ -201,7 +203,7 @@ heard_end told line lines more is whole h =
           ∙ ap (λ (l : List ℕ). header ∷ base_text told.folded told.base ∷ (map event_text told.entries ++ l ∷ [])) is,
     )
 
-heard_line : (heard : Heard) (line : List ℕ) (lines : List (List ℕ)) (more : Heard) → IsHeard heard lines → said heard line ≡ Ok more
+heard_line : (heard : Heard) (line : List ℕ) (lines : List (List ℕ)) (more : Heard) → IsHeard heard lines → line_result heard line ≡ Ok more
     → IsHeard more (lines ++ line ∷ [])
 heard_line Nothing line lines more h is =
     let told = header_told line more is in
@@ -240,7 +242,7 @@ heard_parts : (number : ℕ) (heard : Heard) (lines parts : List (List ℕ)) (to
 heard_parts number heard lines [] told some h is = absurd (some refl)
 heard_parts number heard lines (rest ∷ []) told some h is = heard_rest number heard lines rest told h is
 heard_parts number heard lines (line ∷ part ∷ parts) told some h is =
-    heard_after number line lines (part ∷ parts) told (said heard line) (λ more said_so. heard_line heard line lines more h said_so)
+    heard_after number line lines (part ∷ parts) told (line_result heard line) (λ more said_so. heard_line heard line lines more h said_so)
     (λ more so rest. heard_parts (number + 1) more (lines ++ line ∷ []) (part ∷ parts) told (λ e. cc e) so rest) is
 
 -- a text of lines, each with its newline
@@ -255,3 +257,66 @@ pub told_from-found : (text : List ℕ) (told : Told) → told_from text ≡ Ok 
 told_from-found text told is =
     let all = heard_parts 1 Nothing [] (parts_of text) told (split_some_part (λ byte. byte == 10) text) refl is in
     (all.0, sym (join_with_byte-slice_split 10 text) ∙ ap (join_with_byte 10) all.1 ∙ join_lines (trace_lines told))
+
+-- The first lines
+
+heard_further : (before lines : List (List ℕ)) (line : List ℕ) (more : Heard) (r : Result Heard TraceFaultKind)
+    → ((next : Heard) → r ≡ Ok next → IsHeard next (before ++ line ∷ []))
+    → ((next : Heard) → IsHeard next (before ++ line ∷ []) → heard_along next lines ≡ Ok more → IsHeard more ((before ++ line ∷ []) ++ lines))
+    → along_after lines r ≡ Ok more → IsHeard more (before ++ line ∷ lines)
+heard_further before lines line more (Ok next) here rest is =
+    subst (IsHeard more) (append_assoc before (line ∷ []) lines) (rest next (here next refl) is)
+heard_further before lines line more (Err why) here rest is = cc is
+
+heard_lines : (heard more : Heard) (before lines : List (List ℕ)) → IsHeard heard before → heard_along heard lines ≡ Ok more
+    → IsHeard more (before ++ lines)
+heard_lines heard more before [] h is =
+    let same : heard ≡ more = cc is in
+    subst (λ (m : Heard). IsHeard m (before ++ [])) same (subst (IsHeard heard) (sym (append-nil before)) h)
+heard_lines heard more before (line ∷ lines) h is =
+    heard_further before lines line more (line_result heard line) (λ (next : Heard) here. heard_line heard line before next h here)
+    (λ (next : Heard) so along. heard_lines next more (before ++ line ∷ []) lines so along) is
+
+join_first : (line : List ℕ) (parts : List (List ℕ)) → (parts ≡ [] → ⊥) → join_with_byte 10 (line ∷ parts) ≡ line ++ 10 ∷ join_with_byte 10 parts
+join_first line [] some = absurd (some refl)
+join_first line (part ∷ parts) some = refl
+
+join_front : (lines rest : List (List ℕ)) → (rest ≡ [] → ⊥)
+    → join_with_byte 10 (lines ++ rest) ≡ lines_text lines ++ join_with_byte 10 rest
+join_front [] rest some = refl
+join_front (line ∷ lines) rest some =
+    let last = join_with_byte 10 rest in
+    join_first line (lines ++ rest) (some_rest lines rest some)
+    ∙ ap (λ (text : List ℕ). line ++ 10 ∷ text) (join_front lines rest some)
+    ∙ sym (append_assoc line (10 ∷ []) (lines_text lines ++ last))
+    ∙ sym (append_assoc (line ++ 10 ∷ []) (lines_text lines) last)
+
+-- Where an entry is read, the text has an entry.
+has_entry : (text : List ℕ) (at : ℕ) → ReadsEntry at 1 Nothing (parts_of text) → HasEntryAt text at
+has_entry text at reads =
+    let told = reads.told in
+    let heard = heard_lines Nothing (Entries told) [] reads.lines refl reads.is in
+    let place = reads.place in
+    let long : length reads.lines ≡ length (front_lines told) = ap length heard.1 in
+    record {
+      told = told;
+      so = heard.0;
+      some = reads.some;
+      number = omega (arith, place, long);
+      rest = join_with_byte 10 reads.rest;
+      begins = sym (join_with_byte-slice_split 10 text)
+          ∙ ap (join_with_byte 10) (reads.cut ∙ ap (λ (lines : List (List ℕ)). lines ++ reads.rest) heard.1)
+          ∙ join_front (front_lines told) reads.rest reads.ended;
+    }
+
+pub memory_entry : (text : List ℕ) (r : Result Told TraceFault)
+    → IfErr r (λ fault. fault.kind ≡ kind.OutOfMemory → ReadsEntry fault.line 1 Nothing (parts_of text))
+    → IfErr r (λ fault. fault.kind ≡ kind.OutOfMemory → HasEntryAt text fault.line)
+memory_entry text (Ok told) h = tt
+memory_entry text (Err fault) h = λ memory. has_entry text fault.line (h memory)
+
+pub memory_later : (text : List ℕ) (r : Result Told TraceFault)
+    → IfErr r (λ fault. fault.kind ≡ kind.OutOfMemory → ReadsEntry fault.line 1 Nothing (parts_of text))
+    → IfErr r (λ fault. fault.kind ≡ kind.OutOfMemory → (first : TraceFault) → told_from text ≡ Err first → fault.line < first.line)
+memory_later text (Ok told) h = tt
+memory_later text (Err fault) h = λ memory first is. fault_after_entry fault.line 1 Nothing (parts_of text) first (h memory) is

@@ -1,5 +1,5 @@
 -- Reading goes on from line to line.
-use Rattle.std.proofs.Common.{◌≡◌, ℕ, ◌+◌, ◌<◌, ◌≤◌, ◌==◌, true, List, [], ◌∷◌, length, Result, Ok, Err, refl, sym, ap, ◌∙◌, arith, subst}
+use Rattle.std.proofs.Common.{◌≡◌, ℕ, ◌+◌, ◌<◌, ◌≤◌, ◌==◌, true, List, [], ◌∷◌, ◌++◌, length, length-append, Result, Ok, Err, refl, sym, ap, ◌∙◌, arith, subst}
 use Rattle.std.specs.List.{join_with_byte}
 use Rattle.std.proofs.lemmas.List.Splits.{join_with_byte-slice_split}
 use Rattle.sup_core.proofs.Fields.{split_some_part}
@@ -12,38 +12,38 @@ use Rattle.sup_core.specs.Rules.{takes, next}
 use Rattle.sup_core.specs.Reading.{fields}
 use Rattle.sup_core.proofs.Laws.{followed_by-append, next-taken}
 use Rattle.sup_trace.specs.Told.{Told, told_history, replay_of}
-use Rattle.sup_trace.specs.Reading.{Heard, Nothing, Header, Entries, Whole, said, at_end, told_by_parts, parts_of, with_entry, end_said, refused}
+use Rattle.sup_trace.specs.Reading.{Heard, Nothing, Header, Entries, Whole, line_result, at_end, told_by_parts, parts_of, with_entry, end_result, refusal, AddsEntry, ReadsLine, ReadsEntry, heard_along}
 
 -- a line that is not refused
-pub goes_on : (number : ℕ) (heard more : Heard) (line : List ℕ) (parts : List (List ℕ)) → (parts ≡ [] → ⊥) → said heard line ≡ Ok more
+pub goes_on : (number : ℕ) (heard more : Heard) (line : List ℕ) (parts : List (List ℕ)) → (parts ≡ [] → ⊥) → line_result heard line ≡ Ok more
     → told_by_parts number heard (line ∷ parts) ≡ told_by_parts (number + 1) more parts
 goes_on number heard more line [] some is = absurd (some refl)
 goes_on number heard more line (part ∷ parts) some is =
     ap (λ (r : Result Heard TraceFaultKind). elim r [
       | Ok more ↦ told_by_parts (number + 1) more (part ∷ parts)
-      | Err why ↦ refused number why
+      | Err why ↦ refusal number why
     ]) is
 
-stops : (number : ℕ) (heard : Heard) (why : TraceFaultKind) (line : List ℕ) (parts : List (List ℕ)) → (parts ≡ [] → ⊥) → said heard line ≡ Err why
-    → told_by_parts number heard (line ∷ parts) ≡ refused number why
+stops : (number : ℕ) (heard : Heard) (why : TraceFaultKind) (line : List ℕ) (parts : List (List ℕ)) → (parts ≡ [] → ⊥) → line_result heard line ≡ Err why
+    → told_by_parts number heard (line ∷ parts) ≡ refusal number why
 stops number heard why line [] some is = absurd (some refl)
 stops number heard why line (part ∷ parts) some is =
     ap (λ (r : Result Heard TraceFaultKind). elim r [
       | Ok more ↦ told_by_parts (number + 1) more (part ∷ parts)
-      | Err why ↦ refused number why
+      | Err why ↦ refusal number why
     ]) is
 
--- a line that is not refused
-pub line_said : (number later : ℕ) (heard more : Heard) (line text rest : List ℕ) → parts_of text ≡ line ∷ parts_of rest
-    → later ≡ number + 1 → said heard line ≡ Ok more
+-- a line that is read
+pub line_read : (number later : ℕ) (text rest : List ℕ) (heard more : Heard) → ReadsLine number later text rest heard more
     → told_by_parts number heard (parts_of text) ≡ told_by_parts later more (parts_of rest)
-line_said number later heard more line text rest cut next is =
-    ap (told_by_parts number heard) cut ∙ goes_on number heard more line (parts_of rest) (split_some_part (λ byte. byte == 10) rest) is
-    ∙ ap (λ (n : ℕ). told_by_parts n more (parts_of rest)) (sym next)
+line_read number later text rest heard more reads =
+    ap (told_by_parts number heard) reads.cut
+    ∙ goes_on number heard more reads.line (parts_of rest) (split_some_part (λ byte. byte == 10) rest) reads.is
+    ∙ ap (λ (n : ℕ). told_by_parts n more (parts_of rest)) (sym reads.next)
 
 -- a line that is refused
-pub line_refused : (number : ℕ) (heard : Heard) (why : TraceFaultKind) (line text rest : List ℕ) → parts_of text ≡ line ∷ parts_of rest → said heard line ≡ Err why
-    → told_by_parts number heard (parts_of text) ≡ refused number why
+pub line_refused : (number : ℕ) (heard : Heard) (why : TraceFaultKind) (line text rest : List ℕ) → parts_of text ≡ line ∷ parts_of rest → line_result heard line ≡ Err why
+    → told_by_parts number heard (parts_of text) ≡ refusal number why
 line_refused number heard why line text rest cut is =
     ap (told_by_parts number heard) cut ∙ stops number heard why line (parts_of rest) (split_some_part (λ byte. byte == 10) rest) is
 
@@ -53,7 +53,7 @@ IsPartial (Whole told) = ⊥
 IsPartial other = Unit {0}
 
 at_end-partial : (number : ℕ) (heard : Heard) (rest : List ℕ) → IsPartial heard
-    → at_end number heard rest ≡ refused number kind.Line
+    → at_end number heard rest ≡ refusal number kind.Line
 at_end-partial number Nothing rest h = refl
 at_end-partial number Header rest h = refl
 at_end-partial number (Entries told) rest h = refl
@@ -61,23 +61,23 @@ at_end-partial number (Whole told) rest h = absurd h
 
 -- a line that is missing, or has no newline
 pub line_missing : (number : ℕ) (heard : Heard) (text : List ℕ) → IsPartial heard → parts_of text ≡ text ∷ []
-    → told_by_parts number heard (parts_of text) ≡ refused number kind.Line
+    → told_by_parts number heard (parts_of text) ≡ refusal number kind.Line
 line_missing number heard text partial cut = ap (told_by_parts number heard) cut ∙ at_end-partial number heard text partial
 
 over_parts : (number : ℕ) (told : Told) (part : List ℕ) (parts : List (List ℕ)) → (parts ≡ [] → 0 < length part)
-    → told_by_parts number (Whole told) (part ∷ parts) ≡ refused number kind.Line
+    → told_by_parts number (Whole told) (part ∷ parts) ≡ refusal number kind.Line
 over_parts number told [] [] some = absurd (let h = some refl in omega (arith, h))
 over_parts number told (byte ∷ bytes) [] some = refl
 over_parts number told part (next ∷ parts) some = refl
 
 -- The end line
 
-end_fields : (told : Told) (count : List ℕ) (parts : List (List ℕ)) → (parts ≡ [] → ⊥) → end_said told (count ∷ parts) ≡ Err kind.Line
+end_fields : (told : Told) (count : List ℕ) (parts : List (List ℕ)) → (parts ≡ [] → ⊥) → end_result told (count ∷ parts) ≡ Err kind.Line
 end_fields told count [] h = absurd (h refl)
 end_fields told count (part ∷ parts) h = refl
 
-pub end_said_many : (told : Told) (count rest : List ℕ) → end_said told (count ∷ fields rest) ≡ Err kind.Line
-end_said_many told count rest = end_fields told count (fields rest) (split_some_part (λ byte. byte == 32) rest)
+pub end_result_many : (told : Told) (count rest : List ℕ) → end_result told (count ∷ fields rest) ≡ Err kind.Line
+end_result_many told count rest = end_fields told count (fields rest) (split_some_part (λ byte. byte == 32) rest)
 
 -- the state after one more entry
 pub replay-more : (told : Told) (event : Event) → takes (told_history told) event ≡ true
@@ -87,13 +87,13 @@ replay-more told event taken =
 
 -- A fault is at the line of this number, or later.
 
-at_refusal : (number : ℕ) (why : TraceFaultKind) (first : TraceFault) → refused number why ≡ Err first → number ≤ first.line
+at_refusal : (number : ℕ) (why : TraceFaultKind) (first : TraceFault) → refusal number why ≡ Err first → number ≤ first.line
 at_refusal number why first h =
     let same : record { line = number; kind = why } ≡ first = cc h in
     let line : number ≡ first.line = ap (λ (f : TraceFault). f.line) same in
     omega (arith, line)
 
-at_line : (number : ℕ) (first : TraceFault) → refused number kind.Line ≡ Err first → number ≤ first.line
+at_line : (number : ℕ) (first : TraceFault) → refusal number kind.Line ≡ Err first → number ≤ first.line
 at_line number first h = at_refusal number kind.Line first h
 
 later_at_end : (number : ℕ) (heard : Heard) (rest : List ℕ) (first : TraceFault) → at_end number heard rest ≡ Err first → number ≤ first.line
@@ -106,11 +106,11 @@ later_at_end number (Whole told) (byte ∷ rest) first h = at_line number first 
 -- what is answered after a line
 abbrev pub followed : ℕ → List (List ℕ) → Result Heard TraceFaultKind → Result Told TraceFault
 followed number parts (Ok more) = told_by_parts (number + 1) more parts
-followed number parts (Err why) = refused number why
+followed number parts (Err why) = refusal number why
 
-later : (number : ℕ) (first : TraceFault) (parts : List (List ℕ)) (said : Result Heard TraceFaultKind)
+later : (number : ℕ) (first : TraceFault) (parts : List (List ℕ)) (r : Result Heard TraceFaultKind)
     → ((more : Heard) → told_by_parts (number + 1) more parts ≡ Err first → number + 1 ≤ first.line)
-    → followed number parts said ≡ Err first
+    → followed number parts r ≡ Err first
     → number ≤ first.line
 later number first parts (Ok more) rest h = let after = rest more h in omega (arith, after)
 later number first parts (Err why) rest h = at_refusal number why first h
@@ -119,16 +119,16 @@ pub fault_later : (number : ℕ) (heard : Heard) (parts : List (List ℕ)) (firs
 fault_later number heard [] first h = later_at_end number heard [] first h
 fault_later number heard (rest ∷ []) first h = later_at_end number heard rest first h
 fault_later number heard (line ∷ part ∷ parts) first h =
-    later number first (part ∷ parts) (said heard line) (λ (more : Heard). fault_later (number + 1) more (part ∷ parts) first) h
+    later number first (part ∷ parts) (line_result heard line) (λ (more : Heard). fault_later (number + 1) more (part ∷ parts) first) h
 
 -- bytes after the end line
 over : (number : ℕ) (told : Told) (rest : List ℕ) (parts : List (List ℕ)) → (parts ≡ [] → ⊥) → join_with_byte 10 parts ≡ rest → 0 < length rest
-    → told_by_parts number (Whole told) parts ≡ refused number kind.Line
+    → told_by_parts number (Whole told) parts ≡ refusal number kind.Line
 over number told rest [] some joined long = absurd (some refl)
 over number told rest (part ∷ []) some joined long = over_parts number told part [] (λ e. subst (λ (xs : List ℕ). 0 < length xs) (sym joined) long)
 over number told rest (part ∷ next ∷ parts) some joined long = over_parts number told part (next ∷ parts) (λ e. absurd (cc e))
 
-pub over_end : (number : ℕ) (told : Told) (rest : List ℕ) → 0 < length rest → told_by_parts number (Whole told) (parts_of rest) ≡ refused number kind.Line
+pub over_end : (number : ℕ) (told : Told) (rest : List ℕ) → 0 < length rest → told_by_parts number (Whole told) (parts_of rest) ≡ refusal number kind.Line
 over_end number told rest long =
     over number told rest (parts_of rest) (split_some_part (λ byte. byte == 10) rest) (join_with_byte-slice_split 10 rest) long
 
@@ -136,3 +136,70 @@ over_end number told rest long =
 pub over_none : (number : ℕ) (told : Told) (rest : List ℕ) → length rest ≡ 0 → told_by_parts number (Whole told) (parts_of rest) ≡ Ok told
 over_none number told [] none = refl
 over_none number told (byte ∷ rest) none = absurd (omega (arith, none))
+
+-- Entries that are read
+
+-- what is told after a line
+abbrev pub along_after : List (List ℕ) → Result Heard TraceFaultKind → Result Heard TraceFaultKind
+along_after lines (Ok more) = heard_along more lines
+along_after lines (Err why) = Err why
+
+heard_first : (heard more : Heard) (line : List ℕ) (lines : List (List ℕ)) → line_result heard line ≡ Ok more
+    → heard_along heard (line ∷ lines) ≡ heard_along more lines
+heard_first heard more line lines is = ap (along_after lines) is
+
+-- an entry that is read on the first line
+pub entry_here : (number : ℕ) (told : Told) (line text rest : List ℕ) → parts_of text ≡ line ∷ parts_of rest
+    → AddsEntry told (line_result (Entries told) line) → ReadsEntry number number (Entries told) (parts_of text)
+entry_here number told line text rest cut adds = record {
+  lines = line ∷ [];
+  rest = parts_of rest;
+  cut = cut;
+  ended = split_some_part (λ byte. byte == 10) rest;
+  told = with_entry told adds.event;
+  some = omega (arith, length-append told.entries (adds.event ∷ []));
+  is = heard_first (Entries told) (Entries (with_entry told adds.event)) line [] adds.is;
+  place = refl;
+}
+
+-- an entry that is read on a later line
+pub entry_later : (at number later : ℕ) (text rest : List ℕ) (heard more : Heard) → ReadsLine number later text rest heard more
+    → ReadsEntry at later more (parts_of rest) → ReadsEntry at number heard (parts_of text)
+entry_later at number later text rest heard more reads entry = record {
+  lines = reads.line ∷ entry.lines;
+  rest = entry.rest;
+  cut = reads.cut ∙ ap (λ (parts : List (List ℕ)). reads.line ∷ parts) entry.cut;
+  ended = entry.ended;
+  told = entry.told;
+  some = entry.some;
+  is = heard_first heard more reads.line entry.lines reads.is ∙ entry.is;
+  place = let place = entry.place in let next = reads.next in omega (arith, place, next);
+}
+
+pub some_rest : (lines rest : List (List ℕ)) → (rest ≡ [] → ⊥) → lines ++ rest ≡ [] → ⊥
+some_rest [] rest some h = some h
+some_rest (line ∷ lines) rest some h = cc h
+
+fault_further : (number : ℕ) (lines : List (List ℕ)) (more : Heard) (first : TraceFault) (r : Result Heard TraceFaultKind)
+    → ((next : Heard) → r ≡ Ok next → heard_along next lines ≡ Ok more → number + 1 + length lines ≤ first.line)
+    → along_after lines r ≡ Ok more → number + 1 + length lines ≤ first.line
+fault_further number lines more first (Ok next) later is = later next refl is
+fault_further number lines more first (Err why) later is = cc is
+
+-- A fault is told after the lines that are read.
+fault_after : (number : ℕ) (heard more : Heard) (lines rest : List (List ℕ)) (first : TraceFault) → (rest ≡ [] → ⊥)
+    → heard_along heard lines ≡ Ok more → told_by_parts number heard (lines ++ rest) ≡ Err first → number + length lines ≤ first.line
+fault_after number heard more [] rest first some is h = let later = fault_later number heard rest first h in omega (arith, later)
+fault_after number heard more (line ∷ lines) rest first some is h =
+    let later = fault_further number lines more first (line_result heard line) (λ (next : Heard) here along.
+    fault_after (number + 1) next more lines rest first some along
+    (sym (goes_on number heard next line (lines ++ rest) (some_rest lines rest some) here) ∙ h)) is in
+    omega (arith, later)
+
+pub fault_after_entry : (at number : ℕ) (heard : Heard) (parts : List (List ℕ)) (first : TraceFault) → ReadsEntry at number heard parts
+    → told_by_parts number heard parts ≡ Err first → at < first.line
+fault_after_entry at number heard parts first entry h =
+    let told : told_by_parts number heard (entry.lines ++ entry.rest) ≡ Err first = ap (told_by_parts number heard) (sym entry.cut) ∙ h in
+    let later = fault_after number heard (Entries entry.told) entry.lines entry.rest first entry.ended entry.is told in
+    let place = entry.place in
+    omega (arith, later, place)

@@ -15,6 +15,7 @@ use Rattle.sup_core.specs.declared.event.Event.TheVariants.{Byte, Started, Start
 use Rattle.hex.specs.Hex.{encode_lower}
 use Rattle.tai_status.proofs.Spelled.{lower-encode, IsBytes-status_record}
 use Rattle.sup_core.specs.Reading.{fields, event_from, IsInRange}
+use Rattle.sup_core.proofs.Standing.{is_state-decides}
 use Rattle.sup_core.proofs.Laws.{followed_by-append}
 use Rattle.sup_core.proofs.Lines.{is_solid, split-first, fields-join, decimal-solid, lower-solid, label_text-solid, phase_name-solid, event_fields-event_text, event_read}
 use Rattle.sup_trace.specs.declared.fault.TraceFault.{TraceFault}
@@ -22,10 +23,10 @@ use Rattle.sup_trace.specs.declared.fault.TraceFaultKind.{TraceFaultKind}
 use Rattle.sup_trace.specs.declared.fault.TraceFaultKind.TheVariants as kind
 use Rattle.sup_trace.specs.Told.{Told, told_of, told_history, IsTold, IsTraceText}
 use Rattle.sup_trace.specs.Text.{header, stay_text, until_text, base_fields, base_text, end_text, trace_lines, trace_text}
-use Rattle.sup_trace.specs.Reading.{Nothing, Header, Entries, Whole, base_said, with_entry, entry_said, later_said, said, told_by_parts, parts_of, told_from}
+use Rattle.sup_trace.specs.Reading.{Nothing, Header, Entries, Whole, base_result, with_entry, entry_result, later_result, line_result, told_by_parts, parts_of, told_from}
 use Rattle.std.proofs.lemmas.List.{length-append, append-nil}
 use Rattle.sup_trace.proofs.Steps.{goes_on}
-use Rattle.sup_trace.proofs.Parts.{is_state-decides, folded_of_text-only, phase_of_text-only, status_of_text-only, exiting_of_text-only, until_of_text-only}
+use Rattle.sup_trace.proofs.Parts.{folded_of_text-only, phase_of_text-only, status_of_text-only, exiting_of_text-only, until_of_text-only}
 use Rattle.sup_trace.proofs.Plain.{plain-trace_lines}
 use Rattle.sup_trace.proofs.Heard.{told_from-found}
 
@@ -40,7 +41,7 @@ split_lines (line ∷ lines) h =
 
 -- The header's line
 
-header_said : said Nothing header ≡ Ok Header
+header_said : line_result Nothing header ≡ Ok Header
 header_said = let same = (bytes_eq-Decides header header).1 refl in rw same refl
 
 -- The base's line
@@ -70,7 +71,7 @@ base_fields-solid told h =
       ),
     )
 
-base_read : (told : Told) → IsTold told → base_said (base_fields told.folded told.base) ≡ Ok (Entries (told_of told.base told.folded []))
+base_read : (told : Told) → IsTold told → base_result (base_fields told.folded told.base) ≡ Ok (Entries (told_of told.base told.folded []))
 base_read told h =
     let status = told.base.status in
     let folded = folded_of_text-only (decimal told.folded) told.folded (record { limit = h.count; is = refl }) in
@@ -81,14 +82,14 @@ base_read told h =
     let stands = (is_state-decides told.base).0 h.state in
     rw (folded, phase, read, exiting, until) (rw stands refl)
 
-base_line : (told : Told) → IsTold told → said Header (base_text told.folded told.base) ≡ Ok (Entries (told_of told.base told.folded []))
+base_line : (told : Told) → IsTold told → line_result Header (base_text told.folded told.base) ≡ Ok (Entries (told_of told.base told.folded []))
 base_line told h =
     let same : fields (base_text told.folded told.base) ≡ base_fields told.folded told.base = fields-join _ _ (base_fields-solid told h) in
-    ap base_said same ∙ base_read told h
+    ap base_result same ∙ base_read told h
 
 -- The lines of entries
 
-event_later : (told : Told) (event : Event) → later_said told (event_fields event) ≡ entry_said told (event_from (event_fields event))
+event_later : (told : Told) (event : Event) → later_result told (event_fields event) ≡ entry_result told (event_from (event_fields event))
 event_later told (Byte byte) = refl
 event_later told (Started pid label) = refl
 event_later told (StartFailed label) = refl
@@ -99,18 +100,18 @@ room-test : (m n : ℕ) → m < n → not (nat_lt m n) ≡ false
 room-test m n h = grind (arith)
 
 entry_line : (told : Told) (event : Event) → IsInRange event → length told.entries < 65536 → takes (told_history told) event ≡ true
-    → said (Entries told) (event_text event) ≡ Ok (Entries (with_entry told event))
+    → line_result (Entries told) (event_text event) ≡ Ok (Entries (with_entry told event))
 entry_line told event range room taken =
-    ap (later_said told) (event_fields-event_text event range) ∙ event_later told event
-    ∙ ap (entry_said told) (event_read event range)
+    ap (later_result told) (event_fields-event_text event range) ∙ event_later told event
+    ∙ ap (entry_result told) (event_read event range)
     ∙ rw (room-test (length told.entries) 65536 room, taken) refl
 
 -- The end line
 
-end_line : (told : Told) → said (Entries told) (end_text (length told.entries)) ≡ Ok (Whole told)
+end_line : (told : Told) → line_result (Entries told) (end_text (length told.entries)) ≡ Ok (Whole told)
 end_line told =
     let same = (bytes_eq-Decides (decimal (length told.entries)) (decimal (length told.entries))).1 refl in
-    ap (later_said told) (fields-join (codes "end") (decimal (length told.entries) ∷ []) (refl, (decimal-solid (length told.entries), tt)))
+    ap (later_result told) (fields-join (codes "end") (decimal (length told.entries) ∷ []) (refl, (decimal-solid (length told.entries), tt)))
     ∙ rw same refl
 
 -- All lines after the base's

@@ -1,28 +1,26 @@
 -- Reading the text of a trace: what it tells, or else its first faulty line and why that is refused.
-use Rattle.std.specs.Prelude.{ℕ, ◌+◌, ◌^◌, ◌==◌, ◌&&◌, nat_lt, nat_le, bytes_eq, Bool, true, false, not, if◌then◌else◌, List, [], ◌∷◌, ◌++◌, length, codes, decimal, Option, Some, None, option_map, is_none, Result, Ok, Err}
+use Rattle.std.specs.Prelude.{◌≡◌, ◌≢◌, ℕ, ◌+◌, ◌^◌, ◌<◌, ◌==◌, ◌&&◌, nat_lt, nat_le, bytes_eq, Bool, true, false, not, if◌then◌else◌, List, [], ◌∷◌, ◌++◌, length, codes, decimal, Option, Some, None, option_map, Result, Ok, Err}
 use Rattle.std.specs.List.{slice_split}
 use Rattle.std.specs.Result.{result_ok}
 use Rattle.std.specs.Str.Parse.{digits_value}
 use Rattle.hex.specs.Hex.{decode_sized, encode_lower}
 use Rattle.hex.specs.declared.error.FromHexError.{FromHexError}
-use Rattle.tai_status.specs.Label.{Tai64n, plus_second}
+use Rattle.tai_status.specs.Label.{Tai64n}
 use Rattle.tai_status.specs.Record.{Status, status_record}
 use Rattle.tai_status.specs.Decoding.{status_from}
-use Rattle.tai_status.specs.declared.record.Want.{Want}
-use Rattle.tai_status.specs.declared.record.Want.TheVariants as want
 use Rattle.sup_core.specs.declared.event.Event.{Event}
 use Rattle.sup_core.specs.declared.machine.Phase.{Phase}
 use Rattle.sup_core.specs.declared.machine.Phase.TheVariants as phase
 use Rattle.sup_core.specs.declared.reading.EventFault.{EventFault}
 use Rattle.sup_core.specs.declared.reading.EventFault.TheVariants as why
-use Rattle.sup_core.specs.State.{State}
+use Rattle.sup_core.specs.State.{State, is_state}
 use Rattle.sup_core.specs.Rules.{takes}
 use Rattle.sup_core.specs.Reading.{fields, label_of_text, event_from}
 use Rattle.sup_trace.specs.declared.fault.TraceFault.{TraceFault}
 use Rattle.sup_trace.specs.declared.fault.TraceFaultKind.{TraceFaultKind}
 use Rattle.sup_trace.specs.declared.fault.TraceFaultKind.TheVariants as kind
-use Rattle.sup_trace.specs.Told.{Told, told_of, told_history}
-use Rattle.sup_trace.specs.Text.{header}
+use Rattle.sup_trace.specs.Told.{Told, IsTold, told_of, told_history}
+use Rattle.sup_trace.specs.Text.{header, front_lines, lines_text}
 
 -- What the fields of the base's line tell
 
@@ -71,39 +69,6 @@ until_of_text text =
     if bytes_eq text (codes "-") then Some None
     else option_map (λ label. Some label) (label_of_text text)
 
--- Whether a machine can stand so
-
-abbrev pub is_want : Want → Want → Bool
-is_want want.Up want.Up = true
-is_want want.Down want.Down = true
-is_want want.Once want.Once = true
-is_want other wanted = false
-
-abbrev pub is_label : Tai64n → Option Tai64n → Bool
-is_label label (Some until) = (until.sec == label.sec) && (until.nano == label.nano)
-is_label label None = false
-
-abbrev pub is_second_past : Option Tai64n → Bool
-is_second_past (Some until) = nat_lt 0 until.sec
-is_second_past None = false
-
-abbrev pub stands_in : Phase → State → Bool
-stands_in phase.Starting s =
-    (s.status.pid == 0) && not (is_want s.status.want want.Down) && not s.exiting && is_none s.until
-stands_in phase.Settling s =
-    nat_lt 0 s.status.pid && not s.status.paused && not (is_want s.status.want want.Down)
-    && not s.exiting && is_label (plus_second s.status.label) s.until
-stands_in phase.Resting s =
-    (s.status.pid == 0) && not (is_want s.status.want want.Down) && not s.exiting && is_second_past s.until
-stands_in phase.Up s = nat_lt 0 s.status.pid && is_none s.until
-stands_in phase.Down s =
-    (s.status.pid == 0) && not (is_want s.status.want want.Up) && not s.exiting && is_none s.until
-stands_in phase.Gone s = (s.status.pid == 0) && s.exiting && is_none s.until
-
--- whether a machine can stand so
-abbrev pub is_state : State → Bool
-is_state s = stands_in s.phase s
-
 -- The lines
 
 -- what the lines so far told: nothing, the header, the base and some entries, or all
@@ -113,6 +78,7 @@ pub data Heard : Type 0 where
   Entries : Told → Heard
   Whole : Told → Heard
 
+-- with one more entry
 abbrev pub with_entry : Told → Event → Told
 with_entry told event = told_of told.base told.folded (told.entries ++ event ∷ [])
 
@@ -121,9 +87,9 @@ abbrev pub standing : Option Phase → Option Status → Option Bool → Option 
 standing (Some phase) (Some status) (Some exiting) = Some (phase, status, exiting)
 standing phase status exiting = None
 
--- the state that these and an end tell
-abbrev pub standing_so : Phase × Status × Bool → Option Tai64n → State
-standing_so (phase, status, exiting) until = record { phase = phase; status = status; exiting = exiting; until = until }
+-- the state of these and of when settling or resting ends
+abbrev pub state_of_parts : Phase × Status × Bool → Option Tai64n → State
+state_of_parts (phase, status, exiting) until = record { phase = phase; status = status; exiting = exiting; until = until }
 
 abbrev pub base_at : ℕ → State → Result Heard TraceFaultKind
 base_at folded state =
@@ -135,14 +101,15 @@ abbrev pub base_from : Option ℕ → Option (Phase × Status × Bool) → Optio
 base_from None standing until = Err kind.Number
 base_from (Some folded) None until = Err kind.Line
 base_from (Some folded) (Some standing) None = Err kind.Label
-base_from (Some folded) (Some standing) (Some until) = base_at folded (standing_so standing until)
+base_from (Some folded) (Some standing) (Some until) = base_at folded (state_of_parts standing until)
 
-abbrev pub base_said : List (List ℕ) → Result Heard TraceFaultKind
-base_said (word ∷ folded ∷ phase ∷ status ∷ stay ∷ until ∷ []) =
+-- the base's line, by its fields
+abbrev pub base_result : List (List ℕ) → Result Heard TraceFaultKind
+base_result (word ∷ folded ∷ phase ∷ status ∷ stay ∷ until ∷ []) =
     if bytes_eq word (codes "base")
     then base_from (folded_of_text folded) (standing (phase_of_text phase) (status_of_text status) (exiting_of_text stay)) (until_of_text until)
     else Err kind.Line
-base_said other = Err kind.Line
+base_result other = Err kind.Line
 
 abbrev pub kind_of : EventFault → TraceFaultKind
 kind_of why.UnknownEvent = kind.UnknownEvent
@@ -151,51 +118,52 @@ kind_of why.Number = kind.Number
 kind_of why.Label = kind.Label
 
 -- an event's line: its own faults come first, then one entry more than 65,536, then one that is not taken
-abbrev pub entry_said : Told → Result Event EventFault → Result Heard TraceFaultKind
-entry_said told (Err fault) = Err (kind_of fault)
-entry_said told (Ok event) =
+abbrev pub entry_result : Told → Result Event EventFault → Result Heard TraceFaultKind
+entry_result told (Err fault) = Err (kind_of fault)
+entry_result told (Ok event) =
     if not (nat_lt (length told.entries) 65536) then Err kind.Line
     else if takes (told_history told) event then Ok (Entries (with_entry told event))
     else Err kind.NotTaken
 
 -- the end line: the number of the entries
-abbrev pub end_said : Told → List (List ℕ) → Result Heard TraceFaultKind
-end_said told (count ∷ []) = if bytes_eq count (decimal (length told.entries)) then Ok (Whole told) else Err kind.Number
-end_said told other = Err kind.Line
+abbrev pub end_result : Told → List (List ℕ) → Result Heard TraceFaultKind
+end_result told (count ∷ []) = if bytes_eq count (decimal (length told.entries)) then Ok (Whole told) else Err kind.Number
+end_result told other = Err kind.Line
 
 -- a line after the base's, by its fields: a first word `end` makes it the end line
-abbrev pub later_said : Told → List (List ℕ) → Result Heard TraceFaultKind
-later_said told [] = Err kind.UnknownEvent
-later_said told (word ∷ rest) =
-    if bytes_eq word (codes "end") then end_said told rest else entry_said told (event_from (word ∷ rest))
+abbrev pub later_result : Told → List (List ℕ) → Result Heard TraceFaultKind
+later_result told [] = Err kind.UnknownEvent
+later_result told (word ∷ rest) =
+    if bytes_eq word (codes "end") then end_result told rest else entry_result told (event_from (word ∷ rest))
 
--- what a line says after those so far
-abbrev pub said : Heard → List ℕ → Result Heard TraceFaultKind
-said Nothing line = if bytes_eq line header then Ok Header else Err kind.Line
-said Header line = base_said (fields line)
-said (Entries told) line = later_said told (fields line)
-said (Whole told) line = Err kind.Line
+-- what a line tells after those so far
+abbrev pub line_result : Heard → List ℕ → Result Heard TraceFaultKind
+line_result Nothing line = if bytes_eq line header then Ok Header else Err kind.Line
+line_result Header line = base_result (fields line)
+line_result (Entries told) line = later_result told (fields line)
+line_result (Whole told) line = Err kind.Line
 
 -- all that was told, or what was told so far
-abbrev pub told_so : Bool → Told → Heard
-told_so true told = Whole told
-told_so false told = Entries told
+abbrev pub heard_of : Bool → Told → Heard
+heard_of true told = Whole told
+heard_of false told = Entries told
 
-abbrev pub refused : ℕ → TraceFaultKind → Result Told TraceFault
-refused number why = Err (record { line = number; kind = why })
+-- a line that is refused
+abbrev pub refusal : ℕ → TraceFaultKind → Result Told TraceFault
+refusal number why = Err (record { line = number; kind = why })
 
--- what the bytes after the last newline say: there are none, and all was told
+-- what the bytes after the last newline tell: there are none, and all was told
 abbrev pub at_end : ℕ → Heard → List ℕ → Result Told TraceFault
 at_end number (Whole told) [] = Ok told
-at_end number heard rest = refused number kind.Line
+at_end number heard rest = refusal number kind.Line
 
 -- Reading goes line by line, each up to its newline, and the first that is refused is told with its number.
 abbrev pub told_by_parts : ℕ → Heard → List (List ℕ) → Result Told TraceFault
 told_by_parts number heard [] = at_end number heard []
 told_by_parts number heard (rest ∷ []) = at_end number heard rest
-told_by_parts number heard (line ∷ part ∷ parts) = elim (said heard line) [
+told_by_parts number heard (line ∷ part ∷ parts) = elim (line_result heard line) [
   | Ok more ↦ told_by_parts (number + 1) more (part ∷ parts)
-  | Err why ↦ refused number why
+  | Err why ↦ refusal number why
 ]
 
 -- the parts of a text between its newlines
@@ -206,6 +174,54 @@ parts_of text = slice_split (λ byte. byte == 10) text
 abbrev pub told_from : List ℕ → Result Told TraceFault
 told_from text = told_by_parts 1 Nothing (parts_of text)
 
+-- Where reading can want memory
+
+-- A text has an entry on this line: it begins with a header, a base's line and the lines of entries, each taken where it
+-- stands, and the last of these is the line of that number. So the lines before it are read, it is read, and its event is
+-- taken there.
+pub record HasEntryAt (text : List ℕ) (line : ℕ) : Type 0 where
+  pub told : Told
+  pub so : IsTold told
+  pub some : 0 < length told.entries
+  pub number : line ≡ length (front_lines told)
+  pub rest : List ℕ
+  pub begins : text ≡ lines_text (front_lines told) ++ rest
+
+-- Words of the steps of reading, for private functions alone.
+
+-- One more entry is read.
+pub record AddsEntry (told : Told) (r : Result Heard TraceFaultKind) : Type 0 where
+  pub event : Event
+  pub is : r ≡ Ok (Entries (with_entry told event))
+
+-- A line is cut off a text and read.
+pub record ReadsLine (number later : ℕ) (text rest : List ℕ) (heard more : Heard) : Type 0 where
+  pub line : List ℕ
+  pub cut : parts_of text ≡ line ∷ parts_of rest
+  pub next : later ≡ number + 1
+  pub is : line_result heard line ≡ Ok more
+
+-- what these lines tell, one after another
+abbrev pub heard_along : Heard → List (List ℕ) → Result Heard TraceFaultKind
+heard_along heard [] = Ok heard
+heard_along heard (line ∷ lines) = elim (line_result heard line) [
+  | Ok more ↦ heard_along more lines
+  | Err why ↦ Err why
+]
+
+-- The line numbered `at` is read as an entry, where the first of these parts has the number `number`.
+pub record ReadsEntry (at number : ℕ) (heard : Heard) (parts : List (List ℕ)) : Type 0 where
+  pub lines : List (List ℕ)
+  pub rest : List (List ℕ)
+  pub cut : parts ≡ lines ++ rest
+  pub ended : rest ≢ []
+  pub told : Told
+  pub some : 0 < length told.entries
+  pub is : heard_along heard lines ≡ Ok (Entries told)
+  pub place : at + 1 ≡ number + length lines
+
+-- What is told of faults
+
 -- why a line is refused
 abbrev pub kind_name : TraceFaultKind → List ℕ
 kind_name kind.Line = codes "Line"
@@ -214,3 +230,7 @@ kind_name kind.Number = codes "Number"
 kind_name kind.UnknownEvent = codes "UnknownEvent"
 kind_name kind.NotTaken = codes "NotTaken"
 kind_name kind.OutOfMemory = codes "OutOfMemory"
+
+-- the line that is refused, and why
+abbrev pub refusal_text : TraceFault → List ℕ
+refusal_text fault = codes "line " ++ decimal fault.line ++ codes ": " ++ kind_name fault.kind

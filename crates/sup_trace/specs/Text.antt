@@ -41,11 +41,18 @@ base_text folded base = join_with_byte 32 (base_fields folded base)
 abbrev pub end_text : ℕ → List ℕ
 end_text count = codes "end " ++ decimal count
 
+-- the lines up to the last entry's
+abbrev pub front_lines : Told → List (List ℕ)
+front_lines told = header ∷ base_text told.folded told.base ∷ map event_text told.entries
+
 -- the lines of a trace's text
 abbrev pub trace_lines : Told → List (List ℕ)
-trace_lines told =
-    header ∷ base_text told.folded told.base ∷ map event_text told.entries ++ end_text (length told.entries) ∷ []
+trace_lines told = front_lines told ++ end_text (length told.entries) ∷ []
 
--- the text: its lines, each with a newline
+-- lines as a text, each with a newline
+abbrev pub lines_text : List (List ℕ) → List ℕ
+lines_text lines = flat_map (λ line. line ++ 10 ∷ []) lines
+
+-- the text of a trace
 abbrev pub trace_text : Told → List ℕ
-trace_text told = flat_map (λ line. line ++ 10 ∷ []) (trace_lines told)
+trace_text told = lines_text (trace_lines told)

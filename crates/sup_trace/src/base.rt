@@ -3,16 +3,18 @@ ghost use Rattle.std.specs.Option.{option_copied};
 ghost use Rattle.tai_status.specs.Label.{Tai64n, IsLabel};
 ghost use Rattle.hex.specs.Hex.{encode_lower, decode_sized};
 ghost use Rattle.tai_status.specs.Record.{Status, IsStatus, status_record};
-ghost use Rattle.sup_core.specs.Reading.{fields, label_of_text};
+ghost use Rattle.sup_core.specs.Reading.{fields};
 ghost use Rattle.sup_trace.specs.declared.fault.TraceFaultKind.TheVariants as kind;
 ghost use Rattle.sup_trace.specs.Told.{Told, told_of};
-ghost use Rattle.sup_trace.specs.Reading.{folded_of_text, phase_of_text, status_of_bytes, status_of_text, exiting_of_text, until_of_text, is_state, standing, standing_so, Entries, base_said};
+ghost use Rattle.sup_trace.specs.Reading.{folded_of_text, phase_of_text, status_of_bytes, status_of_text, exiting_of_text, until_of_text, standing, state_of_parts, Entries, base_result};
+ghost use Rattle.sup_core.specs.State.{is_state};
 
 use crate::fault::TraceFaultKind;
 use crate::text::record_digits;
+use crate::trace::LAST_COUNT;
 use hex::FromHex;
-use sup_core::{Machine, Phase, read_number, read_phase, split_field};
-use tai_status::{Label, View, decode, read_text};
+use sup_core::{Machine, Phase, read_label, read_number, read_phase, split_field};
+use tai_status::{Label, View, decode};
 
 /// The fields of the base's line, after its first word.
 #[derive(Clone, Copy)]
@@ -29,7 +31,7 @@ fn read_folded(text: &[u8]) -> Option<u64>
     ensures { result ≡ folded_of_text text.now }
 {
     let folded = read_number(text)?;
-    if folded <= 1 << 63 {
+    if folded <= LAST_COUNT {
         Some(folded)
     } else {
         None
@@ -80,17 +82,10 @@ fn read_until(text: &[u8]) -> Option<Option<Label>>
     }
 }
 
-/// The label whose text this is.
-fn read_label(text: &[u8]) -> Option<Label>
-    ensures { result ≡ label_of_text text.now }
-{
-    read_text(text).ok()
-}
-
 /// The fields of a base's line.
-#[tactic(auto, using(crate::proofs::Parts::base_said_many))]
+#[tactic(auto, using(crate::proofs::Parts::base_result_many))]
 fn base_fields(line: &[u8]) -> Option<BaseFields<'_>>
-    ensures { MatchOption result (base_said (fields line.now) ≡ Err TraceFaultKind.Line)
+    ensures { MatchOption result (base_result (fields line.now) ≡ Err TraceFaultKind.Line)
         (λ f. fields line.now ≡ codes "base" ∷ f.folded.now ∷ f.phase.now ∷ f.status.now ∷ f.stay.now ∷ f.until.now ∷ []) }
 {
     let (word, rest) = split_field(line);
@@ -133,8 +128,8 @@ fn read_standing(fields: &BaseFields<'_>) -> Option<(Phase, View, bool)>
 
 /// The machine of these parts.
 fn machine_of(standing: (Phase, View, bool), until: Option<Label>) -> Option<Machine>
-    ensures { MatchOption result (is_state (standing_so standing until) ≡ false)
-        (λ base. (is_state (standing_so standing until) ≡ true) × (base ≡ standing_so standing until)) }
+    ensures { MatchOption result (is_state (state_of_parts standing until) ≡ false)
+        (λ base. (is_state (state_of_parts standing until) ≡ true) × (base ≡ state_of_parts standing until)) }
 {
     let (phase, view, exiting) = standing;
     Machine::of_parts(phase, view, exiting, until)
@@ -142,8 +137,8 @@ fn machine_of(standing: (Phase, View, bool), until: Option<Label>) -> Option<Mac
 
 /// The base and the count of folded events of a line.
 pub(crate) fn read_base(line: &[u8]) -> Result<(u64, Machine), TraceFaultKind>
-    ensures base { MatchResult result (λ (folded, base). base_said (fields line.now) ≡ Ok (Entries (told_of base folded [])))
-        (λ kind. base_said (fields line.now) ≡ Err kind) }
+    ensures base { MatchResult result (λ (folded, base). base_result (fields line.now) ≡ Ok (Entries (told_of base folded [])))
+        (λ kind. base_result (fields line.now) ≡ Err kind) }
     ensures memory { IfErr result (λ why. why ≢ kind.OutOfMemory) }
 {
     let Some(fields) = base_fields(line) else {

@@ -1,11 +1,11 @@
 ghost use Rattle.std.specs.Prelude.{◌≡◌, ◌≤◌, length};
 ghost use Rattle.sup_trace.specs.Reading.{kind_name};
 
-use thiserror::Error;
+use std::error::Error;
+use std::fmt;
 
 /// Why a line of a trace's text is refused.
-#[derive(Clone, Copy, Debug, PartialEq, Eq, Error)]
-#[error("{}", kind_name(*self))]
+#[derive(Clone, Copy, Debug, PartialEq, Eq)]
 pub enum TraceFaultKind {
     /// The line is missing, or not of its form, or more than there may be.
     Line,
@@ -37,9 +37,34 @@ pub fn kind_name(kind: TraceFaultKind) -> &'static str
 }
 
 /// The first line of a trace's text that is refused, numbered from 1, and why.
-#[derive(Clone, Copy, Debug, PartialEq, Eq, Error)]
-#[error("line {line}: {kind}")]
+#[derive(Clone, Copy, Debug, PartialEq, Eq)]
 pub struct TraceFault {
     pub line: u64,
     pub kind: TraceFaultKind,
 }
+
+impl fmt::Display for TraceFaultKind {
+    ghost use Rattle.std.specs.Prelude.{Some};
+    ghost use Rattle.sup_trace.specs.Reading.{kind_name};
+
+    ghost output = { λ s. Some (kind_name s) };
+
+    fn fmt<W: fmt::Write>(&self, f: &mut fmt::Formatter<W>) -> fmt::Result {
+        f.write_str(kind_name(*self))
+    }
+}
+
+impl Error for TraceFaultKind {}
+
+impl fmt::Display for TraceFault {
+    ghost use Rattle.std.specs.Prelude.{Some};
+    ghost use Rattle.sup_trace.specs.Reading.{refusal_text};
+
+    ghost output = { λ s. Some (refusal_text s) };
+
+    fn fmt<W: fmt::Write>(&self, f: &mut fmt::Formatter<W>) -> fmt::Result {
+        write!(f, "line {}: {}", self.line, self.kind)
+    }
+}
+
+impl Error for TraceFault {}

@@ -1,13 +1,12 @@
-ghost use Rattle.std.specs.Prelude.{◌≡◌, ◌≢◌, ◌+◌, ◌^◌, ◌<◌, ◌≤◌, [], ◌∷◌, ◌++◌, List, ℕ, length, bytes_eq, true, false, Ok, Err, OnOk, OnErr, IfOk, IfErr, IsOkAnd, MatchResult};
+ghost use Rattle.std.specs.Prelude.{◌≡◌, ◌≢◌, ◌+◌, ◌^◌, ◌<◌, [], ℕ, length, bytes_eq, Ok, Err, OnOk, OnErr, IfOk, IfErr, MatchResult};
 ghost use Rattle.std.specs.Option.{option_copied};
 ghost use Rattle.sup_core.specs.Reading.{fields, event_from};
 ghost use Rattle.sup_core.specs.Fields.{fields_after};
-ghost use Rattle.sup_core.specs.Rules.{IsEvent};
 ghost use Rattle.sup_trace.specs.declared.fault.TraceFault.{TraceFault};
 ghost use Rattle.sup_trace.specs.declared.fault.TraceFaultKind.TheVariants as kind;
-ghost use Rattle.sup_trace.specs.Told.{Told, IsTold, told_of, replay_of};
+ghost use Rattle.sup_trace.specs.Told.{Told, IsTold, IsTraceText, told_of};
 ghost use Rattle.sup_trace.specs.Text.{header, trace_text};
-ghost use Rattle.sup_trace.specs.Reading.{Nothing, Header, Entries, Whole, said, told_so, entry_said, end_said, kind_of, told_by_parts, parts_of, told_from};
+ghost use Rattle.sup_trace.specs.Reading.{Nothing, Header, Entries, Whole, line_result, heard_of, entry_result, end_result, kind_of, told_by_parts, parts_of, told_from, HasEntryAt, AddsEntry, ReadsLine, ReadsEntry};
 
 use crate::base::read_base;
 use crate::fault::{TraceFault, TraceFaultKind};
@@ -15,15 +14,28 @@ use crate::lines::Lines;
 use crate::told::TraceText;
 use crate::trace::MAX_CAPACITY;
 use std::alloc::{Allocator, Global};
-use sup_core::{Event, EventFault, Machine, Reply, read_event, read_number, split_field};
+use std::marker::Model;
+use sup_core::{Event, EventFault, Machine, read_event, read_number, split_field};
 
-/// The base and the entries so far, and the machine after them.
+/// The base and the entries so far, and the machine after them. Contracts see it as `Told`.
 #[derive(Drop)]
 struct Reading<A: Allocator> {
     base: Machine,
     folded: u64,
     entries: Vec<Event, A>,
     machine: Machine,
+}
+
+impl<A: Allocator> Model for Reading<A> {
+    ghost use Rattle.std.specs.Prelude.{◌≡◌};
+    ghost use Rattle.sup_trace.specs.Told.{Told, told_of, replay_of};
+
+    ghost Value = { Told };
+
+    // The machine is told by the others.
+    ghost view = { λ reading. told_of reading.base reading.folded reading.entries.items };
+
+    ghost invariant = { λ reading. reading.machine ≡ replay_of (told_of reading.base reading.folded reading.entries.items) };
 }
 
 /// What is told of the fault of an event's line.
@@ -48,7 +60,7 @@ fn is_header(line: &[u8]) -> bool
 
 /// Reads the first line.
 fn read_header(line: &[u8]) -> Result<(), TraceFaultKind>
-    ensures { MatchResult result (λ u. said Nothing line.now ≡ Ok Header) (λ kind. said Nothing line.now ≡ Err kind) }
+    ensures { MatchResult result (λ u. line_result Nothing line.now ≡ Ok Header) (λ kind. line_result Nothing line.now ≡ Err kind) }
 {
     if is_header(line) {
         Ok(())
@@ -58,14 +70,33 @@ fn read_header(line: &[u8]) -> Result<(), TraceFaultKind>
 }
 
 impl<A: Allocator> Reading<A> {
+    /// The base, with no entries yet.
+    fn new(alloc: A, base: Machine, folded: u64) -> Reading<A>
+        ensures { result ≡ told_of base folded [] }
+    {
+        Reading {
+            base,
+            folded,
+            entries: Vec::new(alloc),
+            machine: base,
+        }
+    }
+
+    /// What was told, where it is what a text can tell.
+    fn into_text(self) -> TraceText<A>
+        requires { IsTraceText self }
+        ensures { result ≡ self }
+    {
+        TraceText::from_parts(self.base, self.folded, self.entries)
+    }
+
     /// Takes an event's line.
     fn take_event(&mut self, line: &[u8]) -> Result<(), TraceFaultKind>
-        requires machine { self.old.machine ≡ replay_of (told_of self.old.base self.old.folded self.old.entries.items) }
-        ensures ok { OnOk result (entry_said (told_of self.old.base self.old.folded self.old.entries.items) (event_from (fields line.now))
-            ≡ Ok (Entries (told_of self.new.base self.new.folded self.new.entries.items))) }
-        ensures machine { OnOk result (self.new.machine ≡ replay_of (told_of self.new.base self.new.folded self.new.entries.items)) }
+        ensures ok { OnOk result (entry_result self.old (event_from (fields line.now)) ≡ Ok (Entries self.new)) }
         ensures fault { IfErr result (λ why. why ≢ kind.OutOfMemory
-            → entry_said (told_of self.old.base self.old.folded self.old.entries.items) (event_from (fields line.now)) ≡ Err why) }
+            → entry_result self.old (event_from (fields line.now)) ≡ Err why) }
+        ensures memory { IfErr result (λ why. why ≡ kind.OutOfMemory
+            → AddsEntry self.old (entry_result self.old (event_from (fields line.now)))) }
     {
         let event = match read_event(line) {
             Ok(event) => event,
@@ -86,12 +117,11 @@ impl<A: Allocator> Reading<A> {
     }
 
     /// Takes the fields after the first word of the end line.
-    #[tactic(auto, using(crate::proofs::Steps::end_said_many))]
+    #[tactic(auto, using(crate::proofs::Steps::end_result_many))]
     fn take_end(&self, rest: Option<&[u8]>) -> Result<(), TraceFaultKind>
         ensures { MatchResult result
-            (λ u. end_said (told_of self.now.base self.now.folded self.now.entries.items) (fields_after (option_copied rest.entry))
-            ≡ Ok (Whole (told_of self.now.base self.now.folded self.now.entries.items)))
-            (λ why. end_said (told_of self.now.base self.now.folded self.now.entries.items) (fields_after (option_copied rest.entry)) ≡ Err why) }
+            (λ u. end_result self.now (fields_after (option_copied rest.entry)) ≡ Ok (Whole self.now))
+            (λ why. end_result self.now (fields_after (option_copied rest.entry)) ≡ Err why) }
     {
         let Some(rest) = rest else {
             return Err(TraceFaultKind::Line);
@@ -111,12 +141,10 @@ impl<A: Allocator> Reading<A> {
 impl<A: Allocator> Reading<A> {
     /// Takes a line after the base's. Whether it is the end line.
     fn take_line(&mut self, line: &[u8]) -> Result<bool, TraceFaultKind>
-        requires machine { self.old.machine ≡ replay_of (told_of self.old.base self.old.folded self.old.entries.items) }
-        ensures ok { IfOk result (λ ended. said (Entries (told_of self.old.base self.old.folded self.old.entries.items)) line.now
-            ≡ Ok (told_so ended (told_of self.new.base self.new.folded self.new.entries.items))) }
-        ensures machine { OnOk result (self.new.machine ≡ replay_of (told_of self.new.base self.new.folded self.new.entries.items)) }
-        ensures fault { IfErr result (λ why. why ≢ kind.OutOfMemory
-            → said (Entries (told_of self.old.base self.old.folded self.old.entries.items)) line.now ≡ Err why) }
+        ensures ok { IfOk result (λ ended. line_result (Entries self.old) line.now ≡ Ok (heard_of ended self.new)) }
+        ensures fault { IfErr result (λ why. why ≢ kind.OutOfMemory → line_result (Entries self.old) line.now ≡ Err why) }
+        ensures memory { IfErr result (λ why. why ≡ kind.OutOfMemory
+            → AddsEntry self.old (line_result (Entries self.old) line.now)) }
     {
         let (word, rest) = split_field(line);
         match word {
@@ -135,20 +163,15 @@ impl<A: Allocator> Reading<A> {
 impl<A: Allocator> Reading<A> {
     /// Takes the next line after the base's. Whether it is the end line.
     fn take_next(&mut self, lines: &mut Lines<'_>) -> Result<bool, TraceFault>
-        requires machine { self.old.machine ≡ replay_of (told_of self.old.base self.old.folded self.old.entries.items) }
         requires room { lines.old.number + length lines.old.rest.now < 2 ^ 64 }
-        ensures ok { IfOk result (λ ended.
-            told_by_parts lines.old.number (Entries (told_of self.old.base self.old.folded self.old.entries.items)) (parts_of lines.old.rest.now)
-            ≡ told_by_parts lines.new.number (told_so ended (told_of self.new.base self.new.folded self.new.entries.items)) (parts_of lines.new.rest.now)) }
-        ensures machine { OnOk result (self.new.machine ≡ replay_of (told_of self.new.base self.new.folded self.new.entries.items)) }
+        ensures ok { IfOk result (λ ended. ReadsLine lines.old.number lines.new.number lines.old.rest.now lines.new.rest.now
+            (Entries self.old) (heard_of ended self.new)) }
         ensures room { OnOk result (lines.new.number + length lines.new.rest.now < 2 ^ 64) }
-        ensures later { OnOk result (lines.old.number < lines.new.number) }
         ensures shorter { OnOk result (length lines.new.rest.now < length lines.old.rest.now) }
         ensures fault { IfErr result (λ fault. fault.kind ≢ kind.OutOfMemory
-            → told_by_parts lines.old.number (Entries (told_of self.old.base self.old.folded self.old.entries.items)) (parts_of lines.old.rest.now) ≡ Err fault) }
-        ensures memory { IfErr result (λ fault. (first : TraceFault)
-            → told_by_parts lines.old.number (Entries (told_of self.old.base self.old.folded self.old.entries.items)) (parts_of lines.old.rest.now) ≡ Err first
-            → fault.line ≤ first.line) }
+            → told_by_parts lines.old.number (Entries self.old) (parts_of lines.old.rest.now) ≡ Err fault) }
+        ensures memory { IfErr result (λ fault. fault.kind ≡ kind.OutOfMemory
+            → ReadsEntry fault.line lines.old.number (Entries self.old) (parts_of lines.old.rest.now)) }
     {
         let number = lines.number;
         let line = lines.next_line()?;
@@ -162,8 +185,7 @@ impl<A: Allocator> Reading<A> {
 /// Takes the first line.
 fn take_header(lines: &mut Lines<'_>) -> Result<(), TraceFault>
     requires { lines.old.number + length lines.old.rest.now < 2 ^ 64 }
-    ensures ok { OnOk result (told_by_parts lines.old.number Nothing (parts_of lines.old.rest.now)
-        ≡ told_by_parts lines.new.number Header (parts_of lines.new.rest.now)) }
+    ensures ok { OnOk result (ReadsLine lines.old.number lines.new.number lines.old.rest.now lines.new.rest.now Nothing Header) }
     ensures room { OnOk result (lines.new.number + length lines.new.rest.now < 2 ^ 64) }
     ensures fault { IfErr result (λ fault. told_by_parts lines.old.number Nothing (parts_of lines.old.rest.now) ≡ Err fault) }
     ensures memory { IfErr result (λ fault. fault.kind ≢ kind.OutOfMemory) }
@@ -179,8 +201,8 @@ fn take_header(lines: &mut Lines<'_>) -> Result<(), TraceFault>
 /// Takes the base's line.
 fn take_base(lines: &mut Lines<'_>) -> Result<(u64, Machine), TraceFault>
     requires { lines.old.number + length lines.old.rest.now < 2 ^ 64 }
-    ensures ok { IfOk result (λ (folded, base). told_by_parts lines.old.number Header (parts_of lines.old.rest.now)
-        ≡ told_by_parts lines.new.number (Entries (told_of base folded [])) (parts_of lines.new.rest.now)) }
+    ensures ok { IfOk result (λ (folded, base). ReadsLine lines.old.number lines.new.number lines.old.rest.now lines.new.rest.now
+        Header (Entries (told_of base folded []))) }
     ensures room { OnOk result (lines.new.number + length lines.new.rest.now < 2 ^ 64) }
     ensures fault { IfErr result (λ fault. told_by_parts lines.old.number Header (parts_of lines.old.rest.now) ≡ Err fault) }
     ensures memory { IfErr result (λ fault. fault.kind ≢ kind.OutOfMemory) }
@@ -193,19 +215,32 @@ fn take_base(lines: &mut Lines<'_>) -> Result<(u64, Machine), TraceFault>
     }
 }
 
+/// Takes the two lines before the entries.
+fn take_opening(lines: &mut Lines<'_>) -> Result<(u64, Machine), TraceFault>
+    requires { lines.old.number + length lines.old.rest.now < 2 ^ 64 }
+    ensures ok { IfOk result (λ (folded, base). told_by_parts lines.old.number Nothing (parts_of lines.old.rest.now)
+        ≡ told_by_parts lines.new.number (Entries (told_of base folded [])) (parts_of lines.new.rest.now)) }
+    ensures entry { IfOk result (λ (folded, base). (at : ℕ)
+        → ReadsEntry at lines.new.number (Entries (told_of base folded [])) (parts_of lines.new.rest.now)
+        → ReadsEntry at lines.old.number Nothing (parts_of lines.old.rest.now)) }
+    ensures room { OnOk result (lines.new.number + length lines.new.rest.now < 2 ^ 64) }
+    ensures fault { IfErr result (λ fault. told_by_parts lines.old.number Nothing (parts_of lines.old.rest.now) ≡ Err fault) }
+    ensures memory { IfErr result (λ fault. fault.kind ≢ kind.OutOfMemory) }
+{
+    take_header(lines)?;
+    take_base(lines)
+}
+
 impl<A: Allocator> Reading<A> {
     /// Takes the lines after the base's, up to the end line.
     fn take_entries(&mut self, lines: &mut Lines<'_>) -> Result<(), TraceFault>
-        requires machine { self.old.machine ≡ replay_of (told_of self.old.base self.old.folded self.old.entries.items) }
         requires room { lines.old.number + length lines.old.rest.now < 2 ^ 64 }
-        ensures ok { OnOk result (
-            told_by_parts lines.old.number (Entries (told_of self.old.base self.old.folded self.old.entries.items)) (parts_of lines.old.rest.now)
-            ≡ told_by_parts lines.new.number (Whole (told_of self.new.base self.new.folded self.new.entries.items)) (parts_of lines.new.rest.now)) }
+        ensures ok { OnOk result (told_by_parts lines.old.number (Entries self.old) (parts_of lines.old.rest.now)
+            ≡ told_by_parts lines.new.number (Whole self.new) (parts_of lines.new.rest.now)) }
         ensures fault { IfErr result (λ fault. fault.kind ≢ kind.OutOfMemory
-            → told_by_parts lines.old.number (Entries (told_of self.old.base self.old.folded self.old.entries.items)) (parts_of lines.old.rest.now) ≡ Err fault) }
-        ensures memory { IfErr result (λ fault. (first : TraceFault)
-            → told_by_parts lines.old.number (Entries (told_of self.old.base self.old.folded self.old.entries.items)) (parts_of lines.old.rest.now) ≡ Err first
-            → fault.line ≤ first.line) }
+            → told_by_parts lines.old.number (Entries self.old) (parts_of lines.old.rest.now) ≡ Err fault) }
+        ensures memory { IfErr result (λ fault. fault.kind ≡ kind.OutOfMemory
+            → ReadsEntry fault.line lines.old.number (Entries self.old) (parts_of lines.old.rest.now)) }
     {
         'entries: loop {
             if self.take_next(lines)? {
@@ -220,17 +255,11 @@ fn read_lines<A: Allocator>(alloc: A, text: &[u8]) -> Result<TraceText<A>, Trace
     ensures told { IfOk result (λ told. told_from text.now ≡ Ok told) }
     ensures fault { IfErr result (λ fault. fault.kind ≢ kind.OutOfMemory → told_from text.now ≡ Err fault) }
     ensures memory { IfErr result (λ fault. fault.kind ≡ kind.OutOfMemory
-        → (first : TraceFault) → told_from text.now ≡ Err first → fault.line ≤ first.line) }
+        → ReadsEntry fault.line 1 Nothing (parts_of text.now)) }
 {
     let mut lines = Lines::new(text);
-    take_header(&mut lines)?;
-    let (folded, base) = take_base(&mut lines)?;
-    let mut reading = Reading {
-        base,
-        folded,
-        entries: Vec::new(alloc),
-        machine: base,
-    };
+    let (folded, base) = take_opening(&mut lines)?;
+    let mut reading = Reading::new(alloc, base, folded);
     reading.take_entries(&mut lines)?;
     if !lines.rest.is_empty() {
         return Err(TraceFault {
@@ -238,13 +267,7 @@ fn read_lines<A: Allocator>(alloc: A, text: &[u8]) -> Result<TraceText<A>, Trace
             kind: TraceFaultKind::Line,
         });
     }
-    let Reading {
-        base,
-        folded,
-        entries,
-        machine: _,
-    } = reading;
-    Ok(TraceText::from_parts(base, folded, entries))
+    Ok(reading.into_text())
 }
 
 /// What this text tells. It has a line `dtools-trace 1`, one for the base, one event line for each entry, oldest first, and
@@ -261,9 +284,11 @@ pub fn read_text<A: Allocator>(alloc: A, text: &[u8]) -> Result<TraceText<A>, Tr
         → MatchResult result (λ read. read ≡ told) (λ fault. fault.kind ≡ kind.OutOfMemory) }
     // Which fault it is.
     ensures fault { IfErr result (λ fault. fault.kind ≢ kind.OutOfMemory → told_from text.now ≡ Err fault) }
-    // Want of memory at a line is told where no line before it is faulty.
-    ensures memory { IfErr result (λ fault. fault.kind ≡ kind.OutOfMemory
-        → (first : TraceFault) → told_from text.now ≡ Err first → fault.line ≤ first.line) }
+    // Memory is wanted at an entry alone: the lines before it are read, its line is, and its event is taken there.
+    ensures memory { IfErr result (λ fault. fault.kind ≡ kind.OutOfMemory → HasEntryAt text.now fault.line) }
+    // So a faulty line comes after it.
+    ensures later { IfErr result (λ fault. fault.kind ≡ kind.OutOfMemory
+        → (first : TraceFault) → told_from text.now ≡ Err first → fault.line < first.line) }
 {
     read_lines(alloc, text)
 }

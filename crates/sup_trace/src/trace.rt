@@ -16,7 +16,7 @@ use sup_core::{Event, Machine, Reply};
 pub const MAX_CAPACITY: usize = 65536;
 
 /// Where the count of folded events stops.
-const LAST_COUNT: u64 = 1 << 63;
+pub(crate) const LAST_COUNT: u64 = 1 << 63;
 
 /// The last events that a machine took, and the machine before them. Contracts see it as `Kept`.
 #[derive(Drop)]
@@ -116,13 +116,10 @@ impl<A: Allocator> Trace<A> {
     {
         let entry = event;
         let reply = self.machine.step(event);
-        match reply {
-            Reply::Held => Reply::Held,
-            Reply::Took(asks) => {
-                keep(&mut self.base, &mut self.entries, &mut self.folded, entry);
-                Reply::Took(asks)
-            }
+        if let Reply::Took(_) = &reply {
+            keep(&mut self.base, &mut self.entries, &mut self.folded, entry);
         }
+        reply
     }
 
     /// The text of the trace, as `TraceText` writes it. `AllocError` comes only where the allocator refuses the memory for

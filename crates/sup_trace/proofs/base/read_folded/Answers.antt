@@ -14,12 +14,12 @@ returns-in_err-folded c =
     cc e in
     cc none
 
-pub returns-then-folded : goal.returns-then-folded
-returns-then-folded c =
+pub returns-then-folded-le-LAST_COUNT : goal.returns-then-folded-le-LAST_COUNT
+returns-then-folded-le-LAST_COUNT c =
     sym (folded_of_text-only c.args.text.now c.in_ok-folded.folded (record { limit = omega arith; is = c.in_ok-folded.ensures.found }))
 
-pub returns-else-folded : goal.returns-else-folded
-returns-else-folded c =
+pub returns-else-folded-le-LAST_COUNT : goal.returns-else-folded-le-LAST_COUNT
+returns-else-folded-le-LAST_COUNT c =
     let text = c.args.text.now in
     none_told (TellsFolded text) _ (folded_of_text-found text) λ folded h.
     let limit = h.limit in

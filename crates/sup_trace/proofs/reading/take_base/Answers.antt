@@ -1,11 +1,8 @@
 use Rattle.sup_trace.specs.Reading.{Header}
-use Rattle.sup_trace.proofs.Steps.{line_said, line_refused}
+use Rattle.sup_trace.proofs.Steps.{line_refused}
 use Rattle.sup_trace.proofs.reading.take_base.Goals as goal
-
-pub returns-in-Ok-clause-ok : goal.returns-in-Ok-clause-ok
-returns-in-Ok-clause-ok c =
-    line_said _ _ Header _ c.in_ok-line.line.now c.args.lines.now.rest.now c.next_line.new.self.rest.now c.in_ok-line.ensures.line c.in_ok-line.ensures.number c.in-Ok.ensures.base
 
 pub returns-in-Err-clause-fault : goal.returns-in-Err-clause-fault
 returns-in-Err-clause-fault c =
-    line_refused _ Header c.in-Err.kind c.in_ok-line.line.now c.args.lines.now.rest.now c.next_line.new.self.rest.now c.in_ok-line.ensures.line c.in-Err.ensures.base
+    line_refused _ Header c.in-Err.kind c.in_ok-line.line.now c.args.lines.now.rest.now c.next_line.new.self.rest.now
+    c.in_ok-line.ensures.line c.in-Err.ensures.base

@@ -1,14 +1,16 @@
-use Rattle.std.proofs.Common.{◌≡◌, ◌+◌, ◌^◌, ◌<◌, length}
-use Rattle.sup_trace.specs.Told.{told_of, replay_of}
-use Rattle.sup_trace.specs.Reading.{Entries, told_by_parts, parts_of}
+use Rattle.std.proofs.Common.{◌≡◌, ℕ, ◌+◌, ◌^◌, ◌<◌, length}
+use Rattle.sup_trace.specs.Reading.{Entries, told_by_parts, parts_of, ReadsEntry}
 use Rattle.sup_trace.proofs.reading.Reading.take_entries.Given as goal
 
+-- What is left tells the same, and an entry that is read there is read.
 abbrev pub invariant-entries : goal.invariant-entries
-invariant-entries g l =
-    (l.self.machine ≡ replay_of (told_of l.self.base l.self.folded l.self.entries.items))
-    × (l.lines.number + length l.lines.rest.now < 2 ^ 64)
-    × (told_by_parts l.fn.lines.number (Entries (told_of l.fn.self.base l.fn.self.folded l.fn.self.entries.items)) (parts_of l.fn.lines.rest.now)
-    ≡ told_by_parts l.lines.number (Entries (told_of l.self.base l.self.folded l.self.entries.items)) (parts_of l.lines.rest.now))
+invariant-entries g l = record {
+  room : l.lines.number + length l.lines.rest.now < 2 ^ 64;
+  told : told_by_parts l.fn.lines.number (Entries l.fn.self) (parts_of l.fn.lines.rest.now)
+      ≡ told_by_parts l.lines.number (Entries l.self) (parts_of l.lines.rest.now);
+  entry : (at : ℕ) → ReadsEntry at l.lines.number (Entries l.self) (parts_of l.lines.rest.now)
+      → ReadsEntry at l.fn.lines.number (Entries l.fn.self) (parts_of l.fn.lines.rest.now);
+}
 
 abbrev pub decreases-entries : goal.decreases-entries
 decreases-entries g l = length l.lines.rest.now

@@ -4,12 +4,12 @@ use Rattle.sup_trace.specs.Told.{Told, told_of, told_history, replay_of}
 use Rattle.sup_trace.proofs.Steps.{replay-more}
 use Rattle.sup_trace.proofs.reading.Reading.take_event.Goals as goal
 
-pub returns-clause-machine : goal.returns-clause-machine
-returns-clause-machine g c =
-    let base = c.args.self.now.base in
-    let folded = c.args.self.now.folded in
-    let told : Told = told_of base folded c.args.self.now.entries.items in
-    let past = sym c.requires.machine in
+pub invariant_of-self-2 : goal.invariant_of-self-2
+invariant_of-self-2 g c =
+    let base = c.self.inside.base in
+    let folded = c.self.inside.folded in
+    let told : Told = told_of base folded c.self.inside.entries.items in
+    let past = sym c.self.invariant in
     let taken = sym (c.if-not-takes.ensures.taken (told_history told) past) in
     c.step.ensures.state (told_history told) past
     ∙ replay-more told c.in-Ok.event taken
