@@ -1,38 +1,59 @@
 -- How the program ends, by the name of the command and the words after it.
-use Rattle.std.specs.Prelude.{◌≡◌, ◌≢◌, ◌<◌, ◌-◌, ℕ, List, drop, length, slice_get, codes, IfSome, Option}
+use Rattle.std.specs.Prelude.{◌≡◌, ◌≢◌, ℕ, List, [], ◌∷◌, codes, Option}
 use Rattle.tai_status.specs.Label.{Tai64n}
-use Rattle.env_title.specs.Env.{Binding}
-use Rattle.env_title.specs.Files.{File}
-use Rattle.dtools.specs.Told.{RefusesWords, SimEnds, TableEnds, StampsEnd}
-use Rattle.dtools.specs.Title.{TitleEnds}
-use Rattle.dtools.specs.Traced.{TraceEnds}
-use Rattle.dtools.specs.Child.{Start, EnvdirEnds}
-use Rattle.dtools.specs.Console.{Console}
+use Rattle.cmd_base.specs.Console.{Console}
+use Rattle.cmd_base.specs.Told.{RefusesWords}
+use Rattle.cmd_sim.specs.Ends.{SimEnds}
+use Rattle.cmd_trace.specs.Traced.{TraceEnds}
+use Rattle.cmd_filters.specs.Stamped.{StampsEnd}
+use Rattle.cmd_filters.specs.Title.{TitleEnds}
+use Rattle.cmd_envdir.specs.Around.{Around, Launch}
+use Rattle.cmd_envdir.specs.Ends.{EnvdirEnds}
+
+-- What a command may use: its devices, and what its clock gave.
+pub record Equipment : Type 0 where
+  pub console : Console
+  pub readings : Option (List Tai64n)
+
+-- What the machine around holds, where that is known: its files; the folders and variables; and the commands that it was
+-- handed to start.
+pub record Machine : Type 0 where
+  pub files : List ℕ → Option (List ℕ)
+  pub around : Around
+  pub launched : Option (List Launch)
 
 -- A word that names no command.
 abbrev pub NamesNoCommand : List ℕ → Type 0
 NamesNoCommand word = (word ≢ codes "sim") × (word ≢ codes "tai64n") × (word ≢ codes "readproctitle")
     × (word ≢ codes "envdir") × (word ≢ codes "trace")
 
--- The command of this name was given these words and ended with a status. The functions tell what files, folders and devices
--- hold, and what the starter started.
-pub record CommandEnds {S : Type 0} (file_at : List ℕ → Option (List ℕ)) (folder_at : List ℕ → Option (List File)) (around : Option (List Binding)) (starts : S → Option (List Start)) (name : List ℕ) (words : List (List ℕ)) (status : ℕ) (old new : Console) (starter starter_after : S) : Type 0 where
-  pub unknown : NamesNoCommand name → RefusesWords status old new
-  pub sim : name ≡ codes "sim" → length words ≡ 0 → SimEnds status old new
-  pub sim_table : name ≡ codes "sim" → length words ≡ 1 → IfSome (slice_get words 0) (λ word. word ≡ codes "table")
-      → TableEnds status old.writer new.writer old.faults new.faults
-  pub sim_wrong_word : name ≡ codes "sim" → length words ≡ 1 → IfSome (slice_get words 0) (λ word. word ≢ codes "table") → RefusesWords status old new
-  pub sim_usage : name ≡ codes "sim" → 1 < length words → RefusesWords status old new
-  pub tai64n : name ≡ codes "tai64n" → length words ≡ 0 → StampsEnd status old new
-  pub tai64n_usage : name ≡ codes "tai64n" → 0 < length words → RefusesWords status old new
-  pub readproctitle_usage : name ≡ codes "readproctitle" → length words ≡ 0 → RefusesWords status old new
-  pub readproctitle : name ≡ codes "readproctitle" → IfSome (slice_get words (length words - 1)) (λ word.
-      TitleEnds (length word) status old.reader new.reader old.writer new.writer old.faults new.faults)
-  pub envdir_usage : name ≡ codes "envdir" → length words < 2 → RefusesWords status old new × (starter_after ≡ starter)
-  pub envdir : name ≡ codes "envdir" → IfSome (slice_get words 0) (λ dir. IfSome (slice_get words 1) (λ program.
-      EnvdirEnds folder_at around (starts starter) (starts starter_after) dir program (drop 2 words) status old.faults new.faults))
-  pub envdir_silent : name ≡ codes "envdir" → (new.reader ≡ old.reader) × (new.writer ≡ old.writer) × (new.readings ≡ old.readings)
-  pub trace_usage : name ≡ codes "trace" → length words ≡ 0 → RefusesWords status old new
-  pub trace : name ≡ codes "trace" → (new.reader ≡ old.reader) × (new.readings ≡ old.readings)
-      × TraceEnds file_at words status old.writer new.writer old.faults new.faults
-  pub no_child : name ≢ codes "envdir" → starter_after ≡ starter
+-- The command of this name was given these words, and ended as it promises. Only `tai64n` reads the clock, and only `envdir`
+-- starts something.
+pub record CommandEnds (name : List ℕ) (words : List (List ℕ)) (status : ℕ) (machine : Machine) (launched : Option (List Launch)) (old new : Equipment) : Type 0 where
+  pub unknown : NamesNoCommand name → RefusesWords status old.console new.console
+  pub sim : name ≡ codes "sim" → SimEnds words status old.console new.console
+  pub tai64n : name ≡ codes "tai64n" → StampsEnd words status old.readings new.readings old.console new.console
+  pub readproctitle : name ≡ codes "readproctitle" → TitleEnds words status old.console new.console
+  pub envdir : name ≡ codes "envdir"
+      → EnvdirEnds machine.around machine.launched launched words status old.console.faults new.console.faults
+  pub envdir_silent : name ≡ codes "envdir"
+      → (new.console.reader ≡ old.console.reader) × (new.console.writer ≡ old.console.writer)
+  pub trace : name ≡ codes "trace"
+      → TraceEnds machine.files words status old.console.writer new.console.writer old.console.faults new.console.faults
+  pub trace_unread : name ≡ codes "trace" → new.console.reader ≡ old.console.reader
+  pub clock : name ≢ codes "tai64n" → new.readings ≡ old.readings
+  pub child : name ≢ codes "envdir" → launched ≡ machine.launched
+
+-- No word names a command.
+pub record NamesNothing (status : ℕ) (machine : Machine) (launched : Option (List Launch)) (old new : Equipment) : Type 0 where
+  pub refuses : RefusesWords status old.console new.console
+  pub clock : new.readings ≡ old.readings
+  pub child : launched ≡ machine.launched
+
+-- The first word names the command, and the words after it are its own.
+abbrev pub ProgramEnds : (words : List (List ℕ)) (status : ℕ) (machine : Machine) (launched : Option (List Launch)) (old new : Equipment) → Type 0
+ProgramEnds [] status machine launched old new = NamesNothing status machine launched old new
+ProgramEnds (name ∷ words) status machine launched old new = CommandEnds name words status machine launched old new
+
+abbrev pub machine : (files : List ℕ → Option (List ℕ)) (around : Around) (launched : Option (List Launch)) → Machine
+machine files around launched = record { files = files; around = around; launched = launched }

@@ -1,9 +1,1 @@
-pub mod Sim
-pub mod Progress
-pub mod Console
-pub mod Told
-pub mod Around
-pub mod Traced
-pub mod Title
-pub mod Child
 pub mod Commands

@@ -1,3 +1,4 @@
+//! What commands read and write.
 use std::io::{Read, Write};
 use std::marker::Model;
 use tai_status::{Input, Output, TimeSource};
@@ -13,14 +14,10 @@ pub struct Devices<D: Read, W: Write, E: Write, C: TimeSource> {
 }
 
 impl<D: Read, W: Write, E: Write, C: TimeSource> Model for Devices<D, W, E, C> {
-    ghost use Rattle.dtools.specs.Console.{Console};
+    ghost use Rattle.cmd_base.specs.Console.{console};
+    ghost use Rattle.dtools.specs.Commands.{Equipment};
 
-    ghost Value = { Console };
+    ghost Value = { Equipment };
 
-    ghost view = { λ d. record {
-      reader = d.reader;
-      writer = d.writer;
-      faults = d.faults;
-      readings = C.readings d.clock;
-    } };
+    ghost view = { λ d. record { console = console d.reader d.writer d.faults; readings = C.readings d.clock } };
 }

@@ -2,29 +2,13 @@
 //! Its first word is the command.
 #![tactic(auto)]
 
-mod break_word;
-mod child;
-mod clock;
 mod command;
 mod devices;
-mod envdir;
-mod fault;
-mod folder;
-mod readproctitle;
-mod report;
-mod shown;
-mod sim;
-mod starter;
-mod surroundings;
-mod tai64n;
-mod trace;
-mod variables;
 
-use clock::SystemClock;
+use cmd_base::{SystemClock, TROUBLE, report, usage};
+use cmd_envdir::SystemLauncher;
 use command::run;
 use devices::Devices;
-use report::{TROUBLE, tell, usage};
-use starter::SystemStarter;
 use std::env;
 use std::io::{ErrorKind, Read, Write};
 use std::process::ExitCode;
@@ -55,8 +39,7 @@ fn run_arguments<D: Read, W: Write, E: Write, C: TimeSource>(
             return refuse_words(ErrorKind::OutOfMemory, &mut devices.faults);
         }
     }
-    let mut starter = SystemStarter::new(rt);
-    run(rt, &mut starter, rt.alloc(), &words, devices)
+    run(rt, &mut SystemLauncher::new(rt), &words, devices)
 }
 
 /// The program's words, without its own name.
@@ -77,15 +60,7 @@ fn arguments(rt: &HostRuntime) -> Result<Vec<String>, ErrorKind> {
 /// Tells why the words could not be had: for want of memory, or since they are no text.
 fn refuse_words<E: Write>(why: ErrorKind, faults: &mut Output<E>) -> u8 {
     if why == ErrorKind::OutOfMemory {
-        tell(faults, b"dtools: OutOfMemory\n");
-        return TROUBLE;
+        return report(faults, b"dtools: OutOfMemory\n", TROUBLE);
     }
     usage(faults)
 }
-
-#[cfg(test)]
-mod envdir_tests;
-#[cfg(test)]
-mod tests;
-#[cfg(test)]
-mod trace_tests;

@@ -1,0 +1,179 @@
+-- The child of `envdir`: what a command says of variables, faults that are of no file, and names in byte order.
+use Rattle.std.proofs.Common.{◌≡◌, ℕ, suc, ◌+◌, ◌<◌, ◌||◌, Bool, true, false, List, [], ◌∷◌, drop, drop-cons, length, Option, Some, None, refl, sym, ap, ◌∙◌, ◌⊎◌, inl, inr, arith, subst, String}
+use Rattle.std.proofs.lemmas.List.{length-map, get_or-map}
+use Rattle.std.specs.Prelude.{◌≢◌, bytes_eq, option_map, find, get_or, map, string_bytes, string_cmp, IsSorted, if◌then◌else◌}
+use Rattle.std.specs.List.{IsDistinct, AllByRecursion}
+use Rattle.std.proofs.lemmas.Slice.Eq.{bytes_eq-Decides}
+use Rattle.env_title.specs.Env.{Binding, HasDistinctNames, is_named, value_of}
+use Rattle.env_title.specs.Files.{File, has_file}
+use Rattle.cmd_envdir.specs.declared.fault.EnvdirFault.{EnvdirFault}
+use Rattle.cmd_envdir.specs.declared.fault.EnvdirFault.TheVariants as fault
+use Rattle.std.specs.IoError.{error_kind}
+use Rattle.std.specs.declared.io.Error.{Error}
+use Rattle.std.specs.declared.io.ErrorKind.TheVariants.{OutOfMemory}
+use Rattle.cmd_base.specs.Held.{IsHeld, IsMissed}
+use Rattle.cmd_envdir.specs.Child.{said_of, AreInByteOrder}
+use Rattle.cmd_envdir.specs.Ends.{name_of, IsFirstFault, WasRead}
+use Rattle.cmd_envdir.specs.Sayings.{said_after_files, said_after_set}
+
+-- that a variable is taken away
+abbrev gone : Option (Option (List ℕ))
+gone = Some None
+
+-- what is said of each variable
+abbrev Sayings : Type 0
+Sayings = List ℕ → Option (Option (List ℕ))
+
+-- the item at a place, and those behind it
+cut : {X : Type 0} (items : List X) (i : ℕ) (item : X) → i < length items → item ≡ get_or items i item → drop i items ≡ item ∷ drop (i + 1) items
+cut items i item within is =
+    let next : suc i ≡ i + 1 = omega arith in
+    drop-cons items i item within ∙ ap (λ x. x ∷ drop (suc i) items) (sym is) ∙ ap (λ k. item ∷ drop k items) next
+
+-- what is said of a variable after one of this name is changed
+changed : (name at : List ℕ) (said : Option (Option (List ℕ))) (before after : Sayings) → after at ≡ said
+    → ((other : List ℕ) → other ≢ at → after other ≡ before other) → after name ≡ (if bytes_eq name at then said else before name)
+changed name at said before after set others =
+    elim (bytes_eq name at) as (λ b. bytes_eq name at ≡ b → after name ≡ (if b then said else before name)) [
+      | true ↦ λ same. ap after ((bytes_eq-Decides name at).0 same) ∙ set
+      | false ↦ λ differ. others name (λ same. let yes = (bytes_eq-Decides name at).1 same in let no : true ≡ false = sym yes ∙ differ in cc no)
+    ] refl
+
+-- a name that is taken away, and those behind it
+pub taken_further : (files : List File) (i : ℕ) (file : File) (before after all : Sayings) → i < length files → file ≡ get_or files i file
+    → after file.name ≡ Some None → ((other : List ℕ) → other ≢ file.name → after other ≡ before other)
+    → ((name : List ℕ) → said_after_files (drop i files) name (before name) ≡ all name)
+    → (name : List ℕ) → said_after_files (drop (i + 1) files) name (after name) ≡ all name
+taken_further files i file before after all within is taken others so name =
+    ap (said_after_files (drop (i + 1) files) name) (changed name file.name (Some None) before after taken others)
+    ∙ ap (λ rest. said_after_files rest name (before name)) (sym (cut files i file within is))
+    ∙ so name
+
+bytes_eq-sym : (xs ys : List ℕ) → bytes_eq xs ys ≡ bytes_eq ys xs
+bytes_eq-sym xs ys =
+    elim (bytes_eq xs ys) as (λ b. bytes_eq xs ys ≡ b → b ≡ bytes_eq ys xs) [
+      | true ↦ λ same. sym ((bytes_eq-Decides ys xs).1 (sym ((bytes_eq-Decides xs ys).0 same)))
+      | false ↦ λ differ. elim (bytes_eq ys xs) as (λ b. bytes_eq ys xs ≡ b → false ≡ b) [
+        | true ↦ λ same. sym differ ∙ (bytes_eq-Decides xs ys).1 (sym ((bytes_eq-Decides ys xs).0 same))
+        | false ↦ λ _. refl
+      ] refl
+    ] refl
+
+-- a variable that is set, and those behind it
+pub set_further : (variables : List Binding) (i : ℕ) (variable : Binding) (before after all : Sayings) → i < length variables
+    → variable ≡ get_or variables i variable
+    → after variable.name ≡ Some (Some variable.value) → ((other : List ℕ) → other ≢ variable.name → after other ≡ before other)
+    → ((name : List ℕ) → said_after_set (drop i variables) name (before name) ≡ all name)
+    → (name : List ℕ) → said_after_set (drop (i + 1) variables) name (after name) ≡ all name
+set_further variables i variable before after all within is set others so name =
+    ap (said_after_set (drop (i + 1) variables) name) (
+    changed name variable.name (Some (Some variable.value)) before after set others
+    ∙ ap (λ b. if b then Some (Some variable.value) else before name) (bytes_eq-sym name variable.name)
+    )
+    ∙ ap (λ rest. said_after_set rest name (before name)) (sym (cut variables i variable within is))
+    ∙ so name
+
+-- All files
+
+taken_away : (files : List File) (name : List ℕ) (before : Option (Option (List ℕ)))
+    → said_after_files files name before ≡ (if has_file files name then gone else before)
+taken_away [] name before = refl
+taken_away (file ∷ files) name before =
+    elim (bytes_eq name file.name) as (λ b. said_after_files files name (if b then gone else before)
+    ≡ (if b || has_file files name then gone else before)) [
+      | true ↦ taken_away files name (gone) ∙ elim (has_file files name) as (λ b. (if b then gone else gone) ≡ gone) [
+        | true ↦ refl
+        | false ↦ refl
+      ]
+      | false ↦ taken_away files name before
+    ]
+
+-- All variables
+
+-- what is set: a value, where there is one
+abbrev set_or : Option (List ℕ) → Option (Option (List ℕ)) → Option (Option (List ℕ))
+set_or (Some value) before = Some (Some value)
+set_or None before = before
+
+-- names that stand no more are not set
+not_set : (at name : List ℕ) (variables : List Binding) (before : Option (Option (List ℕ))) → bytes_eq at name ≡ true
+    → AllByRecursion (λ other. bytes_eq at other.name ≡ false) variables → said_after_set variables name before ≡ before
+not_set at name [] before same apart = refl
+not_set at name (variable ∷ variables) before same apart =
+    let is = (bytes_eq-Decides at name).0 same in
+    let differ : bytes_eq variable.name name ≡ false = bytes_eq-sym variable.name name ∙ ap (λ n. bytes_eq n variable.name) (sym is) ∙ apart.0 in
+    ap (λ b. said_after_set variables name (if b then Some (Some variable.value) else before)) differ
+    ∙ not_set at name variables before same apart.1
+
+set_all : (variables : List Binding) (name : List ℕ) (before : Option (Option (List ℕ))) → HasDistinctNames variables
+    → said_after_set variables name before ≡ set_or (value_of variables name) before
+unfolding IsDistinct
+set_all [] name before distinct = refl
+set_all (variable ∷ variables) name before distinct =
+    elim (bytes_eq variable.name name) as (λ b. bytes_eq variable.name name ≡ b → said_after_set variables name (if b then Some (Some variable.value) else before)
+    ≡ set_or (option_map (λ v. v.value) (if b then Some variable else find (is_named name) variables)) before) [
+      | true ↦ λ same. not_set variable.name name variables (Some (Some variable.value)) same distinct.0
+      | false ↦ λ _. set_all variables name before distinct.1
+    ] refl
+
+set_or-taken : (value : Option (List ℕ)) (taken : Bool) → set_or value (if taken then gone else None) ≡ said_of value taken
+set_or-taken (Some value) taken = refl
+set_or-taken None true = refl
+set_or-taken None false = refl
+
+-- A command that took away the names of files and then set these variables says this of each.
+pub said_whole : (files : List File) (variables : List Binding) (name : List ℕ) → HasDistinctNames variables
+    → said_after_set variables name (said_after_files files name None) ≡ said_of (value_of variables name) (has_file files name)
+said_whole files variables name distinct =
+    ap (said_after_set variables name) (taken_away files name None)
+    ∙ set_all variables name (if has_file files name then gone else None) distinct
+    ∙ set_or-taken (value_of variables name) (has_file files name)
+
+-- Faults
+
+-- a fault that is of no file
+pub of_no_file : (cause : EnvdirFault) (files : List File) → (cause ≡ fault.OutOfMemory) ⊎ (cause ≡ fault.Unread)
+    → IsFirstFault cause files × (name_of cause files ≡ []) × (cause ≢ fault.NotRun)
+of_no_file fault.OutOfMemory files h = (tt, refl, λ e. cc e)
+of_no_file fault.Unread files h = (tt, refl, λ e. cc e)
+of_no_file fault.NotRun files (inl h) = cc h
+of_no_file fault.NotRun files (inr h) = cc h
+of_no_file (fault.NameHasEquals place) files (inl h) = cc h
+of_no_file (fault.NameHasEquals place) files (inr h) = cc h
+of_no_file (fault.NotText place) files (inl h) = cc h
+of_no_file (fault.NotText place) files (inr h) = cc h
+
+-- Folders
+
+-- a folder that is not read
+pub not_read : (error : Error) (cause : EnvdirFault) (folder : Option (List File)) (files : List File) → (error_kind error ≡ OutOfMemory → cause ≡ fault.OutOfMemory)
+    → (cause ≡ fault.OutOfMemory) ⊎ (cause ≡ fault.Unread) → IsMissed error folder → WasRead cause folder files
+not_read error fault.OutOfMemory folder files memory either missed = tt
+not_read error fault.Unread folder files memory either missed = missed (λ is. let never = memory is in cc never)
+not_read error fault.NotRun folder files memory (inl h) missed = cc h
+not_read error fault.NotRun folder files memory (inr h) missed = cc h
+not_read error (fault.NameHasEquals place) folder files memory (inl h) missed = cc h
+not_read error (fault.NameHasEquals place) folder files memory (inr h) missed = cc h
+not_read error (fault.NotText place) folder files memory (inl h) missed = cc h
+not_read error (fault.NotText place) folder files memory (inr h) missed = cc h
+
+-- a folder that is read
+pub is_read : (cause : EnvdirFault) (folder : Option (List File)) (files : List File) → cause ≢ fault.Unread → IsHeld folder files → WasRead cause folder files
+is_read fault.Unread folder files readable held = absurd (readable refl)
+is_read fault.OutOfMemory folder files readable held = tt
+is_read fault.NotRun folder files readable held = held
+is_read (fault.NameHasEquals place) folder files readable held = held
+is_read (fault.NotText place) folder files readable held = held
+
+-- Names
+
+-- texts in order, by their bytes
+pub in_byte_order : {Z : Type 0} (names : List (String Z)) → IsSorted string_cmp names → AreInByteOrder (map string_bytes names)
+in_byte_order [] h = λ k d low within. absurd (omega (arith, within))
+in_byte_order {Z} (name ∷ names) h = λ k d low within.
+    let texts : length (map string_bytes (name ∷ names)) ≡ length (name ∷ names) = length-map (name ∷ names) string_bytes in
+    let far : k + 1 < length (name ∷ names) = subst (λ (n : ℕ). k + 1 < n) texts within in
+    let near : k < length (name ∷ names) = omega (arith, far) in
+    let later = get_or-map string_bytes (name ∷ names) (k + 1) name d far in
+    let sooner = get_or-map string_bytes (name ∷ names) k name d near in
+    rw (later, sooner) (h k name low far)

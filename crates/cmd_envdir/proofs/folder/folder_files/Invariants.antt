@@ -1,0 +1,7 @@
+use Rattle.std.proofs.Common.{◌≡◌, map}
+use Rattle.std.specs.Prelude.{string_bytes}
+use Rattle.cmd_envdir.proofs.folder.folder_files.Given as goal
+
+-- the files so far have the names so far
+abbrev pub invariant-loop-name : goal.invariant-loop-name
+invariant-loop-name g l = map (λ file. file.name) l.files.items ≡ map string_bytes l.yielded

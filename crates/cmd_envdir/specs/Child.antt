@@ -1,0 +1,59 @@
+-- The child of `envdir`: what it is started with, and its status
+-- (by the envdir page of daemontools, cr.yp.to/daemontools/envdir.html).
+use Rattle.std.specs.Prelude.{◌≡◌, ℕ, ℤ, pos, Bool, true, false, List, [], ◌∷◌, Option, Some, None, MatchResult, map, IsSorted}
+use Rattle.std.specs.Cmp.Lexicographic.{slice_cmp}
+use Rattle.std.specs.Ordering.{nat_cmp}
+use Rattle.std.specs.Process.{exit_code}
+use Rattle.std.specs.IoError.{error_kind}
+use Rattle.std.specs.declared.io.Error.{Error}
+use Rattle.std.specs.declared.io.ErrorKind.TheVariants.{OutOfMemory}
+use Rattle.std.specs.Prelude.{◌≢◌}
+use Rattle.env_title.specs.Env.{Binding, value_of}
+use Rattle.env_title.specs.Files.{File, has_file}
+use Rattle.cmd_envdir.specs.Around.{Start, Launch, Launched}
+use Rattle.cmd_envdir.specs.declared.fault.EnvdirFault.{EnvdirFault}
+use Rattle.cmd_envdir.specs.declared.fault.EnvdirFault.TheVariants as fault
+
+-- Names stand in byte order: none is less than the one before it.
+abbrev pub AreInByteOrder : List (List ℕ) → Type 0
+AreInByteOrder names = IsSorted (slice_cmp nat_cmp) names
+
+-- what a command says of a variable: its value; or, where it has none and a file has its name, that it is taken away
+abbrev pub said_of : (value : Option (List ℕ)) → (has_file : Bool) → Option (Option (List ℕ))
+said_of (Some value) has_file = Some (Some value)
+said_of None true = Some None
+said_of None false = None
+
+-- A command starts this program with these arguments in an environment that files have made: it sets each variable of
+-- that, takes away any other that has a file's name, and leaves the rest as they are.
+pub record StartsChild (start : Start) (program : List ℕ) (arguments : List (List ℕ)) (files : List File) (env : List Binding) : Type 0 where
+  pub program_is : start.program ≡ program
+  pub arguments_are : start.arguments ≡ arguments
+  pub variables_are : (name : List ℕ) → start.variables name ≡ said_of (value_of env name) (has_file files name)
+  pub others_stay : start.alone ≡ false
+
+-- the status of a child: its exit status, or 111 where a signal ended it
+abbrev pub status_of_child : Option ℤ → ℕ
+status_of_child None = 111
+status_of_child (Some (pos code)) = code
+status_of_child (Some _) = 111
+
+-- why a child could not be started: there was no memory, or it can't be run
+pub record IsCauseOf (error : Error) (cause : EnvdirFault) : Type 0 where
+  pub memory : error_kind error ≡ OutOfMemory → cause ≡ fault.OutOfMemory
+  pub other : error_kind error ≢ OutOfMemory → cause ≡ fault.NotRun
+
+-- One command was handed over, the one that starts this child in this environment. The child was started and ended with
+-- this status.
+pub record StartsOne (past now : Option (List Launch)) (program : List ℕ) (arguments : List (List ℕ)) (files : List File) (env : List Binding) (status : ℕ) : Type 0 where
+  pub launch : Launch
+  pub handed : Launched past now (launch ∷ [])
+  pub start : StartsChild launch.start program arguments files env
+  pub ended : MatchResult launch.ended (λ ended. status ≡ status_of_child (exit_code ended)) (λ error. ⊥)
+
+-- One command was handed over, the one that starts this child in this environment, and it failed for this cause.
+pub record FailsToStart (past now : Option (List Launch)) (program : List ℕ) (arguments : List (List ℕ)) (files : List File) (env : List Binding) (cause : EnvdirFault) : Type 0 where
+  pub launch : Launch
+  pub handed : Launched past now (launch ∷ [])
+  pub start : StartsChild launch.start program arguments files env
+  pub failed : MatchResult launch.ended (λ ended. ⊥) (λ error. IsCauseOf error cause)

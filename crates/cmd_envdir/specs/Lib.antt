@@ -1,0 +1,4 @@
+pub mod Around
+pub mod Child
+pub mod Ends
+pub mod Sayings

@@ -1,0 +1,126 @@
+//! The child of `envdir`.
+ghost use Rattle.std.specs.Prelude.{◌≡◌, ◌⊎◌, ◌++◌, ℕ, List, map, false, IfOk, IfErr, OnOk};
+ghost use Rattle.std.specs.Process.{command_args, command_program, command_var, clears_env, exit_code, SameEnv, SameProgramAndArgs};
+ghost use Rattle.cmd_envdir.specs.Around.{start_of};
+ghost use Rattle.cmd_envdir.specs.Child.{FailsToStart, IsCauseOf, StartsChild, StartsOne, status_of_child};
+ghost use Rattle.cmd_envdir.specs.Sayings.{said_after_files, said_after_set};
+
+use crate::fault::EnvdirFault;
+use crate::launcher::Launcher;
+use cmd_base::TROUBLE;
+use env_title::{Env, EnvFile, Variable};
+use std::alloc::{AllocError, Allocator};
+use std::io::{Error, ErrorKind};
+use std::process::{Command, ExitStatus};
+
+/// Adds arguments to a command.
+fn add_arguments<A: Allocator + Clone>(
+    command: &mut Command<A>,
+    arguments: &[&str],
+) -> Result<(), AllocError>
+    ensures program { OnOk result (command_program command.new ≡ command_program command.old) }
+    ensures arguments { OnOk result (command_args command.new ≡ command_args command.old ++ map (λ word. word.now) arguments.now) }
+    ensures variables { OnOk result (SameEnv command.old command.new) }
+{
+    for argument in arguments {
+        command.arg(*argument)?;
+    }
+    Ok(())
+}
+
+/// Removes the variables that files have the names of.
+fn remove_variables<A: Allocator + Clone>(
+    command: &mut Command<A>,
+    files: &[EnvFile<'_>],
+) -> Result<(), AllocError>
+    requires { clears_env command.old ≡ false }
+    ensures call { OnOk result (SameProgramAndArgs command.old command.new) }
+    ensures variables { OnOk result ((name : List ℕ) → command_var command.new name ≡ said_after_files files.now name (command_var command.old name)) }
+    ensures others { OnOk result (clears_env command.new ≡ false) }
+{
+    for file in files {
+        command.env_remove(file.name)?;
+    }
+    Ok(())
+}
+
+/// Sets variables.
+fn set_variables<A: Allocator + Clone>(
+    command: &mut Command<A>,
+    variables: &[Variable<A>],
+) -> Result<(), AllocError>
+    ensures call { OnOk result (SameProgramAndArgs command.old command.new) }
+    ensures variables { OnOk result ((name : List ℕ) → command_var command.new name ≡ said_after_set variables.now name (command_var command.old name)) }
+    ensures others { OnOk result (clears_env command.new ≡ clears_env command.old) }
+{
+    for variable in variables {
+        command.env(variable.name(), variable.value())?;
+    }
+    Ok(())
+}
+
+/// The command that starts a child in this environment: each variable of it is set, and those that the
+/// files have removed are removed. Any other variable stays as it is.
+fn child_command<A: Allocator + Clone>(
+    alloc: A,
+    program: &str,
+    arguments: &[&str],
+    files: &[EnvFile<'_>],
+    variables: &Env<A>,
+) -> Result<Command<A>, AllocError>
+    ensures { IfOk result (λ command. StartsChild (start_of command) program.now (map (λ word. word.now) arguments.now) files.now variables.now) }
+{
+    let mut command = Command::new(alloc, program)?;
+    add_arguments(&mut command, arguments)?;
+    remove_variables(&mut command, files)?;
+    set_variables(&mut command, variables.as_slice())?;
+    Ok(command)
+}
+
+/// The status that tells how a child ended: its exit status, or 111 where a signal ended it.
+fn child_status(status: ExitStatus) -> u8
+    ensures { result ≡ status_of_child (exit_code status) }
+{
+    match status.code() {
+        Some(code) => u8::try_from(code).unwrap_or(TROUBLE),
+        None => TROUBLE,
+    }
+}
+
+/// Why a command could not be started.
+fn start_fault(error: Error) -> EnvdirFault
+    ensures cause { IsCauseOf error result }
+    ensures either { (result ≡ EnvdirFault.OutOfMemory) ⊎ (result ≡ EnvdirFault.NotRun) }
+{
+    if error.kind() == ErrorKind::OutOfMemory {
+        return EnvdirFault::OutOfMemory;
+    }
+    EnvdirFault::NotRun
+}
+
+/// Starts a program with arguments, in an environment that files have made, and waits for its end.
+/// Answers its status, or 111 where a signal ended it. The program is sought in the `PATH` of that
+/// environment.
+pub fn run_child<L: Launcher, A: Allocator + Clone>(
+    launcher: &mut L,
+    alloc: A,
+    program: &str,
+    arguments: &[&str],
+    files: &[EnvFile<'_>],
+    variables: &Env<A>,
+) -> Result<u8, EnvdirFault>
+    ensures ok { IfOk result (λ status. StartsOne (L.launched launcher.old) (L.launched launcher.new)
+        program.now (map (λ word. word.now) arguments.now) files.now variables.now status) }
+    ensures none { IfErr result (λ cause. ((launcher.new ≡ launcher.old) × (cause ≡ EnvdirFault.OutOfMemory))
+        ⊎ FailsToStart (L.launched launcher.old) (L.launched launcher.new)
+        program.now (map (λ word. word.now) arguments.now) files.now variables.now cause) }
+    ensures either { IfErr result (λ cause. (cause ≡ EnvdirFault.OutOfMemory) ⊎ (cause ≡ EnvdirFault.NotRun)) }
+{
+    let Ok(mut command) = child_command(alloc, program, arguments, files, variables) else {
+        return Err(EnvdirFault::OutOfMemory);
+    };
+    match launcher.launch(&mut command) {
+        Ok(status) => Ok(child_status(status)),
+        Err(error) => Err(start_fault(error)),
+    }
+}

@@ -1,0 +1,101 @@
+//! The files of the folder of `envdir`.
+ghost use Rattle.std.specs.Prelude.{◌≡◌, [], ◌∷◌, ◌++◌, map, string_bytes, slice_get, IfOk, IsSorted};
+ghost use Rattle.std.specs.String.{string_cmp};
+ghost use Rattle.std.specs.Option.{option_map_or};
+ghost use Rattle.cmd_envdir.specs.Child.{AreInByteOrder};
+
+use cmd_base::FileSource;
+use env_title::EnvFile;
+use std::alloc::{AllocError, Allocator, Global};
+use std::fs::Files;
+use std::marker::Model;
+use std::{fs, io};
+
+/// A file of a folder: its name, and all its bytes.
+#[derive(Drop)]
+pub struct FolderFile<A: Allocator = Global> {
+    name: String<A>,
+    bytes: Vec<u8, A>,
+}
+
+impl<A: Allocator> Model for FolderFile<A> {
+    ghost use Rattle.std.specs.Prelude.{string_bytes};
+    ghost use Rattle.env_title.specs.Files.{File};
+
+    ghost Value = { File };
+
+    ghost view = { λ file. record { name = string_bytes file.name; bytes = file.bytes.items } };
+}
+
+/// The files of a folder on this machine, as `Surroundings` says.
+pub fn folder_files<R: Files + FileSource, A: Allocator + Clone>(
+    rt: &R,
+    alloc: &A,
+    dir: &str,
+) -> io::Result<Vec<FolderFile<A>, A>>
+    ensures order { IfOk result (λ files. AreInByteOrder (map (λ file. file.name) files.items)) }
+{
+    let mut files = Vec::new(alloc.clone()?);
+    for name in visible_names(rt, alloc, dir)? {
+        let path = path_in(alloc, dir, name.as_str())?;
+        let bytes = rt.read_file(alloc.clone()?, path.as_str())?;
+        files.push(FolderFile { name, bytes })?;
+    }
+    Ok(files)
+}
+
+/// The names in a folder that do not begin with a dot, in byte order.
+fn visible_names<R: Files, A: Allocator + Clone>(
+    rt: &R,
+    alloc: &A,
+    dir: &str,
+) -> io::Result<Vec<String<A>, A>>
+    ensures order { IfOk result (λ names. IsSorted string_cmp names.items) }
+{
+    let mut names = Vec::new(alloc.clone()?);
+    for entry in fs::read_dir(&(rt, alloc), dir)? {
+        let entry = entry?;
+        if !entry.file_name().starts_with('.') {
+            names.push(String::from_str(alloc.clone()?, entry.file_name())?)?;
+        }
+    }
+    names.sort_unstable();
+    Ok(names)
+}
+
+/// The path of a name in a folder.
+fn path_in<A: Allocator + Clone>(alloc: &A, dir: &str, name: &str) -> Result<String<A>, AllocError>
+    ensures { IfOk result (λ path. string_bytes path ≡ dir.now ++ 47 ∷ name.now) }
+{
+    let mut path = String::from_str(alloc.clone()?, dir)?;
+    path.push('/')?;
+    path.push_str(name)?;
+    Ok(path)
+}
+
+/// The files as changes of an environment.
+pub fn env_files<'a, A: Allocator + Clone>(
+    alloc: &A,
+    folder: &'a [FolderFile<A>],
+) -> Result<Vec<EnvFile<'a>, A>, AllocError>
+    ensures { IfOk result (λ files. files.items ≡ folder.now) }
+{
+    let mut files = Vec::with_capacity(alloc.clone()?, folder.len())?;
+    for file in folder {
+        files.push(EnvFile {
+            name: file.name.as_str(),
+            bytes: file.bytes.as_slice(),
+        })?;
+    }
+    Ok(files)
+}
+
+/// The name of the file at a place, empty where there is none.
+pub fn name_at<A: Allocator>(folder: &[FolderFile<A>], place: usize) -> &str
+    ensures { result.now ≡ option_map_or (λ file. file.name) (slice_get folder.now place) [] }
+{
+    match folder.get(place) {
+        Some(file) => file.name.as_str(),
+        None => "",
+    }
+}

@@ -1,0 +1,173 @@
+-- What `trace` prints of the text of a trace, what its word after `--break` means, and what it tells of its faults.
+use Rattle.std.specs.Prelude.{◌≡◌, ◌≢◌, ◌<◌, ◌^◌, ⊤, ℕ, ◌⊎◌, List, [], ◌∷◌, ◌++◌, codes, decimal, Option, Some, None, Err}
+use Rattle.tai_status.specs.Counted.{Device, Fails, Works, Wrote, WroteFront, Tells}
+use Rattle.sup_core.specs.State.{State}
+use Rattle.sup_core.specs.Text.{byte_text, phase_name, signal_name}
+use Rattle.sup_trace.specs.declared.breaks.Break.{Break}
+use Rattle.sup_trace.specs.declared.breaks.Break.TheVariants as break
+use Rattle.sup_trace.specs.declared.fault.TraceFault.{TraceFault}
+use Rattle.sup_trace.specs.declared.fault.TraceFaultKind.TheVariants as kind
+use Rattle.sup_trace.specs.Told.{Told, IsTold, replay_of}
+use Rattle.sup_trace.specs.Text.{record_digits, trace_text}
+use Rattle.sup_trace.specs.Reading.{HasEntryAt, kind_name, told_from}
+use Rattle.sup_trace.specs.Explained.{explained}
+use Rattle.sup_trace.specs.Breaks.{IsFirstBreak, HasNoBreak}
+use Rattle.trace_words.specs.Words.{asked_of}
+use Rattle.cmd_base.specs.Printed.{printed}
+use Rattle.cmd_base.specs.Held.{IsHeld}
+use Rattle.cmd_base.specs.Told.{usage_text}
+use Rattle.cmd_trace.specs.declared.fault.TraceTrouble.{TraceTrouble}
+use Rattle.cmd_trace.specs.declared.fault.TraceTrouble.TheVariants as trouble
+
+-- The word after `--break`
+
+-- the word that names a break: `byte:C`, `phase:PHASE` or `signal:NAME`
+abbrev pub break_text : Break → List ℕ
+break_text (break.Byte byte) = codes "byte:" ++ byte_text byte
+break_text (break.Phase phase) = codes "phase:" ++ phase_name phase
+break_text (break.Signal sig) = codes "signal:" ++ signal_name sig
+
+-- A word that may be there names this break, where there is one. A byte is less than 256.
+abbrev pub NamesBreak : Option (List ℕ) → Option Break → Type 0
+NamesBreak None None = ⊤
+NamesBreak (Some word) (Some (break.Byte byte)) = (byte < 2 ^ 8) × (word ≡ break_text (break.Byte byte))
+NamesBreak (Some word) (Some at) = word ≡ break_text at
+NamesBreak _ _ = ⊥
+
+-- Words ask for this file, and for this break where they have one.
+abbrev pub AskFor : (words : List (List ℕ)) (file : List ℕ) (at : Option Break) → Type 0
+AskFor words file at = (word : Option (List ℕ)) × ((asked_of words ≡ Some (file, word)) × NamesBreak word at)
+
+-- What is printed
+
+-- the line on the machine after the entries: its phase, and the digits of its status record
+abbrev pub state_text : State → List ℕ
+state_text state =
+    codes "state " ++ phase_name state.phase ++ codes " " ++ record_digits state.status ++ 10 ∷ []
+
+-- a line for each entry, and one on the machine after them
+abbrev pub explanation : Told → List ℕ
+explanation told = printed (explained told) ++ state_text (replay_of told)
+
+-- A line tells the number of the first entry that is such a break, or that there is none.
+abbrev pub IsBreakLine : Told → Break → List ℕ → Type 0
+IsBreakLine told at line =
+    ((number : ℕ) × (IsFirstBreak told at number × (line ≡ codes "break " ++ decimal number ++ 10 ∷ [])))
+    ⊎ (HasNoBreak told at × (line ≡ codes "no break" ++ 10 ∷ []))
+
+-- This is printed of a trace: the explanation, or the line on a break.
+abbrev pub IsShown : Told → Option Break → List ℕ → Type 0
+IsShown told None text = text ≡ explanation told
+IsShown told (Some at) text = IsBreakLine told at text
+
+-- The text is that of a trace, and this is printed of that trace.
+pub record IsShownOf (text : List ℕ) (at : Option Break) (shown : List ℕ) : Type 0 where
+  pub trace : Told
+  pub is : IsTold trace
+  pub text_is : text ≡ trace_text trace
+  pub shown_is : IsShown trace at shown
+
+-- The text is that of a trace, and what is printed of that trace was written.
+pub record Shows (text : List ℕ) (at : Option Break) (writer writes : Device) : Type 0 where
+  pub shown : List ℕ
+  pub shown_is : IsShownOf text at shown
+  pub written : Wrote writer writes shown
+
+-- The text is that of a trace, and a front of what is printed of that trace was written.
+pub record ShowsFront (text : List ℕ) (at : Option Break) (writer writes : Device) : Type 0 where
+  pub shown : List ℕ
+  pub shown_is : IsShownOf text at shown
+  pub written : WroteFront writer writes shown
+
+-- Faults
+
+-- what is told of trouble, behind the command's name
+abbrev pub trouble_words : TraceTrouble → List ℕ
+trouble_words (trouble.Refused fault) = codes "line " ++ decimal fault.line ++ codes ": " ++ kind_name fault.kind ++ 10 ∷ []
+trouble_words trouble.OutOfMemory = codes "OutOfMemory" ++ 10 ∷ []
+trouble_words trouble.Write = codes "write fault" ++ 10 ∷ []
+
+abbrev pub trouble_text : TraceTrouble → List ℕ
+trouble_text trouble = codes "trace: " ++ trouble_words trouble
+
+-- what is told of a file that can't be read
+abbrev pub unread_text : List ℕ → List ℕ
+unread_text file = codes "trace: unable to read " ++ (file ++ 10 ∷ [])
+
+-- Why a text is refused: for its first fault; or there was no memory for an entry that it has at that line.
+abbrev pub IsRefusedFor : List ℕ → TraceFault → Type 0
+IsRefusedFor text fault =
+    (fault.kind ≢ kind.OutOfMemory → told_from text ≡ Err fault) × (fault.kind ≡ kind.OutOfMemory → HasEntryAt text fault.line)
+
+-- What trouble comes from. The text is refused; there was no memory for what is printed; or the writer failed, after a
+-- front of that. Only the writer's fault comes after a write.
+abbrev pub TraceCause : TraceTrouble → List ℕ → Option Break → (writer writes : Device) → Type 0
+TraceCause (trouble.Refused fault) text at writer writes = (writes ≡ writer) × IsRefusedFor text fault
+TraceCause trouble.OutOfMemory text at writer writes = writes ≡ writer
+TraceCause trouble.Write text at writer writes = Fails writer writes × ShowsFront text at writer writes
+
+-- How `trace` ends
+
+-- What is printed of the trace was written, the writer did not fail, and nothing is told.
+pub record ShowsText (text : List ℕ) (at : Option Break) (writer writes faults tells : Device) : Type 0 where
+  pub shows : Shows text at writer writes
+  pub works : Works writer writes
+  pub untold : tells ≡ faults
+
+-- There is trouble with a text, and it is told what it comes from.
+pub record TellsTrouble (text : List ℕ) (at : Option Break) (writer writes faults tells : Device) : Type 0 where
+  pub why : TraceTrouble
+  pub cause : TraceCause why text at writer writes
+  pub told : Tells faults tells (trouble_text why)
+
+-- A text and this break, by the status.
+abbrev pub TextEnds : (text : List ℕ) (at : Option Break) (status : ℕ) (writer writes faults tells : Device) → Type 0
+TextEnds text at status writer writes faults tells =
+    ((status ≡ 0) × ShowsText text at writer writes faults tells)
+    ⊎ ((status ≡ 111) × TellsTrouble text at writer writes faults tells)
+
+-- The file is read, and its text shown.
+pub record EndsWithText (file : Option (List ℕ)) (at : Option Break) (status : ℕ) (writer writes faults tells : Device) : Type 0 where
+  pub text : List ℕ
+  pub text_is : IsHeld file text
+  pub ends : TextEnds text at status writer writes faults tells
+
+-- It is told of a file that is not known to be there that it can't be read, and nothing is written.
+pub record TellsUnread (file_at : List ℕ → Option (List ℕ)) (file : List ℕ) (status : ℕ) (writer writes faults tells : Device) : Type 0 where
+  pub unknown : file_at file ≡ None
+  pub unwritten : writes ≡ writer
+  pub told : Tells faults tells (unread_text file)
+  pub status_is : status ≡ 111
+
+-- There was no memory for the words or the file; nothing is written, and that is told.
+pub record TellsStarved (status : ℕ) (writer writes faults tells : Device) : Type 0 where
+  pub unwritten : writes ≡ writer
+  pub told : Tells faults tells (trouble_text trouble.OutOfMemory)
+  pub status_is : status ≡ 111
+
+-- `trace` over this file and this break.
+abbrev pub FileEnds : (file_at : List ℕ → Option (List ℕ)) (file : List ℕ) (at : Option Break) (status : ℕ) (writer writes faults tells : Device) → Type 0
+FileEnds file_at file at status writer writes faults tells =
+    EndsWithText (file_at file) at status writer writes faults tells
+    ⊎ (TellsUnread file_at file status writer writes faults tells ⊎ TellsStarved status writer writes faults tells)
+
+-- Words ask for nothing; nothing is written, and the usage is told.
+pub record TellsUsage (words : List (List ℕ)) (status : ℕ) (writer writes faults tells : Device) : Type 0 where
+  pub wrong : (file : List ℕ) (at : Option Break) → AskFor words file at → ⊥
+  pub unwritten : writes ≡ writer
+  pub told : Tells faults tells usage_text
+  pub status_is : status ≡ 100
+
+-- What words ask for was done, or there was trouble with it.
+pub record DoesAsked (file_at : List ℕ → Option (List ℕ)) (words : List (List ℕ)) (status : ℕ) (writer writes faults tells : Device) : Type 0 where
+  pub file : List ℕ
+  pub at : Option Break
+  pub asked : AskFor words file at
+  pub ends : FileEnds file_at file at status writer writes faults tells
+
+-- `trace`, by what its words ask for. No words ask for nothing.
+abbrev pub TraceEnds : (file_at : List ℕ → Option (List ℕ)) (words : List (List ℕ)) (status : ℕ) (writer writes faults tells : Device) → Type 0
+TraceEnds file_at [] status writer writes faults tells = TellsUsage [] status writer writes faults tells
+TraceEnds file_at (word ∷ words) status writer writes faults tells =
+    DoesAsked file_at (word ∷ words) status writer writes faults tells
+    ⊎ (TellsUsage (word ∷ words) status writer writes faults tells ⊎ TellsStarved status writer writes faults tells)

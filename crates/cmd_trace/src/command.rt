@@ -1,0 +1,153 @@
+//! The command `trace`.
+ghost use Rattle.std.specs.Prelude.{◌≡◌, map, OnOk, IfErr};
+ghost use Rattle.tai_status.specs.Counted.{Works, Tells};
+ghost use Rattle.cmd_trace.specs.Traced.{FileEnds, Shows, TextEnds, TraceCause, TraceEnds, trouble_text, unread_text};
+
+use crate::break_word::read_spec;
+use crate::fault::TraceTrouble;
+use crate::shown::shown;
+use arrayvec::ArrayString;
+use cmd_base::{DONE, FileSource, TROUBLE, push_number, report, report_parts, usage};
+use std::alloc::{Allocator, Global};
+use std::io::{ErrorKind, Write};
+use sup_trace::{Break, kind_name, read_text};
+use tai_status::Output;
+use trace_words::{WordsFault, parse_words};
+
+/// Writes what is printed of the trace whose text this is.
+fn show_text<A: Allocator + Clone, W: Write>(
+    alloc: &A,
+    text: &[u8],
+    at: Option<Break>,
+    writer: &mut Output<W>,
+) -> Result<(), TraceTrouble>
+    ensures ok { OnOk result (Shows text.now at writer.old writer.new) }
+    ensures works { OnOk result (Works writer.old writer.new) }
+    ensures cause { IfErr result (λ trouble. TraceCause trouble text.now at writer.old writer.new) }
+{
+    let Ok(own) = alloc.clone() else {
+        return Err(TraceTrouble::OutOfMemory);
+    };
+    let told = match read_text(own, text) {
+        Ok(told) => told,
+        Err(fault) => return Err(TraceTrouble::Refused(fault)),
+    };
+    let Ok(own) = alloc.clone() else {
+        return Err(TraceTrouble::OutOfMemory);
+    };
+    let Ok(shown) = shown(own, &told, at) else {
+        return Err(TraceTrouble::OutOfMemory);
+    };
+    match writer.write_all(&shown) {
+        Ok(()) => Ok(()),
+        Err(_) => Err(TraceTrouble::Write),
+    }
+}
+
+/// What is told of trouble.
+fn trouble_text(trouble: TraceTrouble) -> ArrayString<64>
+    ensures { result.bytes ≡ trouble_text trouble }
+{
+    let mut out = ArrayString::new();
+    match trouble {
+        TraceTrouble::Refused(fault) => {
+            out.push_str("trace: line ");
+            push_number(&mut out, fault.line);
+            out.push_str(": ");
+            out.push_str(kind_name(fault.kind));
+        }
+        TraceTrouble::OutOfMemory => out.push_str("trace: OutOfMemory"),
+        TraceTrouble::Write => out.push_str("trace: write fault"),
+    }
+    out.push_str("\n");
+    out
+}
+
+/// Tells trouble, and answers its status.
+fn report_trouble<E: Write>(trouble: TraceTrouble, faults: &mut Output<E>) -> u8
+    ensures status { result ≡ 111 }
+    ensures told { Tells faults.old faults.new (trouble_text trouble) }
+{
+    report(faults, trouble_text(trouble).as_bytes(), TROUBLE)
+}
+
+/// Prints what this text tells, and answers the status: 0; or 111 for a text that is refused, for want of
+/// memory and for a fault of the writer.
+pub fn trace_bytes<A: Allocator + Clone, W: Write, E: Write>(
+    alloc: &A,
+    text: &[u8],
+    at: Option<Break>,
+    writer: &mut Output<W>,
+    faults: &mut Output<E>,
+) -> u8
+    ensures ends { TextEnds text.now at result writer.old writer.new faults.old faults.new }
+{
+    match show_text(alloc, text, at, writer) {
+        Ok(()) => DONE,
+        Err(trouble) => report_trouble(trouble, faults),
+    }
+}
+
+/// Prints what the text in a file tells, and answers the status: that of `trace_bytes`, and 111 for a file
+/// that can't be read.
+fn trace_file<R: FileSource, W: Write, E: Write>(
+    files: &R,
+    alloc: Global,
+    file: &str,
+    at: Option<Break>,
+    writer: &mut Output<W>,
+    faults: &mut Output<E>,
+) -> u8
+    ensures ends { FileEnds (R.file_at files.now) file.now at result writer.old writer.new faults.old faults.new }
+{
+    match files.read_file(alloc, file) {
+        Ok(text) => trace_bytes(&alloc, &text, at, writer, faults),
+        Err(fault) if fault.kind() == ErrorKind::OutOfMemory => {
+            report_trouble(TraceTrouble::OutOfMemory, faults)
+        }
+        Err(_) => report_unread(file, faults),
+    }
+}
+
+/// Tells that a file can't be read, and answers the status of that.
+fn report_unread<E: Write>(file: &str, faults: &mut Output<E>) -> u8
+    ensures status { result ≡ 111 }
+    ensures told { Tells faults.old faults.new (unread_text file.now) }
+{
+    report_parts(
+        faults,
+        b"trace: unable to read ",
+        file.as_bytes(),
+        b"\n",
+        TROUBLE,
+    )
+}
+
+/// The command `trace FILE [--break SPEC]`: prints what each entry of the trace in the file did, and the
+/// machine after them; or with `--break` the number of the first entry that is what SPEC names, as
+/// `read_break` reads it. Answers the status: 0; 100 for wrong words; 111 for a file that can't be read, a
+/// text that is refused, want of memory, and a fault of the writer. Words are looked at before SPEC, SPEC
+/// before the file, and the file before its text.
+pub fn run_trace<R: FileSource, W: Write, E: Write>(
+    files: &R,
+    alloc: Global,
+    words: &[&str],
+    writer: &mut Output<W>,
+    faults: &mut Output<E>,
+) -> u8
+    ensures ends { TraceEnds (R.file_at files.now) (map (λ word. word.now) words.now) result
+        writer.old writer.new faults.old faults.new }
+{
+    if words.is_empty() {
+        return usage(faults);
+    }
+    let asked = match parse_words(alloc, words) {
+        Ok(asked) => asked,
+        Err(WordsFault::Wrong) => return usage(faults),
+        Err(WordsFault::OutOfMemory) => return report_trouble(TraceTrouble::OutOfMemory, faults),
+    };
+    match read_spec(asked.at) {
+        Ok(at) => trace_file(files, alloc, asked.file, at, writer, faults),
+        Err(_) => usage(faults),
+    }
+}

@@ -1,0 +1,85 @@
+//! What `trace` prints of a trace.
+ghost use Rattle.std.specs.Prelude.{◌≡◌, ◌++◌, OnOk, IfOk};
+ghost use Rattle.cmd_base.specs.Printed.{printed};
+ghost use Rattle.cmd_trace.specs.Traced.{explanation, state_text, IsBreakLine, IsShown};
+
+use itoa::Buffer;
+use std::alloc::{AllocError, Allocator};
+use sup_core::{Machine, phase_name};
+use sup_trace::{Break, TraceText, explain, first_break, record_digits, replay};
+use tai_status::Lines;
+
+/// What is printed of a trace: the line on a break, or where none is asked for the explanation.
+pub fn shown<A: Allocator + Clone, B: Allocator>(
+    alloc: A,
+    told: &TraceText<B>,
+    at: Option<Break>,
+) -> Result<Vec<u8, A>, AllocError>
+    ensures { IfOk result (λ text. IsShown told.now at text.items) }
+{
+    match at {
+        None => explanation(alloc, told),
+        Some(at) => break_line(alloc, told, at),
+    }
+}
+
+/// A line for each entry, and one on the machine after them.
+fn explanation<A: Allocator + Clone, B: Allocator>(
+    alloc: A,
+    told: &TraceText<B>,
+) -> Result<Vec<u8, A>, AllocError>
+    ensures { IfOk result (λ text. text.items ≡ explanation told.now) }
+{
+    let lines = explain(alloc.clone()?, told)?;
+    let mut out = Vec::new(alloc);
+    push_lines(&mut out, &lines)?;
+    push_state(&mut out, &replay(told))?;
+    Ok(out)
+}
+
+/// Writes lines, each with a newline, at the end of a text.
+fn push_lines<A: Allocator, B: Allocator>(
+    out: &mut Vec<u8, A>,
+    lines: &Lines<B>,
+) -> Result<(), AllocError>
+    ensures { OnOk result (out.new.items ≡ out.old.items ++ printed lines.now) }
+{
+    for line in lines.as_slice() {
+        out.extend_from_slice(line.as_bytes())?;
+        out.push(b'\n')?;
+    }
+    Ok(())
+}
+
+/// Writes the line on a machine at the end of a text.
+fn push_state<A: Allocator>(out: &mut Vec<u8, A>, machine: &Machine) -> Result<(), AllocError>
+    ensures { OnOk result (out.new.items ≡ out.old.items ++ state_text machine.now) }
+{
+    out.extend_from_slice(b"state ")?;
+    out.extend_from_slice(phase_name(machine.phase()).as_bytes())?;
+    out.extend_from_slice(b" ")?;
+    out.extend_from_slice(&record_digits(&machine.view()))?;
+    out.push(b'\n')?;
+    Ok(())
+}
+
+/// The line on a break.
+fn break_line<A: Allocator, B: Allocator>(
+    alloc: A,
+    told: &TraceText<B>,
+    at: Break,
+) -> Result<Vec<u8, A>, AllocError>
+    ensures { IfOk result (λ text. IsBreakLine told.now at text.items) }
+{
+    let mut out = Vec::new(alloc);
+    match first_break(told, at) {
+        Some(number) => {
+            let mut digits = Buffer::new();
+            out.extend_from_slice(b"break ")?;
+            out.extend_from_slice(digits.format(number).as_bytes())?;
+            out.push(b'\n')?;
+        }
+        None => out.extend_from_slice(b"no break\n")?,
+    }
+    Ok(out)
+}

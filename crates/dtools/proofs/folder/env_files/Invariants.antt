@@ -1,6 +1,0 @@
-use Rattle.std.proofs.Common.{◌≡◌, take}
-use Rattle.dtools.proofs.folder.env_files.Given as goal
-
--- the files so far stand there
-abbrev pub invariant-loop-file : goal.invariant-loop-file
-invariant-loop-file g l = l.files.items ≡ take l.file-index l.folder
