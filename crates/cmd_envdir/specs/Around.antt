@@ -15,8 +15,8 @@ pub record Around : Type 0 where
 abbrev pub around : (folder : List ℕ → Option (List File)) (variables : Option (List Binding)) → Around
 around folder variables = record { folder = folder; variables = variables }
 
--- What a command starts: a program and its arguments; what it says of each variable, that it has a value or is taken away;
--- and whether the child is without the variables of this process.
+-- What a command starts: a program and its arguments; what it says of each variable, that it has a value or is taken
+-- away; and whether the child is without the variables of this process.
 pub record Start : Type 0 where
   pub program : List ℕ
   pub arguments : List (List ℕ)

@@ -26,7 +26,8 @@ said_of None false = None
 
 -- A command starts this program with these arguments in an environment that files have made: it sets each variable of
 -- that, takes away any other that has a file's name, and leaves the rest as they are.
-pub record StartsChild (start : Start) (program : List ℕ) (arguments : List (List ℕ)) (files : List File) (env : List Binding) : Type 0 where
+pub record StartsChild (start : Start) (program : List ℕ) (arguments : List (List ℕ)) (files : List File)
+    (env : List Binding) : Type 0 where
   pub program_is : start.program ≡ program
   pub arguments_are : start.arguments ≡ arguments
   pub variables_are : (name : List ℕ) → start.variables name ≡ said_of (value_of env name) (has_file files name)
@@ -45,14 +46,16 @@ pub record IsCauseOf (error : Error) (cause : EnvdirFault) : Type 0 where
 
 -- One command was handed over, the one that starts this child in this environment. The child was started and ended with
 -- this status.
-pub record StartsOne (past now : Option (List Launch)) (program : List ℕ) (arguments : List (List ℕ)) (files : List File) (env : List Binding) (status : ℕ) : Type 0 where
+pub record StartsOne (past now : Option (List Launch)) (program : List ℕ) (arguments : List (List ℕ))
+    (files : List File) (env : List Binding) (status : ℕ) : Type 0 where
   pub launch : Launch
   pub handed : Launched past now (launch ∷ [])
   pub start : StartsChild launch.start program arguments files env
   pub ended : MatchResult launch.ended (λ ended. status ≡ status_of_child (exit_code ended)) (λ error. ⊥)
 
 -- One command was handed over, the one that starts this child in this environment, and it failed for this cause.
-pub record FailsToStart (past now : Option (List Launch)) (program : List ℕ) (arguments : List (List ℕ)) (files : List File) (env : List Binding) (cause : EnvdirFault) : Type 0 where
+pub record FailsToStart (past now : Option (List Launch)) (program : List ℕ) (arguments : List (List ℕ))
+    (files : List File) (env : List Binding) (cause : EnvdirFault) : Type 0 where
   pub launch : Launch
   pub handed : Launched past now (launch ∷ [])
   pub start : StartsChild launch.start program arguments files env

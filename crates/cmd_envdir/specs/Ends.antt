@@ -18,7 +18,8 @@ use Rattle.cmd_envdir.specs.declared.fault.EnvdirFault.TheVariants as fault
 -- what is told of a fault, by the words for the folder and the child, and the name of the file that is refused
 abbrev pub envdir_told : (dir child name : List ℕ) → EnvdirFault → List ℕ
 envdir_told dir child name fault.Unread = codes "envdir: unable to read " ++ (dir ++ 10 ∷ [])
-envdir_told dir child name (fault.NameHasEquals place) = codes "envdir: " ++ (name ++ (codes ": NameHasEquals" ++ 10 ∷ []))
+envdir_told dir child name (fault.NameHasEquals place) =
+    codes "envdir: " ++ (name ++ (codes ": NameHasEquals" ++ 10 ∷ []))
 envdir_told dir child name (fault.NotText place) = codes "envdir: " ++ (name ++ (codes ": NotText" ++ 10 ∷ []))
 envdir_told dir child name fault.NotRun = codes "envdir: unable to run " ++ (child ++ 10 ∷ [])
 envdir_told dir child name fault.OutOfMemory = codes "envdir: OutOfMemory" ++ 10 ∷ []
@@ -50,25 +51,29 @@ WasRead (fault.NotText place) folder files = IsHeld folder files
 -- Ends
 
 -- The child was started once, in the environment that these files make of the variables around.
-pub record RunsChild (around : Around) (past now : Option (List Launch)) (program : List ℕ) (arguments : List (List ℕ)) (files : List File) (status : ℕ) : Type 0 where
+pub record RunsChild (around : Around) (past now : Option (List Launch)) (program : List ℕ)
+    (arguments : List (List ℕ)) (files : List File) (status : ℕ) : Type 0 where
   pub variables : List Binding
   pub variables_are : IsHeld around.variables variables
   pub good : first_fault files ≡ None
   pub one : StartsOne past now program arguments files (env_after files variables) status
 
 -- It could not be started.
-pub record RunsNot (around : Around) (past now : Option (List Launch)) (program : List ℕ) (arguments : List (List ℕ)) (files : List File) (cause : EnvdirFault) : Type 0 where
+pub record RunsNot (around : Around) (past now : Option (List Launch)) (program : List ℕ)
+    (arguments : List (List ℕ)) (files : List File) (cause : EnvdirFault) : Type 0 where
   pub variables : List Binding
   pub variables_are : IsHeld around.variables variables
   pub fails : FailsToStart past now program arguments files (env_after files variables) cause
 
 -- There is no child for this cause: no command was handed over, or it failed.
-abbrev pub HasNoChild : (around : Around) (past now : Option (List Launch)) (program : List ℕ) (arguments : List (List ℕ)) (files : List File) (cause : EnvdirFault) → Type 0
+abbrev pub HasNoChild : (around : Around) (past now : Option (List Launch)) (program : List ℕ)
+    (arguments : List (List ℕ)) (files : List File) (cause : EnvdirFault) → Type 0
 HasNoChild around past now program arguments files cause =
     ((now ≡ past) × (cause ≢ fault.NotRun)) ⊎ RunsNot around past now program arguments files cause
 
 -- The files of the folder, in the byte order of their names, made the environment of a child; nothing is told.
-pub record EndsWithChild (around : Around) (past now : Option (List Launch)) (dir program : List ℕ) (arguments : List (List ℕ)) (status : ℕ) (faults tells : Device) : Type 0 where
+pub record EndsWithChild (around : Around) (past now : Option (List Launch)) (dir program : List ℕ)
+    (arguments : List (List ℕ)) (status : ℕ) (faults tells : Device) : Type 0 where
   pub files : List File
   pub files_are : IsHeld (around.folder dir) files
   pub in_order : AreInByteOrder (map (λ file. file.name) files)
@@ -76,7 +81,8 @@ pub record EndsWithChild (around : Around) (past now : Option (List Launch)) (di
   pub untold : tells ≡ faults
 
 -- There was no child, and it is told why.
-pub record EndsWithout (around : Around) (past now : Option (List Launch)) (dir program : List ℕ) (arguments : List (List ℕ)) (status : ℕ) (faults tells : Device) : Type 0 where
+pub record EndsWithout (around : Around) (past now : Option (List Launch)) (dir program : List ℕ)
+    (arguments : List (List ℕ)) (status : ℕ) (faults tells : Device) : Type 0 where
   pub cause : EnvdirFault
   pub files : List File
   pub read : WasRead cause (around.folder dir) files
@@ -92,7 +98,8 @@ pub record TellsUsage (past now : Option (List Launch)) (status : ℕ) (faults t
   pub told : Tells faults tells usage_text
 
 -- `envdir`: its words are a folder, a program and arguments.
-abbrev pub EnvdirEnds : (around : Around) (past now : Option (List Launch)) (words : List (List ℕ)) (status : ℕ) (faults tells : Device) → Type 0
+abbrev pub EnvdirEnds : (around : Around) (past now : Option (List Launch)) (words : List (List ℕ))
+    (status : ℕ) (faults tells : Device) → Type 0
 EnvdirEnds around past now [] status faults tells = TellsUsage past now status faults tells
 EnvdirEnds around past now (dir ∷ []) status faults tells = TellsUsage past now status faults tells
 EnvdirEnds around past now (dir ∷ program ∷ arguments) status faults tells =

@@ -6,7 +6,8 @@ use Rattle.env_title.specs.Files.{File}
 -- what a command says of a variable after those that have the names of files were taken away, where it said `before`
 abbrev pub said_after_files : List File → List ℕ → (before : Option (Option (List ℕ))) → Option (Option (List ℕ))
 said_after_files [] name before = before
-said_after_files (file ∷ files) name before = said_after_files files name (if bytes_eq name file.name then Some None else before)
+said_after_files (file ∷ files) name before =
+    said_after_files files name (if bytes_eq name file.name then Some None else before)
 
 -- what it says of a variable after these were set
 abbrev pub said_after_set : List Binding → List ℕ → (before : Option (Option (List ℕ))) → Option (Option (List ℕ))

@@ -19,7 +19,8 @@ fn add_arguments<A: Allocator + Clone>(
     arguments: &[&str],
 ) -> Result<(), AllocError>
     ensures program { OnOk result (command_program command.new ≡ command_program command.old) }
-    ensures arguments { OnOk result (command_args command.new ≡ command_args command.old ++ map (λ word. word.now) arguments.now) }
+    ensures arguments { OnOk result (command_args command.new
+        ≡ command_args command.old ++ map (λ word. word.now) arguments.now) }
     ensures variables { OnOk result (SameEnv command.old command.new) }
 {
     for argument in arguments {
@@ -35,7 +36,8 @@ fn remove_variables<A: Allocator + Clone>(
 ) -> Result<(), AllocError>
     requires { clears_env command.old ≡ false }
     ensures call { OnOk result (SameProgramAndArgs command.old command.new) }
-    ensures variables { OnOk result ((name : List ℕ) → command_var command.new name ≡ said_after_files files.now name (command_var command.old name)) }
+    ensures variables { OnOk result ((name : List ℕ)
+        → command_var command.new name ≡ said_after_files files.now name (command_var command.old name)) }
     ensures others { OnOk result (clears_env command.new ≡ false) }
 {
     for file in files {
@@ -50,7 +52,8 @@ fn set_variables<A: Allocator + Clone>(
     variables: &[Variable<A>],
 ) -> Result<(), AllocError>
     ensures call { OnOk result (SameProgramAndArgs command.old command.new) }
-    ensures variables { OnOk result ((name : List ℕ) → command_var command.new name ≡ said_after_set variables.now name (command_var command.old name)) }
+    ensures variables { OnOk result ((name : List ℕ)
+        → command_var command.new name ≡ said_after_set variables.now name (command_var command.old name)) }
     ensures others { OnOk result (clears_env command.new ≡ clears_env command.old) }
 {
     for variable in variables {
@@ -68,7 +71,8 @@ fn child_command<A: Allocator + Clone>(
     files: &[EnvFile<'_>],
     variables: &Env<A>,
 ) -> Result<Command<A>, AllocError>
-    ensures { IfOk result (λ command. StartsChild (start_of command) program.now (map (λ word. word.now) arguments.now) files.now variables.now) }
+    ensures { IfOk result (λ command. StartsChild (start_of command)
+        program.now (map (λ word. word.now) arguments.now) files.now variables.now) }
 {
     let mut command = Command::new(alloc, program)?;
     add_arguments(&mut command, arguments)?;

@@ -38,7 +38,8 @@ fn changed_env<R: Surroundings, A: Allocator + Clone>(
     alloc: &A,
     files: &[EnvFile<'_>],
 ) -> Result<Env<A>, EnvdirFault>
-    ensures ok { IfOk result (λ after. (variables : List Binding) × (IsHeld (R.known_variables rt.now) variables × ((first_fault files.now ≡ None) × (after ≡ env_after files.now variables)))) }
+    ensures ok { IfOk result (λ after. (variables : List Binding) × (IsHeld (R.known_variables rt.now) variables
+        × ((first_fault files.now ≡ None) × (after ≡ env_after files.now variables)))) }
     ensures first { IfErr result (λ why. IsFirstFault why files.now) }
     ensures neither { IfErr result (λ why. (why ≢ EnvdirFault.Unread) × (why ≢ EnvdirFault.NotRun)) }
 {
@@ -65,10 +66,12 @@ fn run_with<R: Surroundings, L: Launcher, A: Allocator + Clone>(
     program: &str,
     arguments: &[&str],
 ) -> Result<u8, EnvdirFault>
-    ensures ok { IfOk result (λ status. RunsChild (around (R.folder_at rt.now) (R.known_variables rt.now)) (L.launched launcher.old)
-        (L.launched launcher.new) program.now (map (λ word. word.now) arguments.now) folder.now status) }
-    ensures none { IfErr result (λ why. HasNoChild (around (R.folder_at rt.now) (R.known_variables rt.now)) (L.launched launcher.old)
-        (L.launched launcher.new) program.now (map (λ word. word.now) arguments.now) folder.now why) }
+    ensures ok { IfOk result (λ status. RunsChild (around (R.folder_at rt.now) (R.known_variables rt.now))
+        (L.launched launcher.old) (L.launched launcher.new)
+        program.now (map (λ word. word.now) arguments.now) folder.now status) }
+    ensures none { IfErr result (λ why. HasNoChild (around (R.folder_at rt.now) (R.known_variables rt.now))
+        (L.launched launcher.old) (L.launched launcher.new)
+        program.now (map (λ word. word.now) arguments.now) folder.now why) }
     ensures first { IfErr result (λ why. IsFirstFault why folder.now) }
     ensures read { IfErr result (λ why. why ≢ EnvdirFault.Unread) }
 {
@@ -147,9 +150,11 @@ fn run_in_folder<R: Surroundings, L: Launcher, A: Allocator + Clone, E: Write>(
     arguments: &[&str],
     faults: &mut Output<E>,
 ) -> u8
-    ensures ends { EndsWithChild (around (R.folder_at rt.now) (R.known_variables rt.now)) (L.launched launcher.old) (L.launched launcher.new)
+    ensures ends { EndsWithChild (around (R.folder_at rt.now) (R.known_variables rt.now))
+        (L.launched launcher.old) (L.launched launcher.new)
         dir.now program.now (map (λ word. word.now) arguments.now) result faults.old faults.new
-        ⊎ EndsWithout (around (R.folder_at rt.now) (R.known_variables rt.now)) (L.launched launcher.old) (L.launched launcher.new)
+        ⊎ EndsWithout (around (R.folder_at rt.now) (R.known_variables rt.now))
+        (L.launched launcher.old) (L.launched launcher.new)
         dir.now program.now (map (λ word. word.now) arguments.now) result faults.old faults.new }
 {
     let folder = match rt.read_folder(alloc, dir) {
@@ -174,7 +179,8 @@ pub fn run_envdir<R: Surroundings, L: Launcher, A: Allocator + Clone, E: Write>(
     words: &[&str],
     faults: &mut Output<E>,
 ) -> u8
-    ensures ends { EnvdirEnds (around (R.folder_at rt.now) (R.known_variables rt.now)) (L.launched launcher.old) (L.launched launcher.new)
+    ensures ends { EnvdirEnds (around (R.folder_at rt.now) (R.known_variables rt.now))
+        (L.launched launcher.old) (L.launched launcher.new)
         (map (λ word. word.now) words.now) result faults.old faults.new }
     ensures unasked { length words.now < 2 → launcher.new ≡ launcher.old }
 {

@@ -21,8 +21,8 @@ pub trait Surroundings {
     // the variables of the process
     ghost known_variables: { Self → Option (List Binding) } = { λ _. None };
 
-    /// The files of a folder, in byte order of their names, but for those whose names begin with a dot. A name that is not
-    /// text, a folder in the place of a file, and a file that can't be read are faults.
+    /// The files of a folder, in byte order of their names, but for those whose names begin with a dot. A
+    /// name that is not text, a folder in the place of a file, and a file that can't be read are faults.
     fn read_folder<A: Allocator + Clone>(
         &self,
         alloc: &A,

@@ -24,8 +24,8 @@ pub record StampsInput (past now : Option (List Tai64n)) (old new : Console) : T
   pub end : IsRead new.reader
   pub well : EndsWell old new
 
--- What a fault comes from. The reader failed, and the lines that it gave are stamped and written; or the writer failed, after
--- a front of the stamped lines.
+-- What a fault comes from. The reader failed, and the lines that it gave are stamped and written; or the writer failed,
+-- after a front of the stamped lines.
 abbrev pub StampCause : StampFault → (past now : Option (List Tai64n)) (old new : Console) → Type 0
 StampCause fault.Read past now old new = Fails old.reader new.reader × Works old.writer new.writer
     × ((lines : ℕ) × Stamps (desk_of old past) (desk_of new now) lines)
@@ -44,6 +44,7 @@ pub record StampsByStatus (status : ℕ) (past now : Option (List Tai64n)) (old 
   pub trouble : status ≢ 0 → (status ≡ 111) × StampsNoFurther past now old new
 
 -- `tai64n` takes no words.
-abbrev pub StampsEnd : (words : List (List ℕ)) (status : ℕ) (past now : Option (List Tai64n)) (old new : Console) → Type 0
+abbrev pub StampsEnd : (words : List (List ℕ)) (status : ℕ) (past now : Option (List Tai64n))
+    (old new : Console) → Type 0
 StampsEnd [] status past now old new = StampsByStatus status past now old new
 StampsEnd (word ∷ words) status past now old new = RefusesWords status old new

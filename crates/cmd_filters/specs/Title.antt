@@ -24,7 +24,8 @@ WritesTitle len reader old new = (input : List ℕ) → reader.bytes ≡ Some in
 
 -- A front of that was written.
 abbrev pub WritesTitleFront : ℕ → (reader : Device) (old new : Device) → Type 0
-WritesTitleFront len reader old new = (input : List ℕ) → reader.bytes ≡ Some input → WroteFront old new (title_line len input)
+WritesTitleFront len reader old new =
+    (input : List ℕ) → reader.bytes ≡ Some input → WroteFront old new (title_line len input)
 
 -- what is told of a fault
 abbrev pub proctitle_told : ProctitleFault → List ℕ

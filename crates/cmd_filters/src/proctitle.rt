@@ -67,7 +67,8 @@ fn write_title<A: Allocator + Clone, W: Write>(
 ) -> Result<(), ProctitleFault>
     ensures ok { OnOk result (Wrote writer.old writer.new (title_text title.now ++ 10 ∷ [])) }
     ensures memory { IsErrOf result ProctitleFault.OutOfMemory → writer.new ≡ writer.old }
-    ensures front { IsErrOf result ProctitleFault.Write → WroteFront writer.old writer.new (title_text title.now ++ 10 ∷ []) }
+    ensures front { IsErrOf result ProctitleFault.Write
+        → WroteFront writer.old writer.new (title_text title.now ++ 10 ∷ []) }
     ensures fault { IsErrOf result ProctitleFault.Write → Fails writer.old writer.new }
     ensures works { OnOk result (Works writer.old writer.new) }
     ensures neither { IfErr result (λ why. (why ≢ ProctitleFault.TooShort) × (why ≢ ProctitleFault.Read)) }
@@ -131,7 +132,8 @@ fn run_title<A: Allocator + Clone, D: Read, W: Write, E: Write>(
     writer: &mut Output<W>,
     faults: &mut Output<E>,
 ) -> u8
-    ensures ends { ShowsTitle len result (console reader.old writer.old faults.old) (console reader.new writer.new faults.new) }
+    ensures ends { ShowsTitle len result
+        (console reader.old writer.old faults.old) (console reader.new writer.new faults.new) }
 {
     match show_title(alloc, len, reader, writer) {
         Ok(()) => DONE,

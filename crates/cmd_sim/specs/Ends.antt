@@ -41,8 +41,8 @@ pub record RefusesLine (old new : Console) : Type 0 where
   pub writes : Works old.writer new.writer
   pub told : Tells old.faults new.faults (told_of (fault.Refused refusal.line refusal.why))
 
--- What a fault comes from: there was no memory, and nothing was read or written; or a device failed, after a front of the
--- answers to what was read.
+-- What a fault comes from: there was no memory, and nothing was read or written; or a device failed, after a front of
+-- the answers to what was read.
 abbrev pub SimCause : SimFault → (old new : Console) → Type 0
 SimCause (fault.Refused line why) old new = ⊥
 SimCause fault.OutOfMemory old new = (new.reader ≡ old.reader) × (new.writer ≡ old.writer)
@@ -58,7 +58,8 @@ pub record TellsTrouble (old new : Console) : Type 0 where
 -- By the status: all lines are answered, one is refused, or there is trouble.
 abbrev pub AnswersByStatus : (status : ℕ) (old new : Console) → Type 0
 AnswersByStatus status old new =
-    ((status ≡ 0) × AnswersInput old new) ⊎ (((status ≡ 100) × RefusesLine old new) ⊎ ((status ≡ 111) × TellsTrouble old new))
+    ((status ≡ 0) × AnswersInput old new)
+    ⊎ (((status ≡ 100) × RefusesLine old new) ⊎ ((status ≡ 111) × TellsTrouble old new))
 
 -- `sim table`
 
@@ -77,7 +78,8 @@ pub record PrintsNoTable (writer writes faults tells : Device) : Type 0 where
 -- The table, by the status.
 abbrev pub TableByStatus : (status : ℕ) (writer writes faults tells : Device) → Type 0
 TableByStatus status writer writes faults tells =
-    ((status ≡ 0) × PrintsTable writer writes faults tells) ⊎ ((status ≡ 111) × PrintsNoTable writer writes faults tells)
+    ((status ≡ 0) × PrintsTable writer writes faults tells)
+    ⊎ ((status ≡ 111) × PrintsNoTable writer writes faults tells)
 
 -- The same where nothing is read.
 abbrev pub TableEnds : (status : ℕ) (old new : Console) → Type 0

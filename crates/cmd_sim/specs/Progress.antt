@@ -28,7 +28,8 @@ text_said (Ok answer) = answer.text ++ 10 ∷ []
 text_said (Err why) = []
 
 -- A line was answered, and its answer waits behind those that wait already.
-pub record Answered (past : Option History) (line : List ℕ) (machine : Option State) (held holds : Option (List ℕ)) (waiting left : List ℕ) : Type 0 where
+pub record Answered (past : Option History) (line : List ℕ) (machine : Option State)
+    (held holds : Option (List ℕ)) (waiting left : List ℕ) : Type 0 where
   pub answer : Said
   pub is : said past line ≡ Ok answer
   pub stands : Stands (Some answer.history) machine
@@ -36,7 +37,8 @@ pub record Answered (past : Option History) (line : List ℕ) (machine : Option 
 
 -- The whole lines among the bytes that were read are answered, but for those that are pending. Some
 -- of the answers wait to be written.
-pub record SoFar (before now held holds : Option (List ℕ)) (pending waiting : List ℕ) (machine : Option State) (count : ℕ) : Type 0 where
+pub record SoFar (before now held holds : Option (List ℕ)) (pending waiting : List ℕ) (machine : Option State)
+    (count : ℕ) : Type 0 where
   pub done : List ℕ
   pub lines : List (List ℕ)
   pub texts : List (List ℕ)

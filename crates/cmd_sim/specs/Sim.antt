@@ -78,7 +78,8 @@ abbrev pub AnswersWhole : (before held holds : Option (List ℕ)) → Type 0
 AnswersWhole before held holds =
     (input : List ℕ) → before ≡ Some input → (refused_in input ≡ None) × Appends held holds (printed_for input)
 
--- This is the first line of an input that is refused, and what was written is what `sim` prints for the lines before it.
+-- This is the first line of an input that is refused, and what was written is what `sim` prints for the lines before
+-- it.
 abbrev pub AnswersBefore : (before held holds : Option (List ℕ)) → Refusal → Type 0
 AnswersBefore before held holds refusal =
     (input : List ℕ) → before ≡ Some input → (refused_in input ≡ Some refusal) × Appends held holds (printed_for input)

@@ -15,7 +15,8 @@ use tai_status::Label;
 /// Where supervise begins, and what is told of it.
 fn begin_at(opening: (bool, Label)) -> (Machine, ArrayString<128>)
     ensures machine { result.0 ≡ state_of (Begin opening.0 opening.1) }
-    ensures text { result.1.bytes ≡ answer_text (Reply.Took (asks_of_begin (Begin opening.0 opening.1))) (phase_of (Begin opening.0 opening.1)) }
+    ensures text { result.1.bytes
+        ≡ answer_text (Reply.Took (asks_of_begin (Begin opening.0 opening.1))) (phase_of (Begin opening.0 opening.1)) }
 {
     let (down_file, label) = opening;
     let (machine, asks) = Machine::begin(down_file, label);
@@ -38,8 +39,10 @@ pub fn begin(line: &[u8]) -> Result<(Machine, ArrayString<128>), EventFault>
 /// Answers an event line.
 pub fn go_on(machine: Machine, line: &[u8]) -> Result<(Machine, ArrayString<128>), EventFault>
     requires { length line.now ≤ 65536 }
-    ensures ok { IfOk result (λ gone. (past : Option History) → Stands past (Some machine) → Says past line.now gone.1.bytes (Some gone.0)) }
-    ensures refused { (why : EventFault) → IsErrOf result why → (past : Option History) → Stands past (Some machine) → said past line.now ≡ Err why }
+    ensures ok { IfOk result (λ gone. (past : Option History) → Stands past (Some machine)
+        → Says past line.now gone.1.bytes (Some gone.0)) }
+    ensures refused { (why : EventFault) → IsErrOf result why
+        → (past : Option History) → Stands past (Some machine) → said past line.now ≡ Err why }
 {
     match read_event(line) {
         Ok(event) => {

@@ -59,7 +59,8 @@ fn answer_input<A: Allocator, D: Read, W: Write, E: Write>(
     writer: &mut Output<W>,
     faults: &mut Output<E>,
 ) -> u8
-    ensures ends { AnswersByStatus result (console reader.old writer.old faults.old) (console reader.new writer.new faults.new) }
+    ensures ends { AnswersByStatus result
+        (console reader.old writer.old faults.old) (console reader.new writer.new faults.new) }
 {
     match answer_lines(alloc, reader, writer) {
         Ok(()) => DONE,

@@ -44,8 +44,10 @@ impl Session {
 
     /// Answers a line: the first begins, and each later one is an event.
     fn answer(&mut self, line: &[u8]) -> Result<ArrayString<128>, EventFault>
-        ensures ok { IfOk result (λ text. (past : Option History) → Stands past self.old.machine → Says past line.now text.bytes self.new.machine) }
-        ensures refused { (why : EventFault) → IsErrOf result why → (past : Option History) → Stands past self.old.machine → said past line.now ≡ Err why }
+        ensures ok { IfOk result (λ text. (past : Option History) → Stands past self.old.machine
+            → Says past line.now text.bytes self.new.machine) }
+        ensures refused { (why : EventFault) → IsErrOf result why
+            → (past : Option History) → Stands past self.old.machine → said past line.now ≡ Err why }
         ensures count { self.new.count ≡ self.old.count }
         ensures waiting { self.new.waiting ≡ self.old.waiting }
     {
@@ -97,7 +99,8 @@ impl Session {
     fn refuse<W: Write>(&mut self, why: EventFault, writer: &mut Output<W>) -> SimFault
         requires { self.old.count < 2 ^ 63 }
         ensures told { (number : ℕ) (told : EventFault) → result ≡ SimFault.Refused number told
-            → (number ≡ self.old.count + 1) × (told ≡ why) × Wrote writer.old writer.new self.old.waiting × Works writer.old writer.new }
+            → (number ≡ self.old.count + 1) × (told ≡ why)
+            × Wrote writer.old writer.new self.old.waiting × Works writer.old writer.new }
         ensures write { result ≡ SimFault.Write
             → WroteFront writer.old writer.new self.old.waiting × Fails writer.old writer.new }
         ensures neither { (result ≢ SimFault.Read) × (result ≢ SimFault.OutOfMemory) }
@@ -119,7 +122,8 @@ impl Session {
     ) -> Result<(), SimFault>
         requires { self.old.count < 2 ^ 63 }
         ensures ok { OnOk result ((past : Option History) → Stands past self.old.machine
-            → Answered past line.now self.new.machine writer.old.bytes writer.new.bytes self.old.waiting self.new.waiting) }
+            → Answered past line.now self.new.machine writer.old.bytes writer.new.bytes
+            self.old.waiting self.new.waiting) }
         ensures count { OnOk result (self.new.count ≡ self.old.count + 1) }
         ensures refused { (number : ℕ) (why : EventFault) → IsErrOf result (SimFault.Refused number why)
             → (number ≡ self.old.count + 1) × Wrote writer.old writer.new self.old.waiting
@@ -151,16 +155,20 @@ impl Session {
         requires { self.old.count + length lines.old.pending ≤ 2 ^ 63 }
         ensures ok { OnOk result ((before now held : Option (List ℕ))
             → SoFar before now held writer.old.bytes lines.old.pending self.old.waiting self.old.machine self.old.count
-            → SoFar before now held writer.new.bytes lines.new.pending self.new.waiting self.new.machine self.new.count) }
+            → SoFar before now held writer.new.bytes
+            lines.new.pending self.new.waiting self.new.machine self.new.count) }
         ensures waiting { OnOk result (self.new.waiting ≡ []) }
         ensures plain { OnOk result (IsPlain lines.new.pending) }
-        ensures room { OnOk result (self.new.count + length lines.new.pending ≤ self.old.count + length lines.old.pending) }
+        ensures room { OnOk result (self.new.count + length lines.new.pending
+            ≤ self.old.count + length lines.old.pending) }
         ensures less { length lines.new.pending ≤ length lines.old.pending }
         ensures bound { lines.new.bound ≡ lines.old.bound }
-        ensures refused { (number : ℕ) (why : EventFault) → IsErrOf result (SimFault.Refused number why) → (before now held : Option (List ℕ))
+        ensures refused { (number : ℕ) (why : EventFault) → IsErrOf result (SimFault.Refused number why)
+            → (before now held : Option (List ℕ))
             → SoFar before now held writer.old.bytes lines.old.pending self.old.waiting self.old.machine self.old.count
             → AnswersBefore before held writer.new.bytes (record { line = number; why = why }) }
-        ensures near { (number : ℕ) (why : EventFault) → IsErrOf result (SimFault.Refused number why) → (before now held : Option (List ℕ))
+        ensures near { (number : ℕ) (why : EventFault) → IsErrOf result (SimFault.Refused number why)
+            → (before now held : Option (List ℕ))
             → SoFar before now held writer.old.bytes lines.old.pending self.old.waiting self.old.machine self.old.count
             → length lines.old.pending ≤ 98304 → ReadsNear before now number }
         ensures refused_works { (number : ℕ) (why : EventFault) → IsErrOf result (SimFault.Refused number why)
@@ -190,10 +198,12 @@ impl Session {
         ensures all { OnOk result ((before now held : Option (List ℕ))
             → SoFar before now held writer.old.bytes lines.old.pending self.old.waiting self.old.machine self.old.count
             → IsAtEnd now → AnswersWhole before held writer.new.bytes) }
-        ensures refused { (number : ℕ) (why : EventFault) → IsErrOf result (SimFault.Refused number why) → (before now held : Option (List ℕ))
+        ensures refused { (number : ℕ) (why : EventFault) → IsErrOf result (SimFault.Refused number why)
+            → (before now held : Option (List ℕ))
             → SoFar before now held writer.old.bytes lines.old.pending self.old.waiting self.old.machine self.old.count
             → IsAtEnd now → AnswersBefore before held writer.new.bytes (record { line = number; why = why }) }
-        ensures near { (number : ℕ) (why : EventFault) → IsErrOf result (SimFault.Refused number why) → (before now held : Option (List ℕ))
+        ensures near { (number : ℕ) (why : EventFault) → IsErrOf result (SimFault.Refused number why)
+            → (before now held : Option (List ℕ))
             → SoFar before now held writer.old.bytes lines.old.pending self.old.waiting self.old.machine self.old.count
             → length lines.old.pending ≤ 98304 → ReadsNear before now number }
         ensures refused_works { (number : ℕ) (why : EventFault) → IsErrOf result (SimFault.Refused number why)

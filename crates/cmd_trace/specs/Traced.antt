@@ -83,7 +83,8 @@ pub record ShowsFront (text : List ℕ) (at : Option Break) (writer writes : Dev
 
 -- what is told of trouble, behind the command's name
 abbrev pub trouble_words : TraceTrouble → List ℕ
-trouble_words (trouble.Refused fault) = codes "line " ++ decimal fault.line ++ codes ": " ++ kind_name fault.kind ++ 10 ∷ []
+trouble_words (trouble.Refused fault) =
+    codes "line " ++ decimal fault.line ++ codes ": " ++ kind_name fault.kind ++ 10 ∷ []
 trouble_words trouble.OutOfMemory = codes "OutOfMemory" ++ 10 ∷ []
 trouble_words trouble.Write = codes "write fault" ++ 10 ∷ []
 
@@ -97,7 +98,8 @@ unread_text file = codes "trace: unable to read " ++ (file ++ 10 ∷ [])
 -- Why a text is refused: for its first fault; or there was no memory for an entry that it has at that line.
 abbrev pub IsRefusedFor : List ℕ → TraceFault → Type 0
 IsRefusedFor text fault =
-    (fault.kind ≢ kind.OutOfMemory → told_from text ≡ Err fault) × (fault.kind ≡ kind.OutOfMemory → HasEntryAt text fault.line)
+    (fault.kind ≢ kind.OutOfMemory → told_from text ≡ Err fault)
+    × (fault.kind ≡ kind.OutOfMemory → HasEntryAt text fault.line)
 
 -- What trouble comes from. The text is refused; there was no memory for what is printed; or the writer failed, after a
 -- front of that. Only the writer's fault comes after a write.
@@ -127,13 +129,15 @@ TextEnds text at status writer writes faults tells =
     ⊎ ((status ≡ 111) × TellsTrouble text at writer writes faults tells)
 
 -- The file is read, and its text shown.
-pub record EndsWithText (file : Option (List ℕ)) (at : Option Break) (status : ℕ) (writer writes faults tells : Device) : Type 0 where
+pub record EndsWithText (file : Option (List ℕ)) (at : Option Break) (status : ℕ)
+    (writer writes faults tells : Device) : Type 0 where
   pub text : List ℕ
   pub text_is : IsHeld file text
   pub ends : TextEnds text at status writer writes faults tells
 
 -- It is told of a file that is not known to be there that it can't be read, and nothing is written.
-pub record TellsUnread (file_at : List ℕ → Option (List ℕ)) (file : List ℕ) (status : ℕ) (writer writes faults tells : Device) : Type 0 where
+pub record TellsUnread (file_at : List ℕ → Option (List ℕ)) (file : List ℕ) (status : ℕ)
+    (writer writes faults tells : Device) : Type 0 where
   pub unknown : file_at file ≡ None
   pub unwritten : writes ≡ writer
   pub told : Tells faults tells (unread_text file)
@@ -146,7 +150,8 @@ pub record TellsStarved (status : ℕ) (writer writes faults tells : Device) : T
   pub status_is : status ≡ 111
 
 -- `trace` over this file and this break.
-abbrev pub FileEnds : (file_at : List ℕ → Option (List ℕ)) (file : List ℕ) (at : Option Break) (status : ℕ) (writer writes faults tells : Device) → Type 0
+abbrev pub FileEnds : (file_at : List ℕ → Option (List ℕ)) (file : List ℕ) (at : Option Break) (status : ℕ)
+    (writer writes faults tells : Device) → Type 0
 FileEnds file_at file at status writer writes faults tells =
     EndsWithText (file_at file) at status writer writes faults tells
     ⊎ (TellsUnread file_at file status writer writes faults tells ⊎ TellsStarved status writer writes faults tells)
@@ -159,14 +164,16 @@ pub record TellsUsage (words : List (List ℕ)) (status : ℕ) (writer writes fa
   pub status_is : status ≡ 100
 
 -- What words ask for was done, or there was trouble with it.
-pub record DoesAsked (file_at : List ℕ → Option (List ℕ)) (words : List (List ℕ)) (status : ℕ) (writer writes faults tells : Device) : Type 0 where
+pub record DoesAsked (file_at : List ℕ → Option (List ℕ)) (words : List (List ℕ)) (status : ℕ)
+    (writer writes faults tells : Device) : Type 0 where
   pub file : List ℕ
   pub at : Option Break
   pub asked : AskFor words file at
   pub ends : FileEnds file_at file at status writer writes faults tells
 
 -- `trace`, by what its words ask for. No words ask for nothing.
-abbrev pub TraceEnds : (file_at : List ℕ → Option (List ℕ)) (words : List (List ℕ)) (status : ℕ) (writer writes faults tells : Device) → Type 0
+abbrev pub TraceEnds : (file_at : List ℕ → Option (List ℕ)) (words : List (List ℕ)) (status : ℕ)
+    (writer writes faults tells : Device) → Type 0
 TraceEnds file_at [] status writer writes faults tells = TellsUsage [] status writer writes faults tells
 TraceEnds file_at (word ∷ words) status writer writes faults tells =
     DoesAsked file_at (word ∷ words) status writer writes faults tells

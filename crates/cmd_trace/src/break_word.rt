@@ -10,7 +10,8 @@ use sup_trace::Break;
 /// The break that a word names: `byte:C`, where C is a byte as an event's line has it; `phase:PHASE`; or `signal:NAME`.
 pub fn read_break(word: &[u8]) -> Option<Break>
     ensures found { IfSome result (λ at. word.now ≡ break_text at) }
-    ensures byte { (byte : ℕ) → byte < 2 ^ 8 → word.now ≡ break_text (Break.Byte byte) → result ≡ Some (Break.Byte byte) }
+    ensures byte { (byte : ℕ) → byte < 2 ^ 8
+        → word.now ≡ break_text (Break.Byte byte) → result ≡ Some (Break.Byte byte) }
     ensures phase { (phase : Phase) → word.now ≡ break_text (Break.Phase phase) → result ≡ Some (Break.Phase phase) }
     ensures signal { (sig : Sig) → word.now ≡ break_text (Break.Signal sig) → result ≡ Some (Break.Signal sig) }
 {

@@ -15,8 +15,8 @@ pub record Equipment : Type 0 where
   pub console : Console
   pub readings : Option (List Tai64n)
 
--- What the machine around holds, where that is known: its files; the folders and variables; and the commands that it was
--- handed to start.
+-- What the machine around holds, where that is known: its files; the folders and variables; and the commands that it
+-- was handed to start.
 pub record Machine : Type 0 where
   pub files : List ℕ → Option (List ℕ)
   pub around : Around
@@ -27,9 +27,10 @@ abbrev pub NamesNoCommand : List ℕ → Type 0
 NamesNoCommand word = (word ≢ codes "sim") × (word ≢ codes "tai64n") × (word ≢ codes "readproctitle")
     × (word ≢ codes "envdir") × (word ≢ codes "trace")
 
--- The command of this name was given these words, and ended as it promises. Only `tai64n` reads the clock, and only `envdir`
--- starts something.
-pub record CommandEnds (name : List ℕ) (words : List (List ℕ)) (status : ℕ) (machine : Machine) (launched : Option (List Launch)) (old new : Equipment) : Type 0 where
+-- The command of this name was given these words, and ended as it promises. Only `tai64n` reads the clock, and only
+-- `envdir` starts something.
+pub record CommandEnds (name : List ℕ) (words : List (List ℕ)) (status : ℕ) (machine : Machine)
+    (launched : Option (List Launch)) (old new : Equipment) : Type 0 where
   pub unknown : NamesNoCommand name → RefusesWords status old.console new.console
   pub sim : name ≡ codes "sim" → SimEnds words status old.console new.console
   pub tai64n : name ≡ codes "tai64n" → StampsEnd words status old.readings new.readings old.console new.console
@@ -45,13 +46,15 @@ pub record CommandEnds (name : List ℕ) (words : List (List ℕ)) (status : ℕ
   pub child : name ≢ codes "envdir" → launched ≡ machine.launched
 
 -- No word names a command.
-pub record NamesNothing (status : ℕ) (machine : Machine) (launched : Option (List Launch)) (old new : Equipment) : Type 0 where
+pub record NamesNothing (status : ℕ) (machine : Machine) (launched : Option (List Launch))
+    (old new : Equipment) : Type 0 where
   pub refuses : RefusesWords status old.console new.console
   pub clock : new.readings ≡ old.readings
   pub child : launched ≡ machine.launched
 
 -- The first word names the command, and the words after it are its own.
-abbrev pub ProgramEnds : (words : List (List ℕ)) (status : ℕ) (machine : Machine) (launched : Option (List Launch)) (old new : Equipment) → Type 0
+abbrev pub ProgramEnds : (words : List (List ℕ)) (status : ℕ) (machine : Machine)
+    (launched : Option (List Launch)) (old new : Equipment) → Type 0
 ProgramEnds [] status machine launched old new = NamesNothing status machine launched old new
 ProgramEnds (name ∷ words) status machine launched old new = CommandEnds name words status machine launched old new
 

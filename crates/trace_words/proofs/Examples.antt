@@ -3,19 +3,19 @@ use Rattle.std.proofs.Common.{◌≡◌, [], ◌∷◌, Some, None, codes, refl}
 use Rattle.clap.proofs.OnLiterals.{clap_on_literals}
 use Rattle.trace_words.specs.Words.{asked_of}
 
-file_alone : asked_of (codes "t" ∷ []) ≡ Some (codes "t", None)
+pub file_alone : asked_of (codes "t" ∷ []) ≡ Some (codes "t", None)
 unfolding clap_on_literals asked_of
 file_alone = refl
 
-break_behind_file : asked_of (codes "t" ∷ codes "--break" ∷ codes "byte:d" ∷ []) ≡ Some (codes "t", Some (codes "byte:d"))
+pub break_behind_file : asked_of (codes "t" ∷ codes "--break" ∷ codes "byte:d" ∷ []) ≡ Some (codes "t", Some (codes "byte:d"))
 unfolding clap_on_literals asked_of
 break_behind_file = refl
 
-break_before_file : asked_of (codes "--break=byte:d" ∷ codes "t" ∷ []) ≡ Some (codes "t", Some (codes "byte:d"))
+pub break_before_file : asked_of (codes "--break=byte:d" ∷ codes "t" ∷ []) ≡ Some (codes "t", Some (codes "byte:d"))
 unfolding clap_on_literals asked_of
 break_before_file = refl
 
-file_behind_dashes : asked_of (codes "--" ∷ codes "--break" ∷ []) ≡ Some (codes "--break", None)
+pub file_behind_dashes : asked_of (codes "--" ∷ codes "--break" ∷ []) ≡ Some (codes "--break", None)
 unfolding clap_on_literals asked_of
 file_behind_dashes = refl
 
@@ -23,22 +23,22 @@ pub no_word : asked_of [] ≡ None
 unfolding clap_on_literals asked_of
 no_word = refl
 
-two_files : asked_of (codes "t" ∷ codes "u" ∷ []) ≡ None
+pub two_files : asked_of (codes "t" ∷ codes "u" ∷ []) ≡ None
 unfolding clap_on_literals asked_of
 two_files = refl
 
-break_twice : asked_of (codes "--break" ∷ codes "byte:d" ∷ codes "--break" ∷ codes "byte:u" ∷ codes "t" ∷ []) ≡ None
+pub break_twice : asked_of (codes "--break" ∷ codes "byte:d" ∷ codes "--break" ∷ codes "byte:u" ∷ codes "t" ∷ []) ≡ None
 unfolding clap_on_literals asked_of
 break_twice = refl
 
-break_without_value : asked_of (codes "t" ∷ codes "--break" ∷ []) ≡ None
+pub break_without_value : asked_of (codes "t" ∷ codes "--break" ∷ []) ≡ None
 unfolding clap_on_literals asked_of
 break_without_value = refl
 
-unknown_option : asked_of (codes "t" ∷ codes "-x" ∷ []) ≡ None
+pub unknown_option : asked_of (codes "t" ∷ codes "-x" ∷ []) ≡ None
 unfolding clap_on_literals asked_of
 unknown_option = refl
 
-help_flag : asked_of (codes "--help" ∷ []) ≡ None
+pub help_flag : asked_of (codes "--help" ∷ []) ≡ None
 unfolding clap_on_literals asked_of
 help_flag = refl

@@ -8,6 +8,10 @@ ghost use Rattle.std.specs.Prelude.{◌≡◌, map, IfOk, IfErr, Some, None, opt
 ghost use Rattle.clap.specs.Words.{FailsBy, fault_of, found_of, matches_of, rows_of};
 ghost use Rattle.trace_words.specs.Words.{asked_of, trace_line};
 
+mod laws;
+
+pub use laws::worked_lines;
+
 use clap::error::ErrorKind;
 use clap::{Arg, ArgAction, ArgMatches, Command, Error};
 use std::alloc::Global;
@@ -65,6 +69,3 @@ fn match_words<'a>(alloc: Global, words: &'a [&'a str]) -> Result<ArgMatches<'a>
         .arg(at)?
         .try_get_matches_from(words)
 }
-
-#[cfg(test)]
-mod tests;
