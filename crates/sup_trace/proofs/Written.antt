@@ -1,7 +1,6 @@
 -- The text of a trace, in the order in which it is written.
 use Rattle.std.proofs.Common.{◌≡◌, ℕ, List, [], ◌∷◌, ◌++◌, ◌∙◌, append_assoc, append-nil}
 use Rattle.std.specs.Prelude.{map, flat_map}
-use Rattle.std.specs.List.{AllByRecursion}
 use Rattle.std.proofs.lemmas.List.Concat.{flat_map-append}
 use Rattle.std.proofs.lemmas.List.Folds.{flat_map-map}
 use Rattle.sup_core.specs.declared.event.Event.{Event}
