@@ -118,7 +118,8 @@ impl Model for Machine {
 
     ghost view = { λ m. record { phase = m.phase; status = m.view; exiting = m.exiting; until = m.until } };
 
-    ghost invariant = { λ m. IsState (record { phase = m.phase; status = m.view; exiting = m.exiting; until = m.until }) };
+    ghost invariant = { λ m.
+        IsState (record { phase = m.phase; status = m.view; exiting = m.exiting; until = m.until }) };
 
     ghost inverse = { λ s. record { phase = s.phase; view = s.status; exiting = s.exiting; until = s.until } };
 }

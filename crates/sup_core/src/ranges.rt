@@ -1,8 +1,8 @@
 //! What types alone say of a value, told to callers as clauses.
 //!
 //! The prover knows the range of a number, and what every label and every view is held to, where the fields are read;
-//! a caller knows it only from a clause. So each function here reads a value, gives it back as it is, and says its range.
-//! They cost nothing when they run.
+//! a caller knows it only from a clause. So each function here reads a value, gives it back, and says its range. They
+//! cost nothing when they run.
 ghost use Rattle.std.specs.Prelude.{◌≡◌, ◌^◌, ◌<◌};
 ghost use Rattle.tai_status.specs.Label.{IsLabel};
 ghost use Rattle.tai_status.specs.Record.{IsStatus};

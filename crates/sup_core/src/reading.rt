@@ -292,7 +292,8 @@ fn read_rest(word: Word, rest: Option<&[u8]>) -> Result<Event, EventFault>
 /// Whether there is a `down` file, and the label, of a line `begin up LABEL` or `begin down LABEL`, without its newline.
 pub fn read_begin(line: &[u8]) -> Result<(bool, Label), EventFault>
     ensures found { IfOk result (λ (down, label). IsLabel label × (line.now ≡ begin_text down label)) }
-    ensures only { (down : Bool) (label : Tai64n) → IsLabel label → line.now ≡ begin_text down label → result ≡ Ok (down, label) }
+    ensures only { (down : Bool) (label : Tai64n) → IsLabel label → line.now ≡ begin_text down label
+        → result ≡ Ok (down, label) }
     // Which fault it is.
     ensures exact { result ≡ begin_from (fields line.now) }
 {

@@ -96,7 +96,8 @@ fn side(running: bool) -> &'static str
 pub fn table_line(byte: u8, running: bool) -> ArrayString<48>
     ensures line { result.bytes ≡ table_text byte running }
     // The words are the names of what is asked.
-    ensures rules { (past : History) → runs past ≡ running → asked_names byte running ≡ map ask_name (asks_of past (Byte byte)) }
+    ensures rules { (past : History) → runs past ≡ running
+        → asked_names byte running ≡ map ask_name (asks_of past (Byte byte)) }
 {
     let mut out = ArrayString::new();
     push_byte(&mut out, byte);

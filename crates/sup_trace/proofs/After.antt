@@ -6,9 +6,8 @@ use Rattle.sup_core.specs.State.{State}
 use Rattle.sup_core.specs.History.{Opened, state_of}
 use Rattle.sup_core.specs.Rules.{IsEvent, takes, reply_to}
 use Rattle.sup_core.specs.Runs.{followed_by, AreTaken, taken_of}
-use Rattle.sup_core.proofs.Laws.{reply_to-state, takes-state}
 use Rattle.sup_trace.specs.Trace.{Kept, IsTrace, history_of, replay, noted, noted_if_taken, noted_along, new_trace, trace_after}
-use Rattle.sup_trace.proofs.Laws.{IsTrace-new, IsTrace-noted, noted-noted, noted_along-taken, replay-noted}
+use Rattle.sup_trace.proofs.Laws.{IsTrace-new, IsTrace-noted, noted-noted, noted_along-taken, replay-noted, reply_to-noted, takes-noted}
 
 pub trace_after-none : (machine : State) (capacity : ℕ) → trace_after machine capacity [] ≡ new_trace machine capacity
 trace_after-none machine capacity =
@@ -42,14 +41,12 @@ trace_after-append machine capacity xs ys = sym (noted-noted (new_trace machine 
 pub takes-trace_after : (machine : State) (capacity : ℕ) (events : List Event) (event : Event)
     → takes (history_of (trace_after machine capacity events)) event ≡ takes (followed_by (Opened machine) events) event
 takes-trace_after machine capacity events event =
-    takes-state (history_of (trace_after machine capacity events)) (followed_by (Opened machine) events) event
-    (replay-trace_after machine capacity events)
+    takes-noted (new_trace machine capacity) events event
 
 pub reply_to-trace_after : (machine : State) (capacity : ℕ) (events : List Event) (event : Event)
     → reply_to (history_of (trace_after machine capacity events)) event ≡ reply_to (followed_by (Opened machine) events) event
 reply_to-trace_after machine capacity events event =
-    reply_to-state (history_of (trace_after machine capacity events)) (followed_by (Opened machine) events) event
-    (replay-trace_after machine capacity events)
+    reply_to-noted (new_trace machine capacity) events event
 
 -- one more event, which is taken
 pub trace_after-more : (machine : State) (capacity : ℕ) (events : List Event) (event : Event)

@@ -26,7 +26,7 @@ use Rattle.sup_trace.specs.Text.{header, front_lines, lines_text, base_fields, b
 use Rattle.sup_trace.specs.Reading.{Heard, Nothing, Header, Entries, Whole, folded_of_text, phase_of_text, status_of_text, exiting_of_text, until_of_text, standing, state_of_parts, base_from, base_result, with_entry, entry_result, end_result, later_result, line_result, at_end, told_by_parts, parts_of, told_from, HasEntryAt, ReadsEntry, heard_along}
 use Rattle.std.proofs.lemmas.List.{map-append, length-append, append-nil}
 use Rattle.sup_trace.proofs.Steps.{followed, along_after, some_rest, fault_after_entry}
-use Rattle.sup_trace.proofs.Written.{AllByRecursion-joined}
+use Rattle.sup_trace.proofs.Lists.{AllByRecursion-joined}
 use Rattle.sup_trace.proofs.Parts.{TellsFolded, folded_of_text-found, phase_of_text-found, TellsStatus, status_of_text-found, exiting_of_text-found, until_of_text-found}
 
 -- what a choice that succeeds shows

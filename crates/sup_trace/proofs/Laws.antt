@@ -3,14 +3,19 @@ use Rattle.std.proofs.Common.{◌≡◌, ℕ, ◌+◌, ◌-◌, ◌^◌, ◌<◌
 use Rattle.std.proofs.lemmas.List.{append-nil, take-append-drop, drop-drop, drop-append-le, take-append-le}
 use Rattle.std.proofs.Math.Seq.{take-add}
 use Rattle.std.proofs.lemmas.Bool.Decides.{nat_tests}
+use Rattle.std.specs.Prelude.{IfSome}
 use Rattle.std.specs.List.{AllByRecursion}
+use Rattle.tai_status.specs.Label.{IsLabel}
+use Rattle.tai_status.specs.Record.{IsStatus}
 use Rattle.sup_core.specs.declared.event.Event.{Event}
-use Rattle.sup_core.specs.State.{State}
+use Rattle.sup_core.specs.State.{State, IsState}
 use Rattle.sup_core.specs.History.{Opened, Then, state_of}
-use Rattle.sup_core.specs.Rules.{IsEvent, takes, next}
+use Rattle.sup_core.specs.Rules.{IsEvent, takes, next, reply_to}
 use Rattle.sup_core.specs.Runs.{followed_by, AreTaken, after, taken_of}
-use Rattle.sup_core.proofs.Laws.{AreTaken-concat, AreTaken-drop, AreTaken-state, after-state, followed_by-append, followed_by-state, next-taken, state_of-cut, taken_of-state}
-use Rattle.sup_trace.specs.Trace.{Kept, IsTrace, IsKeptUp, history_of, replay, folded_into, cut, noted, noted_if_taken, noted_along, new_trace}
+use Rattle.sup_core.specs.Reading.{IsInRange}
+use Rattle.sup_core.proofs.Laws.{AreTaken-concat, AreTaken-drop, AreTaken-state, after-state, followed_by-append, followed_by-state, next-taken, reply_to-state, state_of-cut, taken_of-state, takes-state}
+use Rattle.sup_trace.specs.Told.{IsTold}
+use Rattle.sup_trace.specs.Trace.{Kept, IsTrace, IsKeptUp, history_of, told_by, replay, folded_into, cut, noted, noted_if_taken, noted_along, new_trace}
 
 -- A base with the first events folded in, and the others, replay to what the whole replays to.
 pub replay-cut : (base : State) (events : List Event) (n : ℕ)
@@ -167,4 +172,56 @@ IsTrace-new base capacity room limit = record {
   fits = omega arith;
   taken = tt;
   count = lit≤ tt;
+}
+
+-- A trace after an event, where it is taken and where it is not.
+pub noted_if_taken-taken : (kept : Kept) (event : Event) → takes (history_of kept) event ≡ true
+    → noted_if_taken kept event ≡ noted kept (event ∷ [])
+noted_if_taken-taken kept event taken = rw taken refl
+
+pub noted_if_taken-held : (kept : Kept) (event : Event) → takes (history_of kept) event ≡ false → noted_if_taken kept event ≡ kept
+noted_if_taken-held kept event held = rw held refl
+
+-- It replays to the machine after that event.
+pub replay-noted_if_taken : (kept : Kept) (event : Event) → replay (noted_if_taken kept event) ≡ state_of (next (history_of kept) event)
+replay-noted_if_taken kept event =
+    let past = history_of kept in
+    elim (takes past event) as (λ b. replay (if b then noted kept (event ∷ []) else kept) ≡ state_of (if b then Then past event else past)) [
+      | true ↦ replay-noted kept (event ∷ [])
+      | false ↦ refl
+    ]
+
+-- Events in two goes
+pub noted_along-append : (kept : Kept) (xs ys : List Event) → noted_along kept (xs ++ ys) ≡ noted_along (noted_along kept xs) ys
+noted_along-append kept [] ys = refl
+noted_along-append kept (x ∷ xs) ys = noted_along-append (noted_if_taken kept x) xs ys
+
+-- A trace after any events is a trace.
+pub IsTrace-noted_along : (kept : Kept) (events : List Event) → IsTrace kept → AllByRecursion IsEvent events → IsTrace (noted_along kept events)
+IsTrace-noted_along kept [] trace conditions = trace
+IsTrace-noted_along kept (event ∷ events) trace conditions =
+    IsTrace-noted_along (noted_if_taken kept event) events (IsTrace-noted_if_taken kept event trace conditions.0) conditions.1
+
+-- What is taken and answered after a trace is so after its whole history.
+pub takes-noted : (kept : Kept) (events : List Event) (event : Event)
+    → takes (history_of (noted kept events)) event ≡ takes (followed_by (history_of kept) events) event
+takes-noted kept events event =
+    takes-state (history_of (noted kept events)) (followed_by (history_of kept) events) event (replay-noted kept events)
+
+pub reply_to-noted : (kept : Kept) (events : List Event) (event : Event)
+    → reply_to (history_of (noted kept events)) event ≡ reply_to (followed_by (history_of kept) events) event
+reply_to-noted kept events event =
+    reply_to-state (history_of (noted kept events)) (followed_by (history_of kept) events) event (replay-noted kept events)
+
+-- The text of a trace tells so: what the types of machines and events hold by themselves are the premises.
+pub IsTold-told_by : (kept : Kept) → IsTrace kept → IsState kept.base → IsStatus kept.base.status → IfSome kept.base.until IsLabel
+    → AllByRecursion IsInRange kept.entries → IsTold (told_by kept)
+IsTold-told_by kept trace state status until ranges = record {
+  state = state;
+  status = status;
+  until = until;
+  count = trace.count;
+  limit = let fits = trace.fits in let limit = trace.limit in omega (arith, fits, limit);
+  taken = trace.taken;
+  ranges = ranges;
 }

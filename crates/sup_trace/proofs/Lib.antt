@@ -3,6 +3,7 @@ pub mod After
 pub mod Taken
 pub mod Plain
 mod Written
+pub mod Lists
 mod Places
 pub mod Parts
 pub mod Steps

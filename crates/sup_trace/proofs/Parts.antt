@@ -1,20 +1,16 @@
 -- The fields of the base's line: what is told is read, and what is read is told so.
-use Rattle.std.proofs.Common.{◌≡◌, ℕ, ◌^◌, ◌<◌, ◌≤◌, ◌&&◌, ◌==◌, nat_le, nat_lt, Bool, true, false, List, [], ◌∷◌, Option, Some, None, Result, Ok, Err, refl, sym, ap, ◌∙◌, arith, decimal, codes, subst}
-use Rattle.std.specs.Prelude.{◌≢◌, ◌↔◌, not, is_none, IsSomeAnd, IfSome, IfOk, if◌then◌else◌, bytes_eq, option_map}
+use Rattle.std.proofs.Common.{◌≡◌, ℕ, ◌^◌, ◌≤◌, ◌&&◌, ◌==◌, nat_le, Bool, true, false, List, [], ◌∷◌, Option, Some, None, Result, Ok, Err, refl, sym, ap, ◌∙◌, arith, decimal, codes, subst}
+use Rattle.std.specs.Prelude.{IfSome, IfOk, if◌then◌else◌, bytes_eq, option_map}
 use Rattle.std.specs.Result.{result_ok}
 use Rattle.std.specs.Str.Parse.{digits_value}
-use Rattle.std.specs.Cmp.Derive.{both_true}
-use Rattle.std.proofs.lemmas.Bool.{and_parts, eqb-true}
+use Rattle.std.proofs.lemmas.Bool.{and_parts}
 use Rattle.std.proofs.lemmas.Slice.Eq.{bytes_eq-Decides}
 use Rattle.std.proofs.lemmas.Fmt.{decimal_is_IsNumeral}
 use Rattle.hex.specs.Hex.{decode_sized, encode_lower, IsBytes}
 use Rattle.hex.specs.declared.error.FromHexError.{FromHexError}
 use Rattle.hex.proofs.HexLemmas.{decode_sized-encode_lower, decode_sized-ok, decode_pairs-ok}
 use Rattle.hex.proofs.Pairs.{decode_sized-pairs}
-use Rattle.tai_status.specs.Label.{Tai64n, IsLabel, label_text, plus_second}
-use Rattle.tai_status.specs.declared.record.Want.{Want}
-use Rattle.tai_status.specs.declared.record.Want.TheVariants as want
-use Rattle.sup_core.specs.State.{State, StandsIn, IsState}
+use Rattle.tai_status.specs.Label.{Tai64n, IsLabel, label_text}
 use Rattle.tai_status.specs.Record.{Status, IsStatus, IsRecord, status_record}
 use Rattle.tai_status.specs.declared.record.RecordFault.{RecordFault}
 use Rattle.tai_status.proofs.Recorded.{found_recorded, status_from-record, IsRecord-status_record}

@@ -1,7 +1,6 @@
 -- The text of a trace, in the order in which it is written.
 use Rattle.std.proofs.Common.{◌≡◌, ℕ, List, [], ◌∷◌, ◌++◌, ◌∙◌, append_assoc, append-nil}
 use Rattle.std.specs.Prelude.{map, flat_map}
-use Rattle.std.specs.List.{AllByRecursion}
 use Rattle.std.proofs.lemmas.List.Concat.{flat_map-append}
 use Rattle.std.proofs.lemmas.List.Folds.{flat_map-map}
 use Rattle.sup_core.specs.declared.event.Event.{Event}
@@ -23,17 +22,3 @@ lines-written header base end xs ys =
     let entries = entry_lines xs ys in
     let last = flat_map-append ended (map event_text (xs ++ ys)) (end ∷ []) in
     simp (last, entries, append_assoc, append-nil)
-
--- what holds of two lists joined holds of both
-pub AllByRecursion-left : {X : Type 0} (P : X → Type 0) (xs ys : List X) → AllByRecursion P (xs ++ ys) → AllByRecursion P xs
-AllByRecursion-left P [] ys h = tt
-AllByRecursion-left P (x ∷ xs) ys h = (h.0, AllByRecursion-left P xs ys h.1)
-
-pub AllByRecursion-right : {X : Type 0} (P : X → Type 0) (xs ys : List X) → AllByRecursion P (xs ++ ys) → AllByRecursion P ys
-AllByRecursion-right P [] ys h = h
-AllByRecursion-right P (x ∷ xs) ys h = AllByRecursion-right P xs ys h.1
-
-pub AllByRecursion-joined : {X : Type 0} (P : X → Type 0) (xs ys : List X) → AllByRecursion P xs → AllByRecursion P ys
-    → AllByRecursion P (xs ++ ys)
-AllByRecursion-joined P [] ys h g = g
-AllByRecursion-joined P (x ∷ xs) ys h g = (h.0, AllByRecursion-joined P xs ys h.1 g)

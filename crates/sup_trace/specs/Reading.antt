@@ -89,7 +89,8 @@ standing phase status exiting = None
 
 -- the state of these and of when settling or resting ends
 abbrev pub state_of_parts : Phase × Status × Bool → Option Tai64n → State
-state_of_parts (phase, status, exiting) until = record { phase = phase; status = status; exiting = exiting; until = until }
+state_of_parts (phase, status, exiting) until =
+    record { phase = phase; status = status; exiting = exiting; until = until }
 
 abbrev pub base_at : ℕ → State → Result Heard TraceFaultKind
 base_at folded state =
@@ -107,7 +108,9 @@ base_from (Some folded) (Some standing) (Some until) = base_at folded (state_of_
 abbrev pub base_result : List (List ℕ) → Result Heard TraceFaultKind
 base_result (word ∷ folded ∷ phase ∷ status ∷ stay ∷ until ∷ []) =
     if bytes_eq word (codes "base")
-    then base_from (folded_of_text folded) (standing (phase_of_text phase) (status_of_text status) (exiting_of_text stay)) (until_of_text until)
+    then
+    base_from (folded_of_text folded) (standing (phase_of_text phase) (status_of_text status) (exiting_of_text stay))
+    (until_of_text until)
     else Err kind.Line
 base_result other = Err kind.Line
 
@@ -127,7 +130,8 @@ entry_result told (Ok event) =
 
 -- the end line: the number of the entries
 abbrev pub end_result : Told → List (List ℕ) → Result Heard TraceFaultKind
-end_result told (count ∷ []) = if bytes_eq count (decimal (length told.entries)) then Ok (Whole told) else Err kind.Number
+end_result told (count ∷ []) =
+    if bytes_eq count (decimal (length told.entries)) then Ok (Whole told) else Err kind.Number
 end_result told other = Err kind.Line
 
 -- a line after the base's, by its fields: a first word `end` makes it the end line
@@ -176,9 +180,9 @@ told_from text = told_by_parts 1 Nothing (parts_of text)
 
 -- Where reading can want memory
 
--- A text has an entry on this line: it begins with a header, a base's line and the lines of entries, each taken where it
--- stands, and the last of these is the line of that number. So the lines before it are read, it is read, and its event is
--- taken there.
+-- A text has an entry on this line: it begins with a header, a base's line and the lines of entries, each taken where
+-- it stands, and the last of these is the line of that number. So the lines before it are read, it is read, and its
+-- event is taken there.
 pub record HasEntryAt (text : List ℕ) (line : ℕ) : Type 0 where
   pub told : Told
   pub so : IsTold told

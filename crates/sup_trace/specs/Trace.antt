@@ -84,7 +84,8 @@ noted_along kept (event ∷ events) = noted_along (noted_if_taken kept event) ev
 abbrev pub trace_after : State → ℕ → List Event → Kept
 trace_after machine capacity events = noted (new_trace machine capacity) events
 
--- Tests
+-- Tests. No contract of this crate speaks of these two: they and proofs/Taken are for crates above, whose types hold a
+-- list of events that were taken and need a fact that computes.
 
 -- whether a process that was started has a number of at least 1
 abbrev pub is_event : Event → Bool

@@ -86,7 +86,8 @@ fn read_until(text: &[u8]) -> Option<Option<Label>>
 #[tactic(auto, using(crate::proofs::Parts::base_result_many))]
 fn base_fields(line: &[u8]) -> Option<BaseFields<'_>>
     ensures { MatchOption result (base_result (fields line.now) ≡ Err TraceFaultKind.Line)
-        (λ f. fields line.now ≡ codes "base" ∷ f.folded.now ∷ f.phase.now ∷ f.status.now ∷ f.stay.now ∷ f.until.now ∷ []) }
+        (λ f. fields line.now
+        ≡ codes "base" ∷ f.folded.now ∷ f.phase.now ∷ f.status.now ∷ f.stay.now ∷ f.until.now ∷ []) }
 {
     let (word, rest) = split_field(line);
     if word != b"base".as_slice() {
@@ -118,7 +119,8 @@ fn phase_of(name: &[u8]) -> Option<Phase>
 
 /// The phase, the status, and whether the machine is to end.
 fn read_standing(fields: &BaseFields<'_>) -> Option<(Phase, View, bool)>
-    ensures { result ≡ standing (phase_of_text fields.now.phase.now) (status_of_text fields.now.status.now) (exiting_of_text fields.now.stay.now) }
+    ensures { result ≡ standing (phase_of_text fields.now.phase.now) (status_of_text fields.now.status.now)
+        (exiting_of_text fields.now.stay.now) }
 {
     let phase = phase_of(fields.phase)?;
     let view = read_status(fields.status)?;
@@ -137,7 +139,8 @@ fn machine_of(standing: (Phase, View, bool), until: Option<Label>) -> Option<Mac
 
 /// The base and the count of folded events of a line.
 pub(crate) fn read_base(line: &[u8]) -> Result<(u64, Machine), TraceFaultKind>
-    ensures base { MatchResult result (λ (folded, base). base_result (fields line.now) ≡ Ok (Entries (told_of base folded [])))
+    ensures base { MatchResult result
+        (λ (folded, base). base_result (fields line.now) ≡ Ok (Entries (told_of base folded [])))
         (λ kind. base_result (fields line.now) ≡ Err kind) }
     ensures memory { IfErr result (λ why. why ≢ kind.OutOfMemory) }
 {

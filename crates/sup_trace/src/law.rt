@@ -18,7 +18,8 @@ use crate::trace::MAX_CAPACITY;
 pub fn traces_after_events()
     ensures new { (machine : State) (capacity : ℕ) (events : List Event) →
         0 < capacity → capacity ≤ MAX_CAPACITY → AllByRecursion IsEvent events →
-        noted_along (new_trace machine capacity) events ≡ trace_after machine capacity (taken_of (Opened machine) events) }
+        noted_along (new_trace machine capacity) events
+        ≡ trace_after machine capacity (taken_of (Opened machine) events) }
     ensures any { (kept : Kept) (events : List Event) → IsTrace kept → AllByRecursion IsEvent events →
         noted_along kept events ≡ noted kept (taken_of (history_of kept) events) }
     ensures in_two_goes { (kept : Kept) (xs ys : List Event) → noted (noted kept xs) ys ≡ noted kept (xs ++ ys) }

@@ -21,7 +21,8 @@ fn newline_at(text: &[u8]) -> Option<usize>
 
 /// What stands before the first newline of a text, and what comes after it.
 fn cut_line(text: &[u8]) -> Option<(&[u8], &[u8])>
-    ensures parts { MatchOption result (parts_of text.now ≡ text.now ∷ []) (λ (line, rest). parts_of text.now ≡ line.now ∷ parts_of rest.now) }
+    ensures parts { MatchOption result (parts_of text.now ≡ text.now ∷ [])
+        (λ (line, rest). parts_of text.now ≡ line.now ∷ parts_of rest.now) }
     ensures shorter { IfSome result (λ (line, rest). length rest.now < length text.now) }
 {
     match newline_at(text) {

@@ -35,7 +35,8 @@ impl<A: Allocator> Model for Reading<A> {
     // The machine is told by the others.
     ghost view = { λ reading. told_of reading.base reading.folded reading.entries.items };
 
-    ghost invariant = { λ reading. reading.machine ≡ replay_of (told_of reading.base reading.folded reading.entries.items) };
+    ghost invariant = { λ reading.
+        reading.machine ≡ replay_of (told_of reading.base reading.folded reading.entries.items) };
 }
 
 /// What is told of the fault of an event's line.
@@ -60,7 +61,8 @@ fn is_header(line: &[u8]) -> bool
 
 /// Reads the first line.
 fn read_header(line: &[u8]) -> Result<(), TraceFaultKind>
-    ensures { MatchResult result (λ u. line_result Nothing line.now ≡ Ok Header) (λ kind. line_result Nothing line.now ≡ Err kind) }
+    ensures { MatchResult result (λ u. line_result Nothing line.now ≡ Ok Header)
+        (λ kind. line_result Nothing line.now ≡ Err kind) }
 {
     if is_header(line) {
         Ok(())
@@ -142,7 +144,8 @@ impl<A: Allocator> Reading<A> {
     /// Takes a line after the base's. Whether it is the end line.
     fn take_line(&mut self, line: &[u8]) -> Result<bool, TraceFaultKind>
         ensures ok { IfOk result (λ ended. line_result (Entries self.old) line.now ≡ Ok (heard_of ended self.new)) }
-        ensures fault { IfErr result (λ why. why ≢ kind.OutOfMemory → line_result (Entries self.old) line.now ≡ Err why) }
+        ensures fault { IfErr result (λ why. why ≢ kind.OutOfMemory
+            → line_result (Entries self.old) line.now ≡ Err why) }
         ensures memory { IfErr result (λ why. why ≡ kind.OutOfMemory
             → AddsEntry self.old (line_result (Entries self.old) line.now)) }
     {
@@ -164,8 +167,8 @@ impl<A: Allocator> Reading<A> {
     /// Takes the next line after the base's. Whether it is the end line.
     fn take_next(&mut self, lines: &mut Lines<'_>) -> Result<bool, TraceFault>
         requires room { lines.old.number + length lines.old.rest.now < 2 ^ 64 }
-        ensures ok { IfOk result (λ ended. ReadsLine lines.old.number lines.new.number lines.old.rest.now lines.new.rest.now
-            (Entries self.old) (heard_of ended self.new)) }
+        ensures ok { IfOk result (λ ended. ReadsLine lines.old.number lines.new.number
+            lines.old.rest.now lines.new.rest.now (Entries self.old) (heard_of ended self.new)) }
         ensures room { OnOk result (lines.new.number + length lines.new.rest.now < 2 ^ 64) }
         ensures shorter { OnOk result (length lines.new.rest.now < length lines.old.rest.now) }
         ensures fault { IfErr result (λ fault. fault.kind ≢ kind.OutOfMemory
@@ -185,9 +188,11 @@ impl<A: Allocator> Reading<A> {
 /// Takes the first line.
 fn take_header(lines: &mut Lines<'_>) -> Result<(), TraceFault>
     requires { lines.old.number + length lines.old.rest.now < 2 ^ 64 }
-    ensures ok { OnOk result (ReadsLine lines.old.number lines.new.number lines.old.rest.now lines.new.rest.now Nothing Header) }
+    ensures ok { OnOk result (ReadsLine lines.old.number lines.new.number
+        lines.old.rest.now lines.new.rest.now Nothing Header) }
     ensures room { OnOk result (lines.new.number + length lines.new.rest.now < 2 ^ 64) }
-    ensures fault { IfErr result (λ fault. told_by_parts lines.old.number Nothing (parts_of lines.old.rest.now) ≡ Err fault) }
+    ensures fault { IfErr result (λ fault.
+        told_by_parts lines.old.number Nothing (parts_of lines.old.rest.now) ≡ Err fault) }
     ensures memory { IfErr result (λ fault. fault.kind ≢ kind.OutOfMemory) }
 {
     let number = lines.number;
@@ -201,10 +206,11 @@ fn take_header(lines: &mut Lines<'_>) -> Result<(), TraceFault>
 /// Takes the base's line.
 fn take_base(lines: &mut Lines<'_>) -> Result<(u64, Machine), TraceFault>
     requires { lines.old.number + length lines.old.rest.now < 2 ^ 64 }
-    ensures ok { IfOk result (λ (folded, base). ReadsLine lines.old.number lines.new.number lines.old.rest.now lines.new.rest.now
-        Header (Entries (told_of base folded []))) }
+    ensures ok { IfOk result (λ (folded, base). ReadsLine lines.old.number lines.new.number
+        lines.old.rest.now lines.new.rest.now Header (Entries (told_of base folded []))) }
     ensures room { OnOk result (lines.new.number + length lines.new.rest.now < 2 ^ 64) }
-    ensures fault { IfErr result (λ fault. told_by_parts lines.old.number Header (parts_of lines.old.rest.now) ≡ Err fault) }
+    ensures fault { IfErr result (λ fault.
+        told_by_parts lines.old.number Header (parts_of lines.old.rest.now) ≡ Err fault) }
     ensures memory { IfErr result (λ fault. fault.kind ≢ kind.OutOfMemory) }
 {
     let number = lines.number;
@@ -224,7 +230,8 @@ fn take_opening(lines: &mut Lines<'_>) -> Result<(u64, Machine), TraceFault>
         → ReadsEntry at lines.new.number (Entries (told_of base folded [])) (parts_of lines.new.rest.now)
         → ReadsEntry at lines.old.number Nothing (parts_of lines.old.rest.now)) }
     ensures room { OnOk result (lines.new.number + length lines.new.rest.now < 2 ^ 64) }
-    ensures fault { IfErr result (λ fault. told_by_parts lines.old.number Nothing (parts_of lines.old.rest.now) ≡ Err fault) }
+    ensures fault { IfErr result (λ fault.
+        told_by_parts lines.old.number Nothing (parts_of lines.old.rest.now) ≡ Err fault) }
     ensures memory { IfErr result (λ fault. fault.kind ≢ kind.OutOfMemory) }
 {
     take_header(lines)?;
@@ -270,11 +277,11 @@ fn read_lines<A: Allocator>(alloc: A, text: &[u8]) -> Result<TraceText<A>, Trace
     Ok(reading.into_text())
 }
 
-/// What this text tells. It has a line `dtools-trace 1`, one for the base, one event line for each entry, oldest first, and
-/// a line `end` with the number of the entries; every line ends in a newline.
+/// What this text tells. It has a line `dtools-trace 1`, one for the base, one event line for each entry, oldest first,
+/// and a line `end` with the number of the entries; every line ends in a newline.
 ///
-/// The base's line is `base FOLDED PHASE RECORD STAY UNTIL`: the count of events before the entries, at most `2 ^ 63`; the
-/// phase; the 36 lower-case digits of the status record; `exit` where the machine is to end, else `stay`; and the label
+/// The base's line is `base FOLDED PHASE RECORD STAY UNTIL`: the count of events before the entries, at most `2 ^ 63`;
+/// the phase; the 36 lower-case digits of the status record; `exit` where the machine is to end, else `stay`; and the label
 /// until which it settles or rests, or `-`. An event line is one that `read_event` reads.
 ///
 /// The first faulty line is told. Want of memory for an entry is told as a fault of its line.

@@ -2,15 +2,6 @@ use super::*;
 use bumpalo::Bump;
 use std::alloc::Allocator;
 use std::test::Fail;
-use sup_core::{Event, Phase};
-use tai_status::Want;
-
-/// A trace of four events at capacity 1, without the last, by hand.
-const TEXT: &[u8] = b"dtools-trace 1
-base 2 up 400000000000000b00000000671200000075 stay -
-byte d
-end 1
-";
 
 /// The lines before an entry.
 const HEAD: &str = "dtools-trace 1
@@ -21,30 +12,6 @@ base 2 up 400000000000000b00000000671200000075 stay -
 fn fault_of<A: Allocator>(alloc: A, text: &[u8]) -> Option<(u64, TraceFaultKind)> {
     let fault = read_text(alloc, text).err()?;
     Some((fault.line, fault.kind))
-}
-
-#[test]
-fn reads_a_trace(rt: HostRuntime) -> Result<(), Fail> {
-    let told = read_text(rt.alloc(), TEXT)?;
-    assert_eq!(rt; told.folded(), 2);
-    assert_eq!(rt; told.entries(), [Event::Byte(b'd')].as_slice());
-    assert_eq!(rt; told.base().phase(), Phase::Up);
-    assert_eq!(rt; told.base().view().pid, 4711);
-    assert_eq!(rt; told.base().view().want, Want::Up);
-    assert_eq!(rt; told.write_text(rt.alloc())?.as_slice(), TEXT);
-    Ok(())
-}
-
-#[test]
-fn refuses_each_proper_prefix(rt: HostRuntime) {
-    for len in 0..TEXT.len() {
-        let newlines = TEXT[..len].iter().filter(|byte| **byte == b'\n').count() as u64;
-        assert_eq!(rt;
-            fault_of(rt.alloc(), &TEXT[..len]),
-            Some((newlines + 1, TraceFaultKind::Line)),
-            "{len}"
-        );
-    }
 }
 
 #[test]
@@ -127,39 +94,68 @@ fn holds_as_many_entries_as_it_may(rt: HostRuntime) -> Result<(), Fail> {
         text.push_str("byte h\n")?;
     }
     let whole = format!(in rt.alloc(); "{text}end 65536\n")?;
-    assert_eq!(rt;
-        read_text(rt.alloc(), whole.as_bytes())?.entries().len(),
-        65_536
-    );
-    let one_more = format!(in rt.alloc(); "{text}byte h\nend 65537\n")?;
-    assert_eq!(rt;
-        fault_of(rt.alloc(), one_more.as_bytes()),
-        Some((65_539, Line))
-    );
-    let not_taken = format!(in rt.alloc(); "{text}clock @400000000000000d00000000\n")?;
-    assert_eq!(rt;
-        fault_of(rt.alloc(), not_taken.as_bytes()),
-        Some((65_539, Line))
-    );
-    let unknown = format!(in rt.alloc(); "{text}bytes h\n")?;
-    assert_eq!(rt;
-        fault_of(rt.alloc(), unknown.as_bytes()),
-        Some((65_539, UnknownEvent))
-    );
+    let told = read_text(rt.alloc(), whole.as_bytes())?;
+    assert_eq!(rt; told.entries().len(), 65_536);
+    let rows = [
+        ("byte h\nend 65537\n", Line),
+        // It is not taken either.
+        ("clock @400000000000000d00000000\n", Line),
+        ("bytes h\n", UnknownEvent),
+    ];
+    for (later, kind) in rows {
+        let more = format!(in rt.alloc(); "{text}{later}")?;
+        assert_eq!(rt; fault_of(rt.alloc(), more.as_bytes()), Some((65_539, kind)));
+    }
     Ok(())
 }
 
+/// What needs no memory is told where there is none.
 #[test]
-fn says_where_reading_wants_memory(rt: HostRuntime) -> Result<(), Fail> {
+fn reads_without_memory(rt: HostRuntime) -> Result<(), Fail> {
+    use TraceFaultKind::{Line, NotTaken, OutOfMemory};
     let none = Bump::new(rt.alloc());
     none.set_allocation_limit(Some(0));
-    let fault = read_text(&none, TEXT).err().ok_or("no memory was refused")?;
-    assert_eq!(rt; (fault.line, fault.kind), (3, TraceFaultKind::OutOfMemory));
-    // A faulty line before that is told.
-    let fault = read_text(&none, &TEXT[1..]).err().ok_or("no fault")?;
-    assert_eq!(rt; (fault.line, fault.kind), (1, TraceFaultKind::Line));
-    none.set_allocation_limit(None);
-    assert_eq!(rt; read_text(&none, TEXT)?.entries().len(), 1);
+    let rows = [
+        ("byte d\n", Some((3, OutOfMemory))),
+        ("byte 64\n", Some((3, Line))),
+        ("started 1 @400000000000000d00000000\n", Some((3, NotTaken))),
+        ("byte d", Some((3, Line))),
+        ("end 0\n", None),
+    ];
+    for (later, fault) in rows {
+        let text = format!(in rt.alloc(); "{HEAD}{later}")?;
+        assert_eq!(rt; fault_of(&none, text.as_bytes()), fault, "{later}");
+    }
+    assert_eq!(rt; fault_of(&none, b""), Some((1, Line)));
+    Ok(())
+}
+
+/// Each growth of the entries is refused in turn, and told as a fault of the line that asks for it.
+#[test]
+fn says_which_entry_wants_memory(rt: HostRuntime) -> Result<(), Fail> {
+    let mut text = String::from_str(rt.alloc(), HEAD)?;
+    for _ in 0..40 {
+        text.push_str("byte h\n")?;
+    }
+    text.push_str("end 40\n")?;
+    let (mut last, mut read) = (0, false);
+    for step in 0..256 {
+        let some = Bump::new(rt.alloc());
+        some.set_allocation_limit(Some(step * 32));
+        match read_text(&some, text.as_bytes()) {
+            Ok(told) => {
+                read = true;
+                assert_eq!(rt; told.entries().len(), 40);
+            }
+            Err(fault) => {
+                assert_eq!(rt; fault.kind, TraceFaultKind::OutOfMemory);
+                assert!(rt; fault.line >= last && fault.line <= 42 && !read);
+                last = fault.line;
+            }
+        }
+    }
+    // The first growth is refused at line 3, and later ones further on.
+    assert!(rt; read && last > 3);
     Ok(())
 }
 

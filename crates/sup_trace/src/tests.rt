@@ -57,7 +57,7 @@ fn folds_all_but_the_last(rt: HostRuntime) -> Result<(), Fail> {
     assert_eq!(rt; trace.entry(1), None);
     assert_eq!(rt; trace.write_text(rt.alloc())?.as_slice(), TEXT);
 
-    let told = trace.copy_text(rt.alloc())?;
+    let told = read_text(rt.alloc(), TEXT)?;
     assert_eq!(rt; told.folded(), 2);
     assert_eq!(rt; told.entries(), [Event::Byte(b'd')].as_slice());
     assert_eq!(rt; told.base(), trace.base());
@@ -71,29 +71,16 @@ fn folds_all_but_the_last(rt: HostRuntime) -> Result<(), Fail> {
 }
 
 #[test]
-fn explains(rt: HostRuntime) -> Result<(), Fail> {
-    let told = trace_of(rt.alloc(), 1, &LINES[..3])?.copy_text(rt.alloc())?;
-    let lines = explain(rt.alloc(), &told)?;
-    assert_eq!(rt; lines.len(), 1);
-    assert_eq!(rt;
-        lines.as_slice()[0].as_str(),
-        "1 byte d: took TERM:4711 CONT:4711 record:400000000000000b00000000671200000064 -> up"
-    );
-    let told = trace_of(rt.alloc(), 2, &LINES)?.copy_text(rt.alloc())?;
+fn explains_and_breaks(rt: HostRuntime) -> Result<(), Fail> {
+    let trace = trace_of(rt.alloc(), 2, &LINES)?;
+    assert_eq!(rt; (trace.folded(), trace.len(), trace.count()), (2, 2, 4));
+    let told = trace.copy_text(rt.alloc())?;
     let lines = explain(rt.alloc(), &told)?;
     assert_eq!(rt; lines.len(), 2);
     assert_eq!(rt;
         lines.as_slice()[1].as_str(),
         "2 death @400000000000000d00000000: took record:400000000000000d00000000000000000064 -> down"
     );
-    Ok(())
-}
-
-#[test]
-fn breaks(rt: HostRuntime) -> Result<(), Fail> {
-    let trace = trace_of(rt.alloc(), 2, &LINES)?;
-    assert_eq!(rt; (trace.folded(), trace.len(), trace.count()), (2, 2, 4));
-    let told = trace.copy_text(rt.alloc())?;
     let rows = [
         (Break::Phase(Phase::Down), Some(2)),
         (Break::Phase(Phase::Up), Some(1)),
@@ -109,35 +96,27 @@ fn breaks(rt: HostRuntime) -> Result<(), Fail> {
     Ok(())
 }
 
+/// The bases that `folds_all_but_the_last` has not: no entries, an end of settling, and a machine that is to end.
 #[test]
 fn writes_how_a_machine_stands(rt: HostRuntime) -> Result<(), Fail> {
-    let trace = trace_of(rt.alloc(), 3, &LINES[..1])?;
-    let started = b"dtools-trace 1
-base 0 starting 400000000000000a00000000000000000075 stay -
-started 4711 @400000000000000b00000000
-end 1
-";
-    assert_eq!(rt;
-        trace.write_text(rt.alloc())?.as_slice(),
-        started.as_slice()
-    );
-    let settling = Trace::new(rt.alloc(), 3, trace.state())?;
-    let settled = b"dtools-trace 1
-base 0 settling 400000000000000b00000000671200000075 stay @400000000000000c00000000
-end 0
-";
-    assert_eq!(rt;
-        settling.write_text(rt.alloc())?.as_slice(),
-        settled.as_slice()
-    );
+    let settling = trace_of(rt.alloc(), 3, &LINES[..1])?.state();
     let mut gone = begun(true)?;
     gone.step(Event::Byte(b'x'));
-    let gone = Trace::new(rt.alloc(), 3, gone)?;
-    let ended = b"dtools-trace 1
-base 0 gone 400000000000000a00000000000000000064 exit -
-end 0
-";
-    assert_eq!(rt; gone.write_text(rt.alloc())?.as_slice(), ended.as_slice());
+    let rows = [
+        (
+            settling,
+            "base 0 settling 400000000000000b00000000671200000075 stay @400000000000000c00000000",
+        ),
+        (
+            gone,
+            "base 0 gone 400000000000000a00000000000000000064 exit -",
+        ),
+    ];
+    for (machine, base) in rows {
+        let trace = Trace::new(rt.alloc(), 3, machine)?;
+        let text = format!(in rt.alloc(); "dtools-trace 1\n{base}\nend 0\n")?;
+        assert_eq!(rt; trace.write_text(rt.alloc())?.as_slice(), text.as_bytes());
+    }
     Ok(())
 }
 

@@ -49,7 +49,8 @@ pub(crate) fn trace_text<A: Allocator>(
 /// Writes the line of an entry at the end of a text, for each of these.
 fn push_entries<A: Allocator>(out: &mut Vec<u8, A>, entries: &[Event]) -> Result<(), AllocError>
     requires { AllByRecursion IsEvent entries.now }
-    ensures text { OnOk result (out.new.items ≡ out.old.items ++ flat_map (λ event. event_text event ++ 10 ∷ []) entries.now) }
+    ensures text { OnOk result (out.new.items
+        ≡ out.old.items ++ flat_map (λ event. event_text event ++ 10 ∷ []) entries.now) }
     ensures range { OnOk result (AllByRecursion IsInRange entries.now) }
 {
     for event in entries {

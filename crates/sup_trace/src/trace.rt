@@ -80,7 +80,8 @@ impl<A: Allocator> Trace<A> {
 
     /// How many entries there may be.
     pub fn capacity(&self) -> usize
-        ensures { result ≡ self.now.capacity }
+        ensures capacity { result ≡ self.now.capacity }
+        ensures trace { IsTrace self.now }
     {
         self.entries.capacity()
     }

@@ -1,5 +1,5 @@
-use Rattle.std.proofs.Common.{◌≡◌, ◌<◌, ℕ, List, [], length, Ok, sym, ap, ◌∙◌, arith}
-use Rattle.sup_trace.specs.Told.{Told, told_of}
+use Rattle.std.proofs.Common.{◌≡◌, ◌<◌, ℕ, List, length, Ok, sym, ap, ◌∙◌, arith}
+use Rattle.sup_trace.specs.Told.{Told}
 use Rattle.sup_trace.specs.Reading.{Nothing, Entries, told_by_parts, parts_of, told_from}
 use Rattle.sup_trace.proofs.Steps.{over_end, over_none}
 use Rattle.sup_trace.proofs.Whole.{IsTraceText-told}

@@ -1,7 +1,8 @@
 use Rattle.std.proofs.Common.{length-append}
 use Rattle.sup_core.specs.Rules.{IsEvent}
 use Rattle.sup_trace.specs.Text.{header, base_text, end_text}
-use Rattle.sup_trace.proofs.Written.{AllByRecursion-right, lines-written}
+use Rattle.sup_trace.proofs.Lists.{AllByRecursion-right}
+use Rattle.sup_trace.proofs.Written.{lines-written}
 use Rattle.sup_trace.proofs.text.trace_text.Goals as goal
 
 pub push_entries-requires-2 : goal.push_entries-requires-2
