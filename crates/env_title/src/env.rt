@@ -1,4 +1,4 @@
-ghost use Rattle.std.specs.Prelude.{◌≡◌, ◌==◌, [], length, option_copied, IfOk, OnOk, OnErr, string_bytes};
+ghost use Rattle.std.specs.Prelude.{◌≡◌, ◌<◌, ◌==◌, [], length, option_copied, IsErr, IfOk, OnOk, OnErr, string_bytes};
 ghost use Rattle.env_title.specs.Env.{HasDistinctNames, value_of, without, put};
 
 use std::alloc::{AllocError, Allocator, Global};
@@ -66,13 +66,15 @@ impl<A: Allocator> Model for Env<A> {
 }
 
 impl<A: Allocator + Clone> Env<A> {
-    /// The same variables, in memory of this allocator.
+    /// The same variables, in memory of this allocator. Of no variables it takes none.
     pub(crate) fn copy(&self, alloc: A) -> Result<Env<A>, AllocError>
-        ensures { IfOk result (λ copy. copy ≡ self.now) }
+        ensures ok { IfOk result (λ copy. copy ≡ self.now) }
+        ensures memory { IsErr result → 0 < length self.now }
     {
-        let mut variables = Vec::with_capacity(alloc.clone()?, self.len())?;
+        let mut variables = Vec::with_capacity(alloc, self.len())?;
         for variable in &self.variables {
-            variables.push(variable.copy(&alloc)?)?;
+            let copy = variable.copy(variables.allocator())?;
+            variables.push(copy)?;
         }
         Ok(Env { variables })
     }
@@ -86,6 +88,11 @@ impl<A: Allocator> Env<A> {
         Env {
             variables: Vec::new(alloc),
         }
+    }
+
+    /// The allocator of its memory.
+    pub(crate) fn allocator(&self) -> &A {
+        self.variables.allocator()
     }
 
     /// The variables, in order.

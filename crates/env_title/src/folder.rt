@@ -1,4 +1,4 @@
-ghost use Rattle.std.specs.Prelude.{◌≡◌, true, MatchOption, IsOk, IfOk, OnOk, IsErrOf, IsOkUnless};
+ghost use Rattle.std.specs.Prelude.{◌≡◌, ◌<◌, ◌+◌, true, length, MatchOption, IsOk, IsErr, IfOk, OnOk, IsErrOf, IsOkUnless};
 ghost use Rattle.std.specs.Str.{is_utf8};
 ghost use Rattle.env_title.specs.Files.{after_file, env_after, file_value};
 ghost use Rattle.env_title.specs.Faults.{first_fault};
@@ -19,7 +19,8 @@ use std::alloc::{AllocError, Allocator};
 ///
 /// The first file that cannot be applied is told, also where there is no memory: a `=` in its name is `NameHasEquals`,
 /// also where the file has 0 bytes, and a value that is not UTF-8 is `NotText`, also where a later file of that name
-/// counts. Else `OutOfMemory` comes only where the allocator refuses the memory for the variables.
+/// counts. Else `OutOfMemory` comes only where the allocator refuses the memory for the variables. No variable and no
+/// file take none.
 pub fn apply<A: Allocator + Clone>(
     alloc: A,
     files: &[EnvFile<'_>],
@@ -29,6 +30,7 @@ pub fn apply<A: Allocator + Clone>(
     ensures refuses { MatchOption (first_fault files.now)
         (IsOkUnless result EnvFault.OutOfMemory)
         (λ fault. IsErrOf result fault) }
+    ensures memory { IsErrOf result EnvFault.OutOfMemory → 0 < length env.now + length files.now }
 {
     check(files)?;
     after(alloc, files, env).map_err(|_| EnvFault::OutOfMemory)
@@ -51,23 +53,20 @@ fn after<A: Allocator + Clone>(
     env: &Env<A>,
 ) -> Result<Env<A>, AllocError>
     requires { first_fault files.now ≡ None }
-    ensures { IfOk result (λ new. new ≡ env_after files.now env.now) }
+    ensures ok { IfOk result (λ new. new ≡ env_after files.now env.now) }
+    ensures memory { IsErr result → 0 < length env.now + length files.now }
 {
-    let mut new = env.copy(alloc.clone()?)?;
+    let mut new = env.copy(alloc)?;
     for file in files {
         if !file.is_hidden() {
-            put_file(&alloc, &mut new, file)?;
+            put_file(&mut new, file)?;
         }
     }
     Ok(new)
 }
 
 /// Sets or removes the variable of one file.
-fn put_file<A: Allocator + Clone>(
-    alloc: &A,
-    env: &mut Env<A>,
-    file: &EnvFile<'_>,
-) -> Result<(), AllocError>
+fn put_file<A: Allocator + Clone>(env: &mut Env<A>, file: &EnvFile<'_>) -> Result<(), AllocError>
     requires { is_utf8 (file_value file.now.bytes) ≡ true }
     ensures { OnOk result (env.new ≡ after_file env.old file.now) }
 {
@@ -75,7 +74,8 @@ fn put_file<A: Allocator + Clone>(
         env.remove(file.name);
         return Ok(());
     }
-    let name = String::from_str(alloc.clone()?, file.name)?;
-    let value = file_value(alloc.clone()?, file.bytes)?;
+    let own = env.allocator().clone()?;
+    let name = String::from_str(own.clone()?, file.name)?;
+    let value = file_value(own, file.bytes)?;
     env.put(name, value)
 }

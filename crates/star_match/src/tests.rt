@@ -88,44 +88,22 @@ fn matches_by_hand(rt: HostRuntime) -> Result<(), Fail> {
 }
 
 #[test]
-fn every_other_byte_is_plain(rt: HostRuntime) -> Result<(), Fail> {
-    for byte in 0..=255u8 {
-        if byte != b'*' {
-            let other = byte ^ 1;
-            let alone = Pattern::read(rt.alloc(), &[byte])?;
-            assert!(rt; alone.matches(&[byte]), "{byte}");
-            assert!(rt; !alone.matches(&[other]), "{byte}");
-            assert!(rt; !alone.matches(&[byte, byte]), "{byte}");
-            let behind_star = Pattern::read(rt.alloc(), &[b'*', byte])?;
-            assert!(rt; behind_star.matches(&[byte]), "{byte}");
-            assert!(rt; behind_star.matches(&[other, b'*', byte]), "{byte}");
-            assert!(rt; !behind_star.matches(&[byte, byte]), "{byte}");
-        }
-    }
-    Ok(())
-}
-
-#[test]
-fn refuses_adjacent_stars(rt: HostRuntime) -> Result<(), Fail> {
-    let refused: [&[u8]; 7] = [b"a**b", b"**", b"***", b"**a", b"a**", b"*a**", b"a*b**c*"];
-    for bytes in refused {
-        let fault = Pattern::read(rt.alloc(), bytes).err();
-        assert_eq!(rt; fault, Some(PatternFault::AdjacentStars), "{bytes:?}");
-    }
-    Ok(())
-}
-
-#[test]
-fn says_where_memory_is_refused(rt: HostRuntime) -> Result<(), Fail> {
+fn tells_why_there_is_no_pattern(rt: HostRuntime) -> Result<(), Fail> {
     let bump = Bump::new(rt.alloc());
     bump.set_allocation_limit(Some(0));
+    let refused: [&[u8]; 7] = [b"a**b", b"**", b"***", b"**a", b"a**", b"*a**", b"a*b**c*"];
+    for bytes in refused {
+        let adjacent = Some(PatternFault::AdjacentStars);
+        assert_eq!(rt;
+            Pattern::read(rt.alloc(), bytes).err(),
+            adjacent,
+            "{bytes:?}"
+        );
+        assert_eq!(rt; Pattern::read(&bump, bytes).err(), adjacent, "{bytes:?}");
+    }
     let fault = Pattern::read(&bump, b"a*b").err();
     assert_eq!(rt; fault, Some(PatternFault::OutOfMemory));
-    let fault = Pattern::read(&bump, b"a**b").err();
-    assert_eq!(rt; fault, Some(PatternFault::AdjacentStars));
     assert!(rt; Pattern::read(&bump, b"")?.matches(b""));
-    bump.set_allocation_limit(None);
-    assert!(rt; Pattern::read(&bump, b"a*b")?.matches(b"axxb"));
     Ok(())
 }
 

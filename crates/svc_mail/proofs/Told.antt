@@ -1,4 +1,5 @@
 -- What a step tells, as the clauses say it.
+use Rattle.std.specs.Prelude.{All}
 use Rattle.std.proofs.Common.{◌≡◌, ℕ, ◌<◌, List, [], ◌∷◌, ◌++◌, length, sym, refl, ap, ◌∙◌, subst, append_assoc, length-append, arith}
 use Rattle.std.proofs.lemmas.List.{append-nil}
 use Rattle.crossbeam_queue.specs.Fifo.{Held}
@@ -20,21 +21,21 @@ module _ {T : Type 0} where
   taken_all v h = subst (λ l. IsWhole v l) (ap (λ l. v.taken ++ l) (no_items h.0 h.1) ∙ append-nil v.taken) h.2
 
   -- so says the receiver, in the clause's words
-  pub found_empty : (v : Knows T) → Held 0 (λ items. IsWhole v (v.taken ++ items)) → IsHistory v.taken × IsAmong v.all v.taken × StartsWith v.taken v.seen
-  found_empty v h = let a = taken_all v h in (a.0, a.1, a.2)
+  pub found_empty : (v : Knows T) → Held 0 (λ items. IsWhole v (v.taken ++ items)) → IsHistory v.taken × IsAmong v.all v.taken × StartsWith v.taken v.seen × All (StartsWith v.taken) v.heard
+  found_empty v h = let a = taken_all v h in (a.0, a.1, a.2, a.4)
 
   -- where all senders have ended, the length of the history is known
   pub settles : (v : Knows T) → ((k : ℕ) → k < v.all → (i : ℕ) × (row : List T) × (seen : List (Letter T)) × (get_elem? v.ended i ≡ some (k, row, seen))) → IsSettled v
   settles v each l m a b = same_length v.all l m a.1 b.1 (λ k lt. let e = each k lt in sym (a.3 e.0 k e.1 e.2 e.3).0 ∙ (b.3 e.0 k e.1 e.2 e.3).0)
 
   -- what is known later was known before
-  pub earlier : (v w : Knows T) (t log : List (Letter T)) → w ≡ taker v.all v.made t v.ended w.seen → StartsWith w.seen v.seen → IsWhole w log → IsWhole v log
+  pub earlier : (v w : Knows T) (t log : List (Letter T)) → w ≡ taker v.all v.made t v.ended w.seen v.heard → StartsWith w.seen v.seen → IsWhole w log → IsWhole v log
   earlier v w t log e s h =
-      let h' : IsWhole (taker v.all v.made t v.ended w.seen) log = subst (λ u. IsWhole u log) e h in
-      (h'.0, h'.1, (s.0 ++ h'.2.0, h'.2.1 ∙ ap (λ l. l ++ h'.2.0) s.1 ∙ append_assoc v.seen s.0 h'.2.0), h'.3)
+      let h' : IsWhole (taker v.all v.made t v.ended w.seen v.heard) log = subst (λ u. IsWhole u log) e h in
+      (h'.0, h'.1, (s.0 ++ h'.2.0, h'.2.1 ∙ ap (λ l. l ++ h'.2.0) s.1 ∙ append_assoc v.seen s.0 h'.2.0), h'.3, h'.4)
 
   -- nothing is left once as many letters were taken as were left
-  pub drained : (v w : Knows T) (letters : List (Letter T)) (left : ℕ) → IsSettled v → w ≡ taker v.all v.made (v.taken ++ letters) v.ended w.seen → StartsWith w.seen v.seen
+  pub drained : (v w : Knows T) (letters : List (Letter T)) (left : ℕ) → IsSettled v → w ≡ taker v.all v.made (v.taken ++ letters) v.ended w.seen v.heard → StartsWith w.seen v.seen
       → length letters ≡ left → Held left (λ items. IsWhole v (v.taken ++ items)) → (items : List (Letter T)) → IsWhole w (w.taken ++ items) → IsWhole v (v.taken ++ letters)
   drained v w letters left settled e s n first items last =
       let t : w.taken ≡ v.taken ++ letters = ap (λ (u : Knows T). u.taken) e in
@@ -45,6 +46,6 @@ module _ {T : Type 0} where
       subst (λ l. IsWhole v l) (ap (λ l. (v.taken ++ letters) ++ l) (no_items items none_left) ∙ append-nil (v.taken ++ letters)) last'
 
   -- nor where the box was found empty
-  pub emptied : (v w : Knows T) (letters : List (Letter T)) → w ≡ taker v.all v.made (v.taken ++ letters) v.ended w.seen → StartsWith w.seen v.seen
+  pub emptied : (v w : Knows T) (letters : List (Letter T)) → w ≡ taker v.all v.made (v.taken ++ letters) v.ended w.seen v.heard → StartsWith w.seen v.seen
       → Held 0 (λ items. IsWhole w (w.taken ++ items)) → IsWhole v (v.taken ++ letters)
   emptied v w letters e s h = earlier v w (v.taken ++ letters) (v.taken ++ letters) e s (subst (λ l. IsWhole w l) (ap (λ (u : Knows T). u.taken) e) (taken_all w h))

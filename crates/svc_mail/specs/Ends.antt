@@ -7,7 +7,21 @@ use Rattle.svc_mail.specs.declared.letter.Letter.{Letter}
 use Rattle.svc_mail.specs.declared.sender.Sender.{Sender}
 use Rattle.svc_mail.specs.declared.receiver.Receiver.{Receiver}
 use Rattle.svc_mail.specs.declared.mailbox.Mailbox.{Mailbox}
+use Rattle.svc_mail.specs.declared.note.Note.{Note}
 use Rattle.svc_mail.specs.History.{letter, row_of, IsHistory, StartsWith, IsAmong}
+
+module _ {T : Type 0} where
+  -- which mailbox the note is of
+  abbrev pub note_home : Note T → TableId
+  note_home n = n.mark.table_id
+
+  -- the history, as far as the end that told it had seen it
+  abbrev pub history_in : Note T → List (Letter T)
+  history_in n = (view n.mark).seen
+
+  -- what was taken, as far as the end that told it knew
+  abbrev pub taken_in : Note T → List (Letter T)
+  taken_in n = (view n.mark).taken
 
 module _ {T A : Type 0} where
   -- which mailbox it is an end of
@@ -24,6 +38,10 @@ module _ {T A : Type 0} where
   -- the history up to its last letter
   abbrev pub seen_by : Sender T A → List (Letter T)
   seen_by s = (view s.mark).seen
+
+  -- of each note that it learnt, what that told that was taken
+  abbrev pub heard_by : Sender T A → List (List (Letter T))
+  heard_by s = (view s.mark).heard
 
   -- how many senders the mailbox has
   abbrev pub senders_of : Sender T A → ℕ
@@ -44,6 +62,10 @@ module _ {T A : Type 0} where
   abbrev pub seen_at : Receiver T A → List (Letter T)
   seen_at r = (view r.mark).seen
 
+  -- of each note that it learnt, the history that it told of
+  abbrev pub heard_at : Receiver T A → List (List (Letter T))
+  heard_at r = (view r.mark).heard
+
   -- how many senders the mailbox has
   abbrev pub senders_at : Receiver T A → ℕ
   senders_at r = (view r.mark).all
@@ -52,30 +74,45 @@ module _ {T A : Type 0} where
   abbrev pub IsSameSender : Sender T A → Sender T A → Type 0
   IsSameSender old new = (home new ≡ home old) × (number_of new ≡ number_of old) × (room_of new ≡ room_of old) × (senders_of new ≡ senders_of old)
 
+  -- the same sender, which posted no more, saw no more and learnt no more
+  abbrev pub IsUnchangedSender : Sender T A → Sender T A → Type 0
+  IsUnchangedSender old new =
+      IsSameSender old new × (posted new ≡ posted old) × (seen_by new ≡ seen_by old) × (heard_by new ≡ heard_by old)
+
   -- as one letter, at the next place of its sender's row, the item joined the history, after all that this sender had seen of it
   abbrev pub JoinsHistory : Sender T A → T → Sender T A → Type 0
   JoinsHistory old item new =
       ((between : List (Letter T)) × (seen_by new ≡ (seen_by old ++ between) ++ letter (number_of old) (length (posted old)) item ∷ []))
       × IsHistory (seen_by new) × (posted new ≡ row_of (number_of new) (seen_by new))
 
-  -- at one moment the mailbox held as many letters as it has room for; what had been taken and those are a history that has this sender's row and goes on from what it had seen
+  -- at one moment the mailbox held as many letters as it has room for: what had been taken, with all that this sender
+  -- had heard of, and those are a history that has this sender's row and goes on from what it had seen
   abbrev pub WasFull : Sender T A → Type 0
   WasFull s =
       (taken held : List (Letter T)) × (length held ≡ room_of s) × IsHistory (taken ++ held) × IsAmong (senders_of s) (taken ++ held)
       × (posted s ≡ row_of (number_of s) (taken ++ held)) × StartsWith (taken ++ held) (seen_by s)
+      × All (StartsWith taken) (heard_by s)
 
   -- the same receiver of the same mailbox
   abbrev pub IsSameReceiver : Receiver T A → Receiver T A → Type 0
   IsSameReceiver old new = (receiver_home new ≡ receiver_home old) × (senders_at new ≡ senders_at old)
+
+  -- the same receiver, which took no more, saw no more and learnt no more
+  abbrev pub IsUnchangedReceiver : Receiver T A → Receiver T A → Type 0
+  IsUnchangedReceiver old new =
+      IsSameReceiver old new × (taken_by new ≡ taken_by old) × (seen_at new ≡ seen_at old) × (heard_at new ≡ heard_at old)
 
   -- what was taken begins the history, which goes on from what the receiver had seen of it
   abbrev pub FollowsHistory : Receiver T A → Receiver T A → Type 0
   FollowsHistory old new =
       IsHistory (seen_at new) × IsAmong (senders_at old) (seen_at new) × StartsWith (seen_at new) (taken_by new) × StartsWith (seen_at new) (seen_at old)
 
-  -- at one moment the mailbox held no letter: what had been taken was the whole history, with all that the receiver had seen of it
+  -- at one moment the mailbox held no letter: what had been taken was the whole history, with all that the receiver had
+  -- seen of it, and all that it had heard of
   abbrev pub WasEmpty : Receiver T A → Type 0
-  WasEmpty r = IsHistory (taken_by r) × IsAmong (senders_at r) (taken_by r) × StartsWith (taken_by r) (seen_at r)
+  WasEmpty r =
+      IsHistory (taken_by r) × IsAmong (senders_at r) (taken_by r) × StartsWith (taken_by r) (seen_at r)
+      × All (StartsWith (taken_by r)) (heard_at r)
 
   -- which mailbox it is
   abbrev pub box_of : Mailbox T A → TableId

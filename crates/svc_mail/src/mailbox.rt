@@ -37,8 +37,8 @@ ghost use Rattle.svc_mail.specs.Ends.{IsOpen, AreNewSenders, AreAllSenders, IsIt
 
 // The mailbox is to have so many senders.
 fn announce_senders<T: Copy, A: Allocator>(queue: &Queue<T, A>, mark: &mut Mark<T>, senders: usize)
-    requires { IsPassOf queue.now mark.old × (view mark.old ≡ taker 0 0 [] [] []) }
-    ensures { IsPassOf queue.now mark.new × (view mark.new ≡ taker senders 0 [] [] []) }
+    requires { IsPassOf queue.now mark.old × (view mark.old ≡ taker 0 0 [] [] [] []) }
+    ensures { IsPassOf queue.now mark.new × (view mark.new ≡ taker senders 0 [] [] [] []) }
 {
     for _made in 0..senders {
         queue.another::<Promised>(mark);
@@ -52,8 +52,8 @@ fn make_senders<T: Copy, A: Allocator + Clone>(
     mark: &mut Mark<T>,
     senders: usize,
 ) -> Result<Vec<Sender<T, A>, A>, AllocError>
-    requires { IsPassOf (arc_value queue.now) mark.old × (view mark.old ≡ taker senders 0 [] [] []) }
-    ensures pass { IfOk result (λ v. IsPassOf (arc_value queue.now) mark.new × (view mark.new ≡ taker senders senders [] [] [])) }
+    requires { IsPassOf (arc_value queue.now) mark.old × (view mark.old ≡ taker senders 0 [] [] [] []) }
+    ensures pass { IfOk result (λ v. IsPassOf (arc_value queue.now) mark.new × (view mark.new ≡ taker senders senders [] [] [] [])) }
     ensures senders { IfOk result (λ v. (length v.items ≡ senders) × AreNewSenders (ruled_capacity (arc_value queue.now)) senders (arc_value queue.now).table.shared.table_id v.items) }
 {
     let mut ends = Vec::with_capacity(alloc, senders)?;
@@ -70,10 +70,10 @@ fn join_senders<T: Copy, A: Allocator + Clone>(
     senders: Vec<Sender<T, A>, A>,
 )
     requires pass { IsPassOf queue.now mark.old }
-    requires knows { view mark.old ≡ taker (view mark.old).all (view mark.old).made (view mark.old).taken [] (view mark.old).seen }
+    requires knows { view mark.old ≡ taker (view mark.old).all (view mark.old).made (view mark.old).taken [] (view mark.old).seen (view mark.old).heard }
     requires senders { All (λ s. home s ≡ queue.now.table.shared.table_id) senders.items }
     ensures pass { IsPassOf queue.now mark.new }
-    ensures knows { view mark.new ≡ taker (view mark.old).all (view mark.old).made (view mark.old).taken (map record_of senders.items) (view mark.old).seen }
+    ensures knows { view mark.new ≡ taker (view mark.old).all (view mark.old).made (view mark.old).taken (map record_of senders.items) (view mark.old).seen (view mark.old).heard }
 {
     for sender in senders {
         queue.absorb::<Ended>(mark, sender.into_mark());

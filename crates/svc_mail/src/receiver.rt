@@ -5,7 +5,8 @@ ghost use Rattle.crossbeam_queue.specs.Passes.{view, IsPassOf};
 ghost use Rattle.svc_mail.specs.Kept.{taker};
 
 use crate::letter::Letter;
-use crate::rule::{Gets, MOST, Mark, Queue};
+use crate::note::Note;
+use crate::rule::{Gets, HearsPosted, MOST, Mark, Queue};
 use std::alloc::{Allocator, Global};
 use std::sync::{Arc, Wait};
 
@@ -17,7 +18,7 @@ pub struct Receiver<T: Copy, A: Allocator = Global> {
     pub(crate) mark: Mark<T>,
     count: u64,
     ghost seated: { IsPassOf (arc_value queue) mark },
-    ghost knows: { view mark ≡ taker (view mark).all (view mark).all (view mark).taken [] (view mark).seen },
+    ghost knows: { view mark ≡ taker (view mark).all (view mark).all (view mark).taken [] (view mark).seen (view mark).heard },
     ghost counted: { count ≡ length (view mark).taken },
     ghost within: { count ≤ 2 ^ 62 },
 }
@@ -27,11 +28,11 @@ impl<T: Copy, A: Allocator> Receiver<T, A> {
     ghost use Rattle.std.specs.Arc.{arc_value};
     ghost use Rattle.crossbeam_queue.specs.Passes.{view, IsPassOf};
     ghost use Rattle.svc_mail.specs.Kept.{taker};
-    ghost use Rattle.svc_mail.specs.Ends.{IsSameReceiver, FollowsHistory, WasEmpty, taken_by, seen_at};
+    ghost use Rattle.svc_mail.specs.Ends.{IsSameReceiver, IsUnchangedReceiver, FollowsHistory, WasEmpty, receiver_home, taken_by, seen_at, heard_at, note_home, history_in, taken_in};
 
     pub(crate) fn over(queue: Arc<Queue<T, A>, A>, mark: Mark<T>) -> Receiver<T, A>
         requires pass { IsPassOf (arc_value queue) mark }
-        requires knows { view mark ≡ taker (view mark).all (view mark).all (view mark).taken [] (view mark).seen }
+        requires knows { view mark ≡ taker (view mark).all (view mark).all (view mark).taken [] (view mark).seen (view mark).heard }
         requires new { (view mark).taken ≡ [] }
         ensures { (result.queue ≡ queue) × (result.mark ≡ mark) }
     {
@@ -43,7 +44,7 @@ impl<T: Copy, A: Allocator> Receiver<T, A> {
     }
 
     pub(crate) fn into_mark(self) -> Mark<T>
-        ensures { (result ≡ self.mark) × (view result ≡ taker (view result).all (view result).all (view result).taken [] (view result).seen) × (result.me.1 ≡ []) }
+        ensures { (result ≡ self.mark) × (view result ≡ taker (view result).all (view result).all (view result).taken [] (view result).seen (view result).heard) × (result.me.1 ≡ []) }
     {
         let Receiver {
             queue: _queue,
@@ -54,13 +55,16 @@ impl<T: Copy, A: Allocator> Receiver<T, A> {
     }
 
     /// The next letter of the mailbox's one history, after those that were taken. `None`, and nothing was taken, only if
-    /// the mailbox was empty at one moment of the call. It takes no memory.
-    /// After 2^62 letters it waits for ever.
+    /// the mailbox was empty at one moment of the call, for all that the receiver knows: all letters that it has seen, and
+    /// all that a sender told it of (`learn`), had been taken. Of letters that no one told it of it may believe that they
+    /// are not posted yet. It takes no memory.
+    /// It may wait, at any letter. After 2^62 letters it waits for ever.
     pub fn take<R: Wait>(&mut self, rt: &R) -> Option<Letter<T>>
         ensures same { IsSameReceiver self.old self.new }
         ensures taken { MatchOption result (taken_by self.new ≡ taken_by self.old) (λ letter. taken_by self.new ≡ taken_by self.old ++ letter ∷ []) }
         ensures history { MatchOption result (seen_at self.new ≡ seen_at self.old) (λ _. FollowsHistory self.old self.new) }
         ensures empty { MatchOption result (WasEmpty self.old) (λ _. ⊤) }
+        ensures heard { heard_at self.new ≡ heard_at self.old }
         ensures within { length (taken_by self.new) ≤ 2 ^ 62 }
     {
         if self.count >= MOST {
@@ -70,5 +74,26 @@ impl<T: Copy, A: Allocator> Receiver<T, A> {
         let next = self.queue.pop_as::<Gets, R>(rt, &mut self.mark)?;
         self.count += 1;
         Some(next)
+    }
+
+    /// Tells which letters were taken, and what the receiver has seen of the history.
+    pub fn tell(&mut self) -> Note<T>
+        ensures same { IsUnchangedReceiver self.old self.new }
+        ensures home { note_home result ≡ receiver_home self.old }
+        ensures taken { taken_in result ≡ taken_by self.old }
+        ensures history { history_in result ≡ seen_at self.old }
+    {
+        Note::of(&self.queue, &mut self.mark)
+    }
+
+    /// Learns what a sender told: from now on `take` answers `None` only where all letters of that note were taken.
+    pub fn learn(&mut self, note: Note<T>)
+        requires { note_home note ≡ receiver_home self.old }
+        ensures same { IsSameReceiver self.old self.new }
+        ensures kept { (taken_by self.new ≡ taken_by self.old) × (seen_at self.new ≡ seen_at self.old) }
+        ensures heard { heard_at self.new ≡ heard_at self.old ++ history_in note ∷ [] }
+    {
+        let told = note.into_mark();
+        self.queue.absorb::<HearsPosted>(&mut self.mark, told);
     }
 }

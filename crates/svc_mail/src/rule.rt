@@ -9,7 +9,7 @@ use std::collections::LinkedList;
 pub(crate) const MOST: u64 = 1 << 62;
 
 /// What an end of a mailbox knows: a sender its number and its row, the receiver what it took and the senders that have
-/// ended, both the history that they have seen. No value of it is made.
+/// ended, both the history that they have seen and what they heard by notes. No value of it is made.
 pub struct Knows<T> {
     pub all: u64,
     pub posts: bool,
@@ -20,6 +20,7 @@ pub struct Knows<T> {
     pub made: u64,
     pub ended: LinkedList<(usize, LinkedList<T>, LinkedList<Letter<T>>)>,
     pub seen: LinkedList<Letter<T>>,
+    pub heard: LinkedList<LinkedList<Letter<T>>>,
 }
 
 /// What was taken, and then what the queue holds, is the history, in which each sender's letters are its row.
@@ -31,7 +32,7 @@ impl<T> Protocol<Letter<T>, Knows<T>> for InOrder {
 
     ghost holds = { Kept };
 
-    ghost first = { taker 0 0 [] [] [] };
+    ghost first = { taker 0 0 [] [] [] [] };
 }
 
 /// A letter joins the history and its sender's row; or the sender learns that the queue was full.
@@ -47,7 +48,7 @@ impl<T> Lesson<Letter<T>, Knows<T>> for Posts {
     ghost use Rattle.std.specs.Prelude.{List, ◌++◌};
     ghost use Rattle.svc_mail.specs.Kept.{MayBe};
 
-    ghost fact = { λ v items. (taken : List _) × MayBe v (taken ++ items) };
+    ghost fact = { λ v items. (taken : List _) × MayBe v taken (taken ++ items) };
 }
 
 /// The receiver takes the next letter of the history; or it learns that it has taken them all.
@@ -73,7 +74,7 @@ impl<T> Split<Knows<T>> for Promised {
     ghost use Rattle.std.specs.Prelude.{◌+◌};
     ghost use Rattle.svc_mail.specs.Kept.{nobody, taker};
 
-    ghost left = { λ v. taker (v.all + 1) v.made v.taken v.ended v.seen };
+    ghost left = { λ v. taker (v.all + 1) v.made v.taken v.ended v.seen v.heard };
 
     ghost right = { λ v. nobody };
 }
@@ -85,9 +86,9 @@ impl<T> Split<Knows<T>> for Made {
     ghost use Rattle.std.specs.Prelude.{◌+◌, []};
     ghost use Rattle.svc_mail.specs.Kept.{poster, taker};
 
-    ghost left = { λ v. taker v.all (v.made + 1) v.taken v.ended v.seen };
+    ghost left = { λ v. taker v.all (v.made + 1) v.taken v.ended v.seen v.heard };
 
-    ghost right = { λ v. poster v.all v.made [] v.seen };
+    ghost right = { λ v. poster v.all v.made [] v.seen [] };
 }
 
 /// A sender has ended, and what it posted and saw is known from then on.
@@ -97,7 +98,42 @@ impl<T> Join<Knows<T>> for Ended {
     ghost use Rattle.std.specs.Prelude.{[], ◌∷◌, ◌++◌};
     ghost use Rattle.svc_mail.specs.Kept.{taker, nobody};
 
-    ghost both = { λ v w. taker v.all v.made v.taken (v.ended ++ (w.number, w.row, w.seen) ∷ []) v.seen };
+    ghost both = { λ v w. taker v.all v.made v.taken (v.ended ++ (w.number, w.row, w.seen) ∷ []) v.seen v.heard };
+
+    ghost spent = { nobody };
+}
+
+/// An end tells what it knows.
+pub struct Told;
+
+impl<T> Split<Knows<T>> for Told {
+    ghost use Rattle.svc_mail.specs.Kept.{noted};
+
+    ghost left = { λ v. v };
+
+    ghost right = { λ v. noted v.taken v.seen };
+}
+
+/// The receiver hears what was posted.
+pub struct HearsPosted;
+
+impl<T> Join<Knows<T>> for HearsPosted {
+    ghost use Rattle.std.specs.Prelude.{[], ◌∷◌, ◌++◌};
+    ghost use Rattle.svc_mail.specs.Kept.{taker, nobody};
+
+    ghost both = { λ v w. taker v.all v.made v.taken v.ended v.seen (v.heard ++ w.seen ∷ []) };
+
+    ghost spent = { nobody };
+}
+
+/// A sender hears what was taken.
+pub struct HearsTaken;
+
+impl<T> Join<Knows<T>> for HearsTaken {
+    ghost use Rattle.std.specs.Prelude.{[], ◌∷◌, ◌++◌};
+    ghost use Rattle.svc_mail.specs.Kept.{poster, nobody};
+
+    ghost both = { λ v w. poster v.all v.number v.row v.seen (v.heard ++ w.taken ∷ []) };
 
     ghost spent = { nobody };
 }

@@ -5,7 +5,8 @@ ghost use Rattle.crossbeam_queue.specs.Passes.{view, IsPassOf};
 ghost use Rattle.svc_mail.specs.Kept.{poster};
 
 use crate::letter::{Full, Letter};
-use crate::rule::{MOST, Made, Mark, Posts, Queue};
+use crate::note::Note;
+use crate::rule::{HearsTaken, MOST, Made, Mark, Posts, Queue};
 use std::alloc::{AllocError, Allocator, Global};
 use std::sync::{Arc, Wait};
 
@@ -19,7 +20,7 @@ pub struct Sender<T: Copy, A: Allocator = Global> {
     number: usize,
     next: u64,
     ghost seated: { IsPassOf (arc_value queue) mark },
-    ghost knows: { view mark ≡ poster (view mark).all number (view mark).row (view mark).seen },
+    ghost knows: { view mark ≡ poster (view mark).all number (view mark).row (view mark).seen (view mark).heard },
     ghost counted: { next ≡ length (view mark).row },
     ghost within: { next ≤ 2 ^ 62 },
 }
@@ -29,7 +30,7 @@ impl<T: Copy, A: Allocator + Clone> Sender<T, A> {
     ghost use Rattle.std.specs.Arc.{arc_value};
     ghost use Rattle.crossbeam_queue.specs.Passes.{view, IsPassOf};
     ghost use Rattle.svc_mail.specs.Kept.{poster, taker};
-    ghost use Rattle.svc_mail.specs.Ends.{IsSameSender, JoinsHistory, WasFull, home, number_of, posted, seen_by, senders_of};
+    ghost use Rattle.svc_mail.specs.Ends.{IsSameSender, IsUnchangedSender, JoinsHistory, WasFull, home, number_of, posted, seen_by, heard_by, senders_of, note_home, history_in, taken_in};
 
     // The next sender, made by the receiver's pass.
     pub(crate) fn make(
@@ -40,8 +41,8 @@ impl<T: Copy, A: Allocator + Clone> Sender<T, A> {
         requires pass { IsPassOf (arc_value queue.now) mark.old }
         requires next { ((view mark.old).takes ≡ true) × ((view mark.old).made ≡ number) × (number < (view mark.old).all) }
         ensures pass { IfOk result (λ s. IsPassOf (arc_value queue.now) mark.new) }
-        ensures next { IfOk result (λ s. view mark.new ≡ taker (view mark.old).all (number + 1) (view mark.old).taken (view mark.old).ended (view mark.old).seen) }
-        ensures sender { IfOk result (λ s. (arc_value s.queue ≡ arc_value queue.now) × IsPassOf (arc_value queue.now) s.mark × (view s.mark ≡ poster (view mark.old).all number [] (view mark.old).seen) × (number_of s ≡ number)) }
+        ensures next { IfOk result (λ s. view mark.new ≡ taker (view mark.old).all (number + 1) (view mark.old).taken (view mark.old).ended (view mark.old).seen (view mark.old).heard) }
+        ensures sender { IfOk result (λ s. (arc_value s.queue ≡ arc_value queue.now) × IsPassOf (arc_value queue.now) s.mark × (view s.mark ≡ poster (view mark.old).all number [] (view mark.old).seen []) × (number_of s ≡ number)) }
     {
         let own = Arc::try_clone(queue)?;
         let its = queue.another::<Made>(mark);
@@ -73,13 +74,16 @@ impl<T: Copy, A: Allocator + Clone> Sender<T, A> {
     }
 
     /// Posts an item, once, as the next letter of this sender. The item comes back, and nothing was posted, only if the
-    /// mailbox was full at one moment of the call. It takes no memory.
-    /// After 2^62 letters of this sender it waits for ever.
+    /// mailbox was full at one moment of the call, for all that this sender knows: it knows its own letters and what the
+    /// receiver told it, so a mailbox of one sender was full; of the other senders it knows no more than it has seen, and
+    /// may believe that they filled it. It takes no memory.
+    /// It may wait, at any letter. After 2^62 letters of this sender it waits for ever.
     pub fn post<R: Wait>(&mut self, rt: &R, item: T) -> Result<(), Full<T>>
         ensures same { IsSameSender self.old self.new }
         ensures row { MatchResult result (λ _. posted self.new ≡ posted self.old ++ item ∷ []) (λ _. posted self.new ≡ posted self.old) }
         ensures history { MatchResult result (λ _. JoinsHistory self.old item self.new) (λ _. seen_by self.new ≡ seen_by self.old) }
         ensures full { IfErr result (λ full. (full.0 ≡ item) × WasFull self.old) }
+        ensures heard { heard_by self.new ≡ heard_by self.old }
         ensures within { length (posted self.new) ≤ 2 ^ 62 }
     {
         if self.next >= MOST {
@@ -98,5 +102,26 @@ impl<T: Copy, A: Allocator + Clone> Sender<T, A> {
             }
             Err(letter) => Err(Full(letter.item)),
         }
+    }
+
+    /// Tells what this sender has seen of the history: up to its own last letter, at the least.
+    pub fn tell(&mut self) -> Note<T>
+        ensures same { IsUnchangedSender self.old self.new }
+        ensures home { note_home result ≡ home self.old }
+        ensures history { history_in result ≡ seen_by self.old }
+    {
+        Note::of(&self.queue, &mut self.mark)
+    }
+
+    /// Learns what the receiver told: from now on `post` answers `Full` only where the box held as many letters as it has
+    /// room for behind those that were taken by that note.
+    pub fn learn(&mut self, note: Note<T>)
+        requires { note_home note ≡ home self.old }
+        ensures same { IsSameSender self.old self.new }
+        ensures kept { (posted self.new ≡ posted self.old) × (seen_by self.new ≡ seen_by self.old) }
+        ensures heard { heard_by self.new ≡ heard_by self.old ++ taken_in note ∷ [] }
+    {
+        let told = note.into_mark();
+        self.queue.absorb::<HearsTaken>(&mut self.mark, told);
     }
 }

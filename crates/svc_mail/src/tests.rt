@@ -64,53 +64,25 @@ fn close_two<T: Copy, A: Allocator + Clone, R: Wait>(
 }
 
 #[test]
-fn a_full_mailbox_gives_the_item_back(rt: HostRuntime) -> Result<(), Fail> {
-    let (mailbox, mut senders, receiver) = Mailbox::<u8>::open(rt.alloc(), 64, 1)?;
-    assert_eq!(rt; mailbox.capacity(), 64);
-    let Some(mut sender) = senders.pop() else {
-        return Ok(());
-    };
-    assert_eq!(rt; sender.number(), 0);
-    for _ in 0..64 {
-        assert!(rt; sender.post(&rt, b'u').is_ok());
+fn a_mailbox_fills_and_empties(rt: HostRuntime) -> Result<(), Fail> {
+    let (mailbox, mut senders, mut receiver) = Mailbox::<u8>::open(rt.alloc(), 64, 1)?;
+    let mut sender = senders.pop().unwrap();
+    assert_eq!(rt; (mailbox.capacity(), sender.number()), (64, 0));
+    for turn in 0..2u64 {
+        assert_eq!(rt; receiver.take(&rt), None);
+        for _ in 0..64 {
+            assert_eq!(rt; sender.post(&rt, b'u'), Ok(()));
+        }
+        assert_eq!(rt; sender.post(&rt, b'd'), Err(Full(b'd')));
+        for place in 0..64u64 {
+            let letter = Letter {
+                sender: 0,
+                place: turn * 64 + place,
+                item: b'u',
+            };
+            assert_eq!(rt; receiver.take(&rt), Some(letter));
+        }
     }
-    assert_eq!(rt; sender.post(&rt, b'd'), Err(Full(b'd')));
-    drop(receiver);
-    Ok(())
-}
-
-#[test]
-fn what_is_left_comes_in_order(rt: HostRuntime) -> Result<(), Fail> {
-    let (mailbox, senders, mut receiver) = Mailbox::<u8>::open(rt.alloc(), 64, 2)?;
-    let (mut first, mut second, room) = two_of(senders, 64, &mailbox);
-    assert_eq!(rt; receiver.take(&rt), None);
-    assert_eq!(rt; first.post(&rt, b'u'), Ok(()));
-    assert_eq!(rt; first.post(&rt, b't'), Ok(()));
-    assert_eq!(rt; second.post(&rt, b'd'), Ok(()));
-    let taken = receiver.take(&rt);
-    assert_eq!(rt;
-        taken,
-        Some(Letter {
-            sender: 0,
-            place: 0,
-            item: b'u'
-        })
-    );
-    let left = close_two(&rt, None, mailbox, first, second, receiver, room)?.into_vec();
-    let rest = [
-        Letter {
-            sender: 0,
-            place: 1,
-            item: b't',
-        },
-        Letter {
-            sender: 1,
-            place: 0,
-            item: b'd',
-        },
-    ];
-    assert_eq!(rt; left.as_slice(), rest.as_slice());
-    every_letter_arrives::<u8, Global>();
     Ok(())
 }
 
@@ -125,40 +97,30 @@ fn region(alloc: Global, left: usize) -> Result<Bump, AllocError> {
 
 #[test]
 fn each_growth_is_refused_in_turn(rt: HostRuntime) -> Result<(), Fail> {
+    let letters = [(0, 0, b'u'), (0, 1, b't'), (1, 0, b'd')].map(|(sender, place, item)| Letter {
+        sender,
+        place,
+        item,
+    });
     let mut opens_refused = 0usize;
     let mut closes_refused = 0usize;
     for words in 0..400usize {
         let bump = region(rt.alloc(), words * 8)?;
-        let Ok((mailbox, senders, mut receiver)) = Mailbox::<u8, &Bump>::open(&bump, 4, 2) else {
+        let Ok((mailbox, senders, mut receiver)) = Mailbox::<u8, &Bump>::open(&bump, 3, 2) else {
             opens_refused = opens_refused.wrapping_add(1);
             continue;
         };
-        let (mut first, mut second, room) = two_of(senders, 4, &mailbox);
+        let (mut first, mut second, room) = two_of(senders, 3, &mailbox);
+        assert_eq!(rt; receiver.take(&rt), None);
         assert_eq!(rt; first.post(&rt, b'u'), Ok(()));
         assert_eq!(rt; first.post(&rt, b't'), Ok(()));
         assert_eq!(rt; second.post(&rt, b'd'), Ok(()));
-        assert_eq!(rt;
-            receiver.take(&rt),
-            Some(Letter {
-                sender: 0,
-                place: 0,
-                item: b'u'
-            })
-        );
+        assert_eq!(rt; first.post(&rt, b'k'), Err(Full(b'k')));
+        receiver.learn(second.tell());
+        assert_eq!(rt; receiver.take(&rt), Some(letters[0]));
+        first.learn(receiver.tell());
         let left = close_two(&rt, Some(&bump), mailbox, first, second, receiver, room)?.into_vec();
-        let rest = [
-            Letter {
-                sender: 0,
-                place: 1,
-                item: b't',
-            },
-            Letter {
-                sender: 1,
-                place: 0,
-                item: b'd',
-            },
-        ];
-        assert_eq!(rt; left.as_slice(), rest.as_slice());
+        assert_eq!(rt; left.as_slice(), &letters[1..]);
         if bump.allocation_limit().is_some() {
             break;
         }
@@ -166,6 +128,7 @@ fn each_growth_is_refused_in_turn(rt: HostRuntime) -> Result<(), Fail> {
     }
     assert!(rt; opens_refused > 0);
     assert!(rt; closes_refused > 0);
+    every_letter_arrives::<u8, Global>();
     Ok(())
 }
 
@@ -299,37 +262,36 @@ struct Piece {
 }
 
 // Posts a piece in a thread of its own, and gives the sender back.
-fn post_in_thread<R>(rt: R, sender: Sender<Piece>, piece: Piece) -> Option<Sender<Piece>>
+fn post_in_thread<R>(
+    rt: R,
+    mut sender: Sender<Piece>,
+    piece: Piece,
+) -> Result<Sender<Piece>, AllocError>
 where
     R: Threads + Wait + Copy + Send + 'static,
 {
     let child = thread::spawn(&rt, move || {
-        let mut sender = sender;
         let _posted = sender.post(&rt, piece).is_ok();
         sender
-    })
-    .ok()?;
-    Some(child.join(&rt))
+    })?;
+    Ok(child.join(&rt))
 }
 
 #[test]
 fn a_spawned_thread_posts(rt: HostRuntime) -> Result<(), Fail> {
     let (_mailbox, mut senders, mut receiver) = Mailbox::<Piece>::open(rt.alloc(), 1, 1)?;
-    let Some(sender) = senders.pop() else {
-        return Ok(());
-    };
     let piece = Piece {
         bytes: [7; 512],
         len: 512,
     };
-    let Some(_sender) = post_in_thread(rt, sender, piece) else {
-        return Ok(());
-    };
-    let Some(letter) = receiver.take(&rt) else {
-        assert!(rt; false);
-        return Ok(());
-    };
-    assert_eq!(rt; (letter.sender, letter.place, letter.item.len), (0, 0, 512));
-    assert_eq!(rt; letter.item.bytes[511], 7);
+    let sender = senders.pop().unwrap();
+    let _sender = post_in_thread(rt, sender, piece)?;
+    let taken = receiver.take(&rt).map(|letter| (
+        letter.sender,
+        letter.place,
+        letter.item.len,
+        letter.item.bytes[511],
+    ));
+    assert_eq!(rt; taken, Some((0, 0, 512, 7)));
     Ok(())
 }

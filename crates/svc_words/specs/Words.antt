@@ -1,7 +1,12 @@
 -- What the words of a svc command say, by the svc page of daemontools (cr.yp.to/daemontools/svc.html).
 -- Words, letters and bytes are lists of bytes.
-use Rattle.std.specs.Prelude.{◌≡◌, ℕ, ◌==◌, nat_le, Bool, true, not, ◌&&◌, if◌then◌else◌, List, [], ◌∷◌, length, drop, slice_index, codes, bytes_eq, filter, flat_map, find, Option}
+use Rattle.std.specs.Prelude.{◌≡◌, ℕ, ◌==◌, nat_le, Bool, true, not, ◌&&◌, if◌then◌else◌, List, [], ◌∷◌, length, drop, slice_index, codes, bytes_eq, filter, map, flat_map, find, Option}
 use Rattle.std.specs.List.{list_any, list_all, IsDistinct}
+use Rattle.std.specs.Borrow.{Bor}
+
+-- the words behind references
+abbrev pub texts : List (Bor (List ℕ)) → List (List ℕ)
+texts words = map (λ word. word.now) words
 
 -- whether a letter is one of these
 abbrev pub is_among : List ℕ → ℕ → Bool

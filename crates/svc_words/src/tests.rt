@@ -1,6 +1,6 @@
 use super::*;
 use bumpalo::Bump;
-use std::process::Abort;
+use std::alloc::{AllocError, Global};
 use std::test::Fail;
 use tai_status::{Label, View, Want};
 
@@ -51,90 +51,95 @@ const SERVICES: [(u32, bool, Want, bool, u64, &str); 7] = [
     ),
 ];
 
-/// Whether these words are an order of these bytes to these services.
-fn orders(
-    rt: &(impl Alloc + Abort),
-    words: &[&str],
-    bytes: &[u8],
-    services: &[&str],
-) -> Result<(), Fail> {
-    let order = assemble(rt.alloc(), words)?;
-    assert_eq!(rt; order.bytes.as_slice(), bytes, "{words:?}");
-    assert_eq!(rt; order.services.len(), services.len(), "{words:?}");
-    for (name, service) in order.services.as_slice().iter().zip(services) {
-        assert_eq!(rt; name.as_str(), *service, "{words:?}");
-    }
-    Ok(())
+/// Words, the bytes of their order and its services.
+const ORDERS: [(&[&str], &[u8], &[&str]); 12] = [
+    (&["-du", "-t", "--", "-x", "s"], b"dut", &["-x", "s"]),
+    (&["-uu", "s"], b"u", &["s"]),
+    (&["-", "s"], b"", &["-", "s"]),
+    (&["-x", "s", "-u", "--"], b"x", &["s", "-u", "--"]),
+    (&["--", "--", "-u"], b"", &["--", "-u"]),
+    (&["-ud", "-du"], b"ud", &[]),
+    (&["", "-u"], b"", &["", "-u"]),
+    (&[], b"", &[]),
+    (&["-udopchaitkx", "s"], b"udopchaitkx", &["s"]),
+    (&["-xktiahcpodu", "-udopchaitkx"], b"xktiahcpodu", &[]),
+    // Behind a `--` and behind a service no letter is read.
+    (&["--", "-z"], b"", &["-z"]),
+    (&["s", "-z"], b"", &["s", "-z"]),
+];
+
+/// Words with unknown letters, and the first of these.
+const UNKNOWN: [(&[&str], u8); 5] = [
+    (&["-uz", "s"], 122),
+    (&["--x", "s"], 45),
+    (&["-u", "-q", "-z"], 113),
+    (&["-uU"], 85),
+    (&["-é"], 0xc3),
+];
+
+/// A region in which so many bytes are left, and which gets no more.
+fn region(alloc: Global, left: usize) -> Result<Bump, AllocError> {
+    let bump = Bump::try_with_capacity(alloc, 4096)?;
+    bump.set_allocation_limit(Some(0));
+    let filler = bump.chunk_capacity().saturating_sub(left);
+    bump.try_alloc_slice_fill_clone(filler, 0u8)?;
+    Ok(bump)
 }
 
 #[test]
 fn parts_words(rt: HostRuntime) -> Result<(), Fail> {
-    orders(&rt, &["-du", "-t", "--", "-x", "s"], b"dut", &["-x", "s"])?;
-    orders(&rt, &["-uu", "s"], b"u", &["s"])?;
-    orders(&rt, &["-", "s"], b"", &["-", "s"])?;
-    orders(&rt, &["-x", "s", "-u", "--"], b"x", &["s", "-u", "--"])?;
-    orders(&rt, &["--", "--", "-u"], b"", &["--", "-u"])?;
-    orders(&rt, &["-ud", "-du"], b"ud", &[])?;
-    orders(&rt, &["", "-u"], b"", &["", "-u"])?;
-    orders(&rt, &[], b"", &[])?;
-    orders(&rt, &["-udopchaitkx", "s"], b"udopchaitkx", &["s"])?;
-    orders(&rt, &["-xktiahcpodu", "-udopchaitkx"], b"xktiahcpodu", &[])
-}
-
-#[test]
-fn tells_the_first_unknown_letter(rt: HostRuntime) -> Result<(), Fail> {
-    let rows: [(&[&str], u8); 5] = [
-        (&["-uz", "s"], 122),
-        (&["--x", "s"], 45),
-        (&["-u", "-q", "-z"], 113),
-        (&["-uU"], 85),
-        (&["-é"], 0xc3),
-    ];
-    for (words, letter) in rows {
-        let fault = assemble(rt.alloc(), words).err();
-        assert_eq!(rt; fault, Some(SvcFault::UnknownLetter(letter)), "{words:?}");
+    for (words, bytes, services) in ORDERS {
+        let order = assemble(rt.alloc(), words)?;
+        assert_eq!(rt; order.bytes.as_slice(), bytes, "{words:?}");
+        assert!(rt;
+            order.services.len() == services.len()
+                && order
+                    .services
+                    .as_slice()
+                    .iter()
+                    .zip(services)
+                    .all(|(name, service)| name.as_str() == *service),
+            "{words:?}"
+        );
+        // Each growth is refused in turn. No service takes no memory.
+        let mut refused = 0u64;
+        for left in 0..400usize {
+            match assemble(&region(rt.alloc(), left)?, words) {
+                Ok(order) => {
+                    assert_eq!(rt; order.services.len(), services.len(), "{words:?}");
+                    break;
+                }
+                Err(fault) => assert_eq!(rt; fault, SvcFault::OutOfMemory, "{words:?}"),
+            }
+            refused = refused.wrapping_add(1);
+        }
+        assert!(rt;
+            (refused > 0) != services.is_empty() && refused < 400,
+            "{words:?}"
+        );
     }
-    // Behind a `--` and behind a service no letter is read.
-    orders(&rt, &["--", "-z"], b"", &["-z"])?;
-    orders(&rt, &["s", "-z"], b"", &["s", "-z"])
-}
-
-#[test]
-fn texts_of_faults(rt: HostRuntime) -> Result<(), Fail> {
-    assert_eq!(rt;
-        SvcFault::UnknownLetter(122).to_string(rt.alloc())?.as_str(),
-        "unknown letter 7a"
-    );
-    assert_eq!(rt;
-        SvcFault::UnknownLetter(1).to_string(rt.alloc())?.as_str(),
-        "unknown letter 01"
-    );
-    assert_eq!(rt;
-        SvcFault::OutOfMemory.to_string(rt.alloc())?.as_str(),
-        "OutOfMemory"
-    );
+    for (words, letter) in UNKNOWN {
+        let unknown = Some(SvcFault::UnknownLetter(letter));
+        assert_eq!(rt; assemble(rt.alloc(), words).err(), unknown, "{words:?}");
+        assert_eq!(rt;
+            assemble(&region(rt.alloc(), 0)?, words).err(),
+            unknown,
+            "{words:?}"
+        );
+    }
     Ok(())
 }
 
 #[test]
-fn says_where_memory_is_refused(rt: HostRuntime) -> Result<(), Fail> {
-    let bump = Bump::new(rt.alloc());
-    bump.set_allocation_limit(Some(0));
-    let fault = assemble(&bump, &["-u", "s"]).err();
-    assert_eq!(rt; fault, Some(SvcFault::OutOfMemory));
-    // An unknown letter comes before.
-    let fault = assemble(&bump, &["-uz", "s"]).err();
-    assert_eq!(rt; fault, Some(SvcFault::UnknownLetter(122)));
-    // No service takes no memory.
-    assert_eq!(rt; assemble(&bump, &["-u"])?.bytes.as_slice(), b"u".as_slice());
-    let view = View::new(at(1)?, 0, false, Want::Down).ok_or("a view")?;
-    assert!(rt; stat_line(&bump, "s", &view, false, &at(1)?).is_err());
-    bump.set_allocation_limit(None);
-    assert_eq!(rt; assemble(&bump, &["-u", "s"])?.services.len(), 1);
-    assert_eq!(rt;
-        stat_line(&bump, "s", &view, false, &at(1)?)?.as_str(),
-        "s: down 0 seconds"
-    );
+fn texts_of_faults(rt: HostRuntime) -> Result<(), Fail> {
+    let rows = [
+        (SvcFault::UnknownLetter(122), "unknown letter 7a"),
+        (SvcFault::UnknownLetter(1), "unknown letter 01"),
+        (SvcFault::OutOfMemory, "OutOfMemory"),
+    ];
+    for (fault, text) in rows {
+        assert_eq!(rt; fault.to_string(rt.alloc())?.as_str(), text);
+    }
     Ok(())
 }
 
@@ -149,6 +154,17 @@ fn lines_of_services(rt: HostRuntime) -> Result<(), Fail> {
         let view = View::new(at(1)?, pid, paused, want).ok_or("only a process is paused")?;
         let told = stat_line(rt.alloc(), "s", &view, normally_up, &at(now)?)?;
         assert_eq!(rt; told.as_str(), line);
+        // Each growth is refused in turn.
+        let mut refused = 0u64;
+        for left in 0..400usize {
+            let bump = region(rt.alloc(), left)?;
+            if let Ok(told) = stat_line(&bump, "s", &view, normally_up, &at(now)?) {
+                assert_eq!(rt; told.as_str(), line);
+                break;
+            }
+            refused = refused.wrapping_add(1);
+        }
+        assert!(rt; refused > 0 && refused < 400);
     }
     Ok(())
 }

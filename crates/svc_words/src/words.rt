@@ -1,5 +1,5 @@
-ghost use Rattle.std.specs.Prelude.{◌≡◌, ◌<◌, true, map, drop, length, IsOk, IsErr, IsErrOf, IfOk, IsOkUnless, MatchOption};
-ghost use Rattle.svc_words.specs.Words.{is_option, after_options, option_letters, order_bytes, service_words, first_unknown};
+ghost use Rattle.std.specs.Prelude.{◌≡◌, ◌<◌, true, drop, length, IsOk, IsErr, IsErrOf, IfOk, IsOkUnless, MatchOption};
+ghost use Rattle.svc_words.specs.Words.{texts, is_option, after_options, option_letters, order_bytes, service_words, first_unknown};
 
 use crate::order::{Order, OrderBytes, SvcFault};
 use std::alloc::{AllocError, Allocator};
@@ -14,12 +14,12 @@ use tai_status::{Name, Names};
 /// The first unknown letter is `UnknownLetter`, also where there is no memory. Else `OutOfMemory` comes only where the
 /// allocator refuses the memory for the names of the services. No service takes none.
 pub fn assemble<A: Allocator + Clone>(alloc: A, words: &[&str]) -> Result<Order<A>, SvcFault>
-    ensures bytes { IfOk result (λ order. order.bytes ≡ order_bytes (map (λ word. word.now) words.now)) }
-    ensures services { IfOk result (λ order. order.services ≡ service_words (map (λ word. word.now) words.now)) }
-    ensures refuses { MatchOption (first_unknown (option_letters (map (λ word. word.now) words.now)))
+    ensures bytes { IfOk result (λ order. order.bytes ≡ order_bytes (texts words.now)) }
+    ensures services { IfOk result (λ order. order.services ≡ service_words (texts words.now)) }
+    ensures refuses { MatchOption (first_unknown (option_letters (texts words.now)))
         (IsOkUnless result SvcFault.OutOfMemory)
         (λ letter. IsErrOf result (SvcFault.UnknownLetter letter)) }
-    ensures memory { IsErrOf result SvcFault.OutOfMemory → 0 < length (service_words (map (λ word. word.now) words.now)) }
+    ensures memory { IsErrOf result SvcFault.OutOfMemory → 0 < length (service_words (texts words.now)) }
 {
     let bytes = read_letters(words)?;
     let services = copy_names(alloc, services_of(words)).map_err(|_| SvcFault::OutOfMemory)?;
@@ -43,10 +43,10 @@ fn letters_of(word: &str) -> &[u8]
 
 /// The bytes of the option words in front.
 fn read_letters(words: &[&str]) -> Result<OrderBytes, SvcFault>
-    ensures fault { MatchOption (first_unknown (option_letters (map (λ word. word.now) words.now)))
+    ensures fault { MatchOption (first_unknown (option_letters (texts words.now)))
         (IsOk result)
         (λ letter. IsErrOf result (SvcFault.UnknownLetter letter)) }
-    ensures bytes { IfOk result (λ bytes. bytes ≡ order_bytes (map (λ word. word.now) words.now)) }
+    ensures bytes { IfOk result (λ bytes. bytes ≡ order_bytes (texts words.now)) }
 {
     let mut bytes = OrderBytes::new();
     for word in words {
@@ -60,7 +60,7 @@ fn read_letters(words: &[&str]) -> Result<OrderBytes, SvcFault>
 
 /// The services among the words.
 fn services_of<'a, 'b>(words: &'a [&'b str]) -> &'a [&'b str]
-    ensures { map (λ word. word.now) result.now ≡ service_words (map (λ word. word.now) words.entry.now) }
+    ensures { texts result.now ≡ service_words (texts words.entry.now) }
 {
     let rest = after_options(words);
     match rest {
@@ -71,7 +71,7 @@ fn services_of<'a, 'b>(words: &'a [&'b str]) -> &'a [&'b str]
 
 /// The words from the first on that is no option word.
 fn after_options<'a, 'b>(words: &'a [&'b str]) -> &'a [&'b str]
-    ensures { map (λ word. word.now) result.now ≡ after_options (map (λ word. word.now) words.entry.now) }
+    ensures { texts result.now ≡ after_options (texts words.entry.now) }
 {
     let mut rest = words;
     while let [word, tail @ ..] = rest {
@@ -85,7 +85,7 @@ fn after_options<'a, 'b>(words: &'a [&'b str]) -> &'a [&'b str]
 
 /// Copies of the words.
 fn copy_names<A: Allocator + Clone>(alloc: A, words: &[&str]) -> Result<Names<A>, AllocError>
-    ensures names { IfOk result (λ names. names ≡ map (λ word. word.now) words.now) }
+    ensures names { IfOk result (λ names. names ≡ texts words.now) }
     ensures memory { IsErr result → 0 < length words.now }
 {
     let mut names = Vec::new(alloc);

@@ -25,7 +25,7 @@ loop-file-preserved g c =
       ];
     }
 
-pub returns : goal.returns
-returns g c =
+pub returns-clause-ok : goal.returns-clause-ok
+returns-clause-ok g c =
     let end = drop_all c.loop-file.file-index c.args.files.now c.loop-file-test.false in
     sym (env_after-nothing c.loop-file.new) ∙ ap (λ files. env_after files c.loop-file.new) (sym end) ∙ c.loop-file.invariant.environment

@@ -26,7 +26,7 @@ loop-number-preserved g c =
     let last : IsNewSender (ruled_capacity q) all q.table.shared.table_id (length c.loop-number.ends.items) s = subst (λ (k : ℕ). IsNewSender (ruled_capacity q) all q.table.shared.table_id k s) (sym old.2) new in
     let items = c.in_ok-push.ensures.items in (
       c.in_ok-make.ensures.pass,
-      c.in_ok-make.ensures.next ∙ ap (λ v. taker v.all (n + 1) v.taken v.ended v.seen) old.1,
+      c.in_ok-make.ensures.next ∙ ap (λ v. taker v.all (n + 1) v.taken v.ended v.seen v.heard) old.1,
       omega (arith, ap length items, length-append c.loop-number.ends.items (s ∷ [])),
       subst (λ l. AreNewSenders (ruled_capacity q) all q.table.shared.table_id l) (sym items) (each_more (IsNewSender (ruled_capacity q) all q.table.shared.table_id) c.loop-number.ends.items s old.3 last),
     )

@@ -14,8 +14,8 @@ drain-letters-requires-clause-knows g c =
     let k = c.join_senders.ensures.knows in
     let w = view c.into_mark-mark.result in
     let same = ap view c.into_mark-mark.ensures.0 in
-    let known = taker w.all w.made w.taken (map record_of ss) w.seen in (
-      k ∙ (λ i. taker (sym k i).all (sym k i).made (sym k i).taken (sym k i).ended (sym k i).seen),
+    let known = taker w.all w.made w.taken (map record_of ss) w.seen w.heard in (
+      k ∙ (λ i. taker (sym k i).all (sym k i).made (sym k i).taken (sym k i).ended (sym k i).seen (sym k i).heard),
       subst IsSettled (sym k) (settles known (λ n lt.
           let at = c.requires.senders.1 n (subst (λ (m : ℕ). n < m) (ap (λ u. u.all) same ∙ c.requires.receiver.1) lt) in
           (at.0, posted at.1, seen_by at.1, get_map record_of ss at.0 at.1 at.2 ∙ ap (λ m. some (m, posted at.1, seen_by at.1)) at.3))),
@@ -28,7 +28,7 @@ returns-clause-left g c =
     let k = c.join_senders.ensures.knows in
     let same = ap view c.into_mark-mark.ensures.0 in
     let left = c.drain-letters.result.items in
-    let is : view c.join_senders.new.mark ≡ taker (view r.mark).all (view r.mark).made (view r.mark).taken (map record_of ss) (view r.mark).seen = k ∙ ap (λ u. taker u.all u.made u.taken (map record_of ss) u.seen) same in
+    let is : view c.join_senders.new.mark ≡ taker (view r.mark).all (view r.mark).made (view r.mark).taken (map record_of ss) (view r.mark).seen (view r.mark).heard = k ∙ ap (λ u. taker u.all u.made u.taken (map record_of ss) u.seen u.heard) same in
     let whole = subst (λ u. IsWhole u (u.taken ++ left)) is c.drain-letters.ensures in
     let log = (view r.mark).taken ++ left in
     let known : IsWholeHistory ss r log = record { places = whole.0; among = whole.1; seen = whole.2; rows = λ i s at. whole.3 i s.number (posted s) (seen_by s) (get_map record_of ss i s at) } in

@@ -1,0 +1,40 @@
+//! What one end of a mailbox tells another.
+ghost use Rattle.std.specs.Prelude.{◌≡◌, []};
+ghost use Rattle.crossbeam_queue.specs.Passes.{view};
+ghost use Rattle.svc_mail.specs.Kept.{noted};
+
+use crate::rule::{Mark, Queue, Told};
+use std::alloc::Allocator;
+
+/// What an end of a mailbox knew when it told it. It has no bytes, and can be sent to where another end is.
+/// Contracts see its mailbox (`note_home`), the history as far as its teller had seen it (`history_in`), and what was
+/// taken, as far as its teller knew (`taken_in`).
+#[derive(Drop)]
+pub struct Note<T> {
+    mark: Mark<T>,
+    ghost whole: { mark.me.1 ≡ [] },
+    ghost told: { view mark ≡ noted (view mark).taken (view mark).seen },
+}
+
+impl<T> Note<T> {
+    ghost use Rattle.std.specs.Prelude.{◌≡◌, []};
+    ghost use Rattle.crossbeam_queue.specs.Passes.{view, IsPassOf, IsSamePass};
+
+    // What the end of this pass knows.
+    pub(crate) fn of<A: Allocator>(queue: &Queue<T, A>, mark: &mut Mark<T>) -> Note<T>
+        requires { IsPassOf queue.now mark.old }
+        ensures same { IsSamePass mark.old mark.new × (view mark.new ≡ view mark.old) }
+        ensures told { (result.mark.table_id ≡ mark.old.table_id) × ((view result.mark).seen ≡ (view mark.old).seen) × ((view result.mark).taken ≡ (view mark.old).taken) }
+    {
+        Note {
+            mark: queue.another::<Told>(mark),
+        }
+    }
+
+    pub(crate) fn into_mark(self) -> Mark<T>
+        ensures { (result ≡ self.mark) × (result.me.1 ≡ []) }
+    {
+        let Note { mark } = self;
+        mark
+    }
+}
