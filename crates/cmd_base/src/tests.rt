@@ -16,7 +16,10 @@ fn tells_in_parts(rt: HostRuntime) {
     );
     // A fault writer that fails changes no status.
     let mut faults = Counted::new(Tight::failing(rt.alloc(), 3));
-    assert_eq!(rt; report_parts(&mut faults, b"ab", b"cd", b"\n", TROUBLE), 111);
+    assert_eq!(rt;
+        report_parts(&mut faults, b"ab", b"cd", b"\n", TROUBLE),
+        111
+    );
     assert_eq!(rt; faults.into_device().held(), b"abc".as_slice());
 }
 

@@ -133,7 +133,13 @@ fn report_fault<E: Write>(
             TROUBLE,
         ),
         EnvdirFault::NotText(_) => {
-            report_parts(faults, b"envdir: ", name.as_bytes(), b": NotText\n", TROUBLE)
+            report_parts(
+                faults,
+                b"envdir: ",
+                name.as_bytes(),
+                b": NotText\n",
+                TROUBLE,
+            )
         }
         EnvdirFault::OutOfMemory => report(faults, b"envdir: OutOfMemory\n", TROUBLE),
     }

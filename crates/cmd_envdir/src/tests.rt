@@ -56,7 +56,10 @@ fn changes_the_environment(rt: HostRuntime) -> Result<(), Fail> {
     assert_eq!(rt; told.as_slice(), b"".as_slice());
     assert_eq!(rt; status, 0);
     let shown = fs::read(&rt, out.as_str())?;
-    assert_eq!(rt; shown.as_slice(), b"x y|none||p\nq|none|path|40000\n".as_slice());
+    assert_eq!(rt;
+        shown.as_slice(),
+        b"x y|none||p\nq|none|path|40000\n".as_slice()
+    );
     // The child is sought in the changed PATH.
     let tool = format!(in rt.alloc(); "{folder}/dtools_tool")?;
     fs::write(&rt, tool.as_str(), "#!/bin/sh\nexit 5\n")?;

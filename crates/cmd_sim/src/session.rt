@@ -115,11 +115,7 @@ impl Session {
     }
 
     /// Answers a line, behind the answers that wait. Where it is refused, those are written.
-    fn answer_line<W: Write>(
-        &mut self,
-        line: &[u8],
-        writer: &mut Output<W>,
-    ) -> Result<(), SimFault>
+    fn answer_line<W: Write>(&mut self, line: &[u8], writer: &mut Output<W>) -> Result<(), SimFault>
         requires { self.old.count < 2 ^ 63 }
         ensures ok { OnOk result ((past : Option History) → Stands past self.old.machine
             → Answered past line.now self.new.machine writer.old.bytes writer.new.bytes

@@ -46,7 +46,12 @@ fn reads_the_file_that_words_name(rt: HostRuntime) {
     for (words, out, told, status) in [
         (["--break=phase:up", "t"], "break 1\n", "", 0),
         (["t", "--break=byte:u"], "no break\n", "", 0),
-        (["u", "--break=byte:u"], "", "trace: unable to read u\n", 111),
+        (
+            ["u", "--break=byte:u"],
+            "",
+            "trace: unable to read u\n",
+            111,
+        ),
         (["u", "--break=byte:64"], "", "dtools: usage\n", 100),
     ] {
         let mut writer = Counted::new(Vec::new(rt.alloc()));

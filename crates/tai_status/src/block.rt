@@ -78,11 +78,7 @@ impl Block {
     }
 
     /// Puts a piece behind what is pending, of which full blocks are written.
-    pub fn put<W: Write>(
-        &mut self,
-        piece: &[u8],
-        writer: &mut Output<W>,
-    ) -> Result<(), DeviceFault>
+    pub fn put<W: Write>(&mut self, piece: &[u8], writer: &mut Output<W>) -> Result<(), DeviceFault>
         ensures ok { OnOk result (Puts writer.old writer.new self.old self.new piece.now) }
         ensures err { OnErr result (WroteFront writer.old writer.new (self.old ++ piece.now)) }
         ensures faults { OnOk result (Works writer.old writer.new) }

@@ -15,7 +15,10 @@ fn labels_and_records(rt: HostRuntime) -> Result<(), Fail> {
     assert_eq!(rt; text(&first).as_slice(), spelled);
     assert_eq!(rt; read_text(spelled), Ok(first));
     let next = first.plus_second();
-    assert_eq!(rt; unpack(&[0x40, 0, 0, 0, 0, 0, 0, 0x0b, 0, 0, 0, 0]), Ok(next));
+    assert_eq!(rt;
+        unpack(&[0x40, 0, 0, 0, 0, 0, 0, 0x0b, 0, 0, 0, 0]),
+        Ok(next)
+    );
     let view = View::new(next, 4711, false, Want::Up).ok_or("no process is paused")?;
     assert_eq!(rt; encode(&view), RUNNING);
     assert_eq!(rt; decode(&RUNNING), Ok(view));

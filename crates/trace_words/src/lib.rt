@@ -10,10 +10,9 @@ ghost use Rattle.trace_words.specs.Words.{asked_of, trace_line};
 
 mod laws;
 
-pub use laws::worked_lines;
-
 use clap::error::ErrorKind;
 use clap::{Arg, ArgAction, ArgMatches, Command, Error};
+pub use laws::worked_lines;
 use std::alloc::Global;
 
 /// What the words of `trace` ask for: a file, and what to break at.

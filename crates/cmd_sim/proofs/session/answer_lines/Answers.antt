@@ -47,7 +47,7 @@ reads-preserved g c =
       c.in_ok-answer_pending.ensures.faults ∙ c.reads.invariant.5,
       (let was = c.reads.invariant.3 in let left = c.in_ok-answer_pending.ensures.room in let more = c.in-Ok-true.ensures.block in let read = c.in-Ok-true.ensures.reads in omega (arith, was, left, more, read.0, read.1)),
       (let more = c.in-Ok-true.ensures.block in let short = c.in-Ok-true.ensures.short in let bound = c.in_ok-answer_pending.ensures.bound ∙ c.reads.invariant.2 in
-      omega (arith, more, short, bound)),
+          omega (arith, more, short, bound)),
     )
 
 pub returns-in-Ok-false-clause-all : goal.returns-in-Ok-false-clause-all
