@@ -79,6 +79,10 @@ module _ {T A : Type 0} where
   IsUnchangedSender old new =
       IsSameSender old new × (posted new ≡ posted old) × (seen_by new ≡ seen_by old) × (heard_by new ≡ heard_by old)
 
+  -- the same sender, which posted these items beyond
+  abbrev pub HasPosted : Sender T A → List T → Sender T A → Type 0
+  HasPosted old items new = IsSameSender old new × (posted new ≡ posted old ++ items)
+
   -- as one letter, at the next place of its sender's row, the item joined the history, after all that this sender had seen of it
   abbrev pub JoinsHistory : Sender T A → T → Sender T A → Type 0
   JoinsHistory old item new =
@@ -101,6 +105,10 @@ module _ {T A : Type 0} where
   abbrev pub IsUnchangedReceiver : Receiver T A → Receiver T A → Type 0
   IsUnchangedReceiver old new =
       IsSameReceiver old new × (taken_by new ≡ taken_by old) × (seen_at new ≡ seen_at old) × (heard_at new ≡ heard_at old)
+
+  -- the same receiver, which took these letters beyond
+  abbrev pub HasTaken : Receiver T A → List (Letter T) → Receiver T A → Type 0
+  HasTaken old letters new = IsSameReceiver old new × (taken_by new ≡ taken_by old ++ letters)
 
   -- what was taken begins the history, which goes on from what the receiver had seen of it
   abbrev pub FollowsHistory : Receiver T A → Receiver T A → Type 0

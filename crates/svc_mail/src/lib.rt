@@ -18,13 +18,15 @@
 //! ever meets any clause, the second of an end as well as the first), nor in which order the letters of two senders stand
 //! to one another, beyond that it is the one order of the history.
 //!
-//! An item is plain data (`Copy`). Each end owns a share of the box, so the ends can be moved into other threads.
+//! An item is plain data (`Copy`). Each end owns a share of the box, so the ends can be moved into other threads. What is
+//! known of an end that comes back from a thread is what the thread promised: `promise` has the promises.
 #![tactic(auto)]
 
 pub mod letter;
 pub mod letters;
 pub mod mailbox;
 pub mod note;
+pub mod promise;
 pub mod receiver;
 pub mod rule;
 pub mod sender;

@@ -1,10 +1,11 @@
 ghost use Rattle.std.specs.Prelude.{◌≡◌, ◌++◌, ◌∷◌, ◌+◌, ◌≤◌, [], IfOk, IfSome, length, vec_len, vec_capacity};
 ghost use Rattle.svc_mail.specs.History.{letter, row_of};
-ghost use Rattle.svc_mail.specs.Ends.{IsSameSender, IsSameReceiver, home, number_of, posted, receiver_home, taken_by, senders_at, box_of, senders_in, AreNewSenders, IsNewSender, IsItsReceiver};
+ghost use Rattle.svc_mail.specs.Ends.{IsSameSender, IsSameReceiver, HasPosted, HasTaken, home, number_of, posted, receiver_home, taken_by, senders_at, box_of, senders_in, AreNewSenders, IsNewSender, IsItsReceiver};
 
 use crate::letter::{Full, Letter};
 use crate::letters::Letters;
 use crate::mailbox::Mailbox;
+use crate::promise::{PostsThese, TakesThese};
 use crate::receiver::Receiver;
 use crate::sender::Sender;
 use crate::whole::every_letter_arrives;
@@ -148,8 +149,7 @@ fn post_until<R: Wait>(rt: &R, sender: &mut Sender<u32>, item: u32)
 
 // Posts all items.
 fn post_all<R: Wait>(rt: &R, mut sender: Sender<u32>, items: &[u32]) -> Sender<u32>
-    ensures same { IsSameSender sender result }
-    ensures posted { posted result ≡ posted sender ++ items.now }
+    ensures { HasPosted sender items.now result }
 {
     for &item in items {
         post_until(rt, &mut sender, item);
@@ -178,9 +178,8 @@ fn take_all<R: Wait>(
     count: usize,
     mut into: Vec<Letter<u32>>,
 ) -> (Receiver<u32>, Vec<Letter<u32>>)
-    requires { vec_len into + count ≤ vec_capacity into }
-    ensures same { IsSameReceiver receiver result.0 }
-    ensures taken { (into.items ≡ taken_by receiver) → (result.1.items ≡ taken_by result.0) }
+    requires { (into.items ≡ []) × (count ≤ vec_capacity into) }
+    ensures { HasTaken receiver result.1.items result.0 }
 {
     for _taken in 0..count {
         into.push_reserved(take_until(rt, &mut receiver));
@@ -189,41 +188,44 @@ fn take_all<R: Wait>(
 }
 
 // Two threads post, a third takes as many letters, and what is left comes last.
-fn carry<R: Threads + Wait + Sync>(
-    rt: &R,
+fn carry<R: Threads + Wait + Copy + Send + 'static>(
+    rt: R,
     alloc: Global,
-    first: &[u32],
-    second: &[u32],
+    first: Vec<u32>,
+    second: Vec<u32>,
     count: usize,
 ) -> Result<(Vec<Letter<u32>>, Letters<u32>), AllocError>
-    ensures first { IfOk result (λ r. row_of 0 (r.0.items ++ r.1) ≡ first.now) }
-    ensures second { IfOk result (λ r. row_of 1 (r.0.items ++ r.1) ≡ second.now) }
+    ensures first { IfOk result (λ r. row_of 0 (r.0.items ++ r.1) ≡ first.items) }
+    ensures second { IfOk result (λ r. row_of 1 (r.0.items ++ r.1) ≡ second.items) }
 {
     let taken = Vec::with_capacity(alloc, count)?;
     let (mailbox, senders, receiver) = Mailbox::open(alloc, 4, 2)?;
     let (one, two, room) = two_of(senders, 4, &mailbox);
-    let (one, (two, (receiver, taken))) = thread::join(
-        rt,
+    let one = thread::spawn_with(
+        &rt,
+        PostsThese::of(&one, &first),
         move || -> Sender<u32>
-            ensures { IsSameSender one result × (posted result ≡ posted one ++ first.entry.now) }
-        { post_all(rt, one, first) },
-        move || -> (Sender<u32>, (Receiver<u32>, Vec<Letter<u32>>))
-            requires { vec_len taken + count ≤ vec_capacity taken }
-            ensures { IsSameSender two result.0 × (posted result.0 ≡ posted two ++ second.entry.now) × IsSameReceiver receiver result.1.0 × ((taken.items ≡ taken_by receiver) → (result.1.1.items ≡ taken_by result.1.0)) }
-        {
-            thread::join(
-                rt,
-                move || -> Sender<u32>
-                    ensures { IsSameSender two result × (posted result ≡ posted two ++ second.entry.now) }
-                { post_all(rt, two, second) },
-                move || -> (Receiver<u32>, Vec<Letter<u32>>)
-                    requires { vec_len taken + count ≤ vec_capacity taken }
-                    ensures { IsSameReceiver receiver result.0 × ((taken.items ≡ taken_by receiver) → (result.1.items ≡ taken_by result.0)) }
-                { take_all(rt, receiver, count, taken) },
-            )
-        },
-    );
-    let left = close_two(rt, None, mailbox, one, two, receiver, room)?;
+            ensures { HasPosted one first.items result }
+        { post_all(&rt, one, &first) },
+    )?;
+    let two = thread::spawn_with(
+        &rt,
+        PostsThese::of(&two, &second),
+        move || -> Sender<u32>
+            ensures { HasPosted two second.items result }
+        { post_all(&rt, two, &second) },
+    )?;
+    let taker = thread::spawn_with(
+        &rt,
+        TakesThese::of(&receiver),
+        move || -> (Receiver<u32>, Vec<Letter<u32>>)
+            requires { (taken.items ≡ []) × (count ≤ vec_capacity taken) }
+            ensures { HasTaken receiver result.1.items result.0 }
+        { take_all(&rt, receiver, count, taken) },
+    )?;
+    let (one, two) = (one.join(&rt), two.join(&rt));
+    let (receiver, taken) = taker.join(&rt);
+    let left = close_two(&rt, None, mailbox, one, two, receiver, room)?;
     Ok((taken, left))
 }
 
@@ -235,7 +237,7 @@ fn two_thousand_letters_cross_threads(rt: HostRuntime) -> Result<(), Fail> {
         first.push(i)?;
         second.push(i + 5000)?;
     }
-    let (taken, left) = carry(&rt, rt.alloc(), &first, &second, 2000)?;
+    let (taken, left) = carry(rt, rt.alloc(), first, second, 2000)?;
     assert_eq!(rt; left.len(), 0);
     let mut nexts = (0u64, 0u64);
     for letter in &taken {
@@ -251,47 +253,5 @@ fn two_thousand_letters_cross_threads(rt: HostRuntime) -> Result<(), Fail> {
         }
     }
     assert_eq!(rt; nexts, (1000, 1000));
-    Ok(())
-}
-
-/// Up to 512 bytes, an item of another size.
-#[derive(Clone, Copy)]
-struct Piece {
-    bytes: [u8; 512],
-    len: u16,
-}
-
-// Posts a piece in a thread of its own, and gives the sender back.
-fn post_in_thread<R>(
-    rt: R,
-    mut sender: Sender<Piece>,
-    piece: Piece,
-) -> Result<Sender<Piece>, AllocError>
-where
-    R: Threads + Wait + Copy + Send + 'static,
-{
-    let child = thread::spawn(&rt, move || {
-        let _posted = sender.post(&rt, piece).is_ok();
-        sender
-    })?;
-    Ok(child.join(&rt))
-}
-
-#[test]
-fn a_spawned_thread_posts(rt: HostRuntime) -> Result<(), Fail> {
-    let (_mailbox, mut senders, mut receiver) = Mailbox::<Piece>::open(rt.alloc(), 1, 1)?;
-    let piece = Piece {
-        bytes: [7; 512],
-        len: 512,
-    };
-    let sender = senders.pop().unwrap();
-    let _sender = post_in_thread(rt, sender, piece)?;
-    let taken = receiver.take(&rt).map(|letter| (
-        letter.sender,
-        letter.place,
-        letter.item.len,
-        letter.item.bytes[511],
-    ));
-    assert_eq!(rt; taken, Some((0, 0, 512, 7)));
     Ok(())
 }
