@@ -47,10 +47,14 @@ fn changes_the_environment(rt: HostRuntime) -> Result<(), Fail> {
     put_file(&rt, &folder, "D", b"p\0q")?;
     put_file(&rt, &folder, "LONG", &[b'l'; 40_000])?;
     put_file(&rt, &folder, ".E", b"\xff")?;
+    put_file(&rt, &folder, "_U", b"under")?;
+    // What begins with a dot is not read: here a folder, which can't be.
+    let hidden = format!(in rt.alloc(); "{folder}/d/.hidden")?;
+    fs::create_dir(&rt, hidden.as_str())?;
     let dir = format!(in rt.alloc(); "{folder}/d")?;
     let out = format!(in rt.alloc(); "{folder}/out")?;
     let script = format!(in rt.alloc();
-        "echo \"$A|${{HOME-none}}|${{C-none}}|$D|${{E-none}}|${{PATH:+path}}|${{#LONG}}\" >>{out}"
+        "echo \"$A|${{HOME-none}}|${{C-none}}|$D|${{E-none}}|${{PATH:+path}}|${{#LONG}}|$_U\" >>{out}"
     )?;
     let (told, status) = envdir(&rt, &[dir.as_str(), "sh", "-c", script.as_str()]);
     assert_eq!(rt; told.as_slice(), b"".as_slice());
@@ -58,7 +62,7 @@ fn changes_the_environment(rt: HostRuntime) -> Result<(), Fail> {
     let shown = fs::read(&rt, out.as_str())?;
     assert_eq!(rt;
         shown.as_slice(),
-        b"x y|none||p\nq|none|path|40000\n".as_slice()
+        b"x y|none||p\nq|none|path|40000|under\n".as_slice()
     );
     // The child is sought in the changed PATH.
     let tool = format!(in rt.alloc(); "{folder}/dtools_tool")?;
