@@ -1,6 +1,6 @@
 -- The child of `envdir`: what it is started with, and its status
 -- (by the envdir page of daemontools, cr.yp.to/daemontools/envdir.html).
-use Rattle.std.specs.Prelude.{◌≡◌, ℕ, ℤ, pos, Bool, true, false, List, [], ◌∷◌, Option, Some, None, MatchResult, map, IsSorted}
+use Rattle.std.specs.Prelude.{◌≡◌, ℕ, ℤ, pos, Bool, true, false, List, [], ◌∷◌, Option, Some, None, MatchResult, IsSorted}
 use Rattle.std.specs.Cmp.Lexicographic.{slice_cmp}
 use Rattle.std.specs.Ordering.{nat_cmp}
 use Rattle.std.specs.Process.{exit_code}

@@ -1,7 +1,7 @@
 -- What `readproctitle` prints: the title of its input, by the readproctitle page of daemontools
 -- (cr.yp.to/daemontools/readproctitle.html).
 use Rattle.std.specs.Prelude.{◌≡◌, ℕ, ◌<◌, ◌-◌, ◌⊎◌, List, [], ◌∷◌, ◌++◌, codes, length, slice_get, MatchOption, Some}
-use Rattle.tai_status.specs.Counted.{Device, Fails, Works, Gives, Wrote, WroteFront, IsRead, Tells}
+use Rattle.tai_status.specs.Counted.{Device, Fails, Gives, Wrote, WroteFront, IsRead, Tells}
 use Rattle.env_title.specs.Title.{TitleParts, new_title, pushed, title_text}
 use Rattle.cmd_base.specs.Console.{Console, EndsWell}
 use Rattle.cmd_base.specs.Told.{RefusesWords}

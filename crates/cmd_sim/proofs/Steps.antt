@@ -13,7 +13,7 @@ use Rattle.sup_core.specs.Rules.{next, reply_to, asks_of_begin}
 use Rattle.sup_core.specs.Reading.{fields, event_from, begin_from}
 use Rattle.sup_core.specs.Text.{answer_text, table_text}
 use Rattle.std.specs.Prelude.{flat_map}
-use Rattle.std.proofs.Common.{get_or, add-one, ◌⊎◌, inl, inr}
+use Rattle.std.proofs.Common.{get_or, add-one, inl, inr}
 use Rattle.std.proofs.Math.Seq.{take-suc, take-length}
 use Rattle.std.proofs.lemmas.List.{take-append-le}
 use Rattle.cmd_sim.specs.declared.fault.SimFault.{SimFault}

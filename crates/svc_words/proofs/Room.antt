@@ -7,9 +7,9 @@ use Rattle.std.proofs.lemmas.Cmp.{nat_eq_equiv}
 use Rattle.std.proofs.lemmas.Map.Keys.{IsDistinct-push}
 use Rattle.std.proofs.lemmas.Map.Made.{length-le_from_is_member}
 use Rattle.std.proofs.lemmas.List.Folds.{list_all-append}
-use Rattle.svc_words.specs.Words.{AreOrdered, is_among, is_known, known_letters}
+use Rattle.svc_words.specs.Words.{AreKnownOnce, is_among, is_known, known_letters}
 
-pub nothing_is_ordered : AreOrdered []
+pub nothing_is_ordered : AreKnownOnce []
 unfolding IsDistinct
 nothing_is_ordered = record { known = refl; once = search rules }
 
@@ -22,20 +22,20 @@ known_among [] q all here = search rules
 known_among (x ∷ xs) q all here = grind (arith, common_steps, known_where_equal x q, known_among xs q)
 
 -- One more known letter that is not there.
-pub ordered_push : (bytes : List ℕ) (letter : ℕ) → AreOrdered bytes → is_known letter ≡ true → is_among bytes letter ≡ false
-    → AreOrdered (bytes ++ letter ∷ [])
+pub ordered_push : (bytes : List ℕ) (letter : ℕ) → AreKnownOnce bytes → is_known letter ≡ true → is_among bytes letter ≡ false
+    → AreKnownOnce (bytes ++ letter ∷ [])
 ordered_push bytes letter ordered known apart = record {
   known = grind (arith, common_steps, list_all-append is_known bytes (letter ∷ []), ordered.known);
   once = IsDistinct-push nat_eq_equiv bytes letter ordered.once apart;
 }
 
 -- Ordered bytes are no more than the known letters.
-pub few_ordered : (bytes : List ℕ) → AreOrdered bytes → length bytes ≤ 11
+pub few_ordered : (bytes : List ℕ) → AreKnownOnce bytes → length bytes ≤ 11
 few_ordered bytes ordered =
     length-le_from_is_member nat_eq_equiv bytes known_letters ordered.once (λ q here. known_among bytes q ordered.known here)
 
 -- So there is room for one that is not there.
-pub room : (bytes : List ℕ) (letter : ℕ) → AreOrdered bytes → is_known letter ≡ true → is_among bytes letter ≡ false
+pub room : (bytes : List ℕ) (letter : ℕ) → AreKnownOnce bytes → is_known letter ≡ true → is_among bytes letter ≡ false
     → length bytes < 11
 room bytes letter ordered known apart =
     omega (arith, few_ordered (bytes ++ letter ∷ []) (ordered_push bytes letter ordered known apart), length-append bytes (letter ∷ []))

@@ -64,6 +64,6 @@ abbrev pub order_bytes : List (List ℕ) → List ℕ
 order_bytes words = without_earlier (option_letters words)
 
 -- Each is a known letter, and none stands twice.
-pub record AreOrdered (bytes : List ℕ) : Type 0 where
+pub record AreKnownOnce (bytes : List ℕ) : Type 0 where
   pub known : list_all is_known bytes ≡ true
   pub once : IsDistinct (λ letter other. letter == other) bytes

@@ -1,5 +1,5 @@
 ghost use Rattle.std.specs.Prelude.{◌≡◌, [], ◌∷◌, ◌++◌, true, List, ℕ, if◌then◌else◌, IsOk, OnOk, MatchOption};
-ghost use Rattle.svc_words.specs.Words.{AreOrdered, is_among, is_known, first_unknown, without_earlier};
+ghost use Rattle.svc_words.specs.Words.{AreKnownOnce, is_among, is_known, first_unknown, without_earlier};
 
 use arrayvec::ArrayVec;
 use std::alloc::{Allocator, Global};
@@ -21,13 +21,13 @@ pub struct OrderBytes {
 
 impl Model for OrderBytes {
     ghost use Rattle.std.specs.Prelude.{List, ℕ};
-    ghost use Rattle.svc_words.specs.Words.{AreOrdered};
+    ghost use Rattle.svc_words.specs.Words.{AreKnownOnce};
 
     ghost Value = { List ℕ };
 
     ghost view = { λ order. order.bytes.items };
 
-    ghost invariant = { λ order. AreOrdered order.bytes.items };
+    ghost invariant = { λ order. AreKnownOnce order.bytes.items };
 }
 
 /// What the words of a svc command ask: each byte to each service, in order.
@@ -64,7 +64,7 @@ impl OrderBytes {
     /// The bytes, in order.
     pub fn as_slice(&self) -> &[u8]
         ensures bytes { result.now ≡ self.now }
-        ensures each_once { AreOrdered result.now }
+        ensures each_once { AreKnownOnce result.now }
     {
         self.bytes.as_slice()
     }

@@ -1,5 +1,5 @@
 -- The lines of a text, and their stamps.
-use Rattle.std.specs.Prelude.{◌≡◌, ℕ, ◌==◌, not, filter, if◌then◌else◌, List, [], ◌∷◌, ◌++◌, length, map, Option, Some, None, ⊤}
+use Rattle.std.specs.Prelude.{◌≡◌, ℕ, ◌==◌, not, filter, if◌then◌else◌, List, [], ◌∷◌, ◌++◌, length, Option, Some, None, ⊤}
 use Rattle.std.specs.List.{onto_first}
 use Rattle.tai_status.specs.Label.{Tai64n, label_text}
 use Rattle.tai_status.specs.Counted.{Device, Gives, Wrote, WroteFront}

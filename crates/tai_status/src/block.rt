@@ -2,7 +2,7 @@ ghost use Rattle.std.specs.Prelude.{◌≡◌, ◌++◌, ◌+◌, ◌-◌, ◌�
 ghost use Rattle.tai_status.specs.Counted.{Fails, Works, Wrote, WroteFront};
 ghost use Rattle.tai_status.specs.Block.{Puts};
 
-use super::counted::{DeviceFault, Output};
+use crate::counted::{DeviceFault, Output};
 use std::io::Write;
 use std::marker::Model;
 

@@ -1,4 +1,4 @@
-ghost use Rattle.std.specs.Prelude.{◌≡◌, ◌<◌, IfOk, Ok, Err, length};
+ghost use Rattle.std.specs.Prelude.{◌≡◌, ◌<◌, IfOk, Ok, Err};
 ghost use Rattle.tai_status.specs.Record.{Status, IsStatus, IsRecord};
 ghost use Rattle.tai_status.specs.Decoding.{status_from, from_fields, want_from};
 

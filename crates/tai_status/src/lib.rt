@@ -1,4 +1,7 @@
-//! TAI64N labels, and the status record of a service.
+//! What all crates above share, in four parts: TAI64N labels; the status record of a service; counted readers and writers,
+//! with the lines of an input and their stamps; and lists of names and lines.
+//!
+//! A part knows those before it alone. They are one crate since each is small, and most crates above want several.
 #![tactic(auto)]
 
 mod block;

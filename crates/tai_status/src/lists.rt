@@ -1,5 +1,5 @@
 //! Names and lines, as lists of texts that are made from a `Vec` and give it back.
-ghost use Rattle.std.specs.Prelude.{◌≡◌, length, string_bytes, map};
+ghost use Rattle.std.specs.Prelude.{◌≡◌, ◌↔◌, IsTrue, [], length, string_bytes, map};
 
 use std::alloc::{Allocator, Global};
 use std::marker::Model;
@@ -85,6 +85,13 @@ impl<A: Allocator> Names<A> {
     {
         self.names.len()
     }
+
+    /// Whether there is no name.
+    pub fn is_empty(&self) -> bool
+        ensures { IsTrue result ↔ (self.now ≡ []) }
+    {
+        self.names.is_empty()
+    }
 }
 
 /// A list of lines, without their newlines.
@@ -129,5 +136,12 @@ impl<A: Allocator> Lines<A> {
         ensures { result ≡ length self.now }
     {
         self.lines.len()
+    }
+
+    /// Whether there is no line.
+    pub fn is_empty(&self) -> bool
+        ensures { IsTrue result ↔ (self.now ≡ []) }
+    {
+        self.lines.is_empty()
     }
 }

@@ -1,14 +1,14 @@
-ghost use Rattle.std.specs.Prelude.{Bool, ◌≡◌, ◌+◌, ◌<◌, ◌≤◌, ◌++◌, [], ◌∷◌, List, ℕ, Some, length, take, not, if◌then◌else◌, OnOk, OnErr, IfOk, IfSome, IsErrOf};
+ghost use Rattle.std.specs.Prelude.{Bool, ◌≡◌, ◌+◌, ◌<◌, ◌≤◌, ◌++◌, [], ◌∷◌, List, ℕ, Some, length, take, not, if◌then◌else◌, OnOk, OnErr, IfOk, IsErrOf};
 ghost use Rattle.std.specs.Io.BufRead.{take_through};
 ghost use Rattle.tai_status.specs.Lines.{stamp};
 ghost use Rattle.tai_status.specs.Counted.{Fails, Works, WroteFront, IsRead};
 ghost use Rattle.tai_status.specs.Lines.{desk, Gave, Stamps, StampsFront};
 ghost use Rattle.tai_status.specs.Block.{Puts};
-ghost use Rattle.tai_status.specs.Stamping.{StampsPart, StampsUpTo, is_inside, begun, stamped_on};
+ghost use Rattle.tai_status.specs.Stamping.{StampsPart, StampsUpTo, is_inside};
 
-use super::block::{BLOCK, Block};
-use super::counted::{DeviceFault, Input, Output};
-use super::label::{Label, text};
+use crate::block::{BLOCK, Block};
+use crate::counted::{DeviceFault, Input, Output};
+use crate::label::{Label, text};
 use memchr::memchr;
 use std::io::{Read, Write};
 use thiserror::Error;

@@ -1,4 +1,4 @@
-use Rattle.std.proofs.Common.{◌≡◌, ◌≤◌, ◌-◌, ◌^◌}
+use Rattle.std.proofs.Common.{◌≤◌, ◌-◌, ◌^◌}
 use Rattle.tai_status.specs.Counted.{Works, GivesNothing}
 use Rattle.tai_status.proofs.counted.Counted+D+In.read.Given as goal
 
