@@ -1,9 +1,10 @@
 use crate::{FileSource, SystemClock, TROUBLE, report_parts};
+use std::process::Abort;
 use std::test::Fail;
 use std::time::{SystemTime, UNIX_EPOCH};
 use std::{env, fs, process};
-use tai_status::{Counted, Label, TimeSource};
-use test_devices::Tight;
+use tai_status::{Counted, DeviceFault, Label, TimeSource};
+use test_devices::{Slow, Tight};
 
 #[test]
 fn tells_in_parts(rt: HostRuntime) {
@@ -56,4 +57,29 @@ fn the_clock_goes_with_the_system(rt: HostRuntime) -> Result<(), Fail> {
         assert!(rt; before <= label && label <= after);
     }
     Ok(())
+}
+
+#[test]
+fn interrupted_calls_are_no_faults(rt: HostRuntime) {
+    let mut byte = [0; 4];
+    let mut reader = Counted::new(Slow::failing(b"ab", 1));
+    assert_eq!(rt; reader.read(&mut byte), Ok(1));
+    assert_eq!(rt; reader.read(&mut byte), Ok(1));
+    assert_eq!(rt; (byte[0], reader.faults()), (b'b', 0));
+    assert_eq!(rt; reader.read(&mut byte), Err(DeviceFault));
+    assert_eq!(rt; reader.read(&mut byte), Err(DeviceFault));
+    assert_eq!(rt; reader.faults(), 2);
+    overfill(&rt, Tight::refusing(rt.alloc(), 3));
+    overfill(&rt, Tight::failing(rt.alloc(), 3));
+}
+
+/// Writes four bytes to a writer that holds three. To write nothing is no fault, though no byte is taken.
+fn overfill<R: Abort>(rt: &R, writer: Tight) {
+    let mut writer = Counted::new(writer);
+    assert_eq!(rt; writer.write_all(b"ab"), Ok(()));
+    assert_eq!(rt; writer.write(b""), Ok(0));
+    assert_eq!(rt; writer.faults(), 0);
+    assert_eq!(rt; writer.write_all(b"cd"), Err(DeviceFault));
+    assert_eq!(rt; writer.faults(), 1);
+    assert_eq!(rt; writer.into_device().held(), b"abc".as_slice());
 }

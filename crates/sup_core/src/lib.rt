@@ -24,6 +24,3 @@ pub use reading::{
 };
 pub use table::table_line;
 pub use text::{answer_text, event_text, fault_name, phase_name, sig_name};
-
-#[cfg(test)]
-mod tests;

@@ -25,6 +25,3 @@ pub use lists::{Lines, Name, Names};
 pub use reading::{read_text, unpack};
 pub use record::{RecordFault, View, Want, encode};
 pub use stamp::{StampFault, TimeSource, stamp_lines};
-
-#[cfg(test)]
-mod tests;
