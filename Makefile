@@ -5,7 +5,7 @@ JOBS ?= $(shell nproc)
 PROGRAM = crates/dtools/out/dtools
 COMMANDS = tai64n envdir readproctitle
 # What a check says as it goes, but for the lines on the libraries that it has read.
-SHOWN = sed -u -n -e '/^checked /p' -e '/^rt: /p' -e '/error/p' -e 's/^logic=\([a-z-]*\) functions=\([0-9]*\).*/\1: \2 functions/p'
+SHOWN = sed -u -n -e '/^checked /p' -e '/^rt: /p' -e '/: error/p' -e 's/^logic=\([a-z-]*\) functions=\([0-9]*\).*/\1: \2 functions/p'
 
 .PHONY: build test install
 
