@@ -9,6 +9,3 @@ mod telling;
 pub use clock::SystemClock;
 pub use files::FileSource;
 pub use telling::{DONE, REFUSED, TROUBLE, push_number, report, report_parts, tell, usage};
-
-#[cfg(test)]
-mod tests;

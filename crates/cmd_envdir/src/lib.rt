@@ -14,6 +14,4 @@ pub use fault::EnvdirFault;
 pub use folder::FolderFile;
 pub use launcher::{Launcher, SystemLauncher};
 pub use surroundings::Surroundings;
-
-#[cfg(test)]
-mod tests;
+pub use variables::machine_env;

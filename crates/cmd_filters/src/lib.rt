@@ -6,6 +6,3 @@ mod stamping;
 
 pub use proctitle::run_readproctitle;
 pub use stamping::run_tai64n;
-
-#[cfg(test)]
-mod tests;

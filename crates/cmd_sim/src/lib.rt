@@ -9,6 +9,3 @@ mod table;
 
 pub use command::run_sim;
 pub use fault::SimFault;
-
-#[cfg(test)]
-mod tests;

@@ -9,6 +9,3 @@ mod shown;
 pub use break_word::{read_break, read_spec};
 pub use command::{run_trace, trace_bytes};
 pub use fault::TraceTrouble;
-
-#[cfg(test)]
-mod tests;

@@ -19,6 +19,3 @@ pub use fault::EnvFault;
 pub use file::EnvFile;
 pub use folder::apply;
 pub use title::{Title, TitleFault};
-
-#[cfg(test)]
-mod tests;

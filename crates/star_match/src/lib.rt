@@ -18,7 +18,5 @@
 
 pub mod laws;
 mod pattern;
-#[cfg(test)]
-mod tests;
 
 pub use pattern::{Pattern, PatternFault};

@@ -26,7 +26,3 @@ pub use text::record_digits;
 pub use told::{TraceText, replay};
 pub use trace::{MAX_CAPACITY, Trace};
 
-#[cfg(test)]
-mod reading_tests;
-#[cfg(test)]
-mod tests;

@@ -2,6 +2,5 @@ pub mod Arrived
 pub mod Histories
 pub mod Lengths
 pub mod Lists
-pub mod Pair
 pub mod Steps
 pub mod Told

@@ -30,6 +30,4 @@ pub mod promise;
 pub mod receiver;
 pub mod rule;
 pub mod sender;
-#[cfg(test)]
-mod tests;
 pub mod whole;

@@ -12,6 +12,3 @@ mod words;
 pub use line::stat_line;
 pub use order::{LETTER_COUNT, LETTERS, Order, OrderBytes, SvcFault};
 pub use words::assemble;
-
-#[cfg(test)]
-mod tests;

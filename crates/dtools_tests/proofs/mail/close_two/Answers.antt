@@ -1,8 +1,8 @@
 use Rattle.std.proofs.Common.{◌≡◌, ◌++◌, ap, sym, ◌∙◌, subst}
 use Rattle.svc_mail.specs.History.{row_of}
 use Rattle.svc_mail.specs.Ends.{posted, taken_by, box_of, senders_in}
-use Rattle.svc_mail.proofs.Pair.{two_senders, pushed_two, row_first, row_second}
-use Rattle.svc_mail.proofs.tests.close_two.Goals as goal
+use Rattle.dtools_tests.proofs.Pair.{two_senders, pushed_two, row_first, row_second}
+use Rattle.dtools_tests.proofs.mail.close_two.Goals as goal
 
 pub close-requires-clause-senders : goal.close-requires-clause-senders
 close-requires-clause-senders g c =

@@ -1,10 +1,11 @@
-use crate::{FileSource, SystemClock, TROUBLE, report_parts};
+use cmd_base::{FileSource, SystemClock, TROUBLE, report_parts};
 use std::process::Abort;
 use std::test::Fail;
 use std::time::{SystemTime, UNIX_EPOCH};
 use std::{env, fs, process};
 use tai_status::{Counted, DeviceFault, Label, TimeSource};
-use test_devices::{Slow, Tight};
+use crate::slow::Slow;
+use crate::tight::Tight;
 
 #[test]
 fn tells_in_parts(rt: HostRuntime) {

@@ -1,10 +1,10 @@
 ghost use Rattle.std.specs.Prelude.{◌<◌, ◌≤◌};
 
-use super::*;
 use bumpalo::Bump;
 use std::alloc::Allocator;
 use std::test::Fail;
-use sup_core::{Event, Machine, Phase, Reply, Sig, read_begin, read_event};
+use sup_core::{Event, Machine, Phase, Reply, read_begin, read_event};
+use sup_trace::{MAX_CAPACITY, Trace, TraceFaultKind, explain, read_text, replay};
 use tai_status::Want;
 
 /// A service that is started, then sent `d`.
@@ -71,56 +71,6 @@ fn folds_all_but_the_last(rt: HostRuntime) -> Result<(), Fail> {
 }
 
 #[test]
-fn explains_and_breaks(rt: HostRuntime) -> Result<(), Fail> {
-    let trace = trace_of(rt.alloc(), 2, &LINES)?;
-    assert_eq!(rt; (trace.folded(), trace.len(), trace.count()), (2, 2, 4));
-    let told = trace.copy_text(rt.alloc())?;
-    let lines = explain(rt.alloc(), &told)?;
-    assert_eq!(rt; lines.len(), 2);
-    assert_eq!(rt;
-        lines.as_slice()[1].as_str(),
-        "2 death @400000000000000d00000000: took record:400000000000000d00000000000000000064 -> down"
-    );
-    let rows = [
-        (Break::Phase(Phase::Down), Some(2)),
-        (Break::Phase(Phase::Up), Some(1)),
-        (Break::Phase(Phase::Settling), None),
-        (Break::Byte(b'd'), Some(1)),
-        (Break::Byte(b'u'), None),
-        (Break::Signal(Sig::Cont), Some(1)),
-        (Break::Signal(Sig::Kill), None),
-    ];
-    for (at, number) in rows {
-        assert_eq!(rt; first_break(&told, at), number, "{at:?}");
-    }
-    Ok(())
-}
-
-/// The bases that `folds_all_but_the_last` has not: no entries, an end of settling, and a machine that is to end.
-#[test]
-fn writes_how_a_machine_stands(rt: HostRuntime) -> Result<(), Fail> {
-    let settling = trace_of(rt.alloc(), 3, &LINES[..1])?.state();
-    let mut gone = begun(true)?;
-    gone.step(Event::Byte(b'x'));
-    let rows = [
-        (
-            settling,
-            "base 0 settling 400000000000000b00000000671200000075 stay @400000000000000c00000000",
-        ),
-        (
-            gone,
-            "base 0 gone 400000000000000a00000000000000000064 exit -",
-        ),
-    ];
-    for (machine, base) in rows {
-        let trace = Trace::new(rt.alloc(), 3, machine)?;
-        let text = format!(in rt.alloc(); "dtools-trace 1\n{base}\nend 0\n")?;
-        assert_eq!(rt; trace.write_text(rt.alloc())?.as_slice(), text.as_bytes());
-    }
-    Ok(())
-}
-
-#[test]
 fn keeps_the_last_of_many(rt: HostRuntime) -> Result<(), Fail> {
     let mut trace = Trace::new(rt.alloc(), MAX_CAPACITY, begun(true)?)?;
     for i in 0..70_000u32 {
@@ -177,5 +127,68 @@ fn says_where_memory_is_refused(rt: HostRuntime) -> Result<(), Fail> {
     // The trace is as it was.
     assert_eq!(rt; trace.count(), 4);
     assert_eq!(rt; trace.write_text(rt.alloc())?, told.write_text(rt.alloc())?);
+    Ok(())
+}
+
+/// The lines before an entry.
+const HEAD: &str = "dtools-trace 1
+base 2 up 400000000000000b00000000671200000075 stay -
+";
+
+/// The first faulty line of a text, and why.
+fn fault_of<A: Allocator>(alloc: A, text: &[u8]) -> Option<(u64, TraceFaultKind)> {
+    let fault = read_text(alloc, text).err()?;
+    Some((fault.line, fault.kind))
+}
+
+#[test]
+fn holds_as_many_entries_as_it_may(rt: HostRuntime) -> Result<(), Fail> {
+    use TraceFaultKind::{Line, UnknownEvent};
+    let mut text = String::from_str(rt.alloc(), HEAD)?;
+    for _ in 0..65_536 {
+        text.push_str("byte h\n")?;
+    }
+    let whole = format!(in rt.alloc(); "{text}end 65536\n")?;
+    let told = read_text(rt.alloc(), whole.as_bytes())?;
+    assert_eq!(rt; told.entries().len(), 65_536);
+    let rows = [
+        ("byte h\nend 65537\n", Line),
+        // It is not taken either.
+        ("clock @400000000000000d00000000\n", Line),
+        ("bytes h\n", UnknownEvent),
+    ];
+    for (later, kind) in rows {
+        let more = format!(in rt.alloc(); "{text}{later}")?;
+        assert_eq!(rt; fault_of(rt.alloc(), more.as_bytes()), Some((65_539, kind)));
+    }
+    Ok(())
+}
+
+/// Each growth of the entries is refused in turn, and told as a fault of the line that asks for it.
+#[test]
+fn says_which_entry_wants_memory(rt: HostRuntime) -> Result<(), Fail> {
+    let mut text = String::from_str(rt.alloc(), HEAD)?;
+    for _ in 0..40 {
+        text.push_str("byte h\n")?;
+    }
+    text.push_str("end 40\n")?;
+    let (mut last, mut read) = (0, false);
+    for step in 0..256 {
+        let some = Bump::new(rt.alloc());
+        some.set_allocation_limit(Some(step * 32));
+        match read_text(&some, text.as_bytes()) {
+            Ok(told) => {
+                read = true;
+                assert_eq!(rt; told.entries().len(), 40);
+            }
+            Err(fault) => {
+                assert_eq!(rt; fault.kind, TraceFaultKind::OutOfMemory);
+                assert!(rt; fault.line >= last && fault.line <= 42 && !read);
+                last = fault.line;
+            }
+        }
+    }
+    // The first growth is refused at line 3, and later ones further on.
+    assert!(rt; read && last > 3);
     Ok(())
 }

@@ -1,12 +1,12 @@
-use crate::{read_break, run_trace, trace_bytes};
 use bumpalo::Bump;
 use cmd_base::FileSource;
+use cmd_trace::{read_break, run_trace, trace_bytes};
 use std::alloc::Allocator;
 use std::io;
 use std::io::ErrorKind;
 use sup_trace::Break;
 use tai_status::Counted;
-use test_devices::Tight;
+use crate::tight::Tight;
 
 /// A service that was started and sent `d`, of which the last entry is kept, by hand.
 const TRACE: &[u8] = b"dtools-trace 1

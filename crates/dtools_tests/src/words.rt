@@ -1,7 +1,6 @@
-use super::*;
-use bumpalo::Bump;
-use std::alloc::{AllocError, Global};
+use crate::memory::region;
 use std::test::Fail;
+use svc_words::{SvcFault, assemble, stat_line};
 use tai_status::{Label, View, Want};
 
 /// Services and their lines: the process, whether it is paused, what is wanted, whether the service is normally up, the
@@ -77,15 +76,6 @@ const UNKNOWN: [(&[&str], u8); 5] = [
     (&["-é"], 0xc3),
 ];
 
-/// A region in which so many bytes are left, and which gets no more.
-fn region(alloc: Global, left: usize) -> Result<Bump, AllocError> {
-    let bump = Bump::try_with_capacity(alloc, 4096)?;
-    bump.set_allocation_limit(Some(0));
-    let filler = bump.chunk_capacity().saturating_sub(left);
-    bump.try_alloc_slice_fill_clone(filler, 0u8)?;
-    Ok(bump)
-}
-
 #[test]
 fn parts_words(rt: HostRuntime) -> Result<(), Fail> {
     for (words, bytes, services) in ORDERS {
@@ -126,19 +116,6 @@ fn parts_words(rt: HostRuntime) -> Result<(), Fail> {
             unknown,
             "{words:?}"
         );
-    }
-    Ok(())
-}
-
-#[test]
-fn texts_of_faults(rt: HostRuntime) -> Result<(), Fail> {
-    let rows = [
-        (SvcFault::UnknownLetter(122), "unknown letter 7a"),
-        (SvcFault::UnknownLetter(1), "unknown letter 01"),
-        (SvcFault::OutOfMemory, "OutOfMemory"),
-    ];
-    for (fault, text) in rows {
-        assert_eq!(rt; fault.to_string(rt.alloc())?.as_str(), text);
     }
     Ok(())
 }

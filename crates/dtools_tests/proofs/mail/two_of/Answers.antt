@@ -1,7 +1,7 @@
 use Rattle.std.proofs.Common.{Some, ◌++◌, ap, ◌∙◌}
 use Rattle.std.specs.Option.{option_to_list}
-use Rattle.svc_mail.proofs.Pair.{opened_two}
-use Rattle.svc_mail.proofs.tests.two_of.Goals as goal
+use Rattle.dtools_tests.proofs.Pair.{opened_two}
+use Rattle.dtools_tests.proofs.mail.two_of.Goals as goal
 
 pub returns-clause-two : goal.returns-clause-two
 returns-clause-two g c =

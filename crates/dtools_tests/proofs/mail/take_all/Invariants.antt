@@ -1,6 +1,6 @@
 use Rattle.std.proofs.Common.{◌≡◌, ◌++◌, ◌≤◌, vec_len, vec_capacity}
 use Rattle.svc_mail.specs.Ends.{IsSameReceiver, taken_by}
-use Rattle.svc_mail.proofs.tests.take_all.Given as goal
+use Rattle.dtools_tests.proofs.mail.take_all.Given as goal
 
 abbrev pub invariant-loop-taken : goal.invariant-loop-taken
 invariant-loop-taken g l =

@@ -1,5 +1,6 @@
-use super::*;
+use crate::memory::{leave, region};
 use bumpalo::Bump;
+use env_title::{Env, EnvFault, EnvFile, Title, TitleFault, apply};
 use std::alloc::{AllocError, Allocator, Global};
 use std::test::Fail;
 
@@ -25,21 +26,6 @@ fn is<A: Allocator>(env: &Env<A>, pairs: &[(&str, &str)]) -> bool {
         && env.as_slice().iter().zip(pairs).all(|(variable, pair)| variable.name() == pair.0
             && variable.value() == pair.1
             && env.get(pair.0) == Some(pair.1))
-}
-
-/// Leaves so many bytes in a region, which gets no more.
-fn leave(bump: &Bump, left: usize) -> Result<(), AllocError> {
-    bump.set_allocation_limit(Some(0));
-    let filler = bump.chunk_capacity().saturating_sub(left);
-    bump.try_alloc_slice_fill_clone(filler, 0u8)?;
-    Ok(())
-}
-
-/// A region in which so many bytes are left, and which gets no more.
-fn region(alloc: Global, left: usize) -> Result<Bump, AllocError> {
-    let bump = Bump::try_with_capacity(alloc, 4096)?;
-    leave(&bump, left)?;
-    Ok(bump)
 }
 
 const BEFORE: Pairs = &[("B", "1"), ("A", "0"), ("Z", "9"), (".E", "kept")];
@@ -236,25 +222,5 @@ fn titles_show_the_last_bytes(rt: HostRuntime) -> Result<(), Fail> {
     let text = long.text()?;
     assert_eq!(rt; text.len(), 1000);
     assert!(rt; text.as_slice().starts_with(b"...xx") && text.as_slice().ends_with(b"xx"));
-    Ok(())
-}
-
-#[test]
-fn texts_of_faults(rt: HostRuntime) -> Result<(), Fail> {
-    let rows = [
-        (EnvFault::NameHasEquals(7), "NameHasEquals"),
-        (EnvFault::NotText(7), "NotText"),
-        (EnvFault::OutOfMemory, "OutOfMemory"),
-    ];
-    for (fault, text) in rows {
-        assert_eq!(rt; fault.to_string(rt.alloc())?.as_str(), text);
-    }
-    let rows = [
-        (TitleFault::TooShort, "TooShort"),
-        (TitleFault::OutOfMemory, "OutOfMemory"),
-    ];
-    for (fault, text) in rows {
-        assert_eq!(rt; fault.to_string(rt.alloc())?.as_str(), text);
-    }
     Ok(())
 }

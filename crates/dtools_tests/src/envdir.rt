@@ -1,6 +1,5 @@
-use crate::variables::machine_env;
-use crate::{Surroundings, SystemLauncher, run_envdir};
 use bumpalo::Bump;
+use cmd_envdir::{Surroundings, SystemLauncher, machine_env, run_envdir};
 use std::env::{Env, FillError};
 use std::fs::Permissions;
 use std::os::unix::fs::PermissionsExt;

@@ -1,5 +1,5 @@
-use crate::{Pattern, PatternFault};
 use bumpalo::Bump;
+use star_match::{Pattern, PatternFault};
 use std::test::Fail;
 
 /// A pattern, texts that it matches, and texts that it doesn't, by hand.
@@ -104,65 +104,5 @@ fn tells_why_there_is_no_pattern(rt: HostRuntime) -> Result<(), Fail> {
     let fault = Pattern::read(&bump, b"a*b").err();
     assert_eq!(rt; fault, Some(PatternFault::OutOfMemory));
     assert!(rt; Pattern::read(&bump, b"")?.matches(b""));
-    Ok(())
-}
-
-/// The rules as they stand: a star before another byte tries each part without that byte.
-fn some_cut_matches(pattern: &[u8], text: &[u8]) -> bool {
-    let [byte, rest @ ..] = pattern else {
-        return text.is_empty();
-    };
-    if *byte != b'*' {
-        return match text {
-            [first, more @ ..] => first == byte && some_cut_matches(rest, more),
-            [] => false,
-        };
-    }
-    let Some(next) = rest.first() else {
-        return true;
-    };
-    for at in 0..=text.len() {
-        let (part, after) = text.split_at(at);
-        if !part.contains(next) && some_cut_matches(rest, after) {
-            return true;
-        }
-    }
-    false
-}
-
-/// The last digit of a number to the base 3, as a byte.
-fn letter(number: usize) -> u8 {
-    match number % 3 {
-        0 => b'a',
-        1 => b'b',
-        _ => b'*',
-    }
-}
-
-#[test]
-fn matches_where_some_cut_does(rt: HostRuntime) -> Result<(), Fail> {
-    for number in 0..243usize {
-        let bytes = [
-            letter(number),
-            letter(number / 3),
-            letter(number / 9),
-            letter(number / 27),
-            letter(number / 81),
-        ];
-        let Ok(pattern) = Pattern::read(rt.alloc(), &bytes) else {
-            assert!(rt;
-                bytes.windows(2).any(|pair| pair == b"**".as_slice()),
-                "{bytes:?}"
-            );
-            continue;
-        };
-        for text in [b"aaabbb", b"ababab", b"baabaa", b"bbabba"] {
-            for len in 0..=text.len() {
-                let front = &text[..len];
-                let wanted = some_cut_matches(&bytes, front);
-                assert_eq!(rt; pattern.matches(front), wanted, "{bytes:?} at {front:?}");
-            }
-        }
-    }
     Ok(())
 }

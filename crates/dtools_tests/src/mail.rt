@@ -2,13 +2,14 @@ ghost use Rattle.std.specs.Prelude.{◌≡◌, ◌++◌, ◌∷◌, ◌+◌, ◌
 ghost use Rattle.svc_mail.specs.History.{letter, row_of};
 ghost use Rattle.svc_mail.specs.Ends.{IsSameSender, IsSameReceiver, HasPosted, HasTaken, home, number_of, posted, receiver_home, taken_by, senders_at, box_of, senders_in, AreNewSenders, IsNewSender, IsItsReceiver};
 
-use crate::letter::{Full, Letter};
-use crate::letters::Letters;
-use crate::mailbox::Mailbox;
-use crate::promise::{PostsThese, TakesThese};
-use crate::receiver::Receiver;
-use crate::sender::Sender;
-use crate::whole::every_letter_arrives;
+use svc_mail::letter::{Full, Letter};
+use svc_mail::letters::Letters;
+use svc_mail::mailbox::Mailbox;
+use svc_mail::promise::{PostsThese, TakesThese};
+use svc_mail::receiver::Receiver;
+use svc_mail::sender::Sender;
+use svc_mail::whole::every_letter_arrives;
+use crate::memory::region;
 use bumpalo::Bump;
 use std::alloc::{AllocError, Allocator, Global};
 use std::sync::Wait;
@@ -85,15 +86,6 @@ fn a_mailbox_fills_and_empties(rt: HostRuntime) -> Result<(), Fail> {
         }
     }
     Ok(())
-}
-
-// A region in which so many bytes are left, and which gets no more.
-fn region(alloc: Global, left: usize) -> Result<Bump, AllocError> {
-    let bump = Bump::try_with_capacity(alloc, 4096)?;
-    bump.set_allocation_limit(Some(0));
-    let filler = bump.chunk_capacity().saturating_sub(left);
-    bump.try_alloc_slice_fill_clone(filler, 0u8)?;
-    Ok(bump)
 }
 
 #[test]
