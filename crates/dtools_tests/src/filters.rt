@@ -128,15 +128,3 @@ fn tells_why_there_is_no_title(rt: HostRuntime) {
         assert_eq!(rt; faults.into_device().as_slice(), told.as_bytes());
     }
 }
-
-#[test]
-fn shows_a_long_title(rt: HostRuntime) -> Result<(), Fail> {
-    let word = "0123456789".repeat(rt.alloc(), 20)?;
-    let mut reader = Counted::new(b"abc".as_slice());
-    let mut writer = Counted::new(Vec::new(rt.alloc()));
-    let mut faults = Counted::new(Vec::new(rt.alloc()));
-    let words = [word.as_str()];
-    let status = run_readproctitle(rt.alloc(), &words, &mut reader, &mut writer, &mut faults);
-    assert_eq!(rt; (status, writer.into_device().len()), (0, 201));
-    Ok(())
-}

@@ -1,9 +1,7 @@
-//! Tests of what no contract can say and no case can show: that the machine's own calls serve, that memory serves where
-//! it is ample, and what is told where it, or a device, fails.
+//! Tests of what no contract can say, no case and no script can show: that memory serves where it is ample, what stands
+//! where it, or a device, fails at each place in turn, and that letters cross threads.
 #![tactic(auto)]
 
-#[cfg(test)]
-mod base;
 #[cfg(test)]
 mod envdir;
 #[cfg(test)]

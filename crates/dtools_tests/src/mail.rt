@@ -66,29 +66,6 @@ fn close_two<T: Copy, A: Allocator + Clone, R: Wait>(
 }
 
 #[test]
-fn a_mailbox_fills_and_empties(rt: HostRuntime) -> Result<(), Fail> {
-    let (mailbox, mut senders, mut receiver) = Mailbox::<u8>::open(rt.alloc(), 64, 1)?;
-    let mut sender = senders.pop().unwrap();
-    assert_eq!(rt; (mailbox.capacity(), sender.number()), (64, 0));
-    for turn in 0..2u64 {
-        assert_eq!(rt; receiver.take(&rt), None);
-        for _ in 0..64 {
-            assert_eq!(rt; sender.post(&rt, b'u'), Ok(()));
-        }
-        assert_eq!(rt; sender.post(&rt, b'd'), Err(Full(b'd')));
-        for place in 0..64u64 {
-            let letter = Letter {
-                sender: 0,
-                place: turn * 64 + place,
-                item: b'u',
-            };
-            assert_eq!(rt; receiver.take(&rt), Some(letter));
-        }
-    }
-    Ok(())
-}
-
-#[test]
 fn each_growth_is_refused_in_turn(rt: HostRuntime) -> Result<(), Fail> {
     let letters = [(0, 0, b'u'), (0, 1, b't'), (1, 0, b'd')].map(|(sender, place, item)| Letter {
         sender,

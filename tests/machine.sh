@@ -1,0 +1,120 @@
+#!/usr/bin/env bash
+# What no contract can say: that the machine's own files, folders, children, pipes and clock are what the program takes
+# them for. Runs the program that the first word names, prints each check that fails, and ends with how many did not.
+# The wanted values are those of the daemontools pages and of docs/FORMATS.md.
+set -u
+program=$(realpath "$1")
+room=$(mktemp -d)
+trap 'rm -rf "$room"' EXIT
+cd "$room" || exit 1
+checked=0
+failed=0
+
+# is NAME WANTED GOT
+is() {
+  checked=$((checked + 1))
+  [ "$2" = "$3" ] && return
+  failed=$((failed + 1))
+  printf 'FAILED %s\n  wanted %q\n  got    %q\n' "$1" "$2" "$3"
+}
+
+# ended NAME STATUS TOLD COMMAND..: the command's status, and what it tells; what it prints is left in out.
+ended() {
+  local name=$1 status=$2 told=$3
+  shift 3
+  timeout 20 "$@" >out 2>told </dev/null
+  is "$name: status" "$status" "$?"
+  is "$name: told" "$told" "$(cat told)"
+}
+
+envdir() {
+  "$program" envdir "$@"
+}
+
+# The environment: trimmed values, NUL for newline, removed and empty variables, names with a dot, a long value.
+mkdir d d/.hidden
+printf 'x y \t\nrest' >d/A
+printf '' >d/HOME
+printf '\n' >d/C
+printf 'p\0q' >d/D
+head -c 40000 /dev/zero | tr '\0' l >d/LONG
+printf '\xff' >d/.E
+printf 'under' >d/_U
+HOME=/home C=old ended 'environment' 0 '' "$program" envdir d sh -c \
+  'echo "$A|${HOME-none}|${C-none}|$D|${E-none}|${#LONG}|$_U"'
+is 'environment' $'x y|none||p\nq|none|40000|under' "$(cat out)"
+FIRST=1 NOTTEXT=$'\xff' ended 'other variables' 0 '' "$program" envdir d sh -c 'echo "$FIRST $NOTTEXT"'
+is 'other variables' $'1 \xff' "$(cat out)"
+
+# The child: started once, sought in the changed PATH, its status.
+ended 'once' 0 '' "$program" envdir d sh -c 'echo started >>starts'
+is 'once' started "$(cat starts)"
+ended 'exit 7' 7 '' "$program" envdir d sh -c 'exit 7'
+ended 'exit 255' 255 '' "$program" envdir d sh -c 'exit 255'
+ended 'a signal' 111 '' "$program" envdir d sh -c 'kill -KILL $$'
+ended 'no child' 111 'envdir: unable to run /nosuch/child' "$program" envdir d /nosuch/child
+mkdir bin
+printf '#!/bin/sh\nexit 5\n' >bin/only_here
+chmod 755 bin/only_here
+ended 'not in PATH' 111 'envdir: unable to run only_here' "$program" envdir d only_here
+printf '%s' "$room/bin" >d/PATH
+ended 'in the changed PATH' 5 '' "$program" envdir d only_here
+
+# Faults of a folder, the first one told.
+ended 'no folder' 111 'envdir: unable to read nosuch' "$program" envdir nosuch true
+mkdir e
+printf '' >'e/F=G'
+printf '\xff' >e/Z
+ended 'a name with =' 111 'envdir: F=G: NameHasEquals' "$program" envdir e true
+printf '\xff' >e/B
+ended 'a value that is no text' 111 'envdir: B: NotText' "$program" envdir e true
+mkdir e/A
+ended 'a folder for a file' 111 'envdir: unable to read e' "$program" envdir e true
+mkdir f
+: >"f/$(printf '\377')"
+ended 'a name that is no text' 111 'envdir: unable to read f' "$program" envdir f true
+
+# A large file: a trace holds 65,536 entries, and no more.
+head='base 2 up 400000000000000b00000000671200000075 stay -'
+{ printf 'dtools-trace 1\n%s\n' "$head"; yes 'byte h' | head -n 65536; } >entries
+{ cat entries; echo 'end 65536'; } >whole
+ended 'a large trace' 0 '' "$program" trace whole
+is 'a large trace: entries' '65536 byte h: took HUP:4711 -> up' "$(sed -n 65536p out)"
+is 'a large trace: state' 'state up 400000000000000b00000000671200000075' "$(sed -n '65537,$p' out)"
+{ cat entries; printf 'byte h\nend 65537\n'; } >more
+ended 'one entry more' 111 'trace: line 65539: Line' "$program" trace more
+{ cat entries; printf 'clock @400000000000000d00000000\n'; } >more
+ended 'one more that is not taken' 111 'trace: line 65539: Line' "$program" trace more
+{ cat entries; printf 'bytes h\n'; } >more
+ended 'one more that is none' 111 'trace: line 65539: UnknownEvent' "$program" trace more
+
+# The clock: a stamp stands between two readings of the system's own, to the nanosecond.
+for _ in 1 2 3; do
+  before=$(date +%s%N)
+  stamp=$(echo x | "$program" tai64n)
+  after=$(date +%s%N)
+  second=$((16#${stamp:1:16} - (1 << 62) - 10))
+  nano=$((16#${stamp:17:8}))
+  at=$((second * 1000000000 + nano))
+  is 'the clock' true "$([ "$before" -le "$at" ] && [ "$at" -le "$after" ] && echo true)"
+done
+
+# What was read is answered before the next read waits.
+coproc simulating { timeout 20 "$program" sim; }
+echo 'begin up @400000000000000a00000000' >&"${simulating[1]}"
+IFS= read -r -t 10 answer <&"${simulating[0]}"
+is 'answered at once' 'took record:400000000000000a00000000000000000075 start -> starting' "$answer"
+coproc_input=${simulating[1]}
+exec {coproc_input}>&-
+wait
+
+# A full device is told.
+if [ -w /dev/full ]; then
+  printf 'begin up @400000000000000a00000000\n' >begin
+  "$program" sim <begin >/dev/full 2>told
+  is 'a full device' 111 "$?"
+  is 'a full device: told' 'sim: write fault' "$(cat told)"
+fi
+
+echo "machine: $checked checks, $failed failed"
+[ "$failed" = 0 ]
