@@ -1,5 +1,5 @@
 //! The child of `envdir`.
-ghost use Rattle.std.specs.Prelude.{◌≡◌, ◌⊎◌, ◌++◌, ℕ, List, map, false, IfOk, IfErr, OnOk};
+ghost use Rattle.std.specs.Prelude.{◌≡◌, ◌⊎◌, ◌++◌, ◌∷◌, [], ℕ, List, map, false, IfOk, IfErr, OnOk};
 ghost use Rattle.std.specs.Process.{command_args, command_program, command_var, clears_env, exit_code, SameEnv, SameProgramAndArgs};
 ghost use Rattle.cmd_envdir.specs.Around.{start_of};
 ghost use Rattle.cmd_envdir.specs.Child.{FailsToStart, IsCauseOf, StartsChild, StartsOne, status_of_child};
@@ -13,6 +13,19 @@ use std::alloc::{AllocError, Allocator};
 use std::io::{Error, ErrorKind};
 use std::process::{Command, ExitStatus};
 
+/// Adds an argument to a command.
+fn add_argument<A: Allocator + Clone>(
+    command: &mut Command<A>,
+    argument: &str,
+) -> Result<(), AllocError>
+    ensures program { OnOk result (command_program command.new ≡ command_program command.old) }
+    ensures arguments { OnOk result (command_args command.new ≡ command_args command.old ++ argument.now ∷ []) }
+    ensures variables { OnOk result (SameEnv command.old command.new) }
+{
+    command.arg(argument)?;
+    Ok(())
+}
+
 /// Adds arguments to a command.
 fn add_arguments<A: Allocator + Clone>(
     command: &mut Command<A>,
@@ -24,7 +37,7 @@ fn add_arguments<A: Allocator + Clone>(
     ensures variables { OnOk result (SameEnv command.old command.new) }
 {
     for argument in arguments {
-        command.arg(*argument)?;
+        add_argument(command, argument)?;
     }
     Ok(())
 }
