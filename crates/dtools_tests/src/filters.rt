@@ -1,3 +1,5 @@
+use crate::slow::Slow;
+use crate::tight::Tight;
 use bumpalo::Bump;
 use cmd_filters::{run_readproctitle, run_tai64n};
 use std::cell::Cell;
@@ -5,8 +7,6 @@ use std::io;
 use std::io::{Read, Write};
 use std::test::Fail;
 use tai_status::{Counted, Label, TimeSource};
-use crate::slow::Slow;
-use crate::tight::Tight;
 
 /// A reader of one byte a read, a writer and a clock that share one count. A read adds 1 to it and a
 /// write 100, and the clock gives the second that it stands at.

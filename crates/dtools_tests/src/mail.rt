@@ -2,13 +2,6 @@ ghost use Rattle.std.specs.Prelude.{◌≡◌, ◌++◌, ◌∷◌, ◌+◌, ◌
 ghost use Rattle.svc_mail.specs.History.{letter, row_of};
 ghost use Rattle.svc_mail.specs.Ends.{IsSameSender, IsSameReceiver, HasPosted, HasTaken, home, number_of, posted, receiver_home, taken_by, senders_at, box_of, senders_in, AreNewSenders, IsNewSender, IsItsReceiver};
 
-use svc_mail::letter::{Full, Letter};
-use svc_mail::letters::Letters;
-use svc_mail::mailbox::Mailbox;
-use svc_mail::promise::{PostsThese, TakesThese};
-use svc_mail::receiver::Receiver;
-use svc_mail::sender::Sender;
-use svc_mail::whole::every_letter_arrives;
 use crate::memory::region;
 use bumpalo::Bump;
 use std::alloc::{AllocError, Allocator, Global};
@@ -16,6 +9,13 @@ use std::sync::Wait;
 use std::test::Fail;
 use std::thread;
 use std::thread::Threads;
+use svc_mail::letter::{Full, Letter};
+use svc_mail::letters::Letters;
+use svc_mail::mailbox::Mailbox;
+use svc_mail::promise::{PostsThese, TakesThese};
+use svc_mail::receiver::Receiver;
+use svc_mail::sender::Sender;
+use svc_mail::whole::every_letter_arrives;
 
 // The two senders of a mailbox that was just opened, and the vector that held them.
 fn two_of<T: Copy, A: Allocator + Clone>(

@@ -1,10 +1,10 @@
+use crate::slow::Slow;
+use crate::tight::Tight;
 use bumpalo::Bump;
 use cmd_sim::run_sim;
 use std::alloc::Global;
 use std::io::Read;
 use tai_status::Counted;
-use crate::slow::Slow;
-use crate::tight::Tight;
 
 /// One service that is begun, started, brought down and dead, and what is answered.
 const SERVICE: &[u8] = b"begin up @400000000000000a00000000
