@@ -1,10 +1,15 @@
 -- What is known of the bytes of a device, over several calls.
-use Rattle.std.proofs.Common.{◌≡◌, ℕ, ◌+◌, ◌-◌, min, List, [], ◌++◌, length, take, drop, Option, Some, None, refl, sym, subst, ap, ◌∙◌, arith, append_assoc, append-nil}
+use Rattle.std.proofs.Common.{◌≡◌, ℕ, ◌+◌, ◌-◌, min, List, [], ◌++◌, length, take, drop, Option, Some, None, refl, sym, subst, ap, ◌∙◌, rules, arith, append_assoc, append-nil}
 use Rattle.std.proofs.Math.Seq.{take-add, take-append-add, take-length}
 use Rattle.std.proofs.lemmas.List.{take_rest, take_min, take-append-le, take-append-drop}
 use Rattle.std.specs.Io.KnownBytes.{Keeps, Appends, Consumes}
-use Rattle.tai_status.specs.Counted.{AppendsFront}
+use Rattle.std.specs.Prelude.{◌^◌}
+use Rattle.tai_status.specs.Counted.{AppendsFront, Rose}
 use Rattle.tai_status.specs.Block.{Emits}
+
+-- a count that goes up by one, and stops at its end
+pub count_rises : (old new : ℕ) → new ≡ min (old + 1) (2 ^ 64 - 1) → Rose old new
+count_rises old new is = search (rules, arith)
 
 pub Keeps-same : (a : Option (List ℕ)) → Keeps a a
 Keeps-same None = tt
