@@ -3,6 +3,7 @@ ghost use Rattle.std.specs.Prelude.{◌≡◌, [], Some};
 use std::alloc::Global;
 use std::io;
 use std::io::{ErrorKind, Write};
+use tai_status::Counted;
 
 /// A writer that holds so many bytes, and is interrupted before each write. Once it is full it takes none,
 /// or fails.
@@ -73,4 +74,12 @@ impl Write for Tight {
     fn flush(&mut self) -> io::Result<()> {
         Ok(())
     }
+}
+
+/// A full writer takes no byte, and none is a fault.
+#[test]
+fn nothing_to_write_is_no_fault(rt: HostRuntime) {
+    let mut writer = Counted::new(Tight::refusing(rt.alloc(), 0));
+    assert_eq!(rt; writer.write(b""), Ok(0));
+    assert_eq!(rt; writer.faults(), 0);
 }
