@@ -5,10 +5,10 @@ use Rattle.std.proofs.lemmas.List.{append-nil}
 use Rattle.crossbeam_queue.specs.Fifo.{Held}
 use Rattle.svc_mail.specs.declared.letter.Letter.{Letter}
 use Rattle.svc_mail.specs.declared.rule.Knows.{Knows}
-use Rattle.svc_mail.specs.History.{IsHistory, StartsWith, IsAmong}
+use Rattle.svc_mail.specs.History.{row_of, IsHistory, StartsWith, IsAmong}
 use mathlib.Core.Option.{some}
 use lib.ListN.{get_elem?}
-use Rattle.svc_mail.specs.Kept.{taker, IsWhole, IsSettled}
+use Rattle.svc_mail.specs.Kept.{poster, taker, MayBe, IsWhole, IsSettled}
 use Rattle.svc_mail.proofs.Lengths.{same_length}
 
 pub no_items : {X : Type 0} (items : List X) → length items ≡ 0 → items ≡ []
@@ -49,3 +49,32 @@ module _ {T : Type 0} where
   pub emptied : (v w : Knows T) (letters : List (Letter T)) → w ≡ taker v.all v.made (v.taken ++ letters) v.ended w.seen v.heard → StartsWith w.seen v.seen
       → Held 0 (λ items. IsWhole w (w.taken ++ items)) → IsWhole v (v.taken ++ letters)
   emptied v w letters e s h = earlier v w (v.taken ++ letters) (v.taken ++ letters) e s (subst (λ l. IsWhole w l) (ap (λ (u : Knows T). u.taken) e) (taken_all w h))
+
+  -- what a sender knows after a step
+  pub poster_again : (w : Knows T) (all n m : ℕ) (row : List T) (seen : List (Letter T)) (heard : List (List (Letter T)))
+      → w ≡ poster all n row seen heard → n ≡ m → w ≡ poster w.all m w.row w.seen w.heard
+  poster_again w all n m row seen heard e same =
+      e ∙ (λ i. poster (sym e i).all (same i) (sym e i).row (sym e i).seen (sym e i).heard)
+
+  -- what the receiver knows after a step
+  pub taker_again : (w : Knows T) (all made : ℕ) (taken : List (Letter T)) (ended : List (ℕ × List T × List (Letter T))) (seen : List (Letter T))
+      (heard : List (List (Letter T))) → w ≡ taker all made taken ended seen heard → made ≡ all → ended ≡ []
+      → w ≡ taker w.all w.all w.taken [] w.seen w.heard
+  taker_again w all made taken ended seen heard e same none =
+      e ∙ (λ i. taker (sym e i).all ((same ∙ sym (ap (λ (u : Knows T). u.all) e)) i) (sym e i).taken (none i) (sym e i).seen (sym e i).heard)
+
+  -- where the box was full, so says the sender, in the clause's words
+  pub found_full : (v : Knows T) (held room number : ℕ) → Held held (λ items. (taken : List (Letter T)) × MayBe v taken (taken ++ items)) → held ≡ room
+      → v.number ≡ number
+      → (taken items : List (Letter T)) × (length items ≡ room) × IsHistory (taken ++ items) × IsAmong v.all (taken ++ items)
+      × (v.row ≡ row_of number (taken ++ items)) × StartsWith (taken ++ items) v.seen × All (StartsWith taken) v.heard
+  found_full v held room number h same is = (
+    h.2.0,
+    h.0,
+    h.1 ∙ same,
+    h.2.1.0,
+    h.2.1.1,
+    h.2.1.2 ∙ ap (λ n. row_of n (h.2.0 ++ h.0)) is,
+    h.2.1.3,
+    h.2.1.4,
+  )
