@@ -1,7 +1,7 @@
 -- What a step tells, as the clauses say it.
 use Rattle.std.specs.Prelude.{All}
-use Rattle.std.proofs.Common.{◌≡◌, ℕ, ◌<◌, List, [], ◌∷◌, ◌++◌, length, sym, refl, ap, ◌∙◌, subst, append_assoc, length-append, arith}
-use Rattle.std.proofs.lemmas.List.{append-nil}
+use Rattle.std.proofs.Common.{◌≡◌, ℕ, ◌<◌, List, [], ◌∷◌, ◌++◌, length, map, sym, refl, ap, ◌∙◌, subst, append_assoc, length-append, arith}
+use Rattle.std.proofs.lemmas.List.{append-nil, map_push}
 use Rattle.crossbeam_queue.specs.Fifo.{Held}
 use Rattle.svc_mail.specs.declared.letter.Letter.{Letter}
 use Rattle.svc_mail.specs.declared.rule.Knows.{Knows}
@@ -78,3 +78,27 @@ module _ {T : Type 0} where
     h.2.1.3,
     h.2.1.4,
   )
+
+  -- after one more sender has ended
+  pub ended_more : {S : Type 0} (known : S → ℕ × List T × List (Letter T)) (first v w after : Knows T) (ss : List S) (s : S)
+      → v ≡ taker first.all first.made first.taken (map known ss) first.seen first.heard
+      → after ≡ taker v.all v.made v.taken (v.ended ++ (w.number, w.row, w.seen) ∷ []) v.seen v.heard → (w.number, w.row, w.seen) ≡ known s
+      → after ≡ taker first.all first.made first.taken (map known (ss ++ s ∷ [])) first.seen first.heard
+  ended_more known first v w after ss s so_far step is =
+      let more : map known ss ++ (w.number, w.row, w.seen) ∷ [] ≡ map known (ss ++ s ∷ []) = ap (λ r. map known ss ++ r ∷ []) is ∙ sym (map_push known ss s) in
+      step
+      ∙ (λ i. taker (so_far i).all (so_far i).made (so_far i).taken ((so_far i).ended ++ (w.number, w.row, w.seen) ∷ []) (so_far i).seen (so_far i).heard)
+      ∙ ap (λ ended. taker first.all first.made first.taken ended first.seen first.heard) more
+
+  -- after one more letter was taken
+  pub taken_more : (first v w : Knows T) (letters more : List (Letter T)) (x : Letter T)
+      → v ≡ taker first.all first.made (first.taken ++ letters) first.ended v.seen first.heard
+      → w ≡ taker v.all v.made (v.taken ++ x ∷ []) v.ended w.seen v.heard → more ≡ letters ++ x ∷ []
+      → w ≡ taker first.all first.made (first.taken ++ more) first.ended w.seen first.heard
+  taken_more first v w letters more x so_far step is =
+      let taken : (first.taken ++ letters) ++ x ∷ [] ≡ first.taken ++ more = append_assoc first.taken letters (x ∷ []) ∙ ap (λ l. first.taken ++ l) (sym is) in
+      step ∙ (λ i. taker (so_far i).all (so_far i).made ((so_far i).taken ++ x ∷ []) (so_far i).ended w.seen (so_far i).heard)
+      ∙ ap (λ t. taker first.all first.made t first.ended w.seen first.heard) taken
+
+  pub starts_through : (log middle front : List (Letter T)) → StartsWith log middle → StartsWith middle front → StartsWith log front
+  starts_through log middle front a b = (b.0 ++ a.0, a.1 ∙ ap (λ l. l ++ a.0) b.1 ∙ append_assoc front b.0 a.0)
