@@ -25,4 +25,3 @@ pub use reading::read_text;
 pub use text::record_digits;
 pub use told::{TraceText, replay};
 pub use trace::{MAX_CAPACITY, Trace};
-

@@ -1,4 +1,4 @@
-use Rattle.std.proofs.Common.{◌≡◌, map, string_bytes, length, ◌∙◌, ap, sym, subst, arith}
+use Rattle.std.proofs.Common.{map, string_bytes, length, ◌∙◌, ap, sym, subst, arith}
 use Rattle.std.specs.List.{AllByRecursion}
 use Rattle.std.proofs.lemmas.List.{map_push, take_all}
 use Rattle.tai_status.specs.LineReader.{IsPlain}

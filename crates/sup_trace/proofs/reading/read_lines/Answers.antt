@@ -1,4 +1,4 @@
-use Rattle.std.proofs.Common.{◌≡◌, ◌<◌, ℕ, List, [], length, Result, Ok, sym, ap, ◌∙◌, arith}
+use Rattle.std.proofs.Common.{◌<◌, ℕ, List, [], length, sym, ap, ◌∙◌, arith}
 use Rattle.sup_trace.specs.Told.{told_of}
 use Rattle.sup_trace.proofs.Steps.{over_end, from_base}
 use Rattle.sup_trace.proofs.Whole.{IsTraceText-told, answer, told_whole}

@@ -1,4 +1,4 @@
-use Rattle.std.proofs.Common.{arith, length-append}
+use Rattle.std.proofs.Common.{length-append}
 use Rattle.sup_core.specs.Rules.{IsEvent}
 use Rattle.sup_core.specs.Reading.{IsInRange}
 use Rattle.sup_trace.specs.Text.{header, base_text, end_text}

@@ -1,4 +1,4 @@
-use Rattle.std.proofs.Common.{◌≡◌, [], ◌∷◌, ◌++◌, length, length-append, true, ap, sym, subst, ◌∙◌, arith}
+use Rattle.std.proofs.Common.{◌≡◌, [], ◌∷◌, length, length-append, true, ap, sym, subst, ◌∙◌, arith}
 use Rattle.crossbeam_queue.specs.Passes.{view}
 use Rattle.svc_mail.specs.History.{StartsWith}
 use Rattle.svc_mail.specs.Kept.{taker}
