@@ -8,12 +8,15 @@ use Rattle.std.specs.List.{AllByRecursion}
 use Rattle.tai_status.specs.Label.{IsLabel}
 use Rattle.tai_status.specs.Record.{IsStatus}
 use Rattle.sup_core.specs.declared.event.Event.{Event}
+use Rattle.sup_core.specs.declared.asks.Ask.{Ask}
+use Rattle.sup_core.specs.declared.asks.Reply.{Reply}
+use Rattle.sup_core.specs.declared.asks.Reply.TheVariants.{Took, Held}
 use Rattle.sup_core.specs.State.{State, IsState}
-use Rattle.sup_core.specs.History.{Opened, Then, state_of}
-use Rattle.sup_core.specs.Rules.{IsEvent, takes, next, reply_to}
+use Rattle.sup_core.specs.History.{History, Opened, Then, state_of}
+use Rattle.sup_core.specs.Rules.{IsEvent, takes, next, asks_of, reply_to}
 use Rattle.sup_core.specs.Runs.{followed_by, AreTaken, after, taken_of}
 use Rattle.sup_core.specs.Reading.{IsInRange}
-use Rattle.sup_core.proofs.Laws.{AreTaken-concat, AreTaken-drop, AreTaken-state, after-state, followed_by-append, followed_by-state, next-taken, reply_to-state, state_of-cut, taken_of-state, takes-state}
+use Rattle.sup_core.proofs.Laws.{AreTaken-concat, AreTaken-drop, AreTaken-state, after-state, followed_by-append, followed_by-state, next-taken, reply_to-state, reply_to-took, state_of-cut, taken_of-state, takes-state}
 use Rattle.sup_trace.specs.Told.{IsTold}
 use Rattle.sup_trace.specs.Trace.{Kept, IsTrace, IsKeptUp, history_of, told_by, replay, folded_into, cut, noted, noted_if_taken, noted_along, new_trace}
 
@@ -225,3 +228,44 @@ IsTold-told_by kept trace state status until ranges = record {
   taken = trace.taken;
   ranges = ranges;
 }
+
+-- What the answer to an event says of the trace
+pub taken-answered : (kept : Kept) (event : Event) (machine : State) (reply : Reply) (asks : List Ask) → machine ≡ replay kept
+    → ((past : History) → state_of past ≡ machine → reply ≡ reply_to past event) → reply ≡ Took asks
+    → takes (history_of kept) event ≡ true
+taken-answered kept event machine reply asks replayed answered is =
+    reply_to-took (history_of kept) event asks (sym is ∙ answered (history_of kept) (sym replayed))
+
+reply_to-held : (past : History) (event : Event) → Held ≡ reply_to past event → takes past event ≡ false
+reply_to-held past event said =
+    elim (takes past event) as (λ b. Held ≡ (if b then Took (asks_of past event) else Held) → b ≡ false) [
+      | true ↦ λ said. absurd (cc)
+      | false ↦ λ said. refl
+    ] said
+
+pub held-answered : (kept : Kept) (event : Event) (machine : State) (reply : Reply) → machine ≡ replay kept
+    → ((past : History) → state_of past ≡ machine → reply ≡ reply_to past event) → reply ≡ Held
+    → takes (history_of kept) event ≡ false
+held-answered kept event machine reply replayed answered is =
+    reply_to-held (history_of kept) event (sym is ∙ answered (history_of kept) (sym replayed))
+
+-- The machine that held the event is the one that the trace replays to.
+pub IsKeptUp-held : (kept : Kept) (event : Event) (after : State) → IsTrace kept → takes (history_of kept) event ≡ false
+    → after ≡ state_of (next (history_of kept) event) → IsKeptUp kept after
+IsKeptUp-held kept event after trace held stepped =
+    record { trace = trace; replayed = stepped ∙ rw held refl }
+
+-- what a trace that is seen as another keeps
+pub noted-seen : (kept seen : Kept) (event : Event) → kept ≡ seen → takes (history_of kept) event ≡ true
+    → noted kept (event ∷ []) ≡ noted_if_taken seen event
+noted-seen kept seen event same taken =
+    sym (noted_if_taken-taken kept event taken) ∙ ap (λ (k : Kept). noted_if_taken k event) same
+
+pub held-seen : (kept seen : Kept) (event : Event) → kept ≡ seen → takes (history_of kept) event ≡ false → kept ≡ noted_if_taken seen event
+held-seen kept seen event same held =
+    sym (noted_if_taken-held kept event held) ∙ ap (λ (k : Kept). noted_if_taken k event) same
+
+pub reply-seen : (kept seen : Kept) (event : Event) (machine : State) (reply : Reply) → kept ≡ seen → machine ≡ replay kept
+    → ((past : History) → state_of past ≡ machine → reply ≡ reply_to past event) → reply ≡ reply_to (history_of seen) event
+reply-seen kept seen event machine reply same replayed answered =
+    answered (history_of kept) (sym replayed) ∙ ap (λ (k : Kept). reply_to (history_of k) event) same

@@ -1,6 +1,6 @@
 -- A replay at a place: the machine before the entry there, what is answered, and the line of it.
-use Rattle.std.proofs.Common.{◌≡◌, ℕ, ◌+◌, ◌-◌, ◌<◌, ◌≤◌, List, [], ◌∷◌, ◌++◌, length, take, map, get_or, Some, slice_get, subst, sym, ap, ◌∙◌, arith, refl, inl, inr, zero-add, decimal, codes}
-use Rattle.std.specs.Prelude.{IsSomeAnd}
+use Rattle.std.proofs.Common.{◌≡◌, ℕ, ◌+◌, ◌-◌, ◌<◌, ◌≤◌, List, [], ◌∷◌, ◌++◌, length, take, map, get_or, Some, slice_get, Result, Ok, Err, codes, append_assoc, subst, sym, ap, ◌∙◌, arith, refl, inl, inr, zero-add}
+use Rattle.std.specs.Prelude.{IsSomeAnd, IfOk}
 use Rattle.std.specs.List.{enumerate_from}
 use Rattle.std.proofs.lemmas.Bool.{cases_lt}
 use Rattle.std.proofs.lemmas.List.{length-map, map_push, take-map, take_more}
@@ -9,13 +9,13 @@ use Rattle.std.proofs.lemmas.Option.{slice_get_past, slice_get_read}
 use Rattle.sup_core.specs.declared.asks.Reply.{Reply}
 use Rattle.sup_core.specs.declared.event.Event.{Event}
 use Rattle.sup_core.specs.declared.machine.Phase.{Phase}
-use Rattle.sup_core.specs.History.{Opened, phase_of}
+use Rattle.sup_core.specs.History.{History, Opened, phase_of}
 use Rattle.sup_core.specs.Rules.{IsEvent, next, reply_to}
-use Rattle.sup_core.specs.Text.{event_text, answer_text}
+use Rattle.sup_core.specs.Text.{answer_text}
 use Rattle.sup_core.proofs.Laws.{AreTaken-at, next-taken}
 use Rattle.sup_trace.specs.declared.breaks.Break.{Break}
 use Rattle.sup_trace.specs.Told.{Told, IsTraceText}
-use Rattle.sup_trace.specs.Explained.{before, explained, explained_line}
+use Rattle.sup_trace.specs.Explained.{before, answer_at, explained, explained_line}
 use Rattle.sup_trace.specs.Breaks.{Breaks, BreaksAt, IsFirstBreak}
 
 -- What is known of the entry at a place.
@@ -56,14 +56,21 @@ explained-more told place event below at =
     ∙ ap (λ p. map line (take place placed) ++ line p ∷ []) here
     ∙ ap (λ lines. lines ++ explained_line told place event ∷ []) (sym (take-map line place placed))
 
--- the line as it is made
-pub explained_line-made : (told : Told) (place : ℕ) (event : Event) (reply : Reply) (phase : Phase)
-    → reply ≡ reply_to (before told place) event → phase ≡ phase_of (next (before told place) event)
-    → decimal (place + 1) ++ codes " " ++ event_text event ++ codes ": " ++ answer_text reply phase ≡ explained_line told place event
-explained_line-made told place event reply phase answered led =
-    let front = decimal (place + 1) ++ codes " " ++ event_text event ++ codes ": " in
-    ap (λ (r : Reply). front ++ answer_text r phase) answered
-    ∙ ap (λ (p : Phase). front ++ answer_text (reply_to (before told place) event) p) led
+-- the answer as it is made
+pub answer-made : (past : History) (event : Event) (reply : Reply) (phase : Phase) → reply ≡ reply_to past event
+    → phase ≡ phase_of (next past event) → answer_text reply phase ≡ answer_at past event
+answer-made past event reply phase answered led =
+    ap (λ (r : Reply). answer_text r phase) answered ∙ ap (λ (p : Phase). answer_text (reply_to past event) p) led
+
+-- the line as it is made, of texts that are shown
+pub line-made : {L E : Type 0} (bytes : L → List ℕ) (r : Result L E) (number shown told event answer : List ℕ) → shown ≡ event → told ≡ answer
+    → IfOk r (λ line. bytes line ≡ number ++ (codes " " ++ (shown ++ (codes ": " ++ told))))
+    → IfOk r (λ line. bytes line ≡ number ++ codes " " ++ event ++ codes ": " ++ answer)
+line-made bytes (Err e) number shown told event answer is so made = tt
+line-made bytes (Ok line) number shown told event answer is so made =
+    made ∙ ap (λ (text : List ℕ). number ++ (codes " " ++ (shown ++ (codes ": " ++ text)))) so
+    ∙ ap (λ (text : List ℕ). number ++ (codes " " ++ (text ++ (codes ": " ++ answer)))) is
+    ∙ simp append_assoc
 
 pub lines-more : (told : Told) (place : ℕ) (event : Event) (lines : List (List ℕ)) (line : List ℕ) → place < length told.entries
     → event ≡ get_or told.entries place event → lines ≡ take place (explained told) → line ≡ explained_line told place event

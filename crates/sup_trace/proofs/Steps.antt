@@ -1,5 +1,5 @@
 -- Reading goes on from line to line.
-use Rattle.std.proofs.Common.{◌≡◌, ℕ, ◌+◌, ◌<◌, ◌≤◌, ◌==◌, true, List, [], ◌∷◌, ◌++◌, length, length-append, Result, Ok, Err, refl, sym, ap, ◌∙◌, arith, subst}
+use Rattle.std.proofs.Common.{◌≡◌, ℕ, ◌+◌, ◌<◌, ◌≤◌, ◌==◌, nat_lt, Bool, true, false, not, List, [], ◌∷◌, ◌++◌, length, length-append, Result, Ok, Err, refl, sym, ap, ◌∙◌, arith, subst}
 use Rattle.std.specs.List.{join_with_byte}
 use Rattle.std.proofs.lemmas.List.Splits.{join_with_byte-slice_split}
 use Rattle.sup_core.proofs.Fields.{split_some_part}
@@ -7,12 +7,15 @@ use Rattle.sup_trace.specs.declared.fault.TraceFault.{TraceFault}
 use Rattle.sup_trace.specs.declared.fault.TraceFaultKind.{TraceFaultKind}
 use Rattle.sup_trace.specs.declared.fault.TraceFaultKind.TheVariants as kind
 use Rattle.sup_core.specs.declared.event.Event.{Event}
-use Rattle.sup_core.specs.History.{Opened, state_of}
+use Rattle.sup_core.specs.declared.reading.EventFault.{EventFault}
+use Rattle.sup_core.specs.declared.reading.EventFault.TheVariants as why
+use Rattle.sup_core.specs.State.{State}
+use Rattle.sup_core.specs.History.{History, Opened, state_of}
 use Rattle.sup_core.specs.Rules.{takes, next}
 use Rattle.sup_core.specs.Reading.{fields}
 use Rattle.sup_core.proofs.Laws.{followed_by-append, next-taken}
-use Rattle.sup_trace.specs.Told.{Told, told_history, replay_of}
-use Rattle.sup_trace.specs.Reading.{Heard, Nothing, Header, Entries, Whole, line_result, at_end, told_by_parts, parts_of, with_entry, end_result, refusal, AddsEntry, ReadsLine, ReadsEntry, heard_along}
+use Rattle.sup_trace.specs.Told.{Told, told_of, told_history, replay_of}
+use Rattle.sup_trace.specs.Reading.{Heard, Nothing, Header, Entries, Whole, line_result, at_end, told_by_parts, parts_of, told_from, with_entry, entry_result, end_result, kind_of, refusal, AddsEntry, ReadsLine, ReadsEntry, heard_along}
 
 -- a line that is not refused
 pub goes_on : (number : ℕ) (heard more : Heard) (line : List ℕ) (parts : List (List ℕ)) → (parts ≡ [] → ⊥) → line_result heard line ≡ Ok more
@@ -79,11 +82,77 @@ end_fields told count (part ∷ parts) h = refl
 pub end_result_many : (told : Told) (count rest : List ℕ) → end_result told (count ∷ fields rest) ≡ Err kind.Line
 end_result_many told count rest = end_fields told count (fields rest) (split_some_part (λ byte. byte == 32) rest)
 
--- the state after one more entry
-pub replay-more : (told : Told) (event : Event) → takes (told_history told) event ≡ true
+-- whether the machine takes an event, and the machine after it
+pub machine_takes : (told : Told) (machine : State) (event : Event) (taken : Bool) → machine ≡ replay_of told
+    → ((past : History) → state_of past ≡ machine → taken ≡ takes past event) → takes (told_history told) event ≡ taken
+machine_takes told machine event taken stands said = sym (said (told_history told) (sym stands))
+
+replay-more : (told : Told) (event : Event) → takes (told_history told) event ≡ true
     → state_of (next (told_history told) event) ≡ replay_of (with_entry told event)
 replay-more told event taken =
     ap state_of (next-taken (told_history told) event taken ∙ sym (followed_by-append (Opened told.base) told.entries (event ∷ [])))
+
+pub replay-stepped : (told : Told) (machine after : State) (event : Event) (entries : List Event) → machine ≡ replay_of told
+    → takes (told_history told) event ≡ true → ((past : History) → state_of past ≡ machine → after ≡ state_of (next past event))
+    → entries ≡ told.entries ++ event ∷ [] → after ≡ replay_of (told_of told.base told.folded entries)
+replay-stepped told machine after event entries stands taken stepped grown =
+    stepped (told_history told) (sym stands) ∙ replay-more told event taken
+    ∙ ap (λ (es : List Event). replay_of (told_of told.base told.folded es)) (sym grown)
+
+-- An event's line: what was told before is seen as `seen`.
+
+pub room-test : (m n : ℕ) → m < n → not (nat_lt m n) ≡ false
+room-test m n h = grind (arith)
+
+full-test : (m n : ℕ) → n ≤ m → not (nat_lt m n) ≡ true
+full-test m n h = grind (arith)
+
+abbrev refused : TraceFaultKind → Result Heard TraceFaultKind
+refused why = Err why
+
+abbrev read_so : Heard → Result Heard TraceFaultKind
+read_so heard = Ok heard
+
+entry_seen : (told seen : Told) (event : Event) (r : Result Event EventFault) → told ≡ seen → Ok event ≡ r
+    → entry_result seen r ≡ entry_result told (Ok event)
+entry_seen told seen event r same is =
+    ap (entry_result seen) (sym is) ∙ ap (λ (t : Told). entry_result t (Ok event)) (sym same)
+
+pub entry_refused : (seen : Told) (told_why : EventFault) (fault : TraceFaultKind) (r : Result Event EventFault) → Err told_why ≡ r
+    → fault ≡ kind_of told_why → entry_result seen r ≡ Err fault
+entry_refused seen told_why fault r is so = ap (entry_result seen) (sym is) ∙ ap (λ (k : TraceFaultKind). refused k) (sym so)
+
+pub entry_full : (told seen : Told) (event : Event) (r : Result Event EventFault) → told ≡ seen → Ok event ≡ r
+    → 65536 ≤ length told.entries → entry_result seen r ≡ Err kind.Line
+entry_full told seen event r same is full =
+    entry_seen told seen event r same is ∙ rw (full-test (length told.entries) 65536 full) refl
+
+pub entry_held : (told seen : Told) (event : Event) (r : Result Event EventFault) → told ≡ seen → Ok event ≡ r
+    → length told.entries < 65536 → takes (told_history told) event ≡ false → entry_result seen r ≡ Err kind.NotTaken
+entry_held told seen event r same is room held =
+    entry_seen told seen event r same is ∙ rw (room-test (length told.entries) 65536 room, held) refl
+
+pub entry_taken : (told seen : Told) (event : Event) (r : Result Event EventFault) (entries : List Event) → told ≡ seen → Ok event ≡ r
+    → length told.entries < 65536 → takes (told_history told) event ≡ true → entries ≡ told.entries ++ event ∷ []
+    → entry_result seen r ≡ Ok (Entries (told_of told.base told.folded entries))
+entry_taken told seen event r entries same is room taken grown =
+    entry_seen told seen event r same is ∙ rw (room-test (length told.entries) 65536 room, taken) refl
+    ∙ ap (λ (es : List Event). read_so (Entries (told_of told.base told.folded es))) (sym grown)
+
+pub adds_entry : (told seen : Told) (event : Event) (r : Result Event EventFault) → told ≡ seen → Ok event ≡ r
+    → length told.entries < 65536 → takes (told_history told) event ≡ true → AddsEntry seen (entry_result seen r)
+adds_entry told seen event r same is room taken = record {
+  event = event;
+  is = entry_taken told seen event r (told.entries ++ event ∷ []) same is room taken refl
+      ∙ ap (λ (t : Told). read_so (Entries (with_entry t event))) same;
+}
+
+-- No fault of an event's line is want of memory.
+pub kind_of-memory : (fault : EventFault) → kind_of fault ≡ kind.OutOfMemory → ⊥
+kind_of-memory why.UnknownEvent h = cc h
+kind_of-memory why.Line h = cc h
+kind_of-memory why.Number h = cc h
+kind_of-memory why.Label h = cc h
 
 -- A fault is at the line of this number, or later.
 
@@ -203,3 +272,19 @@ fault_after_entry at number heard parts first entry h =
     let later = fault_after number heard (Entries entry.told) entry.lines entry.rest first entry.ended entry.is told in
     let place = entry.place in
     omega (arith, later, place)
+
+-- From the start of a text
+
+pub from_start : (text rest : List ℕ) (number : ℕ) → rest ≡ text → number ≡ 1
+    → told_from text ≡ told_by_parts number Nothing (parts_of rest)
+from_start text rest number same first =
+    ap (λ (t : List ℕ). told_by_parts 1 Nothing (parts_of t)) (sym same)
+    ∙ ap (λ (n : ℕ). told_by_parts n Nothing (parts_of rest)) (sym first)
+
+-- after the two lines before the entries, which told the base
+pub from_base : (text start rest : List ℕ) (number next : ℕ) (base made : Told) → start ≡ text → number ≡ 1
+    → told_by_parts number Nothing (parts_of start) ≡ told_by_parts next (Entries base) (parts_of rest) → made ≡ base
+    → told_from text ≡ told_by_parts next (Entries made) (parts_of rest)
+from_base text start rest number next base made same first opened is =
+    from_start text start number same first ∙ opened
+    ∙ ap (λ (told : Told). told_by_parts next (Entries told) (parts_of rest)) (sym is)

@@ -1,5 +1,5 @@
 -- What is told is read, so a text is read as what it tells, and only that.
-use Rattle.std.proofs.Common.{◌≡◌, ℕ, ◌+◌, ◌<◌, ◌≤◌, nat_lt, Bool, true, false, not, List, [], ◌∷◌, ◌++◌, map, flat_map, append_assoc, length, Option, Some, None, Result, Ok, Err, refl, sym, ap, ◌∙◌, arith, codes, decimal, subst}
+use Rattle.std.proofs.Common.{◌≡◌, ℕ, ◌+◌, ◌<◌, ◌≤◌, ◌==◌, Bool, true, false, List, [], ◌∷◌, ◌++◌, map, flat_map, append_assoc, length, Option, Some, None, Result, Ok, Err, refl, sym, ap, ◌∙◌, arith, codes, decimal, subst}
 use Rattle.std.specs.Prelude.{◌≢◌, IfOk, IfErr, MatchResult, IfSome}
 use Rattle.std.specs.List.{AllByRecursion}
 use Rattle.std.proofs.lemmas.Slice.Eq.{bytes_eq-Decides}
@@ -25,7 +25,7 @@ use Rattle.sup_trace.specs.Told.{Told, told_of, told_history, IsTold, IsTraceTex
 use Rattle.sup_trace.specs.Text.{header, stay_text, until_text, base_fields, base_text, end_text, trace_lines, trace_text}
 use Rattle.sup_trace.specs.Reading.{Nothing, Header, Entries, Whole, base_result, with_entry, entry_result, later_result, line_result, told_by_parts, parts_of, told_from}
 use Rattle.std.proofs.lemmas.List.{length-append, append-nil}
-use Rattle.sup_trace.proofs.Steps.{goes_on}
+use Rattle.sup_trace.proofs.Steps.{goes_on, over_none, room-test}
 use Rattle.sup_trace.proofs.Parts.{folded_of_text-only, phase_of_text-only, status_of_text-only, exiting_of_text-only, until_of_text-only}
 use Rattle.sup_trace.proofs.Plain.{plain-trace_lines}
 use Rattle.sup_trace.proofs.Heard.{told_from-found}
@@ -96,9 +96,6 @@ event_later told (StartFailed label) = refl
 event_later told (Death label) = refl
 event_later told (Clock label) = refl
 
-room-test : (m n : ℕ) → m < n → not (nat_lt m n) ≡ false
-room-test m n h = grind (arith)
-
 entry_line : (told : Told) (event : Event) → IsInRange event → length told.entries < 65536 → takes (told_history told) event ≡ true
     → line_result (Entries told) (event_text event) ≡ Ok (Entries (with_entry told event))
 entry_line told event range room taken =
@@ -155,6 +152,17 @@ lines_and_end told =
     ap (λ (ls : List (List ℕ)). header ∷ base_text told.folded told.base ∷ ls)
     (append_assoc (map event_text told.entries) (end_text (length told.entries) ∷ []) ([] ∷ []))
 
+abbrev refusal : TraceFault → Result Told TraceFault
+refusal fault = Err fault
+
+abbrev pub answer : Told → Result Told TraceFault
+answer told = Ok told
+
+-- All was told, and nothing stands after the end line.
+pub told_whole : (text rest : List ℕ) (number : ℕ) (told : Told) → told_from text ≡ told_by_parts number (Whole told) (parts_of rest)
+    → true ≡ (length rest == 0) → told_from text ≡ Ok told
+told_whole text rest number told is none = is ∙ over_none number told rest (grind (arith, none))
+
 -- The text of a trace is read as what it tells.
 pub told_from-only : (told : Told) → IsTold told → told_from (trace_text told) ≡ Ok told
 told_from-only told h =
@@ -176,12 +184,6 @@ pub found-ok : {E : Type 0} (text : List ℕ) (r : Result Told E) → IfOk r (λ
     → IfOk r (λ told. IsTold told × (text ≡ trace_text told))
 found-ok text (Ok told) h = told_from-found text told h
 found-ok text (Err e) h = tt
-
-abbrev refusal : TraceFault → Result Told TraceFault
-refusal fault = Err fault
-
-abbrev answer : Told → Result Told TraceFault
-answer told = Ok told
 
 memory_told : (why : TraceFaultKind) → ((why ≢ kind.OutOfMemory) → ⊥) → why ≡ kind.OutOfMemory
 memory_told kind.OutOfMemory h = refl

@@ -89,25 +89,34 @@ fn base_fields(line: &[u8]) -> Option<BaseFields<'_>>
         (λ f. fields line.now
         ≡ codes "base" ∷ f.folded.now ∷ f.phase.now ∷ f.status.now ∷ f.stay.now ∷ f.until.now ∷ []) }
 {
-    let (word, rest) = split_field(line);
+    let (word, Some(rest)) = split_field(line) else {
+        return None;
+    };
     if word != b"base".as_slice() {
         return None;
     }
-    let (folded, rest) = split_field(rest?);
-    let (phase, rest) = split_field(rest?);
-    let (status, rest) = split_field(rest?);
-    let (stay, rest) = split_field(rest?);
-    let (until, rest) = split_field(rest?);
-    match rest {
-        None => Some(BaseFields {
-            folded,
-            phase,
-            status,
-            stay,
-            until,
-        }),
-        Some(_) => None,
-    }
+    let (folded, Some(rest)) = split_field(rest) else {
+        return None;
+    };
+    let (phase, Some(rest)) = split_field(rest) else {
+        return None;
+    };
+    let (status, Some(rest)) = split_field(rest) else {
+        return None;
+    };
+    let (stay, Some(rest)) = split_field(rest) else {
+        return None;
+    };
+    let (until, None) = split_field(rest) else {
+        return None;
+    };
+    Some(BaseFields {
+        folded,
+        phase,
+        status,
+        stay,
+        until,
+    })
 }
 
 /// The phase of this name.

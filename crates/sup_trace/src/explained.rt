@@ -1,13 +1,14 @@
-ghost use Rattle.std.specs.Prelude.{◌≡◌, ◌++◌, codes, decimal, string_bytes, IfOk};
+ghost use Rattle.std.specs.Prelude.{◌≡◌, ◌+◌, ◌^◌, ◌<◌, ◌++◌, length, codes, decimal, string_bytes, IfOk};
 ghost use Rattle.std.specs.List.{AllByRecursion};
 ghost use Rattle.tai_status.specs.LineReader.{IsPlain};
-ghost use Rattle.sup_core.specs.Text.{event_text, answer_text};
-ghost use Rattle.sup_trace.specs.Explained.{explained};
+ghost use Rattle.sup_core.specs.History.{History, state_of};
+ghost use Rattle.sup_core.specs.Rules.{IsEvent, next};
+ghost use Rattle.sup_core.specs.Text.{event_text};
+ghost use Rattle.sup_trace.specs.Explained.{answer_at, explained};
 
 use crate::told::TraceText;
-use itoa::Buffer;
 use std::alloc::{AllocError, Allocator};
-use sup_core::{Event, Phase, Reply, answer_text, event_text};
+use sup_core::{Event, Machine, answer_text, event_text};
 use tai_status::Lines;
 
 /// A line for each entry: its number from 1, a space, the event, `: `, and the answer, as `1 byte d: took TERM:4711
@@ -22,33 +23,25 @@ pub fn explain<A: Allocator + Clone, B: Allocator>(
     let mut machine = told.base();
     let mut lines = Vec::with_capacity(alloc.clone()?, told.entries().len())?;
     for (place, event) in told.entries().iter().enumerate() {
-        let reply = machine.step(*event);
-        lines.push(explained_line(alloc.clone()?, place + 1, event, &reply, machine.phase())?)?;
+        lines.push(explained_line(&alloc, place + 1, &mut machine, event)?)?;
     }
     Ok(Lines::from_vec(lines))
 }
 
-/// The line of an entry.
-fn explained_line<A: Allocator>(
-    alloc: A,
+/// The line of an entry, whose event the machine takes.
+fn explained_line<A: Allocator + Clone>(
+    alloc: &A,
     number: usize,
+    machine: &mut Machine,
     event: &Event,
-    reply: &Reply,
-    phase: Phase,
 ) -> Result<String<A>, AllocError>
-    ensures { IfOk result (λ line. string_bytes line ≡
-        decimal number ++ codes " " ++ event_text event.now ++ codes ": " ++ answer_text reply.now phase) }
+    requires { IsEvent event.now }
+    ensures line { (past : History) → state_of past ≡ machine.old → IfOk result (λ line. string_bytes line
+        ≡ decimal number ++ codes " " ++ event_text event.now ++ codes ": " ++ answer_at past event.now) }
+    ensures state { (past : History) → state_of past ≡ machine.old → machine.new ≡ state_of (next past event.now) }
 {
-    let mut digits = Buffer::new();
-    let number = digits.format(number);
+    let reply = machine.step(*event);
+    let answer = answer_text(&reply, machine.phase());
     let event = event_text(event);
-    let answer = answer_text(reply, phase);
-    let size = number.len() + event.as_str().len() + answer.as_str().len() + 3;
-    let mut line = String::with_capacity(alloc, size)?;
-    line.push_str(number)?;
-    line.push_str(" ")?;
-    line.push_str(event.as_str())?;
-    line.push_str(": ")?;
-    line.push_str(answer.as_str())?;
-    Ok(line)
+    format!(in alloc.clone()?; "{number} {}: {}", event.as_str(), answer.as_str())
 }

@@ -150,15 +150,15 @@ impl<A: Allocator> Reading<A> {
             → AddsEntry self.old (line_result (Entries self.old) line.now)) }
     {
         let (word, rest) = split_field(line);
-        match word {
-            b"end" => {
-                self.take_end(rest)?;
-                Ok(true)
-            }
-            _ => match self.take_event(line) {
-                Ok(()) => Ok(false),
+        if word == b"end".as_slice() {
+            return match self.take_end(rest) {
+                Ok(()) => Ok(true),
                 Err(why) => Err(why),
-            },
+            };
+        }
+        match self.take_event(line) {
+            Ok(()) => Ok(false),
+            Err(why) => Err(why),
         }
     }
 }

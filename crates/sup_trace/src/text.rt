@@ -5,13 +5,13 @@ ghost use Rattle.tai_status.specs.Record.{Status, IsStatus};
 ghost use Rattle.sup_core.specs.State.{IsState};
 ghost use Rattle.sup_core.specs.Rules.{IsEvent};
 ghost use Rattle.sup_core.specs.Reading.{IsInRange};
-ghost use Rattle.sup_core.specs.Text.{event_text};
+ghost use Rattle.sup_core.specs.Text.{event_text, phase_name};
 ghost use Rattle.sup_trace.specs.Told.{told_of};
 ghost use Rattle.sup_trace.specs.Text.{record_digits, base_text, end_text, stay_text, until_text, trace_text};
 
 use itoa::Buffer;
 use std::alloc::{AllocError, Allocator};
-use sup_core::{Event, Machine, event_text, phase_name};
+use sup_core::{Event, Machine, Phase, event_text, phase_name};
 use tai_status::{Label, View, encode, text};
 
 /// The most bytes that the line of an entry can have, with its newline: a start's.
@@ -74,14 +74,26 @@ fn push_base<A: Allocator>(
 {
     let view = base.view();
     let until = base.until();
-    out.extend_from_slice(b"base")?;
-    push_number(out, folded)?;
-    push_field(out, phase_name(base.phase()).as_bytes())?;
-    push_record(out, &view)?;
-    push_field(out, stay(base.exiting()).as_bytes())?;
+    push_count(out, b"base", folded)?;
+    push_standing(out, base.phase(), &view, base.exiting())?;
     push_until(out, &until)?;
-    out.push(b'\n')?;
-    Ok(())
+    out.extend_from_slice(b"\n")
+}
+
+/// Writes a space and a field at the end of a text, for the phase, the digits of the status record, and whether the machine
+/// is to end.
+fn push_standing<A: Allocator>(
+    out: &mut Vec<u8, A>,
+    phase: Phase,
+    view: &View,
+    exiting: bool,
+) -> Result<(), AllocError>
+    ensures { OnOk result (out.new.items
+        ≡ out.old.items ++ 32 ∷ phase_name phase ++ 32 ∷ record_digits view.now ++ 32 ∷ stay_text exiting) }
+{
+    push_field(out, phase_name(phase).as_bytes())?;
+    push_record(out, view)?;
+    push_field(out, stay(exiting).as_bytes())
 }
 
 /// Whether a machine is to end, as a word.
@@ -99,11 +111,16 @@ fn push_field<A: Allocator>(out: &mut Vec<u8, A>, field: &[u8]) -> Result<(), Al
     out.extend_from_slice(field)
 }
 
-/// Writes a space and a number at the end of a text.
-fn push_number<A: Allocator>(out: &mut Vec<u8, A>, number: u64) -> Result<(), AllocError>
-    ensures { OnOk result (out.new.items ≡ out.old.items ++ 32 ∷ decimal number) }
+/// Writes a word, a space and a number at the end of a text.
+fn push_count<A: Allocator>(
+    out: &mut Vec<u8, A>,
+    word: &[u8],
+    number: u64,
+) -> Result<(), AllocError>
+    ensures { OnOk result (out.new.items ≡ out.old.items ++ word.now ++ 32 ∷ decimal number) }
 {
     let mut buffer = Buffer::new();
+    out.extend_from_slice(word)?;
     push_field(out, buffer.format(number).as_bytes())
 }
 
@@ -137,8 +154,6 @@ fn push_until<A: Allocator>(out: &mut Vec<u8, A>, until: &Option<Label>) -> Resu
 fn push_end<A: Allocator>(out: &mut Vec<u8, A>, count: usize) -> Result<(), AllocError>
     ensures { OnOk result (out.new.items ≡ out.old.items ++ end_text count ++ 10 ∷ []) }
 {
-    out.extend_from_slice(b"end")?;
-    push_number(out, count as u64)?;
-    out.push(b'\n')?;
-    Ok(())
+    push_count(out, b"end", count as u64)?;
+    out.extend_from_slice(b"\n")
 }

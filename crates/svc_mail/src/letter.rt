@@ -1,7 +1,8 @@
 //! What a mailbox carries.
+use std::alloc::AllocError;
 
 /// An item that was posted, with the number of its sender and its place among what that sender posted.
-#[derive(Clone, Copy, PartialEq, Eq, Debug)]
+#[derive(Copy, PartialEq, Eq, Debug)]
 pub struct Letter<T> {
     /// The number of its sender, from 0.
     pub sender: usize,
@@ -9,6 +10,18 @@ pub struct Letter<T> {
     pub place: u64,
     /// What was posted.
     pub item: T,
+}
+
+impl<T: Copy> Clone for Letter<T> {
+    ghost use Rattle.std.specs.Prelude.{◌≡◌, ⊤};
+
+    ghost is_clone = { λ letter copy. copy ≡ letter };
+
+    ghost is_infallible = { λ _. ⊤ };
+
+    fn clone(&self) -> Result<Letter<T>, AllocError> {
+        Ok(*self)
+    }
 }
 
 /// The mailbox was full, and this is the item.

@@ -45,6 +45,20 @@ fn announce_senders<T: Copy, A: Allocator>(queue: &Queue<T, A>, mark: &mut Mark<
     }
 }
 
+// The queue of a mailbox that is to have so many senders, and the receiver's pass.
+fn queue_for<T: Copy, A: Allocator + Clone>(
+    alloc: &A,
+    capacity: usize,
+    senders: usize,
+) -> Result<(Arc<Queue<T, A>, A>, Mark<T>), AllocError>
+    requires { 0 < capacity }
+    ensures { IfOk result (λ r. (ruled_capacity (arc_value r.0) ≡ capacity) × IsPassOf (arc_value r.0) r.1 × (view r.1 ≡ taker senders 0 [] [] [] [])) }
+{
+    let (queue, mut mark) = Queue::ruled(alloc.clone()?, capacity)?;
+    announce_senders(&queue, &mut mark, senders);
+    Ok((Arc::new(alloc.clone()?, queue)?, mark))
+}
+
 // Makes the senders.
 fn make_senders<T: Copy, A: Allocator + Clone>(
     alloc: A,
@@ -129,9 +143,7 @@ impl<T: Copy, A: Allocator + Clone> Mailbox<T, A> {
         requires { (0 < capacity) × (0 < senders) }
         ensures { IfOk result (λ r. IsOpen capacity senders r.0 r.1.items r.2) }
     {
-        let (queue, mut mark) = Queue::ruled(alloc.clone()?, capacity)?;
-        let queue = Arc::new(alloc.clone()?, queue)?;
-        announce_senders(&queue, &mut mark, senders);
+        let (queue, mut mark) = queue_for(&alloc, capacity, senders)?;
         let ends = make_senders(alloc.clone()?, &queue, &mut mark, senders)?;
         let own = Arc::try_clone(&queue)?;
         let mailbox = Mailbox {

@@ -71,9 +71,13 @@ impl<T: Copy, A: Allocator> Receiver<T, A> {
             for _ in rt.forever() {}
             unreachable!()
         }
-        let next = self.queue.pop_as::<Gets, R>(rt, &mut self.mark)?;
-        self.count += 1;
-        Some(next)
+        match self.queue.pop_as::<Gets, R>(rt, &mut self.mark) {
+            Some(letter) => {
+                self.count += 1;
+                Some(letter)
+            }
+            None => None,
+        }
     }
 
     /// Tells which letters were taken, and what the receiver has seen of the history.

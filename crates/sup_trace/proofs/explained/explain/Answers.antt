@@ -1,16 +1,15 @@
-use Rattle.std.proofs.Common.{◌≡◌, map, string_bytes, length, ◌∙◌, ap, sym, subst, arith}
+use Rattle.std.proofs.Common.{map, string_bytes, length, ◌∙◌, ap, sym, subst, arith}
 use Rattle.std.specs.List.{AllByRecursion}
 use Rattle.std.proofs.lemmas.List.{map_push, take_all}
 use Rattle.tai_status.specs.LineReader.{IsPlain}
-use Rattle.sup_core.specs.State.{State}
 use Rattle.sup_core.specs.History.{state_of}
-use Rattle.sup_trace.specs.Explained.{before, explained, explained_line}
+use Rattle.sup_trace.specs.Explained.{before, explained}
 use Rattle.sup_trace.proofs.Plain.{plain-explained}
-use Rattle.sup_trace.proofs.Places.{entry_at, explained_line-made, length-explained, lines-more}
+use Rattle.sup_trace.proofs.Places.{entry_at, length-explained, lines-more}
 use Rattle.sup_trace.proofs.explained.explain.Goals as goal
 
-pub step-reply-requires : goal.step-reply-requires
-step-reply-requires g c =
+pub explained_line-requires : goal.explained_line-requires
+explained_line-requires g c =
     let items = c.entries-event-items in
     (entry_at c.args.told.now items.result.now c.loop-place.place c.event-item.result items.ensures.bounds items.ensures.entries
     c.loop-place-test.true c.event-item.is).condition
@@ -24,16 +23,11 @@ loop-place-preserved g c =
     let entry = entry_at told items.result.now place event items.ensures.bounds items.ensures.entries c.loop-place-test.true c.event-item.is in
     let past = before told place in
     let stands = sym c.loop-place.invariant.machine in
-    let state = c.step-reply.ensures.state past stands in
-    let phase = c.phase.ensures ∙ ap (λ (s : State). s.phase) state in
-    let reply = c.step-reply.ensures.reply past stands in
-    let line : string_bytes c.in_ok-explained_line.field-0 ≡ explained_line told place event =
-    c.in_ok-explained_line.ensures ∙ explained_line-made told place event c.step-reply.result c.phase.result reply phase in
     record {
-      machine = state ∙ ap state_of (sym entry.next_is);
+      machine = c.explained_line.ensures.state past stands ∙ ap state_of (sym entry.next_is);
       lines = rw (c.in_ok-push.ensures.items, map_push (λ line. string_bytes line) c.loop-place.lines.items c.in_ok-explained_line.field-0)
           (lines-more told place event (map (λ line. string_bytes line) c.loop-place.lines.items) (string_bytes c.in_ok-explained_line.field-0)
-          entry.within entry.at c.loop-place.invariant.lines line);
+          entry.within entry.at c.loop-place.invariant.lines (c.in_ok-explained_line.ensures.line past stands));
     }
 
 pub returns-clause-lines : goal.returns-clause-lines

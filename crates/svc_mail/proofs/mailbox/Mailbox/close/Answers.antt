@@ -1,11 +1,35 @@
-use Rattle.std.proofs.Common.{◌≡◌, ℕ, ◌<◌, ◌++◌, map, ap, sym, ◌∙◌, subst}
+use Rattle.std.proofs.Common.{◌≡◌, ℕ, ◌<◌, ◌≤◌, [], ◌++◌, map, vec_capacity, ap, sym, ◌∙◌, subst}
 use mathlib.Core.Option.{some}
-use Rattle.crossbeam_queue.specs.Passes.{view}
+use Rattle.crossbeam_queue.specs.Passes.{view, ruled_capacity}
 use Rattle.svc_mail.specs.Kept.{taker, IsSettled, IsWhole}
 use Rattle.svc_mail.specs.Ends.{record_of, posted, seen_by, IsWholeHistory}
 use Rattle.svc_mail.proofs.Lists.{get_map}
 use Rattle.svc_mail.proofs.Told.{settles}
 use Rattle.svc_mail.proofs.mailbox.Mailbox.close.Goals as goal
+
+pub join_senders-requires-clause-pass : goal.join_senders-requires-clause-pass
+join_senders-requires-clause-pass g c = (
+  ap (λ m. m.table_id) c.into_mark-mark.ensures.0 ∙ c.requires.receiver.0 ∙ ap (λ q. q.table.shared.table_id) (sym c.deref.ensures),
+  c.into_mark-mark.ensures.2,
+)
+
+pub join_senders-requires-clause-knows : goal.join_senders-requires-clause-knows
+join_senders-requires-clause-knows g c =
+    let w = view c.into_mark-mark.result in
+    let made = sym (ap (λ v. v.made) c.into_mark-mark.ensures.1) in
+    c.into_mark-mark.ensures.1 ∙ (λ i. taker w.all (made i) w.taken [] w.seen w.heard)
+
+pub join_senders-requires-clause-senders : goal.join_senders-requires-clause-senders
+join_senders-requires-clause-senders g c = λ k d lt.
+    c.requires.senders.0 k d lt ∙ ap (λ q. q.table.shared.table_id) (sym c.deref.ensures)
+
+pub drain-letters-requires-clause-pass : goal.drain-letters-requires-clause-pass
+drain-letters-requires-clause-pass g c =
+    (c.join_senders.ensures.pass.0 ∙ ap (λ q. q.table.shared.table_id) (c.deref.ensures ∙ sym c.deref-2.ensures), c.join_senders.ensures.pass.1)
+
+pub drain-letters-requires-clause-room : goal.drain-letters-requires-clause-room
+drain-letters-requires-clause-room g c =
+    (c.in-Ok.ensures.0, subst (λ q. ruled_capacity q ≤ vec_capacity c.in-Ok.room) (sym c.deref-2.ensures) c.in-Ok.ensures.1)
 
 pub drain-letters-requires-clause-knows : goal.drain-letters-requires-clause-knows
 drain-letters-requires-clause-knows g c =

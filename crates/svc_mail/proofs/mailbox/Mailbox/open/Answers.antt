@@ -3,16 +3,12 @@ use Rattle.std.specs.Arc.{arc_value}
 use Rattle.atomic_table.specs.Seated.{TableId}
 use Rattle.crossbeam_queue.specs.Passes.{view, ruled_capacity}
 use Rattle.svc_mail.specs.Ends.{AreNewSenders}
-use Rattle.svc_mail.proofs.Steps.{begins}
 use Rattle.svc_mail.proofs.mailbox.Mailbox.open.Goals as goal
-
-pub ruled-requires-clause-rule : goal.ruled-requires-clause-rule
-ruled-requires-clause-rule g c = begins
 
 pub returns : goal.returns
 returns g c =
-    let mine : arc_value c.in_ok-queue-2.queue ≡ arc_value c.in_ok-own.own = sym c.in_ok-own.ensures in
-    let room : ruled_capacity (arc_value c.in_ok-queue-2.queue) ≡ c.args.capacity = ap ruled_capacity c.in_ok-queue-2.ensures.ok ∙ c.in_ok-queue.ensures.0 in
+    let mine : arc_value c.in_ok-queue.queue ≡ arc_value c.in_ok-own.own = sym c.in_ok-own.ensures in
+    let room : ruled_capacity (arc_value c.in_ok-queue.queue) ≡ c.args.capacity = c.in_ok-queue.ensures.0 in
     let pass = c.in_ok-ends.ensures.pass in
     let mark = c.over.ensures.1 in
     let knows = ap view mark ∙ pass.1 in (
