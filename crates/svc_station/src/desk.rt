@@ -52,8 +52,8 @@ impl Desk {
     ghost use Rattle.svc_station.specs.Desks.{IsSameDesk, desk_station, history_on};
     ghost use Rattle.svc_station.specs.Origins.{origin_in};
 
-    // Nothing is pending, and the trace is a new one. A first operation without an event makes room for all later ones, so
-    // that no later append grows.
+    // Nothing is pending, and the trace is a new one. A first operation without an event makes room for all later ones,
+    // so that no later append grows.
     pub(crate) fn new<R: Wait>(
         rt: &R,
         inner: ShownWriter,

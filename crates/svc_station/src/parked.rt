@@ -4,7 +4,8 @@ use std::snapshot::Snapshot;
 use std::sync::Wait;
 use std::thread::Promise;
 
-/// A writer that a thread may take and give back. A writer has no end but `Writer::end`, so a drop of it waits for ever.
+/// A writer that a thread may take and give back. A writer has no end but `Writer::end`, so a drop of it waits for
+/// ever.
 pub struct Parked<R: Wait> {
     writer: Writer,
     rt: R,
@@ -36,8 +37,8 @@ impl<R: Wait + Drop> Parked<R> {
     }
 }
 
-/// A writer comes back as the one that went, of the same station, and its history goes on from what it had published. For
-/// `thread::spawn_with`.
+/// A writer comes back as the one that went: it is of the same station, and its history goes on from what it had
+/// published. For `thread::spawn_with`.
 #[derive(Drop)]
 pub struct SameStation {
     went: Snapshot<Writer>,
