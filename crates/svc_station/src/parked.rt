@@ -40,26 +40,25 @@ impl<R: Wait + Drop> Parked<R> {
 /// A writer comes back as the one that went: it is of the same station, and its history goes on from what it had
 /// published. For `thread::spawn_with`.
 #[derive(Drop)]
-pub struct SameStation {
-    went: Snapshot<Writer>,
+pub struct SameStation<R: Wait> {
+    went: Snapshot<Parked<R>>,
 }
 
-impl<R: Wait> Promise<Parked<R>> for SameStation {
+impl<R: Wait> Promise<Parked<R>> for SameStation<R> {
     ghost use Rattle.svc_station.specs.Parking.{GoesOn, writer_in};
 
-    ghost kept_by = { λ promise back. GoesOn promise.went.value (writer_in back) };
+    ghost kept_by = { λ promise back. GoesOn (writer_in promise.went.value) (writer_in back) };
 }
 
-impl SameStation {
+impl<R: Wait> SameStation<R> {
     ghost use Rattle.std.specs.Prelude.{◌≡◌};
-    ghost use Rattle.svc_station.specs.Parking.{writer_in};
 
     /// The writer as it is before the thread has it.
-    pub fn of<R: Wait>(parked: &Parked<R>) -> SameStation
-        ensures { result.went.value ≡ writer_in parked.now }
+    pub fn of(parked: &Parked<R>) -> SameStation<R>
+        ensures { result.went.value ≡ parked.now }
     {
         SameStation {
-            went: Snapshot::of(&parked.writer),
+            went: Snapshot::of(parked),
         }
     }
 }
