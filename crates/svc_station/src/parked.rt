@@ -23,12 +23,14 @@ impl<R: Wait + Drop> Parked<R> {
     ghost use Rattle.std.specs.Prelude.{◌≡◌};
     ghost use Rattle.svc_station.specs.Parking.{writer_in};
 
+    /// The writer, on its way to a thread.
     pub fn new(writer: Writer, rt: R) -> Parked<R>
         ensures { writer_in result ≡ writer }
     {
         Parked { writer, rt }
     }
 
+    /// The writer, as it came.
     pub fn into_writer(self) -> Writer
         ensures { result ≡ writer_in self }
     {
