@@ -1,5 +1,5 @@
 //! Tests of what no contract can say, no case and no script can show: that memory serves where it is ample, what stands
-//! where it, or a device, fails at each place in turn, and that letters cross threads.
+//! where it, or a device, fails at each place in turn, and that letters and publications cross threads.
 #![tactic(auto)]
 
 #[cfg(test)]
@@ -20,6 +20,8 @@ mod patterns;
 mod sim;
 #[cfg(test)]
 mod slow;
+#[cfg(test)]
+mod station;
 #[cfg(test)]
 mod tight;
 #[cfg(test)]

@@ -9,14 +9,14 @@ use Rattle.sup_core.specs.Runs.{followed_by, AreTaken}
 use Rattle.sup_core.proofs.Laws.{AreTaken-append}
 use Rattle.sup_trace.specs.Trace.{is_event, are_taken}
 
-is_event-IsEvent : (event : Event) → is_event event ≡ true → IsEvent event
+pub is_event-IsEvent : (event : Event) → is_event event ≡ true → IsEvent event
 is_event-IsEvent (Started pid label) h = grind (arith, nat_tests)
 is_event-IsEvent (Byte byte) h = tt
 is_event-IsEvent (StartFailed label) h = tt
 is_event-IsEvent (Death label) h = tt
 is_event-IsEvent (Clock label) h = tt
 
-IsEvent-is_event : (event : Event) → IsEvent event → is_event event ≡ true
+pub IsEvent-is_event : (event : Event) → IsEvent event → is_event event ≡ true
 IsEvent-is_event (Started pid label) h = grind (arith, nat_tests)
 IsEvent-is_event (Byte byte) h = refl
 IsEvent-is_event (StartFailed label) h = refl

@@ -1,0 +1,28 @@
+//! A station: one writer publishes what happens to a service, and readers in other threads see its machine and trace
+//! without a lock, and without waiting.
+//!
+//! There is one history: the machine that the station was opened with, and a list of events after it, each of which was
+//! taken where it stands. `Writer::publish` adds an event to it. A reader answers what the events that it knows
+//! of make of that machine: a beginning of the history, which begins with all that it read before or learnt. No
+//! contract ties what a reader knows to a writer that told it nothing, so there are notes: `Writer::tell` tells the
+//! whole history, and a reader that learnt the note knows at least that. `audit::last_machine` rests on it.
+//!
+//! What no contract here says, and is only tested: that a reading finds the newest publication (one that looks nowhere
+//! and answers what the reader knows already meets the clauses), and that memory serves. A call that may wait owes no
+//! return.
+//!
+//! A writer has one end, `Writer::end`, with all readers of its station. So it can't be let go, and a thread takes it
+//! and gives it back as a `parked::Parked`.
+#![tactic(auto)]
+
+pub mod audit;
+mod desk;
+mod front;
+mod look;
+pub mod note;
+pub mod parked;
+pub mod reader;
+mod rule;
+mod shown;
+pub mod station;
+pub mod writer;
