@@ -57,8 +57,7 @@ fn read(reader: &mut Reader, alloc: Global) -> (View, Option<u64>)
     (reader.status(), count)
 }
 
-/// Opening and traces alone grow: where one growth is refused, which `rt try --test --fail-alloc N` does in turn, the one
-/// or the other is told as refused, and publishing succeeds.
+/// Opening and traces alone grow, and publishing succeeds without memory.
 #[test]
 fn readers_read_what_was_published(rt: HostRuntime) {
     let label = Label::from_unix(0, 0).expect(&rt, "a label");
