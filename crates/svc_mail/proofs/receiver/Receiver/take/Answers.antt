@@ -1,35 +1,14 @@
-use Rattle.std.proofs.Common.{◌≡◌, [], ◌∷◌, length, length-append, true, ap, sym, subst, ◌∙◌, arith}
+use Rattle.std.proofs.Common.{◌≡◌, [], ◌∷◌, length, length-append, true, ap, sym, subst, arith}
 use Rattle.crossbeam_queue.specs.Passes.{view}
 use Rattle.svc_mail.specs.History.{StartsWith}
-use Rattle.svc_mail.specs.Kept.{taker}
 use Rattle.svc_mail.proofs.Steps.{takes, looks}
-use Rattle.svc_mail.proofs.Told.{found_empty, taker_again}
+use Rattle.svc_mail.proofs.Told.{found_empty}
 use Rattle.svc_mail.proofs.receiver.Receiver.take.Goals as goal
 
 pub pop_as-requires-clause-rule : goal.pop_as-requires-clause-rule
 pop_as-requires-clause-rule g c =
     let may : (view c.args.self.now.mark).takes ≡ true = ap (λ v. v.takes) c.args.self.now.knows in
     (takes _ _ may, looks _ _ may)
-
-pub invariant_of-self : goal.invariant_of-self
-invariant_of-self g c =
-    let s = c.args.self.now in
-    record {
-      seated = (c.in-Some-pop_as.ensures.queue.0 ∙ s.seated.0, c.in-Some-pop_as.ensures.queue.2 ∙ s.seated.1);
-      knows = taker_again (view c.pop_as.new.pass) _ _ _ _ _ _ c.in-Some-pop_as.ensures.rule.0 (ap (λ v. v.made) s.knows) (ap (λ v. v.ended) s.knows);
-      counted = omega (arith, s.counted, ap (λ v. length v.taken) c.in-Some-pop_as.ensures.rule.0, length-append (view s.mark).taken (c.in-Some-pop_as.letter ∷ []));
-      within = omega arith;
-    }
-
-pub invariant_of-self-in-None-pop_as : goal.invariant_of-self-in-None-pop_as
-invariant_of-self-in-None-pop_as g c =
-    let s = c.args.self.now in
-    record {
-      seated = (c.in-None-pop_as.ensures.queue.0 ∙ s.seated.0, c.in-None-pop_as.ensures.queue.2 ∙ s.seated.1);
-      knows = subst (λ v. v ≡ taker v.all v.all v.taken [] v.seen v.heard) (sym c.in-None-pop_as.ensures.rule.0) s.knows;
-      counted = s.counted ∙ ap (λ v. length v.taken) (sym c.in-None-pop_as.ensures.rule.0);
-      within = s.within;
-    }
 
 pub returns-in-Some-pop_as-clause-same : goal.returns-in-Some-pop_as-clause-same
 returns-in-Some-pop_as-clause-same g c = (c.in-Some-pop_as.ensures.queue.0, ap (λ v. v.all) c.in-Some-pop_as.ensures.rule.0)
