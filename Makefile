@@ -5,7 +5,7 @@ JOBS ?= $(shell nproc)
 PROGRAM = crates/dtools/out/dtools
 COMMANDS = tai64n envdir readproctitle
 # What a check says as it goes, but for the lines on the libraries that it has read.
-SHOWN = sed -u -n -e '/^checked /p' -e '/^rt: waiting/p' -e '/: error/p' -e 's/^logic=\([a-z-]*\) functions=\([0-9]*\).*/$(1): \1, \2 functions/p'
+SHOWN = sed -u -n -e '/^fn .*: proved/p' -e '/^rt: waiting/p' -e '/: error/p' -e 's/^logic=\([a-z-]*\) functions=\([0-9]*\).*/$(1): \1, \2 functions/p'
 # The libraries that the program is made of, as crates.txt names them, and those that a crate stands on.
 LIBRARIES := $(filter-out dtools dtools_tests,$(shell sed -n 's/^\([a-z_]*\):.*/\1/p' crates.txt))
 below = $(filter $(LIBRARIES),$(shell sed -n 's/^$(1)://p' crates.txt))

@@ -9,6 +9,7 @@ use std::sync::Wait;
 use std::thread;
 use std::thread::Threads;
 use sup_core::{Event, Machine, Phase, Reply, answer_text};
+use svc_station::audit::was_published;
 use svc_station::parked::{Parked, SameStation};
 use svc_station::reader::Reader;
 use svc_station::station::Station;
@@ -82,6 +83,8 @@ fn readers_read_what_was_published(rt: HostRuntime) {
         assert_eq!(rt; shown, (label, 0, false, Want::Up));
         assert_eq!(rt; count, Some(1));
     }
+    assert!(rt; was_published(&first, &writer));
+    assert!(rt; was_published(&second, &writer));
     end_two(&rt, writer, first, second, room);
 }
 
@@ -170,6 +173,7 @@ fn a_reader_reads_beside_the_thread_that_publishes(rt: HostRuntime) {
     let (mut first, mut second, room) = two_of(readers, &writer);
     let (mut writer, rose) = publish_beside(rt, rt.alloc(), writer, &mut first, 1000);
     assert!(rt; rose);
+    assert!(rt; was_published(&first, &writer));
     first.learn(writer.tell());
     for (_view, count) in [read(&mut first, rt.alloc()), read(&mut second, rt.alloc())] {
         assert_eq!(rt; count, Some(2000));

@@ -3,9 +3,10 @@
 //!
 //! There is one history: the machine that the station was opened with, and a list of events after it, each of which was
 //! taken where it stands. `Writer::publish` adds an event to it. A reader answers what the events that it knows
-//! of make of that machine: a beginning of the history, which begins with all that it read before or learnt. No
-//! contract ties what a reader knows to a writer that told it nothing, so there are notes: `Writer::tell` tells the
-//! whole history, and a reader that learnt the note knows at least that. `audit::last_machine` rests on it.
+//! of make of that machine: a beginning of the history, which begins with all that it read before or learnt.
+//! `Writer::tell` tells the whole history, and a reader that learnt the note knows at least that:
+//! `audit::last_machine` rests on it. What was read and what was published never part, whoever told whom:
+//! of the two one begins the other, and `audit::was_published` says which.
 //!
 //! What no contract here says, and is only tested: that a reading finds the newest publication (one that looks nowhere
 //! and answers what the reader knows already meets the clauses), and that memory serves. A call that may wait owes no
