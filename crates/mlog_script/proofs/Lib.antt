@@ -1,2 +1,4 @@
+mod Faults
+mod Maps
 mod Numbers
 mod Placed

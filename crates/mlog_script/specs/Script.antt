@@ -104,12 +104,14 @@ refusal before Stamp = stamp_fault before
 refusal before (Log folder) = if is_among before folder then Some SameLogTwice else None
 refusal before act = None
 
+-- what is wrong with what a word says behind these
+abbrev pub fault_in : List (List ℕ) → Result Act ScriptFaultKind → Option ScriptFaultKind
+fault_in before (Ok act) = refusal before act
+fault_in before (Err kind) = Some kind
+
 -- what is wrong with a word behind these
 abbrev pub fault_of : List (List ℕ) → List ℕ → Option ScriptFaultKind
-fault_of before word = elim (said word) [
-  | Ok act ↦ refusal before act
-  | Err kind ↦ Some kind
-]
+fault_of before word = fault_in before (said word)
 
 -- the fault of a word, if it is bad; words count from 1
 abbrev pub fault_at : Placed (List ℕ) → Option ScriptFault

@@ -1,5 +1,5 @@
 //! Which words are bad.
-ghost use Rattle.std.specs.Prelude.{◌≡◌, [], map, bytes_eq, IsOk, OnOk, MatchOption, Err};
+ghost use Rattle.std.specs.Prelude.{◌≡◌, ◌<◌, ◌≤◌, [], length, IfErr, map, bytes_eq, IsOk, OnOk, MatchOption, Err};
 ghost use Rattle.std.specs.List.{list_any};
 ghost use Rattle.mlog_script.specs.Script.{texts, is_among, fault_of, faults, first_fault};
 
@@ -10,6 +10,7 @@ use crate::word::{Said, read_word};
 pub(crate) fn check(words: &[&[u8]]) -> Result<(), ScriptFault>
     ensures told { MatchOption (first_fault (texts words.now)) (IsOk result) (λ fault. result ≡ Err fault) }
     ensures lawful { OnOk result (faults (texts words.now) ≡ []) }
+    ensures word { IfErr result (λ fault. (0 < fault.word) × (fault.word ≤ length words.now)) }
 {
     for (place, word) in words.iter().enumerate() {
         if let Some(kind) = fault_of(&words[..place], word) {

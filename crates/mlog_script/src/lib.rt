@@ -20,6 +20,8 @@
 mod action;
 mod check;
 mod fault;
+mod script;
 mod word;
 
 pub use fault::{ScriptFault, ScriptFaultKind};
+pub use script::{LogPlan, Script};
