@@ -1,3 +1,4 @@
+mod Choosing
 mod Faults
 mod Maps
 mod Numbers

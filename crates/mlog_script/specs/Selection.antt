@@ -28,18 +28,24 @@ choice test front act = if test act.item then Some (is_chosen act.before front) 
 abbrev pub choices : (Act → Bool) → List Act → List ℕ → List Bool
 choices test script front = filter_map (choice test front) (placed script)
 
--- Where a line is selected: at how many alerts, and at which logs and status files, in the order of the script.
+-- Whether a line is selected at each alert, log and status file, in the order of the script.
 pub record Chosen : Type 0 where
-  pub alerts : ℕ
+  pub alerts : List Bool
   pub logs : List Bool
   pub files : List Bool
 
 abbrev pub chosen : List Act → List ℕ → Chosen
 chosen script front = record {
-  alerts = count_by (λ flag. flag) (choices is_alert script front);
+  alerts = choices is_alert script front;
   logs = choices is_log script front;
   files = choices is_file script front;
 }
+
+-- There is a flag for each alert, log and status file of a script.
+pub record Fits (given : Chosen) (script : List Act) : Type 0 where
+  pub alerts_fit : length given.alerts ≡ count_by is_alert script
+  pub logs_fit : length given.logs ≡ count_by is_log script
+  pub files_fit : length given.files ≡ count_by is_file script
 
 -- Lines
 
@@ -79,7 +85,7 @@ alert line = take 200 line ++ 10 ∷ []
 -- what a line adds to the alerts: one for each alert at which it is selected
 abbrev pub to_alerts : List Act → Tai64n → List ℕ → List ℕ
 to_alerts script label line =
-    flat_map (λ bytes. bytes) (replicate (chosen_line script label line).alerts (alert (shown script label line)))
+    flat_map (λ flag. if flag then alert (shown script label line) else []) (chosen_line script label line).alerts
 
 -- the first 1000 bytes of a line, and newlines up to 1001 bytes
 abbrev pub padded : List ℕ → List ℕ

@@ -19,9 +19,11 @@
 
 mod action;
 mod check;
+mod choices;
 mod fault;
 mod script;
 mod word;
 
+pub use choices::Choices;
 pub use fault::{ScriptFault, ScriptFaultKind};
 pub use script::{LogPlan, Script};
