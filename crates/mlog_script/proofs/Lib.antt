@@ -3,3 +3,5 @@ mod Faults
 mod Maps
 mod Numbers
 mod Placed
+mod Plans
+mod Texts

@@ -1,7 +1,7 @@
 //! Actions, with bytes of their own.
 ghost use Rattle.std.specs.Prelude.{◌≡◌, Ok, false, unwrap_or, is_ok, IsTrue, IfOk, IsOkUnless};
 ghost use Rattle.star_match.specs.Star.{has_adjacent_stars};
-ghost use Rattle.mlog_script.specs.Script.{said, is_stamp, is_alert, is_pattern, is_log, is_file};
+ghost use Rattle.mlog_script.specs.Script.{said, is_stamp, is_alert, is_pattern, is_log, is_file, size_set, keep_set};
 ghost use Rattle.mlog_script.specs.Selection.{decision};
 ghost use Rattle.mlog_script.specs.Action.{act};
 
@@ -50,6 +50,26 @@ impl<A: Allocator + Clone> Action<A> {
             Action::Select(pattern) => chosen || pattern.matches(front),
             Action::Deselect(pattern) => chosen && !pattern.matches(front),
             _ => chosen,
+        }
+    }
+
+    /// The size that the action sets.
+    pub(crate) fn size_set(&self) -> Option<u64>
+        ensures { result ≡ size_set (act self.now) }
+    {
+        match self {
+            Action::Size(size) => Some(*size),
+            _ => None,
+        }
+    }
+
+    /// The number of old files that the action sets.
+    pub(crate) fn keep_set(&self) -> Option<u64>
+        ensures { result ≡ keep_set (act self.now) }
+    {
+        match self {
+            Action::Keep(keep) => Some(*keep),
+            _ => None,
         }
     }
 

@@ -21,6 +21,7 @@ mod action;
 mod check;
 mod choices;
 mod fault;
+pub mod laws;
 mod script;
 mod word;
 

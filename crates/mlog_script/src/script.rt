@@ -1,6 +1,6 @@
-ghost use Rattle.std.specs.Prelude.{◌≡◌, ◌<◌, ◌≤◌, ◌++◌, ◌∷◌, [], true, is_ok, Ok, length, map, count_by, slice_get, option_copied, IfOk, IfErr, OnOk, MatchOption, IsErrOf, IsOkUnless};
+ghost use Rattle.std.specs.Prelude.{◌≡◌, ◌<◌, ◌≤◌, ◌++◌, ◌∷◌, [], true, is_ok, Ok, length, map, count_by, slice_get, option_copied, IfOk, IfErr, OnOk, MatchOption, IsErrOf, IsOkUnless, IsSome, ◌↔◌};
 ghost use Rattle.std.specs.List.{list_any};
-ghost use Rattle.mlog_script.specs.Script.{texts, said, faults, first_fault, is_stamp, is_alert, is_pattern, is_log, is_file, log_plans, file_paths};
+ghost use Rattle.mlog_script.specs.Script.{texts, said, faults, first_fault, is_stamp, is_alert, is_pattern, is_log, is_file, size_after, keep_after, log_plans, file_paths};
 ghost use Rattle.mlog_script.specs.Selection.{stamps};
 ghost use Rattle.mlog_script.specs.Action.{act};
 
@@ -113,6 +113,22 @@ impl<A: Allocator + Clone> Script<A> {
     {
         count_files(&self.actions)
     }
+
+    /// What the script asks of the log of this number: `Some` for each number below [`Script::logs`].
+    pub fn log(&self, log: usize) -> Option<LogPlan<'_>>
+        ensures plan { result ≡ slice_get (log_plans self.now) log }
+        ensures there { IsSome result ↔ log < count_by is_log self.now }
+    {
+        log_plan(self.actions(), log)
+    }
+
+    /// The path of the status file of this number: `Some` for each number below [`Script::files`].
+    pub fn file(&self, file: usize) -> Option<&[u8]>
+        ensures path { option_copied result ≡ slice_get (file_paths self.now) file }
+        ensures there { IsSome result ↔ file < count_by is_file self.now }
+    {
+        file_path(self.actions(), file)
+    }
 }
 
 /// The actions of words of which none is bad.
@@ -188,4 +204,63 @@ fn count_files<A: Allocator + Clone>(actions: &[Action<A>]) -> usize
     ensures { result ≡ count_by (λ action. is_file (act action)) actions.now }
 {
     actions.iter().filter(|action| action.is_file()).count()
+}
+
+/// What actions ask of the log of this number.
+#[tactic(auto, using(crate::proofs::Plans::plans_step))]
+fn log_plan<A: Allocator + Clone>(actions: &[Action<A>], log: usize) -> Option<LogPlan<'_>>
+    ensures { result ≡ slice_get (log_plans (map act actions.now)) log }
+{
+    let mut left = log;
+    for (place, action) in actions.iter().enumerate() {
+        if let Action::Log(folder) = action {
+            if left == 0 {
+                let before = &actions[..place];
+                return Some(LogPlan {
+                    folder,
+                    size: size_after(before),
+                    keep: keep_after(before),
+                });
+            }
+            left -= 1;
+        }
+    }
+    None
+}
+
+/// The size of a log behind these actions.
+fn size_after<A: Allocator + Clone>(actions: &[Action<A>]) -> u64
+    ensures { result ≡ size_after (map act actions.now) }
+{
+    let mut size = DEFAULT_SIZE;
+    for action in actions {
+        size = action.size_set().unwrap_or(size);
+    }
+    size
+}
+
+/// How many old files a log behind these actions keeps.
+fn keep_after<A: Allocator + Clone>(actions: &[Action<A>]) -> u64
+    ensures { result ≡ keep_after (map act actions.now) }
+{
+    let mut keep = DEFAULT_KEEP;
+    for action in actions {
+        keep = action.keep_set().unwrap_or(keep);
+    }
+    keep
+}
+
+/// The path of the status file of this number.
+fn file_path<A: Allocator + Clone>(actions: &[Action<A>], file: usize) -> Option<&[u8]>
+    ensures { option_copied result ≡ slice_get (file_paths (map act actions.now)) file }
+{
+    let mut left = file;
+    for action in actions {
+        match action {
+            Action::Status(path) if left == 0 => return Some(path),
+            Action::Status(_) => left -= 1,
+            _ => {}
+        }
+    }
+    None
 }
