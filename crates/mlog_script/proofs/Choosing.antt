@@ -1,11 +1,11 @@
 -- Where a line is selected, as a loop over the actions finds it.
-use Rattle.std.proofs.Common.{◌≡◌, ℕ, suc, ◌+◌, ◌<◌, ◌≤◌, if◌then◌else◌, Bool, true, false, List, [], ◌∷◌, ◌++◌, length, take, drop, map, get_or, drop-cons, refl, sym, ap, ◌∙◌, arith, count_by, cond, Option, Some, None}
-use Rattle.std.specs.Prelude.{unwrap_or, ◌&&◌}
+use Rattle.std.proofs.Common.{◌≡◌, ℕ, suc, ◌+◌, ◌<◌, ◌≤◌, if◌then◌else◌, Bool, true, false, List, [], ◌∷◌, ◌++◌, length, take, drop, map, get_or, drop-cons, refl, sym, ap, ◌∙◌, arith, count_by, cond, Some, None}
+use Rattle.std.specs.Prelude.{unwrap_or}
 use Rattle.std.specs.List.{filter_map, cons_option}
-use Rattle.std.proofs.lemmas.List.{map_more, map-append, take-append-drop, length-append}
+use Rattle.std.proofs.lemmas.List.{map_more, map-append, take-append-drop}
 use Rattle.std.proofs.lemmas.List.Elements.{filter_map-append}
 use Rattle.std.proofs.lemmas.List.Sums.{sum_by-append}
-use Rattle.mlog_script.specs.Placed.{Placed, placed_behind, last_given}
+use Rattle.mlog_script.specs.Placed.{placed_behind}
 use Rattle.mlog_script.specs.Script.{Act}
 use Rattle.mlog_script.specs.Selection.{decision, is_chosen, choice, choices}
 use Rattle.mlog_script.proofs.Placed.{placed_behind-append, given_next}
@@ -75,9 +75,9 @@ pub room_at : {R : Type 0} (f : R → Act) (test : Act → Bool) (actions : List
 room_at f test actions front k room action flags within is held fits here =
     let n = ap length held ∙ length-choices test (map f (take k actions)) front in
     let split : map f actions ≡ map f (take k actions) ++ f action ∷ map f (drop (suc k) actions) =
-        ap (map f) (sym (take-append-drop k actions)) ∙ map-append f (take k actions) (drop k actions)
-        ∙ ap (λ rest. map f (take k actions) ++ map f rest) (drop-cons actions k action within)
-        ∙ ap (λ a. map f (take k actions) ++ f a ∷ map f (drop (suc k) actions)) (sym is) in
+    ap (map f) (sym (take-append-drop k actions)) ∙ map-append f (take k actions) (drop k actions)
+    ∙ ap (λ rest. map f (take k actions) ++ map f rest) (drop-cons actions k action within)
+    ∙ ap (λ a. map f (take k actions) ++ f a ∷ map f (drop (suc k) actions)) (sym is) in
     let sums = ap (count_by test) split ∙ sum_by-append (λ (a : Act). cond (test a) 1 0) (map f (take k actions)) (f action ∷ map f (drop (suc k) actions)) in
     let first = count_first test (f action) (map f (drop (suc k) actions)) in
     let one : count_by test (f action ∷ []) ≡ 1 = ap (λ b. 0 + cond b 1 0) here in

@@ -1,11 +1,10 @@
 -- The first bad word, as a loop over words finds it.
 use Rattle.std.proofs.Common.{◌≡◌, ℕ, ◌+◌, ◌<◌, suc, refl, sym, ap, ◌∙◌, arith, List, [], ◌∷◌, ◌++◌, length, map, take, drop, get_or, drop-cons, Option, Some, None, Result, Ok, Err, is_ok, ◌==◌, Bool, true, false}
-use Rattle.std.specs.Prelude.{slice_get}
 use Rattle.std.specs.List.{filter_map, cons_option}
 use Rattle.std.specs.Option.{option_map}
 use Rattle.std.proofs.lemmas.List.{map_more, map-append, take-append-drop, length-map, length-take-le}
 use Rattle.std.proofs.lemmas.List.Elements.{filter_map-append}
-use Rattle.mlog_script.specs.Placed.{Placed, placed_behind}
+use Rattle.mlog_script.specs.Placed.{placed_behind}
 use Rattle.mlog_script.specs.Script.{Act, Stamp, said, fault_in, fault_of, fault_at, faults, first_fault}
 use Rattle.mlog_script.specs.declared.fault.ScriptFaultKind.{ScriptFaultKind}
 use Rattle.mlog_script.specs.declared.fault.ScriptFaultKind.TheVariants.{StampNotFirst}
@@ -17,7 +16,6 @@ pub stamp_late : {R : Type 0} (f : R → List ℕ) (before : List R) (word : Lis
     → said word ≡ Ok Stamp → Some StampNotFirst ≡ fault_of (map f before) word
 stamp_late f [] word b found is e = absurd (cc (found, is))
 stamp_late f (first ∷ rest) word b found is e = ap (fault_in (map f (first ∷ rest))) (sym e)
-
 
 -- The faults of words, of a word behind them, and of those behind it.
 faults_here : (before rest : List (List ℕ)) (word : List ℕ) → faults before ≡ []
@@ -78,10 +76,10 @@ prefix_fine (x ∷ xs) ys e = absurd (cc e)
 says : (before rest : List (List ℕ)) (word : List ℕ) → faults (before ++ word ∷ rest) ≡ [] → is_ok (said word) ≡ true
 says before rest word lawful =
     let parts = ap (filter_map fault_at) (placed_behind-append [] before (word ∷ rest))
-        ∙ filter_map-append fault_at (placed_behind [] before) (placed_behind before (word ∷ rest)) in
+    ∙ filter_map-append fault_at (placed_behind [] before) (placed_behind before (word ∷ rest)) in
     let fine = (prefix_fine (faults before) (filter_map fault_at (placed_behind before (word ∷ rest))) (sym parts ∙ lawful)).1 in
     from_none (said word) before (passed_fault (fault_of before word) (length before + 1)
-        (fine_first (fault_at (record { before = before; item = word })) (filter_map fault_at (placed_behind (before ++ word ∷ []) rest)) fine))
+    (fine_first (fault_at (record { before = before; item = word })) (filter_map fault_at (placed_behind (before ++ word ∷ []) rest)) fine))
 
 pub says_at : {R : Type 0} (f : R → List ℕ) (words : List R) (k : ℕ) (d : R) → k < length words
     → faults (map f words) ≡ [] → is_ok (said (f (get_or words k d))) ≡ true

@@ -3,7 +3,7 @@ use Rattle.std.proofs.Common.{◌≡◌, refl, sym, ap, ◌∙◌, List, [], ◌
 use Rattle.std.specs.Prelude.{unwrap_or}
 use Rattle.std.specs.List.{filter_map, last_or, cons_option}
 use Rattle.std.proofs.lemmas.List.Elements.{filter_map-append}
-use Rattle.mlog_script.specs.Placed.{Placed, placed_behind, placed, last_given}
+use Rattle.mlog_script.specs.Placed.{Placed, placed_behind, last_given}
 
 pub placed_behind-append : {X : Type 0} (before xs ys : List X)
     → placed_behind before (xs ++ ys) ≡ placed_behind before xs ++ placed_behind (before ++ xs) ys

@@ -1,10 +1,10 @@
 -- The logs and status files of a script, as a loop over the actions finds them.
-use Rattle.std.proofs.Common.{◌≡◌, ℕ, suc, zero, ◌+◌, ◌-◌, ◌<◌, ◌↔◌, List, [], ◌∷◌, ◌++◌, length, take, drop, map, get_or, drop-cons, refl, sym, ap, ◌∙◌, arith, count_by, cond, Bool, true, false, Option, Some, None, subst, Bor}
+use Rattle.std.proofs.Common.{◌≡◌, ℕ, suc, zero, ◌+◌, ◌<◌, ◌↔◌, List, [], ◌∷◌, ◌++◌, length, take, drop, map, get_or, drop-cons, refl, sym, ap, ◌∙◌, arith, count_by, cond, Bool, Option, Some, None, subst, Bor}
 use Rattle.std.specs.Prelude.{unwrap_or, slice_get, IsSome, is_some, option_copied}
 use Rattle.std.specs.List.{filter_map, cons_option}
 use Rattle.std.proofs.lemmas.List.{map_more}
 use Rattle.std.proofs.lemmas.List.Sums.{sum_by-append}
-use Rattle.mlog_script.specs.Placed.{Placed, placed_behind, last_given}
+use Rattle.mlog_script.specs.Placed.{placed_behind}
 use Rattle.mlog_script.specs.Script.{Act, Log, Status, Plan, plan_behind, log_plans, path_of, file_paths, size_set, keep_set, size_after, keep_after, is_log, is_file}
 use Rattle.mlog_script.proofs.Placed.{given_next}
 
@@ -18,9 +18,9 @@ pub plans_step : {R : Type 0} (f : R → Act) (actions : List R) (k : ℕ) (acti
 plans_step f actions k action within is =
     let next : suc k ≡ k + 1 = omega arith in
     let here : map f (drop k actions) ≡ f action ∷ map f (drop (k + 1) actions) =
-        ap (map f) (drop-cons actions k action within ∙ ap (λ y. y ∷ drop (suc k) actions) (sym is)) ∙ ap (λ n. f action ∷ map f (drop n actions)) next in
+    ap (map f) (drop-cons actions k action within ∙ ap (λ y. y ∷ drop (suc k) actions) (sym is)) ∙ ap (λ n. f action ∷ map f (drop n actions)) next in
     let more : map f (take (k + 1) actions) ≡ map f (take k actions) ++ f action ∷ [] =
-        map_more f actions k action within ∙ ap (λ y. map f (take k actions) ++ f y ∷ []) (sym is) in
+    map_more f actions k action within ∙ ap (λ y. map f (take k actions) ++ f y ∷ []) (sym is) in
     ap (plans_behind (map f (take k actions))) here
     ∙ ap (λ before. cons_option (plan_behind (map f (take k actions)) (f action)) (plans_behind before (map f (drop (k + 1) actions)))) (sym more)
 

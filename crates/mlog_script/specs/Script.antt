@@ -1,6 +1,6 @@
 -- What the words of a script ask, by the multilog page of daemontools (cr.yp.to/daemontools/multilog.html).
 -- Words, patterns, paths and folders are lists of bytes.
-use Rattle.std.specs.Prelude.{◌≡◌, ℕ, ◌+◌, ◌-◌, ◌*◌, ◌==◌, nat_le, nat_lt, Bool, true, false, ◌&&◌, ◌||◌, if◌then◌else◌, List, [], ◌∷◌, length, map, bytes_eq, fold, unwrap_or, slice_get, Option, Some, None, Result, Ok, Err}
+use Rattle.std.specs.Prelude.{ℕ, ◌+◌, ◌-◌, ◌*◌, ◌==◌, nat_le, nat_lt, Bool, true, false, ◌&&◌, ◌||◌, if◌then◌else◌, List, [], ◌∷◌, length, map, bytes_eq, fold, unwrap_or, slice_get, Option, Some, None, Result, Ok, Err}
 use Rattle.std.specs.Borrow.{Bor}
 use Rattle.std.specs.List.{list_any, list_all, filter_map}
 use Rattle.std.specs.Option.{option_map}
@@ -50,7 +50,7 @@ number digits = fold (λ n digit. n * 10 + (digit - 48)) 0 digits
 abbrev pub in_range : List ℕ → ℕ → ℕ → ScriptFaultKind → Result ℕ ScriptFaultKind
 in_range digits least most range =
     if is_number digits then
-        (if nat_le least (number digits) && nat_le (number digits) most then Ok (number digits) else Err range)
+    (if nat_le least (number digits) && nat_le (number digits) most then Ok (number digits) else Err range)
     else Err BadNumber
 
 -- the action that sets a number

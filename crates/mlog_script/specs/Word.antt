@@ -1,5 +1,5 @@
 -- Actions as the code holds them.
-use Rattle.std.specs.Prelude.{◌≡◌, ⊤, false, List, ℕ}
+use Rattle.std.specs.Prelude.{◌≡◌, ⊤, false}
 use Rattle.star_match.specs.Star.{has_adjacent_stars}
 use Rattle.mlog_script.specs.Script.{Act, Stamp, Alert, Size, Keep, Select, Deselect, Status, Log}
 use Rattle.mlog_script.specs.declared.word.Said.{Said}

@@ -105,10 +105,7 @@ impl<A: Allocator + Clone> Action<A> {
 }
 
 /// A pattern of these bytes.
-fn own_pattern<A: Allocator + Clone>(
-    alloc: A,
-    bytes: &[u8],
-) -> Result<Pattern<A>, ScriptFaultKind>
+fn own_pattern<A: Allocator + Clone>(alloc: A, bytes: &[u8]) -> Result<Pattern<A>, ScriptFaultKind>
     requires { has_adjacent_stars bytes.now ≡ false }
     ensures ok { IfOk result (λ pattern. pattern ≡ bytes.now) }
     ensures memory { IsOkUnless result ScriptFaultKind.OutOfMemory }

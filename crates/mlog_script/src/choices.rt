@@ -20,9 +20,9 @@ impl<A: Allocator + Clone> Model for Choices<A> {
     ghost Value = { Chosen };
 
     ghost view = { λ choices. record {
-        alerts = choices.marks.alerts.items;
-        logs = choices.marks.logs.items;
-        files = choices.marks.files.items;
+      alerts = choices.marks.alerts.items;
+      logs = choices.marks.logs.items;
+      files = choices.marks.files.items;
     } };
 }
 
@@ -122,7 +122,11 @@ impl<A: Allocator + Clone> Marks<A> {
 }
 
 /// Notes for each action whether a line with this front is selected there.
-fn mark<A: Allocator + Clone, B: Allocator + Clone>(actions: &[Action<B>], front: &[u8], marks: &mut Marks<A>)
+fn mark<A: Allocator + Clone, B: Allocator + Clone>(
+    actions: &[Action<B>],
+    front: &[u8],
+    marks: &mut Marks<A>,
+)
     requires empty { (marks.old.alerts.items ≡ []) × (marks.old.logs.items ≡ []) × (marks.old.files.items ≡ []) }
     requires alerts { count_by is_alert (map act actions.now) ≤ vec_capacity marks.old.alerts }
     requires logs { count_by is_log (map act actions.now) ≤ vec_capacity marks.old.logs }

@@ -1,20 +1,16 @@
-ghost use Rattle.std.specs.Prelude.{◌≡◌, ◌<◌, ◌≤◌, ◌++◌, ◌∷◌, [], true, is_ok, Ok, length, map, count_by, slice_get, option_copied, IfOk, IfErr, OnOk, MatchOption, IsErrOf, IsOkUnless, IsSome, ◌↔◌};
+ghost use Rattle.std.specs.Prelude.{◌≡◌, ◌<◌, ◌≤◌, ◌↔◌, Ok, length, map, count_by, slice_get, option_copied, IfOk, IfErr, IsErrOf, IsSome, MatchOption};
 ghost use Rattle.std.specs.List.{list_any};
-ghost use Rattle.mlog_script.specs.Script.{texts, said, faults, first_fault, is_stamp, is_alert, is_pattern, is_log, is_file, size_after, keep_after, log_plans, file_paths};
+ghost use Rattle.mlog_script.specs.Script.{texts, said, first_fault, is_stamp, is_alert, is_pattern, is_log, is_file, log_plans, file_paths};
 ghost use Rattle.mlog_script.specs.Selection.{stamps};
 ghost use Rattle.mlog_script.specs.Action.{act};
 
 use crate::action::Action;
 use crate::check::check;
 use crate::fault::{ScriptFault, ScriptFaultKind};
+use crate::plan::{LogPlan, file_path, log_plan};
+use crate::read::read_actions;
 use std::alloc::{Allocator, Global};
 use std::marker::Model;
-
-/// The size of a log, where no word sets one.
-const DEFAULT_SIZE: u64 = 99_999;
-
-/// How many old files a log keeps, where no word sets it.
-const DEFAULT_KEEP: u64 = 10;
 
 /// A script of multilog. Contracts see its actions, one for each word, in order.
 #[derive(Debug, Drop)]
@@ -30,27 +26,6 @@ impl<A: Allocator + Clone> Model for Script<A> {
     ghost Value = { List Act };
 
     ghost view = { λ script. map act script.actions.items };
-}
-
-/// What a script asks of a log.
-#[derive(Debug, Drop)]
-pub struct LogPlan<'a> {
-    /// The folder, as the script has it.
-    pub folder: &'a [u8],
-
-    /// The size of a file, in bytes.
-    pub size: u64,
-
-    /// How many old files are kept.
-    pub keep: u64,
-}
-
-impl<'a> Model for LogPlan<'a> {
-    ghost use Rattle.mlog_script.specs.Script.{Plan};
-
-    ghost Value = { Plan };
-
-    ghost view = { λ plan. record { folder = plan.folder.now; size = plan.size; keep = plan.keep } };
 }
 
 impl<A: Allocator + Clone> Script<A> {
@@ -131,136 +106,37 @@ impl<A: Allocator + Clone> Script<A> {
     }
 }
 
-/// The actions of words of which none is bad.
-fn read_actions<A: Allocator + Clone>(
-    alloc: A,
-    words: &[&[u8]],
-) -> Result<Vec<Action<A>, A>, ScriptFault>
-    requires { faults (texts words.now) ≡ [] }
-    ensures ok { IfOk result (λ actions. map said (texts words.now) ≡ map (λ action. Ok (act action)) actions.items) }
-    ensures memory { IfErr result (λ fault. (fault.kind ≡ ScriptFaultKind.OutOfMemory) × (0 < fault.word)
-        × (fault.word ≤ length words.now)) }
-{
-    let mut actions = Vec::new(alloc);
-    for (place, word) in words.iter().enumerate() {
-        match add(&mut actions, word) {
-            Ok(()) => {}
-            Err(kind) => {
-                return Err(ScriptFault {
-                    word: place + 1,
-                    kind,
-                });
-            }
-        }
-    }
-    Ok(actions)
-}
-
-/// Puts the action of a word behind the others.
-fn add<A: Allocator + Clone>(
-    actions: &mut Vec<Action<A>, A>,
-    word: &[u8],
-) -> Result<(), ScriptFaultKind>
-    requires { is_ok (said word.now) ≡ true }
-    ensures ok { OnOk result (map (λ action. Ok (act action)) actions.new.items
-        ≡ map (λ action. Ok (act action)) actions.old.items ++ said word.now ∷ []) }
-    ensures memory { IsOkUnless result ScriptFaultKind.OutOfMemory }
-{
-    let own = actions
-        .allocator()
-        .clone()
-        .map_err(|_| ScriptFaultKind::OutOfMemory)?;
-    let action = Action::read(own, word)?;
-    actions
-        .push(action)
-        .map_err(|_| ScriptFaultKind::OutOfMemory)
-}
-
+/// Whether one of the actions is a stamp.
 fn any_stamp<A: Allocator + Clone>(actions: &[Action<A>]) -> bool
     ensures { result ≡ list_any (λ action. is_stamp (act action)) actions.now }
 {
     actions.iter().any(|action| action.is_stamp())
 }
 
+/// Whether one of the actions is on a pattern.
 fn any_pattern<A: Allocator + Clone>(actions: &[Action<A>]) -> bool
     ensures { result ≡ list_any (λ action. is_pattern (act action)) actions.now }
 {
     actions.iter().any(|action| action.is_pattern())
 }
 
+/// How many of the actions are alerts.
 fn count_alerts<A: Allocator + Clone>(actions: &[Action<A>]) -> usize
     ensures { result ≡ count_by (λ action. is_alert (act action)) actions.now }
 {
     actions.iter().filter(|action| action.is_alert()).count()
 }
 
+/// How many of the actions are logs.
 fn count_logs<A: Allocator + Clone>(actions: &[Action<A>]) -> usize
     ensures { result ≡ count_by (λ action. is_log (act action)) actions.now }
 {
     actions.iter().filter(|action| action.is_log()).count()
 }
 
+/// How many of the actions are status files.
 fn count_files<A: Allocator + Clone>(actions: &[Action<A>]) -> usize
     ensures { result ≡ count_by (λ action. is_file (act action)) actions.now }
 {
     actions.iter().filter(|action| action.is_file()).count()
-}
-
-/// What actions ask of the log of this number.
-#[tactic(auto, using(crate::proofs::Plans::plans_step))]
-fn log_plan<A: Allocator + Clone>(actions: &[Action<A>], log: usize) -> Option<LogPlan<'_>>
-    ensures { result ≡ slice_get (log_plans (map act actions.now)) log }
-{
-    let mut left = log;
-    for (place, action) in actions.iter().enumerate() {
-        if let Action::Log(folder) = action {
-            if left == 0 {
-                let before = &actions[..place];
-                return Some(LogPlan {
-                    folder,
-                    size: size_after(before),
-                    keep: keep_after(before),
-                });
-            }
-            left -= 1;
-        }
-    }
-    None
-}
-
-/// The size of a log behind these actions.
-fn size_after<A: Allocator + Clone>(actions: &[Action<A>]) -> u64
-    ensures { result ≡ size_after (map act actions.now) }
-{
-    let mut size = DEFAULT_SIZE;
-    for action in actions {
-        size = action.size_set().unwrap_or(size);
-    }
-    size
-}
-
-/// How many old files a log behind these actions keeps.
-fn keep_after<A: Allocator + Clone>(actions: &[Action<A>]) -> u64
-    ensures { result ≡ keep_after (map act actions.now) }
-{
-    let mut keep = DEFAULT_KEEP;
-    for action in actions {
-        keep = action.keep_set().unwrap_or(keep);
-    }
-    keep
-}
-
-/// The path of the status file of this number.
-fn file_path<A: Allocator + Clone>(actions: &[Action<A>], file: usize) -> Option<&[u8]>
-    ensures { option_copied result ≡ slice_get (file_paths (map act actions.now)) file }
-{
-    let mut left = file;
-    for action in actions {
-        match action {
-            Action::Status(path) if left == 0 => return Some(path),
-            Action::Status(_) => left -= 1,
-            _ => {}
-        }
-    }
-    None
 }

@@ -7,17 +7,17 @@ use Rattle.mlog_script.proofs.choices.mark.Goals as goal
 pub note-requires-clause-alerts : goal.note-requires-clause-alerts
 note-requires-clause-alerts g c here =
     room_at act is_alert c.args.actions.now c.args.front.now c.loop-action.action-index _ c.action-item.result c.loop-action.marks.alerts.items
-        c.loop-action-test.true c.action-item.is c.loop-action.invariant.alerts_are c.loop-action.invariant.alerts_fit here
+    c.loop-action-test.true c.action-item.is c.loop-action.invariant.alerts_are c.loop-action.invariant.alerts_fit here
 
 pub note-requires-clause-logs : goal.note-requires-clause-logs
 note-requires-clause-logs g c here =
     room_at act is_log c.args.actions.now c.args.front.now c.loop-action.action-index _ c.action-item.result c.loop-action.marks.logs.items
-        c.loop-action-test.true c.action-item.is c.loop-action.invariant.logs_are c.loop-action.invariant.logs_fit here
+    c.loop-action-test.true c.action-item.is c.loop-action.invariant.logs_are c.loop-action.invariant.logs_fit here
 
 pub note-requires-clause-files : goal.note-requires-clause-files
 note-requires-clause-files g c here =
     room_at act is_file c.args.actions.now c.args.front.now c.loop-action.action-index _ c.action-item.result c.loop-action.marks.files.items
-        c.loop-action-test.true c.action-item.is c.loop-action.invariant.files_are c.loop-action.invariant.files_fit here
+    c.loop-action-test.true c.action-item.is c.loop-action.invariant.files_are c.loop-action.invariant.files_fit here
 
 pub loop-action-preserved : goal.loop-action-preserved
 loop-action-preserved g c = record {

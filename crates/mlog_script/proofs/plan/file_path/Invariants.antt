@@ -2,7 +2,7 @@ use Rattle.std.proofs.Common.{◌≡◌, map, drop}
 use Rattle.std.specs.Prelude.{slice_get}
 use Rattle.mlog_script.specs.Script.{file_paths}
 use Rattle.mlog_script.specs.Action.{act}
-use Rattle.mlog_script.proofs.script.file_path.Given as goal
+use Rattle.mlog_script.proofs.plan.file_path.Given as goal
 
 abbrev pub invariant-loop-action : goal.invariant-loop-action
 invariant-loop-action g l =

@@ -3,7 +3,7 @@ use Rattle.std.specs.Prelude.{slice_get}
 use Rattle.mlog_script.specs.Script.{log_plans}
 use Rattle.mlog_script.specs.Action.{act}
 use Rattle.mlog_script.proofs.Plans.{plans_behind}
-use Rattle.mlog_script.proofs.script.log_plan.Given as goal
+use Rattle.mlog_script.proofs.plan.log_plan.Given as goal
 
 abbrev pub invariant-loop-place : goal.invariant-loop-place
 invariant-loop-place g l =
