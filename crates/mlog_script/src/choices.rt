@@ -102,12 +102,18 @@ impl<A: Allocator + Clone> Marks<A> {
 
     /// Notes whether a line is selected at an action.
     fn note<B: Allocator + Clone>(&mut self, action: &Action<B>, chosen: bool)
-        requires alerts { is_alert (act action.now) ≡ true → length self.old.alerts.items < vec_capacity self.old.alerts }
-        requires logs { is_log (act action.now) ≡ true → length self.old.logs.items < vec_capacity self.old.logs }
-        requires files { is_file (act action.now) ≡ true → length self.old.files.items < vec_capacity self.old.files }
-        ensures alerts { self.new.alerts.items ≡ self.old.alerts.items ++ (if is_alert (act action.now) then chosen ∷ [] else []) }
-        ensures logs { self.new.logs.items ≡ self.old.logs.items ++ (if is_log (act action.now) then chosen ∷ [] else []) }
-        ensures files { self.new.files.items ≡ self.old.files.items ++ (if is_file (act action.now) then chosen ∷ [] else []) }
+        requires alerts { is_alert (act action.now) ≡ true
+            → length self.old.alerts.items < vec_capacity self.old.alerts }
+        requires logs { is_log (act action.now) ≡ true
+            → length self.old.logs.items < vec_capacity self.old.logs }
+        requires files { is_file (act action.now) ≡ true
+            → length self.old.files.items < vec_capacity self.old.files }
+        ensures alerts { self.new.alerts.items
+            ≡ self.old.alerts.items ++ (if is_alert (act action.now) then chosen ∷ [] else []) }
+        ensures logs { self.new.logs.items
+            ≡ self.old.logs.items ++ (if is_log (act action.now) then chosen ∷ [] else []) }
+        ensures files { self.new.files.items
+            ≡ self.old.files.items ++ (if is_file (act action.now) then chosen ∷ [] else []) }
         ensures room { (vec_capacity self.new.alerts ≡ vec_capacity self.old.alerts)
             × (vec_capacity self.new.logs ≡ vec_capacity self.old.logs)
             × (vec_capacity self.new.files ≡ vec_capacity self.old.files) }
