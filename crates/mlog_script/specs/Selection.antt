@@ -131,3 +131,10 @@ abbrev pub ComesInTurn : {X : Type 0} → (List Tai64n → List ℕ → List X) 
 ComesInTurn text = (labels more : List Tai64n) (lines rest : List ℕ)
     → is_whole lines ≡ true → length labels ≡ length (texts_of lines)
     → text (labels ++ more) (lines ++ rest) ≡ text labels lines ++ text more rest
+
+-- A status file goes on from the content that the lines before left.
+abbrev pub ContentGoesOn : Type 0
+ContentGoesOn = (script : List Act) (file : ℕ) (before : List ℕ) (labels more : List Tai64n) (lines rest : List ℕ)
+    → is_whole lines ≡ true → length labels ≡ length (texts_of lines)
+    → file_content script file before (labels ++ more) (lines ++ rest)
+    ≡ file_content script file (file_content script file before labels lines) more rest
