@@ -19,4 +19,4 @@
 pub mod laws;
 mod pattern;
 
-pub use pattern::{Pattern, PatternFault};
+pub use pattern::{Pattern, PatternFault, has_adjacent_stars};

@@ -46,7 +46,7 @@ impl<A: Allocator + Clone> Pattern<A> {
         ensures adjacent { IsErrOf result PatternFault.AdjacentStars ↔ (has_adjacent_stars bytes.now ≡ true) }
         ensures memory { IsErrOf result PatternFault.OutOfMemory → 0 < length bytes.now }
     {
-        if has_adjacent(bytes) {
+        if has_adjacent_stars(bytes) {
             return Err(PatternFault::AdjacentStars);
         }
         let mut own = Vec::new(alloc);
@@ -65,8 +65,8 @@ impl<A: Allocator + Clone> Pattern<A> {
     }
 }
 
-/// Whether two stars stand in a row.
-fn has_adjacent(bytes: &[u8]) -> bool
+/// Whether two stars stand in a row. Such bytes are no pattern.
+pub fn has_adjacent_stars(bytes: &[u8]) -> bool
     ensures { result ≡ has_adjacent_stars bytes.now }
 {
     let mut rest = bytes;

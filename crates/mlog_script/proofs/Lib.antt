@@ -1,0 +1,7 @@
+mod Choosing
+mod Faults
+mod Maps
+mod Numbers
+mod Placed
+mod Plans
+mod Texts

@@ -1,0 +1,26 @@
+-- Items with those before them.
+use Rattle.std.proofs.Common.{◌≡◌, refl, sym, ap, ◌∙◌, List, [], ◌∷◌, ◌++◌, append_assoc, append-nil, Option, Some, None}
+use Rattle.std.specs.Prelude.{unwrap_or}
+use Rattle.std.specs.List.{filter_map, last_or, cons_option}
+use Rattle.std.proofs.lemmas.List.Elements.{filter_map-append}
+use Rattle.mlog_script.specs.Placed.{Placed, placed_behind, last_given}
+
+pub placed_behind-append : {X : Type 0} (before xs ys : List X)
+    → placed_behind before (xs ++ ys) ≡ placed_behind before xs ++ placed_behind (before ++ xs) ys
+placed_behind-append before [] ys = ap (λ b. placed_behind b ys) (sym (append-nil before))
+placed_behind-append {X} before (x ∷ xs) ys =
+    let here : Placed X = record { before = before; item = x } in
+    ap (λ ps. here ∷ ps) (placed_behind-append (before ++ x ∷ []) xs ys
+    ∙ ap (λ b. placed_behind (before ++ x ∷ []) xs ++ placed_behind b ys) (append_assoc before (x ∷ []) xs))
+
+last_or-given : {Y : Type 0} (o : Option Y) (ys : List Y) (y : Option Y) (d : Y)
+    → unwrap_or (last_or o (ys ++ cons_option y [])) d ≡ unwrap_or y (unwrap_or (last_or o ys) d)
+last_or-given o [] None d = refl
+last_or-given o [] (Some y) d = refl
+last_or-given o (x ∷ xs) y d = last_or-given (Some x) xs y d
+
+-- The last that is given, behind one more item.
+pub given_next : {X Y : Type 0} (f : X → Option Y) (xs : List X) (x : X) (d : Y)
+    → unwrap_or (last_given f (xs ++ x ∷ [])) d ≡ unwrap_or (f x) (unwrap_or (last_given f xs) d)
+given_next f xs x d =
+    ap (λ ys. unwrap_or (last_or None ys) d) (filter_map-append f xs (x ∷ [])) ∙ last_or-given None (filter_map f xs) (f x) d

@@ -1,0 +1,7 @@
+use Rattle.std.proofs.Common.{◌≡◌, map, take}
+use Rattle.mlog_script.specs.Script.{keep_after}
+use Rattle.mlog_script.specs.Action.{act}
+use Rattle.mlog_script.proofs.plan.keep_after.Given as goal
+
+abbrev pub invariant-loop-action : goal.invariant-loop-action
+invariant-loop-action g l = l.keep ≡ keep_after (map act (take l.action-index l.actions))

@@ -1,0 +1,8 @@
+use Rattle.std.proofs.Common.{◌∙◌, sym, Ok}
+use Rattle.std.proofs.lemmas.Simd.{map-map}
+use Rattle.mlog_script.specs.Script.{Act}
+use Rattle.mlog_script.specs.Action.{act}
+use Rattle.mlog_script.proofs.script.Script.read.Goals as goal
+
+pub returns-clause-ok : goal.returns-clause-ok
+returns-clause-ok g c = c.in_ok-actions.ensures.ok ∙ sym (map-map (λ (action : Act). Ok action) act c.in_ok-actions.actions.items)

@@ -1,0 +1,5 @@
+pub mod Action
+pub mod Placed
+pub mod Script
+pub mod Selection
+pub mod Word

@@ -1,0 +1,53 @@
+//! Which words are bad.
+ghost use Rattle.std.specs.Prelude.{◌≡◌, ◌<◌, ◌≤◌, [], length, IfErr, map, bytes_eq, IsOk, OnOk, MatchOption, Err};
+ghost use Rattle.std.specs.List.{list_any};
+ghost use Rattle.mlog_script.specs.Script.{texts, is_among, fault_of, faults, first_fault};
+
+use crate::fault::{ScriptFault, ScriptFaultKind};
+use crate::word::{Said, read_word};
+
+/// Tells the first bad word of a script.
+pub(crate) fn check(words: &[&[u8]]) -> Result<(), ScriptFault>
+    ensures told { MatchOption (first_fault (texts words.now)) (IsOk result) (λ fault. result ≡ Err fault) }
+    ensures lawful { OnOk result (faults (texts words.now) ≡ []) }
+    ensures word { IfErr result (λ fault. (0 < fault.word) × (fault.word ≤ length words.now)) }
+{
+    for (place, word) in words.iter().enumerate() {
+        if let Some(kind) = fault_of(&words[..place], word) {
+            return Err(ScriptFault {
+                word: place + 1,
+                kind,
+            });
+        }
+    }
+    Ok(())
+}
+
+/// What is wrong with a word behind these.
+fn fault_of(before: &[&[u8]], word: &[u8]) -> Option<ScriptFaultKind>
+    ensures { result ≡ fault_of (texts before.now) word.now }
+{
+    match read_word(word) {
+        Ok(Said::Stamp) if !before.is_empty() => Some(ScriptFaultKind::StampNotFirst),
+        Ok(Said::Log(folder)) if stands_among(before, folder) => {
+            Some(ScriptFaultKind::SameLogTwice)
+        }
+        Ok(_) => None,
+        Err(kind) => Some(kind),
+    }
+}
+
+/// Whether a word stands among these.
+#[tactic(auto, unfolding(crate::specs::Script::is_among))]
+fn stands_among(words: &[&[u8]], word: &[u8]) -> bool
+    ensures { result ≡ is_among (texts words.now) word.now }
+{
+    let mut rest = words;
+    while let [other, tail @ ..] = rest {
+        if *other == word {
+            return true;
+        }
+        rest = tail;
+    }
+    false
+}

@@ -1,0 +1,149 @@
+ghost use Rattle.std.specs.Prelude.{◌≡◌, ◌<◌, ◌≤◌, ◌++◌, ◌∷◌, [], true, if◌then◌else◌, map, length, count_by, vec_capacity, IsErr, IfOk};
+ghost use Rattle.mlog_script.specs.Script.{is_alert, is_log, is_file};
+ghost use Rattle.mlog_script.specs.Selection.{chosen, choices, Fits};
+ghost use Rattle.mlog_script.specs.Action.{act};
+
+use crate::action::Action;
+use crate::script::Script;
+use std::alloc::{AllocError, Allocator, Global};
+use std::marker::Model;
+
+/// At which alerts, logs and status files of a script a line is selected. Contracts see a list of flags of each.
+#[derive(Debug, Drop)]
+pub struct Choices<A: Allocator + Clone = Global> {
+    marks: Marks<A>,
+}
+
+impl<A: Allocator + Clone> Model for Choices<A> {
+    ghost use Rattle.mlog_script.specs.Selection.{Chosen};
+
+    ghost Value = { Chosen };
+
+    ghost view = { λ choices. record {
+      alerts = choices.marks.alerts.items;
+      logs = choices.marks.logs.items;
+      files = choices.marks.files.items;
+    } };
+}
+
+impl<A: Allocator + Clone> Choices<A> {
+    /// Choices that have room for those of a script. They take all memory that [`Choices::choose`] needs.
+    ///
+    /// `AllocError` comes only where the allocator refuses it, which is a byte for each alert, log and status file.
+    pub fn new<B: Allocator + Clone>(alloc: A, script: &Script<B>) -> Result<Choices<A>, AllocError>
+        ensures fits { IfOk result (λ choices. Fits choices script.now) }
+    {
+        let alerts = vec![in alloc.clone()?; false; script.alerts()]?;
+        let logs = vec![in alloc.clone()?; false; script.logs()]?;
+        let files = vec![in alloc; false; script.files()]?;
+        Ok(Choices {
+            marks: Marks {
+                alerts,
+                logs,
+                files,
+            },
+        })
+    }
+
+    /// Decides where a line with this front is selected: at each action as the last `-` or `+` before it says, whose
+    /// pattern matches the front, or else it is. Patterns see at most the first 1000 bytes of a line: it is they that
+    /// are given, without the newline, and behind a stamp where the script has one. It takes no memory.
+    pub fn choose<B: Allocator + Clone>(&mut self, script: &Script<B>, front: &[u8])
+        requires { Fits self.old script.now }
+        ensures chosen { self.new ≡ chosen script.now front.now }
+        ensures fits { Fits self.new script.now }
+    {
+        self.marks.clear();
+        mark(script.actions(), front, &mut self.marks);
+    }
+
+    /// Whether the line is selected at each alert, in the order of the script.
+    pub fn alerts(&self) -> &[bool]
+        ensures { result.now ≡ self.now.alerts }
+    {
+        self.marks.alerts.as_slice()
+    }
+
+    /// Whether the line is selected at each log, in the order of the script.
+    pub fn logs(&self) -> &[bool]
+        ensures { result.now ≡ self.now.logs }
+    {
+        self.marks.logs.as_slice()
+    }
+
+    /// Whether the line is selected at each status file, in the order of the script.
+    pub fn files(&self) -> &[bool]
+        ensures { result.now ≡ self.now.files }
+    {
+        self.marks.files.as_slice()
+    }
+}
+
+/// Choices, one after another.
+#[derive(Debug, Drop)]
+struct Marks<A: Allocator + Clone = Global> {
+    alerts: Vec<bool, A>,
+    logs: Vec<bool, A>,
+    files: Vec<bool, A>,
+}
+
+impl<A: Allocator + Clone> Marks<A> {
+    /// Forgets the choices, and keeps their room.
+    fn clear(&mut self)
+        ensures empty { (self.new.alerts.items ≡ []) × (self.new.logs.items ≡ []) × (self.new.files.items ≡ []) }
+        ensures room { (vec_capacity self.new.alerts ≡ vec_capacity self.old.alerts)
+            × (vec_capacity self.new.logs ≡ vec_capacity self.old.logs)
+            × (vec_capacity self.new.files ≡ vec_capacity self.old.files) }
+    {
+        self.alerts.clear();
+        self.logs.clear();
+        self.files.clear();
+    }
+
+    /// Notes whether a line is selected at an action.
+    fn note<B: Allocator + Clone>(&mut self, action: &Action<B>, chosen: bool)
+        requires alerts { is_alert (act action.now) ≡ true
+            → length self.old.alerts.items < vec_capacity self.old.alerts }
+        requires logs { is_log (act action.now) ≡ true
+            → length self.old.logs.items < vec_capacity self.old.logs }
+        requires files { is_file (act action.now) ≡ true
+            → length self.old.files.items < vec_capacity self.old.files }
+        ensures alerts { self.new.alerts.items
+            ≡ self.old.alerts.items ++ (if is_alert (act action.now) then chosen ∷ [] else []) }
+        ensures logs { self.new.logs.items
+            ≡ self.old.logs.items ++ (if is_log (act action.now) then chosen ∷ [] else []) }
+        ensures files { self.new.files.items
+            ≡ self.old.files.items ++ (if is_file (act action.now) then chosen ∷ [] else []) }
+        ensures room { (vec_capacity self.new.alerts ≡ vec_capacity self.old.alerts)
+            × (vec_capacity self.new.logs ≡ vec_capacity self.old.logs)
+            × (vec_capacity self.new.files ≡ vec_capacity self.old.files) }
+    {
+        match action {
+            Action::Alert => self.alerts.push_reserved(chosen),
+            Action::Log(_) => self.logs.push_reserved(chosen),
+            Action::Status(_) => self.files.push_reserved(chosen),
+            _ => {}
+        }
+    }
+}
+
+/// Notes for each action whether a line with this front is selected there.
+fn mark<A: Allocator + Clone, B: Allocator + Clone>(
+    actions: &[Action<B>],
+    front: &[u8],
+    marks: &mut Marks<A>,
+)
+    requires empty { (marks.old.alerts.items ≡ []) × (marks.old.logs.items ≡ []) × (marks.old.files.items ≡ []) }
+    requires alerts { count_by is_alert (map act actions.now) ≤ vec_capacity marks.old.alerts }
+    requires logs { count_by is_log (map act actions.now) ≤ vec_capacity marks.old.logs }
+    requires files { count_by is_file (map act actions.now) ≤ vec_capacity marks.old.files }
+    ensures alerts { marks.new.alerts.items ≡ choices is_alert (map act actions.now) front.now }
+    ensures logs { marks.new.logs.items ≡ choices is_log (map act actions.now) front.now }
+    ensures files { marks.new.files.items ≡ choices is_file (map act actions.now) front.now }
+{
+    let mut chosen = true;
+    for action in actions {
+        marks.note(action, chosen);
+        chosen = action.decide(front, chosen);
+    }
+}

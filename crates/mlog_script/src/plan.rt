@@ -1,0 +1,97 @@
+//! The logs and status files of a script.
+ghost use Rattle.std.specs.Prelude.{◌≡◌, map, slice_get, option_copied};
+ghost use Rattle.mlog_script.specs.Script.{size_after, keep_after, log_plans, file_paths};
+ghost use Rattle.mlog_script.specs.Action.{act};
+
+use crate::action::Action;
+use std::alloc::Allocator;
+use std::marker::Model;
+
+/// The size of a log, where no word sets one.
+const DEFAULT_SIZE: u64 = 99_999;
+
+/// How many old files a log keeps, where no word sets it.
+const DEFAULT_KEEP: u64 = 10;
+
+/// What a script asks of a log.
+#[derive(Debug, Drop)]
+pub struct LogPlan<'a> {
+    /// The folder, as the script has it.
+    pub folder: &'a [u8],
+
+    /// The size of a file, in bytes.
+    pub size: u64,
+
+    /// How many old files are kept.
+    pub keep: u64,
+}
+
+impl<'a> Model for LogPlan<'a> {
+    ghost use Rattle.mlog_script.specs.Script.{Plan};
+
+    ghost Value = { Plan };
+
+    ghost view = { λ plan. record { folder = plan.folder.now; size = plan.size; keep = plan.keep } };
+}
+
+/// What actions ask of the log of this number.
+#[tactic(auto, using(crate::proofs::Plans::plans_step))]
+pub(crate) fn log_plan<A: Allocator + Clone>(
+    actions: &[Action<A>],
+    log: usize,
+) -> Option<LogPlan<'_>>
+    ensures { result ≡ slice_get (log_plans (map act actions.now)) log }
+{
+    let mut left = log;
+    for (place, action) in actions.iter().enumerate() {
+        if let Action::Log(folder) = action {
+            if left == 0 {
+                let before = &actions[..place];
+                return Some(LogPlan {
+                    folder,
+                    size: size_after(before),
+                    keep: keep_after(before),
+                });
+            }
+            left -= 1;
+        }
+    }
+    None
+}
+
+/// The size of a log behind these actions.
+fn size_after<A: Allocator + Clone>(actions: &[Action<A>]) -> u64
+    ensures { result ≡ size_after (map act actions.now) }
+{
+    let mut size = DEFAULT_SIZE;
+    for action in actions {
+        size = action.size_set().unwrap_or(size);
+    }
+    size
+}
+
+/// How many old files a log behind these actions keeps.
+fn keep_after<A: Allocator + Clone>(actions: &[Action<A>]) -> u64
+    ensures { result ≡ keep_after (map act actions.now) }
+{
+    let mut keep = DEFAULT_KEEP;
+    for action in actions {
+        keep = action.keep_set().unwrap_or(keep);
+    }
+    keep
+}
+
+/// The path of the status file of this number.
+pub(crate) fn file_path<A: Allocator + Clone>(actions: &[Action<A>], file: usize) -> Option<&[u8]>
+    ensures { option_copied result ≡ slice_get (file_paths (map act actions.now)) file }
+{
+    let mut left = file;
+    for action in actions {
+        match action {
+            Action::Status(path) if left == 0 => return Some(path),
+            Action::Status(_) => left -= 1,
+            _ => {}
+        }
+    }
+    None
+}

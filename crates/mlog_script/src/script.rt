@@ -1,0 +1,142 @@
+ghost use Rattle.std.specs.Prelude.{◌≡◌, ◌<◌, ◌≤◌, ◌↔◌, Ok, length, map, count_by, slice_get, option_copied, IfOk, IfErr, IsErrOf, IsSome, MatchOption};
+ghost use Rattle.std.specs.List.{list_any};
+ghost use Rattle.mlog_script.specs.Script.{texts, said, first_fault, is_stamp, is_alert, is_pattern, is_log, is_file, log_plans, file_paths};
+ghost use Rattle.mlog_script.specs.Selection.{stamps};
+ghost use Rattle.mlog_script.specs.Action.{act};
+
+use crate::action::Action;
+use crate::check::check;
+use crate::fault::{ScriptFault, ScriptFaultKind};
+use crate::plan::{LogPlan, file_path, log_plan};
+use crate::read::read_actions;
+use std::alloc::{Allocator, Global};
+use std::marker::Model;
+
+/// A script of multilog. Contracts see its actions, one for each word, in order.
+#[derive(Debug, Drop)]
+pub struct Script<A: Allocator + Clone = Global> {
+    actions: Vec<Action<A>, A>,
+}
+
+impl<A: Allocator + Clone> Model for Script<A> {
+    ghost use Rattle.std.specs.Prelude.{List, map};
+    ghost use Rattle.mlog_script.specs.Script.{Act};
+    ghost use Rattle.mlog_script.specs.Action.{act};
+
+    ghost Value = { List Act };
+
+    ghost view = { λ script. map act script.actions.items };
+}
+
+impl<A: Allocator + Clone> Script<A> {
+    /// Reads the words of a script. No words are a lawful script.
+    ///
+    /// The first bad word is told, also where there is no memory. Else `OutOfMemory` comes only where the allocator
+    /// refuses the memory for the action of the word that is told, or for the list of the actions up to it. No words
+    /// take none.
+    pub fn read(alloc: A, words: &[&[u8]]) -> Result<Script<A>, ScriptFault>
+        ensures ok { IfOk result (λ script. map said (texts words.now) ≡ map (λ action. Ok action) script) }
+        ensures refuses { MatchOption (first_fault (texts words.now))
+            (IfErr result (λ fault. fault.kind ≡ ScriptFaultKind.OutOfMemory))
+            (λ fault. IsErrOf result fault) }
+        ensures memory { IfErr result (λ fault. fault.kind ≡ ScriptFaultKind.OutOfMemory
+            → (0 < fault.word) × (fault.word ≤ length words.now)) }
+    {
+        check(words)?;
+        let actions = read_actions(alloc, words)?;
+        Ok(Script { actions })
+    }
+
+    /// The actions, in order.
+    pub(crate) fn actions(&self) -> &[Action<A>]
+        ensures { map act result.now ≡ self.now }
+    {
+        self.actions.as_slice()
+    }
+
+    /// Whether lines are shown behind a stamp.
+    pub fn stamps(&self) -> bool
+        ensures { result ≡ stamps self.now }
+    {
+        any_stamp(self.actions())
+    }
+
+    /// Whether a pattern selects or deselects lines. Else every line is selected at each action.
+    pub fn has_patterns(&self) -> bool
+        ensures { result ≡ list_any is_pattern self.now }
+    {
+        any_pattern(self.actions())
+    }
+
+    /// How many alerts the script has.
+    pub fn alerts(&self) -> usize
+        ensures { result ≡ count_by is_alert self.now }
+    {
+        count_alerts(&self.actions)
+    }
+
+    /// How many logs the script has.
+    pub fn logs(&self) -> usize
+        ensures { result ≡ count_by is_log self.now }
+    {
+        count_logs(&self.actions)
+    }
+
+    /// How many status files the script has.
+    pub fn files(&self) -> usize
+        ensures { result ≡ count_by is_file self.now }
+    {
+        count_files(&self.actions)
+    }
+
+    /// What the script asks of the log of this number: `Some` for each number below [`Script::logs`].
+    pub fn log(&self, log: usize) -> Option<LogPlan<'_>>
+        ensures plan { result ≡ slice_get (log_plans self.now) log }
+        ensures there { IsSome result ↔ log < count_by is_log self.now }
+    {
+        log_plan(self.actions(), log)
+    }
+
+    /// The path of the status file of this number: `Some` for each number below [`Script::files`].
+    pub fn file(&self, file: usize) -> Option<&[u8]>
+        ensures path { option_copied result ≡ slice_get (file_paths self.now) file }
+        ensures there { IsSome result ↔ file < count_by is_file self.now }
+    {
+        file_path(self.actions(), file)
+    }
+}
+
+/// Whether one of the actions is a stamp.
+fn any_stamp<A: Allocator + Clone>(actions: &[Action<A>]) -> bool
+    ensures { result ≡ list_any (λ action. is_stamp (act action)) actions.now }
+{
+    actions.iter().any(|action| action.is_stamp())
+}
+
+/// Whether one of the actions is on a pattern.
+fn any_pattern<A: Allocator + Clone>(actions: &[Action<A>]) -> bool
+    ensures { result ≡ list_any (λ action. is_pattern (act action)) actions.now }
+{
+    actions.iter().any(|action| action.is_pattern())
+}
+
+/// How many of the actions are alerts.
+fn count_alerts<A: Allocator + Clone>(actions: &[Action<A>]) -> usize
+    ensures { result ≡ count_by (λ action. is_alert (act action)) actions.now }
+{
+    actions.iter().filter(|action| action.is_alert()).count()
+}
+
+/// How many of the actions are logs.
+fn count_logs<A: Allocator + Clone>(actions: &[Action<A>]) -> usize
+    ensures { result ≡ count_by (λ action. is_log (act action)) actions.now }
+{
+    actions.iter().filter(|action| action.is_log()).count()
+}
+
+/// How many of the actions are status files.
+fn count_files<A: Allocator + Clone>(actions: &[Action<A>]) -> usize
+    ensures { result ≡ count_by (λ action. is_file (act action)) actions.now }
+{
+    actions.iter().filter(|action| action.is_file()).count()
+}
