@@ -1,0 +1,10 @@
+//! The files of a log, as multilog keeps them: where the text is cut into files, under which names old files stand, and
+//! which are removed; over any store.
+#![tactic(auto)]
+
+mod cut;
+mod store;
+mod tail;
+
+pub use store::{LogStore, StoreFault};
+pub use tail::{LogFault, Tail};
