@@ -189,7 +189,7 @@ over_full size keep log s text sized over =
         ∙ ap (λ (t : List Step). finish ++ t) (sym later.0),
       one.1 ∙ sym later.1 )
 
-sent-append : (reading : Tai64n) (xs ys : List ℕ) → sent reading (xs ++ ys) ≡ sent reading xs ++ sent reading ys
+pub sent-append : (reading : Tai64n) (xs ys : List ℕ) → sent reading (xs ++ ys) ≡ sent reading xs ++ sent reading ys
 sent-append reading xs ys = map-append (λ (byte : ℕ). record { byte = byte; reading = reading }) xs ys
 
 -- more bytes of a line

@@ -1,3 +1,4 @@
 mod Places
 mod Doing
 mod Goings
+mod Putting

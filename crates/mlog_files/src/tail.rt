@@ -101,14 +101,13 @@ fn hold<S: LogStore>(
 }
 
 impl Tail {
-    ghost use Rattle.std.specs.Prelude.{◌≡◌, ◌<◌, ◌≤◌, ◌++◌, [], length, take, IfOk, OnOk, OnErr, IsErrOf, IfSome, Some, None};
+    ghost use Rattle.std.specs.Prelude.{◌≡◌, ◌<◌, ◌≤◌, ◌++◌, [], length, take, IfOk, IfErr, OnOk, OnErr, IsErrOf, IfSome, Some, None};
     ghost use Rattle.tai_status.specs.Counted.{Rose};
-    ghost use Rattle.mlog_files.specs.Cut.{sent};
     ghost use Rattle.mlog_files.specs.Files.{append_steps};
     ghost use Rattle.mlog_files.specs.Steps.{finish_steps};
-    ghost use Rattle.mlog_files.specs.Going.{begun, finish_at, finished_at, steps_on, standing_on};
+    ghost use Rattle.mlog_files.specs.Going.{begun, finish_at, finished_at};
     ghost use Rattle.mlog_files.specs.Store.{Does, DoesFront, Goes};
-    ghost use Rattle.mlog_files.specs.Tails.{marks_at, standing, found};
+    ghost use Rattle.mlog_files.specs.Tails.{marks_at, standing, found, steps_at, after_at};
     ghost use Rattle.mlog_files.specs.declared.tail.LogFault.TheVariants as fault;
 
     /// The end of a log as the store holds it.
@@ -180,6 +179,128 @@ impl Tail {
             return Err(LogFault::LabelsSpent);
         };
         match self.finish_under(store, log, label) {
+            Ok(()) => Ok(()),
+            Err(_) => Err(LogFault::Store),
+        }
+    }
+
+    // Puts a front of a line's bytes into a current file that has room, and tells how long it is.
+    fn put_open<S: LogStore>(
+        &mut self,
+        store: &mut S,
+        log: usize,
+        reading: &Label,
+        bytes: &[u8],
+    ) -> Result<usize, LogFault>
+        requires log { log < S.logs store.old }
+        requires room { self.old.count < self.old.size }
+        requires some { 0 < length bytes.now }
+        ensures taken { IfOk result (λ taken. (0 < taken) × (taken ≤ length bytes.now)) }
+        ensures done { IfOk result (λ taken. Goes (S.told store.old) (S.told store.new) log self.old.waiting self.new.waiting
+            (steps_at self.old reading.now (take taken bytes.now))) }
+        ensures stands { IfOk result (λ taken.
+            after_at self.old reading.now (take taken bytes.now) ≡ Some (standing self.new)) }
+        ensures same { (self.new.size ≡ self.old.size) × (self.new.keep ≡ self.old.keep) }
+        ensures stopped { OnErr result (DoesFront (S.told store.old) (S.told store.new) log
+            (append_steps self.old.waiting ++ steps_at self.old reading.now bytes.now)) }
+        ensures spent { IsErrOf result fault.LabelsSpent →
+            (after_at self.old reading.now bytes.now ≡ None)
+            × Does (S.told store.old) (S.told store.new) log
+                (append_steps self.old.waiting ++ steps_at self.old reading.now bytes.now) }
+        ensures store { IsErrOf result fault.Store → Rose (S.failures store.old) (S.failures store.new) }
+        ensures steady { S.failures store.old ≤ S.failures store.new }
+        ensures counts { (S.logs store.new ≡ S.logs store.old) × (S.status_files store.new ≡ S.status_files store.old) }
+    {
+        let cut = first_cut(self.size, self.count, bytes);
+        match hold(&mut self.waiting, store, log, &bytes[..cut.len]) {
+            Ok(()) => {}
+            Err(_) => return Err(LogFault::Store),
+        }
+        if cut.is_full {
+            self.finish(store, log, reading)?;
+        } else {
+            self.count += cut.len;
+        }
+        Ok(cut.len)
+    }
+
+    // Puts a front of a line's bytes. A file that was found over-full is finished first.
+    fn put_part<S: LogStore>(
+        &mut self,
+        store: &mut S,
+        log: usize,
+        reading: &Label,
+        bytes: &[u8],
+    ) -> Result<usize, LogFault>
+        requires log { log < S.logs store.old }
+        requires some { 0 < length bytes.now }
+        ensures taken { IfOk result (λ taken. (0 < taken) × (taken ≤ length bytes.now)) }
+        ensures done { IfOk result (λ taken. Goes (S.told store.old) (S.told store.new) log self.old.waiting self.new.waiting
+            (steps_at self.old reading.now (take taken bytes.now))) }
+        ensures stands { IfOk result (λ taken.
+            after_at self.old reading.now (take taken bytes.now) ≡ Some (standing self.new)) }
+        ensures same { (self.new.size ≡ self.old.size) × (self.new.keep ≡ self.old.keep) }
+        ensures stopped { OnErr result (DoesFront (S.told store.old) (S.told store.new) log
+            (append_steps self.old.waiting ++ steps_at self.old reading.now bytes.now)) }
+        ensures spent { IsErrOf result fault.LabelsSpent →
+            (after_at self.old reading.now bytes.now ≡ None)
+            × Does (S.told store.old) (S.told store.new) log
+                (append_steps self.old.waiting ++ steps_at self.old reading.now bytes.now) }
+        ensures store { IsErrOf result fault.Store → Rose (S.failures store.old) (S.failures store.new) }
+        ensures steady { S.failures store.old ≤ S.failures store.new }
+        ensures counts { (S.logs store.new ≡ S.logs store.old) × (S.status_files store.new ≡ S.status_files store.old) }
+    {
+        if self.count < self.size {
+            return self.put_open(store, log, reading, bytes);
+        }
+        self.finish(store, log, reading)?;
+        self.put_open(store, log, reading, bytes)
+    }
+
+    /// Puts bytes of one line behind the log's text, in as many calls as the caller likes: the line's reading names the old
+    /// files that these bytes fill. What is done may wait in memory.
+    pub fn put<S: LogStore>(
+        &mut self,
+        store: &mut S,
+        log: usize,
+        reading: &Label,
+        bytes: &[u8],
+    ) -> Result<(), LogFault>
+        requires log { log < S.logs store.old }
+        ensures done { OnOk result (Goes (S.told store.old) (S.told store.new) log self.old.waiting self.new.waiting
+            (steps_at self.old reading.now bytes.now)) }
+        ensures stands { OnOk result (after_at self.old reading.now bytes.now ≡ Some (standing self.new)) }
+        ensures same { (self.new.size ≡ self.old.size) × (self.new.keep ≡ self.old.keep) }
+        ensures stopped { OnErr result (DoesFront (S.told store.old) (S.told store.new) log
+            (append_steps self.old.waiting ++ steps_at self.old reading.now bytes.now)) }
+        ensures spent { IsErrOf result fault.LabelsSpent →
+            (after_at self.old reading.now bytes.now ≡ None)
+            × Does (S.told store.old) (S.told store.new) log
+                (append_steps self.old.waiting ++ steps_at self.old reading.now bytes.now) }
+        ensures store { IsErrOf result fault.Store → Rose (S.failures store.old) (S.failures store.new) }
+        ensures steady { S.failures store.old ≤ S.failures store.new }
+        ensures counts { (S.logs store.new ≡ S.logs store.old) × (S.status_files store.new ≡ S.status_files store.old) }
+    {
+        let mut at = 0;
+        while at < bytes.len() {
+            at += self.put_part(store, log, reading, &bytes[at..])?;
+        }
+        Ok(())
+    }
+
+    /// Appends what waits in memory.
+    pub fn flush<S: LogStore>(&mut self, store: &mut S, log: usize) -> Result<(), LogFault>
+        requires log { log < S.logs store.old }
+        ensures done { OnOk result (Does (S.told store.old) (S.told store.new) log (append_steps self.old.waiting)) }
+        ensures empty { OnOk result (self.new.waiting ≡ []) }
+        ensures stands { standing self.new ≡ standing self.old }
+        ensures same { (self.new.size ≡ self.old.size) × (self.new.keep ≡ self.old.keep) }
+        ensures stopped { OnErr result (DoesFront (S.told store.old) (S.told store.new) log (append_steps self.old.waiting)) }
+        ensures store { IfErr result (λ why. (why ≡ fault.Store) × Rose (S.failures store.old) (S.failures store.new)) }
+        ensures steady { S.failures store.old ≤ S.failures store.new }
+        ensures counts { (S.logs store.new ≡ S.logs store.old) × (S.status_files store.new ≡ S.status_files store.old) }
+    {
+        match write_out(&mut self.waiting, store, log) {
             Ok(()) => Ok(()),
             Err(_) => Err(LogFault::Store),
         }
