@@ -1,5 +1,5 @@
 -- Bytes of one line, put part by part.
-use Rattle.std.proofs.Common.{◌≡◌, ℕ, ◌+◌, ◌-◌, ◌<◌, ◌≤◌, ◌==◌, Bool, true, false, List, [], ◌∷◌, ◌++◌, length, take, drop, get_or, Option, Some, None, Result, Err, refl, sym, subst, ap, ◌∙◌, arith, append_assoc, append-nil}
+use Rattle.std.proofs.Common.{◌≡◌, ℕ, ◌+◌, ◌-◌, ◌<◌, ◌≤◌, ◌==◌, Bool, true, false, List, [], ◌∷◌, ◌++◌, length, take, drop, get_or, Option, Some, None, Result, Ok, Err, IfOk, refl, sym, subst, ap, ◌∙◌, arith, append_assoc, append-nil}
 use Rattle.std.proofs.lemmas.List.{map-append, take-append-drop}
 use Rattle.tai_status.specs.Label.{Tai64n}
 use Rattle.mlog_files.specs.Cut.{Sent, sent, fills}
@@ -262,3 +262,7 @@ put_nothing o log waited = record {
 pub same_fault : {A B E : Type 0} (x y z : E) → x ≡ y → ◌≡◌ {A = Result A E} (Err x) (Err z) → ◌≡◌ {A = Result B E} (Err y) (Err z)
 same_fault {A} {B} {E} x y z same is =
     let given : x ≡ z = cc in ap (λ (e : E). Err e) (sym same ∙ given)
+
+pub if_ok_both : {T E : Type 0} (r : Result T E) (P Q R : T → Type 0) → ((x : T) → P x → Q x → R x) → IfOk r P → IfOk r Q → IfOk r R
+if_ok_both (Ok x) P Q R all p q = all x p q
+if_ok_both (Err e) P Q R all p q = tt
