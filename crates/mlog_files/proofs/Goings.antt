@@ -58,7 +58,7 @@ in_room size keep log s text room =
     let e = not_over size keep log s.reading room in step_is size keep log s text [] (Some log) e.0 e.1
 
 -- One byte, with which the file is not full.
-byte_open : (size keep : ℕ) (log : Standing) (s : Sent) (text : List Sent) → log.count < size → fills size (log.count + 1) (s.byte == 10) ≡ false
+pub byte_open : (size keep : ℕ) (log : Standing) (s : Sent) (text : List Sent) → log.count < size → fills size (log.count + 1) (s.byte == 10) ≡ false
     → (steps_on size keep (Some log) (s ∷ text) ≡ Append s.byte ∷ steps_on size keep (Some (record { count = log.count + 1; marks = log.marks })) text)
     × (standing_on size keep (Some log) (s ∷ text) ≡ standing_on size keep (Some (record { count = log.count + 1; marks = log.marks })) text)
 byte_open size keep log s text room open_yet =
@@ -71,7 +71,7 @@ byte_open size keep log s text room open_yet =
       one.1 ∙ ap (λ (r : Option Standing). standing_on size keep r text) later )
 
 -- One byte, with which the file is full.
-byte_cut : (size keep : ℕ) (log : Standing) (s : Sent) → log.count < size → fills size (log.count + 1) (s.byte == 10) ≡ true
+pub byte_cut : (size keep : ℕ) (log : Standing) (s : Sent) → log.count < size → fills size (log.count + 1) (s.byte == 10) ≡ true
     → (steps_on size keep (Some log) (s ∷ []) ≡ Append s.byte ∷ finish_at keep log.marks s.reading)
     × (standing_on size keep (Some log) (s ∷ []) ≡ finished_at keep log.marks s.reading)
 byte_cut size keep log s room full =

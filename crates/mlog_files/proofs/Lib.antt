@@ -2,3 +2,4 @@ mod Places
 mod Doing
 mod Goings
 mod Putting
+mod Cutting

@@ -5,3 +5,4 @@ pub mod Going
 pub mod Named
 pub mod Store
 pub mod Tails
+pub mod Laws

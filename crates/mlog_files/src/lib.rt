@@ -3,8 +3,10 @@
 #![tactic(auto)]
 
 mod cut;
+mod laws;
 mod store;
 mod tail;
 
+pub use laws::steps_of_a_text;
 pub use store::{LogStore, StoreFault};
 pub use tail::{LogFault, Tail};
