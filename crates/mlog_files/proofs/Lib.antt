@@ -3,3 +3,4 @@ mod Doing
 mod Goings
 mod Putting
 mod Cutting
+mod Kept

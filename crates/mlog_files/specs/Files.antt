@@ -6,14 +6,14 @@ use Rattle.tai_status.specs.Label.{Tai64n, label_text}
 use Rattle.mlog_files.specs.Cut.{Sent}
 
 -- an old file
-pub record OldFile : Type 0 where
+pub record Old : Type 0 where
   pub name : List ℕ
   pub bytes : List ℕ
 
 -- the files of a log: the current one, and the old ones in byte order of their names
 pub record Files : Type 0 where
   pub current : List ℕ
-  pub olds : List OldFile
+  pub olds : List Old
 
 -- One byte is appended to the current file; or it becomes the old file of this label, and a new one is begun; or the old
 -- file whose name is smallest is removed.
@@ -27,7 +27,7 @@ abbrev pub old_name : Tai64n → List ℕ
 old_name label = label_text label ++ codes ".s"
 
 -- the old files with one more, before the first whose name is not smaller
-abbrev pub with_old : OldFile → List OldFile → List OldFile
+abbrev pub with_old : Old → List Old → List Old
 with_old old [] = old ∷ []
 with_old old (first ∷ olds) =
     if is_lt (slice_cmp nat_cmp first.name old.name) then first ∷ with_old old olds else old ∷ first ∷ olds

@@ -4,6 +4,7 @@
 
 mod cut;
 mod laws;
+mod memory;
 mod store;
 mod tail;
 
