@@ -1,8 +1,8 @@
 -- The steps of a text are those of its cut.
-use Rattle.std.proofs.Common.{◌≡◌, ℕ, zero, suc, ◌+◌, ◌<◌, ◌≤◌, ◌==◌, nat_lt, Bool, true, false, List, [], ◌∷◌, ◌++◌, length, take, Option, Some, None, refl, sym, subst, ap, ◌∙◌, arith, append_assoc, append-nil}
+use Rattle.std.proofs.Common.{◌≡◌, ℕ, zero, suc, ◌+◌, ◌<◌, ◌≤◌, ◌==◌, nat_lt, Bool, true, false, List, [], ◌∷◌, ◌++◌, length, take, Option, Some, None, refl, sym, ap, ◌∙◌, arith, append_assoc, append-nil}
 use Rattle.std.specs.List.{flat_map}
 use Rattle.tai_status.specs.Label.{Tai64n, greatest}
-use Rattle.mlog_files.specs.Cut.{Sent, fills, ends_line, is_full, IsPiece, IsOpen, AreCut, IsCut}
+use Rattle.mlog_files.specs.Cut.{Sent, fills, is_full, IsPiece, IsOpen, AreCut, IsCut}
 use Rattle.mlog_files.specs.Files.{Step, Append, appends}
 use Rattle.mlog_files.specs.Steps.{Marks, label_given, last_reading, finish_steps, marks_after, steps_of}
 use Rattle.mlog_files.specs.Going.{Standing, begun, finish_under, stands_under, finish_at, finished_at, steps_on, standing_on}
@@ -35,18 +35,21 @@ later_front size n s (t ∷ rest) most none fits (suc k) within =
 piece_tail : (size n : ℕ) (s t : Sent) (rest : List Sent) → IsPiece size n (s ∷ t ∷ rest)
     → (fills size (n + 1) (s.byte == 10) ≡ false) × IsPiece size (n + 1) (t ∷ rest)
 piece_tail size n s t rest p = (
-      p.least 1 (omega arith),
-      record {
-        full = sym (full_more size n s t rest) ∙ p.full;
-        least = later_front size n s (t ∷ rest) (suc (length rest)) (λ k within. p.least k (omega (arith, within))) (omega arith);
-      },
-    )
+  p.least 1 (omega arith),
+  record {
+    full = sym (full_more size n s t rest) ∙ p.full;
+    least = later_front size n s (t ∷ rest) (suc (length rest)) (λ k within. p.least k (omega (arith, within))) (omega arith);
+  },
+)
 
 open_tail : (size n : ℕ) (s : Sent) (rest : List Sent) → IsOpen size n (s ∷ rest)
     → (fills size (n + 1) (s.byte == 10) ≡ false) × IsOpen size (n + 1) rest
-open_tail size n s rest o = (o.open_yet 1 (omega arith), record {
-      open_yet = λ k within. later_front size n s rest (length rest + 1) (λ k less. o.open_yet k (omega (arith, less))) (omega arith) k (omega (arith, within));
-    })
+open_tail size n s rest o = (
+  o.open_yet 1 (omega arith),
+  record {
+    open_yet = λ k within. later_front size n s rest (length rest + 1) (λ k less. o.open_yet k (omega (arith, less))) (omega arith) k (omega (arith, within));
+  },
+)
 
 -- A text with which the file is not full is appended.
 open_text : (size keep : ℕ) (log : Standing) (rest : List Sent) → log.count < size → IsOpen size log.count rest
@@ -75,10 +78,10 @@ piece_text size keep log (s ∷ t ∷ rest) room p =
 after_piece : (size keep : ℕ) (marks : Marks) (piece : List Sent) (pieces : List (List Sent)) (rest later : List Sent) (label : Option Tai64n)
     → ((given : Tai64n) → steps_on size keep (Some (begun keep marks given)) later ≡ steps_of keep (marks_after keep marks given) pieces rest)
     → (appends piece ++ finish_under keep marks label) ++ steps_on size keep (stands_under keep marks label) later
-      ≡ elim label [
-        | None ↦ appends piece
-        | Some given ↦ appends piece ++ finish_steps keep marks given ++ steps_of keep (marks_after keep marks given) pieces rest
-      ]
+    ≡ elim label [
+      | None ↦ appends piece
+      | Some given ↦ appends piece ++ finish_steps keep marks given ++ steps_of keep (marks_after keep marks given) pieces rest
+    ]
 after_piece size keep marks piece pieces rest later None next = append-nil (appends piece ++ []) ∙ append-nil (appends piece)
 after_piece size keep marks piece pieces rest later (Some given) next = ap (λ (t : List Step). (appends piece ++ finish_steps keep marks given) ++ t) (next given)
 
@@ -95,7 +98,7 @@ cut_steps size keep log (piece ∷ pieces) rest sized room c =
     ∙ ap (λ (t : List Step). t ++ steps_on size keep (standing_on size keep (Some log) piece) later) one.0
     ∙ ap (λ (r : Option Standing). (appends piece ++ finish_at keep log.marks (last_reading greatest piece)) ++ steps_on size keep r later) one.1
     ∙ after_piece size keep log.marks piece pieces rest later label
-        (λ given. cut_steps size keep (begun keep log.marks given) pieces rest sized sized c.1)
+    (λ given. cut_steps size keep (begun keep log.marks given) pieces rest sized sized c.1)
 
 pub text_steps : (size keep : ℕ) (log : Standing) (text : List Sent) (pieces : List (List Sent)) (rest : List Sent) → 0 < size → log.count < size
     → IsCut size log.count text pieces rest → steps_on size keep (Some log) text ≡ steps_of keep log.marks pieces rest
@@ -129,11 +132,13 @@ open_more size n s rest none o = record {
 open_cut : (size n : ℕ) (s : Sent) (text : List Sent) (pieces : List (List Sent)) (rest : List Sent) → fills size (n + 1) (s.byte == 10) ≡ false
     → IsCut size (n + 1) text pieces rest → HasCut size n (s ∷ text)
 open_cut size n s text [] rest none c = record {
-  pieces = []; rest = s ∷ rest;
+  pieces = [];
+  rest = s ∷ rest;
   is_cut = record { whole = ap (λ (t : List Sent). s ∷ t) c.whole; each = open_more size n s rest none c.each };
 }
 open_cut size n s text (piece ∷ pieces) rest none c = record {
-  pieces = (s ∷ piece) ∷ pieces; rest = rest;
+  pieces = (s ∷ piece) ∷ pieces;
+  rest = rest;
   is_cut = record { whole = ap (λ (t : List Sent). s ∷ t) c.whole; each = (piece_more size n s piece none c.each.0, c.each.1) };
 }
 
@@ -147,7 +152,8 @@ one_piece size n s full = record { full = full; least = λ k within. alone size 
 cut_at : (size n : ℕ) (s : Sent) (text : List Sent) (full : Bool) → fills size (n + 1) (s.byte == 10) ≡ full
     → HasCut size 0 text → HasCut size (n + 1) text → HasCut size n (s ∷ text)
 cut_at size n s text true full now later = record {
-  pieces = (s ∷ []) ∷ now.pieces; rest = now.rest;
+  pieces = (s ∷ []) ∷ now.pieces;
+  rest = now.rest;
   is_cut = record { whole = ap (λ (t : List Sent). s ∷ t) now.is_cut.whole; each = (one_piece size n s full, now.is_cut.each) };
 }
 cut_at size n s text false none now later = open_cut size n s text later.pieces later.rest none later.is_cut

@@ -1,5 +1,5 @@
 -- Steps after steps.
-use Rattle.std.proofs.Common.{◌≡◌, ◌≢◌, ℕ, ◌+◌, ◌-◌, ◌<◌, ◌≤◌, ◌^◌, List, [], ◌∷◌, ◌++◌, length, take, drop, map, Option, Some, None, refl, sym, subst, ap, ◌∙◌, inl, inr, arith, append_assoc, append-nil}
+use Rattle.std.proofs.Common.{◌≡◌, ℕ, ◌+◌, ◌-◌, ◌≤◌, List, [], ◌∷◌, ◌++◌, length, take, drop, Option, Some, None, refl, sym, subst, ap, ◌∙◌, inl, inr, arith, append_assoc, append-nil}
 use Rattle.std.proofs.Math.Seq.{take-add, take-append-add, take-append_seam}
 use Rattle.std.proofs.lemmas.List.{map-append, take_rest, take-append-drop}
 use Rattle.tai_status.specs.Counted.{Rose}
@@ -43,7 +43,7 @@ Does-none {o} {p} {q} {log} {a} b d e = Does-front b d (record { count = 0; fron
 front_stays : (a b : List Step) (n : ℕ) → take n a ≡ take (length (take n a)) (a ++ b)
 front_stays a b n =
     sym (ap (take (length (take n a))) (ap (λ (t : List Step). t ++ b) (sym (take-append-drop n a)) ∙ append_assoc (take n a) (drop n a) b)
-      ∙ take-append_seam (take n a) (drop n a ++ b))
+    ∙ take-append_seam (take n a) (drop n a ++ b))
 
 -- A front of steps is one of more steps.
 pub DoesFront-more : {o q : Told} {log : ℕ} {a : List Step} (b : List Step) → DoesFront o q log a → DoesFront o q log (a ++ b)
@@ -58,7 +58,7 @@ appended_further {o} {p} {q} {log} xs at n d e =
     let put : ℕ → Step = λ (byte : ℕ). Append byte in
     let rest : append_steps (take n (take (length xs - at) (drop at xs))) ≡ append_steps (take n (drop at xs)) = ap (λ (t : List ℕ). append_steps (take n t)) (take_rest xs at) in
     let whole : append_steps (take (at + n) xs) ≡ append_steps (take at xs) ++ append_steps (take n (drop at xs)) =
-        ap append_steps (take-add at n xs) ∙ map-append put (take at xs) (take n (drop at xs)) in
+    ap append_steps (take-add at n xs) ∙ map-append put (take at xs) (take n (drop at xs)) in
     subst (λ (t : List Step). Does o q log t) (sym whole) (Does-then d (subst (λ (t : List Step). Does p q log t) rest e))
 
 pub appended_upto : {o p q : Told} {log : ℕ} (xs : List ℕ) (at : ℕ) → Does o p log (append_steps (take at xs)) → Does p q log []
@@ -66,11 +66,11 @@ pub appended_upto : {o p q : Told} {log : ℕ} (xs : List ℕ) (at : ℕ) → Do
 appended_upto {o} {p} {q} {log} xs at d e =
     let put : ℕ → Step = λ (byte : ℕ). Append byte in
     let whole : append_steps (take at xs) ++ append_steps (drop at xs) ≡ append_steps xs =
-        sym (map-append put (take at xs) (drop at xs)) ∙ ap append_steps (take-append-drop at xs) in
+    sym (map-append put (take at xs) (drop at xs)) ∙ ap append_steps (take-append-drop at xs) in
     subst (λ (t : List Step). DoesFront o q log t) whole (Does-none (append_steps (drop at xs)) d e)
 
 pub rose_since : (a b c : ℕ) → a ≤ b → Rose b c → Rose a c
-rose_since a b c low rose = elim rose [ | inl more ↦ inl (omega (arith, low, more)) | inr full ↦ inr full ]
+rose_since a b c low rose = elim rose [ inl more ↦ inl (omega (arith, low, more)) | inr full ↦ inr full ]
 
 -- All of some steps is a front of more.
 pub Does-more : {o q : Told} {log : ℕ} {a : List Step} (b : List Step) → Does o q log a → DoesFront o q log (a ++ b)
@@ -134,4 +134,4 @@ pub finish_front : {o p q : Told} {log : ℕ} (keep : ℕ) (marks : Marks) (read
     → DoesFront o q log (append_steps waited ++ finish_at keep marks reading)
 finish_front {o} {p} {q} {log} keep marks reading label waited given d e =
     subst (λ (label : Option Tai64n). DoesFront o q log (append_steps waited ++ finish_under keep marks label)) (sym given)
-      (Does-front (finish_steps keep marks label) d e)
+    (Does-front (finish_steps keep marks label) d e)

@@ -1,5 +1,5 @@
 -- A log that goes on.
-use Rattle.std.proofs.Common.{◌≡◌, ℕ, zero, suc, ◌+◌, ◌-◌, ◌<◌, ◌≤◌, ◌==◌, nat_lt, nat_le, Bool, true, false, List, [], ◌∷◌, ◌++◌, length, take, drop, get_or, Option, Some, None, inl, inr, refl, sym, subst, ap, ◌∙◌, arith, append_assoc, append-nil}
+use Rattle.std.proofs.Common.{◌≡◌, ℕ, zero, suc, ◌+◌, ◌-◌, ◌<◌, ◌≤◌, ◌==◌, nat_le, Bool, true, false, List, [], ◌∷◌, ◌++◌, length, take, drop, get_or, Option, Some, None, inl, inr, refl, sym, subst, ap, ◌∙◌, arith, append_assoc, append-nil}
 use Rattle.std.proofs.lemmas.List.{get_or-take, length-take-le, take_rest, map-append, take-append-drop}
 use Rattle.std.proofs.lemmas.Bool.{cases_lt}
 use Rattle.std.proofs.Math.Seq.{take-add}
@@ -7,7 +7,7 @@ use Rattle.tai_status.specs.Label.{Tai64n}
 use Rattle.mlog_files.specs.Cut.{Sent, sent, fills}
 use Rattle.mlog_files.specs.Files.{Step, Append, append_steps}
 use Rattle.mlog_files.specs.Steps.{Marks, label_given}
-use Rattle.mlog_files.specs.Going.{Standing, begun, finish_under, stands_under, finish_at, finished_at, byte_steps, after_byte, first_steps, ready, steps_on, standing_on}
+use Rattle.mlog_files.specs.Going.{Standing, begun, stands_under, finish_at, finished_at, byte_steps, after_byte, first_steps, ready, steps_on, standing_on}
 
 pub steps_on-none : (size keep : ℕ) (log : Option Standing) → steps_on size keep log [] ≡ []
 steps_on-none size keep None = refl
@@ -40,10 +40,11 @@ pub step_is : (size keep : ℕ) (log : Standing) (s : Sent) (text : List Sent) (
     → (steps_on size keep (Some log) (s ∷ text) ≡ first ++ byte_steps size keep now s ++ steps_on size keep (after_byte size keep now s) text)
     × (standing_on size keep (Some log) (s ∷ text) ≡ standing_on size keep (after_byte size keep now s) text)
 step_is size keep log s text first now e f =
-    let was = ready size keep log s.reading in
-    ( ap (λ (t : List Step). t ++ byte_steps size keep was s ++ steps_on size keep (after_byte size keep was s) text) e
-      ∙ ap (λ (r : Option Standing). first ++ byte_steps size keep r s ++ steps_on size keep (after_byte size keep r s) text) f,
-      ap (λ (r : Option Standing). standing_on size keep (after_byte size keep r s) text) f )
+    let was = ready size keep log s.reading in (
+      ap (λ (t : List Step). t ++ byte_steps size keep was s ++ steps_on size keep (after_byte size keep was s) text) e
+          ∙ ap (λ (r : Option Standing). first ++ byte_steps size keep r s ++ steps_on size keep (after_byte size keep r s) text) f,
+      ap (λ (r : Option Standing). standing_on size keep (after_byte size keep r s) text) f,
+    )
 
 not_over : (size keep : ℕ) (log : Standing) (reading : Tai64n) → log.count < size
     → (first_steps size keep log reading ≡ []) × (ready size keep log reading ≡ Some log)
@@ -65,10 +66,11 @@ byte_open size keep log s text room open_yet =
     let now : Standing = record { count = log.count + 1; marks = log.marks } in
     let one = in_room size keep log s text room in
     let first : byte_steps size keep (Some log) s ≡ Append s.byte ∷ [] = rw open_yet refl in
-    let later : after_byte size keep (Some log) s ≡ Some now = rw open_yet refl in
-    ( one.0 ∙ ap (λ (t : List Step). t ++ steps_on size keep (after_byte size keep (Some log) s) text) first
-        ∙ ap (λ (r : Option Standing). Append s.byte ∷ steps_on size keep r text) later,
-      one.1 ∙ ap (λ (r : Option Standing). standing_on size keep r text) later )
+    let later : after_byte size keep (Some log) s ≡ Some now = rw open_yet refl in (
+      one.0 ∙ ap (λ (t : List Step). t ++ steps_on size keep (after_byte size keep (Some log) s) text) first
+          ∙ ap (λ (r : Option Standing). Append s.byte ∷ steps_on size keep r text) later,
+      one.1 ∙ ap (λ (r : Option Standing). standing_on size keep r text) later,
+    )
 
 -- One byte, with which the file is full.
 pub byte_cut : (size keep : ℕ) (log : Standing) (s : Sent) → log.count < size → fills size (log.count + 1) (s.byte == 10) ≡ true
@@ -77,10 +79,11 @@ pub byte_cut : (size keep : ℕ) (log : Standing) (s : Sent) → log.count < siz
 byte_cut size keep log s room full =
     let one = in_room size keep log s [] room in
     let first : byte_steps size keep (Some log) s ≡ Append s.byte ∷ finish_at keep log.marks s.reading = rw full refl in
-    let later : after_byte size keep (Some log) s ≡ finished_at keep log.marks s.reading = rw full refl in
-    ( one.0 ∙ ap (λ (t : List Step). byte_steps size keep (Some log) s ++ t) (steps_on-none size keep (after_byte size keep (Some log) s))
-        ∙ append-nil (byte_steps size keep (Some log) s) ∙ first,
-      one.1 ∙ standing_on-none size keep (after_byte size keep (Some log) s) ∙ later )
+    let later : after_byte size keep (Some log) s ≡ finished_at keep log.marks s.reading = rw full refl in (
+      one.0 ∙ ap (λ (t : List Step). byte_steps size keep (Some log) s ++ t) (steps_on-none size keep (after_byte size keep (Some log) s))
+          ∙ append-nil (byte_steps size keep (Some log) s) ∙ first,
+      one.1 ∙ standing_on-none size keep (after_byte size keep (Some log) s) ∙ later,
+    )
 
 -- what is known of the bytes behind the first
 later_bytes : (size count b : ℕ) (bs : List ℕ) (truth : Bool) (k : ℕ) → 0 < k
@@ -92,8 +95,8 @@ later_bytes size count b bs truth (suc k) some is =
     let before : suc (suc k) - 1 ≡ suc k = omega arith in
     let here : suc k - 1 ≡ k = omega arith in
     subst (λ (i : ℕ). fills size (count + 1 + suc k) (get_or bs i 0 == 10) ≡ truth) (sym here)
-      (subst (λ (n : ℕ). fills size n (get_or bs k 0 == 10) ≡ truth) sum
-        (subst (λ (i : ℕ). fills size (count + suc (suc k)) (get_or (b ∷ bs) i 0 == 10) ≡ truth) before is))
+    (subst (λ (n : ℕ). fills size n (get_or bs k 0 == 10) ≡ truth) sum
+    (subst (λ (i : ℕ). fills size (count + suc (suc k)) (get_or (b ∷ bs) i 0 == 10) ≡ truth) before is))
 
 -- Bytes with which the file is not full.
 pub bytes_open : (size keep : ℕ) (log : Standing) (reading : Tai64n) (bytes : List ℕ) → log.count + length bytes < size
@@ -107,9 +110,10 @@ bytes_open size keep log reading (b ∷ bs) room none =
     let now : Standing = record { count = log.count + 1; marks = log.marks } in
     let one = byte_open size keep log (record { byte = b; reading = reading }) (sent reading bs) (omega (arith, room)) (none 1 (omega arith) (omega arith)) in
     let later = bytes_open size keep now reading bs (omega (arith, room)) (λ k some within. later_bytes size log.count b bs false k some (none (suc k) (omega arith) (omega (arith, within)))) in
-    let sum : log.count + 1 + length bs ≡ log.count + suc (length bs) = omega arith in
-    (one.0 ∙ ap (λ (t : List Step). Append b ∷ t) later.0,
-     one.1 ∙ later.1 ∙ ap (λ (n : ℕ). Some (record { count = n; marks = log.marks })) sum)
+    let sum : log.count + 1 + length bs ≡ log.count + suc (length bs) = omega arith in (
+      one.0 ∙ ap (λ (t : List Step). Append b ∷ t) later.0,
+      one.1 ∙ later.1 ∙ ap (λ (n : ℕ). Some (record { count = n; marks = log.marks })) sum,
+    )
 
 -- Bytes with which the file is full, and with no front of them.
 pub bytes_cut : (size keep : ℕ) (log : Standing) (reading : Tai64n) (bytes : List ℕ) → 0 < length bytes → log.count + length bytes ≤ size
@@ -124,8 +128,8 @@ bytes_cut size keep log reading (b ∷ c ∷ bs) some room none full =
     let now : Standing = record { count = log.count + 1; marks = log.marks } in
     let one = byte_open size keep log (record { byte = b; reading = reading }) (sent reading (c ∷ bs)) (omega (arith, room)) (none 1 (omega arith) (omega arith)) in
     let later = bytes_cut size keep now reading (c ∷ bs) (omega arith) (omega (arith, room))
-        (λ k some within. later_bytes size log.count b (c ∷ bs) false k some (none (suc k) (omega arith) (omega (arith, within))))
-        (later_bytes size log.count b (c ∷ bs) true (suc (length bs)) (omega arith) full) in
+    (λ k some within. later_bytes size log.count b (c ∷ bs) false k some (none (suc k) (omega arith) (omega (arith, within))))
+    (later_bytes size log.count b (c ∷ bs) true (suc (length bs)) (omega arith) full) in
     (one.0 ∙ ap (λ (t : List Step). Append b ∷ t) later.0, one.1 ∙ later.1)
 
 -- A front of bytes: what is known of it.
@@ -144,12 +148,12 @@ pub front_open : (size keep : ℕ) (log : Standing) (reading : Tai64n) (bytes : 
 front_open size keep log reading bytes len some within room none last =
     let long : length (take len bytes) ≡ len = length-take-le len bytes within in
     let all = bytes_open size keep log reading (take len bytes) (omega (arith, long, room))
-        (λ k more upto. front_known size log.count bytes len false k more (omega (arith, long, upto)) (elim (cases_lt k len) [
-          | inl less ↦ none k more less
-          | inr no_less ↦
-            let same : len ≡ k = omega (arith, long, upto, no_less) in
-            subst (λ (n : ℕ). fills size (log.count + n) (get_or bytes (n - 1) 0 == 10) ≡ false) same last
-        ])) in
+    (λ k more upto. front_known size log.count bytes len false k more (omega (arith, long, upto)) (elim (cases_lt k len) [
+      | inl less ↦ none k more less
+      | inr no_less ↦
+          let same : len ≡ k = omega (arith, long, upto, no_less) in
+          subst (λ (n : ℕ). fills size (log.count + n) (get_or bytes (n - 1) 0 == 10) ≡ false) same last
+    ])) in
     (all.0, all.1 ∙ ap (λ (n : ℕ). Some (record { count = log.count + n; marks = log.marks })) long)
 
 -- A front of bytes with which the file is full.
@@ -161,33 +165,34 @@ pub front_cut : (size keep : ℕ) (log : Standing) (reading : Tai64n) (bytes : L
 front_cut size keep log reading bytes len some within room none full =
     let long : length (take len bytes) ≡ len = length-take-le len bytes within in
     bytes_cut size keep log reading (take len bytes) (omega (arith, long, some)) (omega (arith, long, room))
-      (λ k more less. front_known size log.count bytes len false k more (omega (arith, long, less)) (none k more (omega (arith, long, less))))
-      (subst (λ (n : ℕ). fills size (log.count + n) (get_or (take len bytes) (n - 1) 0 == 10) ≡ true) (sym long)
-        (front_known size log.count bytes len true len some (omega arith) full))
+    (λ k more less. front_known size log.count bytes len false k more (omega (arith, long, less)) (none k more (omega (arith, long, less))))
+    (subst (λ (n : ℕ). fills size (log.count + n) (get_or (take len bytes) (n - 1) 0 == 10) ≡ true) (sym long)
+    (front_known size log.count bytes len true len some (omega arith) full))
 
 -- A file that was begun is not over-full.
 after_finish : (size keep : ℕ) (marks : Marks) (label : Option Tai64n) (s : Sent) (text : List Sent) → 0 < size
     → (steps_on size keep (stands_under keep marks label) (s ∷ text)
-      ≡ byte_steps size keep (stands_under keep marks label) s ++ steps_on size keep (after_byte size keep (stands_under keep marks label) s) text)
+    ≡ byte_steps size keep (stands_under keep marks label) s ++ steps_on size keep (after_byte size keep (stands_under keep marks label) s) text)
     × (standing_on size keep (stands_under keep marks label) (s ∷ text)
-      ≡ standing_on size keep (after_byte size keep (stands_under keep marks label) s) text)
+    ≡ standing_on size keep (after_byte size keep (stands_under keep marks label) s) text)
 after_finish size keep marks None s text sized = (refl, refl)
 after_finish size keep marks (Some label) s text sized = in_room size keep (begun keep marks label) s text sized
 
 -- A file that was found over-full is finished first.
 pub over_full : (size keep : ℕ) (log : Standing) (s : Sent) (text : List Sent) → 0 < size → size ≤ log.count
     → (steps_on size keep (Some log) (s ∷ text)
-      ≡ finish_at keep log.marks s.reading ++ steps_on size keep (finished_at keep log.marks s.reading) (s ∷ text))
+    ≡ finish_at keep log.marks s.reading ++ steps_on size keep (finished_at keep log.marks s.reading) (s ∷ text))
     × (standing_on size keep (Some log) (s ∷ text) ≡ standing_on size keep (finished_at keep log.marks s.reading) (s ∷ text))
 over_full size keep log s text sized over =
     let high : nat_le size log.count ≡ true = grind (arith, over) in
     let now = finished_at keep log.marks s.reading in
     let finish = finish_at keep log.marks s.reading in
     let one = step_is size keep log s text finish now (rw high refl) (rw high refl) in
-    let later = after_finish size keep log.marks (label_given log.marks.last s.reading) s text sized in
-    ( one.0 ∙ append_assoc finish (byte_steps size keep now s) (steps_on size keep (after_byte size keep now s) text)
-        ∙ ap (λ (t : List Step). finish ++ t) (sym later.0),
-      one.1 ∙ sym later.1 )
+    let later = after_finish size keep log.marks (label_given log.marks.last s.reading) s text sized in (
+      one.0 ∙ append_assoc finish (byte_steps size keep now s) (steps_on size keep (after_byte size keep now s) text)
+          ∙ ap (λ (t : List Step). finish ++ t) (sym later.0),
+      one.1 ∙ sym later.1,
+    )
 
 pub sent-append : (reading : Tai64n) (xs ys : List ℕ) → sent reading (xs ++ ys) ≡ sent reading xs ++ sent reading ys
 sent-append reading xs ys = map-append (λ (byte : ℕ). record { byte = byte; reading = reading }) xs ys

@@ -4,7 +4,7 @@ use Rattle.std.proofs.Math.Seq.{take-suc, drop-cons, drop-length}
 use Rattle.std.proofs.lemmas.List.{take_all}
 use Rattle.std.specs.Cmp.Lexicographic.{slice_cmp}
 use Rattle.std.specs.Ordering.{is_lt, nat_cmp}
-use Rattle.mlog_files.specs.Files.{Old, Files, Append, files_after, append_steps, with_old}
+use Rattle.mlog_files.specs.Files.{Old, Files, files_after, append_steps, with_old}
 
 pub appended_files : (bytes : List ℕ) (files : Files)
     → files_after (append_steps bytes) files ≡ record { current = files.current ++ bytes; olds = files.olds }

@@ -1,5 +1,5 @@
 -- How a log goes on, byte by byte. The law `steps_of_a_text` says that these are the steps of the text's cut.
-use Rattle.std.specs.Prelude.{◌≡◌, ℕ, ◌+◌, ◌==◌, nat_le, if◌then◌else◌, List, [], ◌∷◌, ◌++◌, Option, Some, None}
+use Rattle.std.specs.Prelude.{ℕ, ◌+◌, ◌==◌, nat_le, if◌then◌else◌, List, [], ◌∷◌, ◌++◌, Option, Some, None}
 use Rattle.tai_status.specs.Label.{Tai64n}
 use Rattle.mlog_files.specs.Cut.{Sent, fills}
 use Rattle.mlog_files.specs.Files.{Step, Append}

@@ -1,7 +1,6 @@
 -- What is true of how texts go on.
 use Rattle.std.specs.Prelude.{◌≡◌, ℕ, ◌<◌, ◌≤◌, List, ◌∷◌, ◌++◌, Option, Some}
 use Rattle.mlog_files.specs.Cut.{Sent, IsCut}
-use Rattle.mlog_files.specs.Files.{Step}
 use Rattle.mlog_files.specs.Steps.{steps_of}
 use Rattle.mlog_files.specs.Going.{Standing, finish_at, finished_at, steps_on, standing_on}
 
@@ -25,7 +24,7 @@ GoesByItsCut = (size keep : ℕ) (log : Standing) (text : List Sent) (pieces : L
 abbrev pub FinishesAnOverfull : Type 0
 FinishesAnOverfull = (size keep : ℕ) (log : Standing) (s : Sent) (text : List Sent) → 0 < size → size ≤ log.count
     → steps_on size keep (Some log) (s ∷ text)
-      ≡ finish_at keep log.marks s.reading ++ steps_on size keep (finished_at keep log.marks s.reading) (s ∷ text)
+    ≡ finish_at keep log.marks s.reading ++ steps_on size keep (finished_at keep log.marks s.reading) (s ∷ text)
 
 -- A text in two parts goes on as one: the steps of the first, and then those of the second.
 abbrev pub GoesInTurn : Type 0

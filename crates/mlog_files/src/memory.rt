@@ -112,7 +112,7 @@ impl<A: Allocator + Clone> LogFiles<A> {
     ghost use Rattle.mlog_files.specs.Named.{greatest_label};
 
     #[tactic(auto, using(crate::proofs::Kept::appended_files))]
-    fn append(&mut self, piece: &[u8]) -> Result<(), AllocError>
+    pub(crate) fn append(&mut self, piece: &[u8]) -> Result<(), AllocError>
         ensures ok { OnOk result (self.new ≡ files_after (append_steps piece.now) self.old) }
         ensures err { OnErr result (self.new ≡ self.old) }
     {
@@ -120,7 +120,7 @@ impl<A: Allocator + Clone> LogFiles<A> {
     }
 
     // Makes the current file the old one of a label.
-    fn finish(&mut self, label: &Label) -> Result<(), AllocError>
+    pub(crate) fn finish(&mut self, label: &Label) -> Result<(), AllocError>
         ensures ok { OnOk result (self.new ≡ step_files (Finish label.now) self.old) }
         ensures err { OnErr result (self.new ≡ self.old) }
     {
@@ -137,7 +137,7 @@ impl<A: Allocator + Clone> LogFiles<A> {
         }
     }
 
-    fn remove_smallest(&mut self)
+    pub(crate) fn remove_smallest(&mut self)
         ensures { self.new ≡ step_files Remove self.old }
     {
         if !self.olds.is_empty() {
@@ -145,7 +145,7 @@ impl<A: Allocator + Clone> LogFiles<A> {
         }
     }
 
-    fn last_label(&self) -> Option<Label>
+    pub(crate) fn last_label(&self) -> Option<Label>
         ensures { result ≡ greatest_label self.now.olds }
     {
         let mut greatest = None;

@@ -23,7 +23,9 @@ pub trait LogStore {
 
     // How many logs and how many status files there are, and how many calls failed.
     ghost logs: { Self → ℕ };
+
     ghost status_files: { Self → ℕ };
+
     ghost failures: { Self → ℕ };
 
     // What the store tells.
@@ -104,7 +106,11 @@ pub trait LogStore {
 }
 
 /// Appends the whole piece to a log's current file.
-pub(crate) fn append_all<S: LogStore>(store: &mut S, log: usize, piece: &[u8]) -> Result<(), StoreFault>
+pub(crate) fn append_all<S: LogStore>(
+    store: &mut S,
+    log: usize,
+    piece: &[u8],
+) -> Result<(), StoreFault>
     requires { log < S.logs store.old }
     ensures ok { OnOk result (Does (S.told store.old) (S.told store.new) log (append_steps piece.now)) }
     ensures err { OnErr result (DoesFront (S.told store.old) (S.told store.new) log (append_steps piece.now)) }

@@ -130,7 +130,12 @@ impl Tail {
     }
 
     // Finishes the current file, and removes an old one where there are as many as are kept.
-    fn finish_under<S: LogStore>(&mut self, store: &mut S, log: usize, label: Label) -> Result<(), StoreFault>
+    fn finish_under<S: LogStore>(
+        &mut self,
+        store: &mut S,
+        log: usize,
+        label: Label,
+    ) -> Result<(), StoreFault>
         requires { log < S.logs store.old }
         ensures ok { OnOk result (Does (S.told store.old) (S.told store.new) log
             (finish_steps self.old.keep (marks_at self.old) label)) }
@@ -155,7 +160,12 @@ impl Tail {
     }
 
     // Finishes the current file, with what waits.
-    fn finish<S: LogStore>(&mut self, store: &mut S, log: usize, reading: &Label) -> Result<(), LogFault>
+    fn finish<S: LogStore>(
+        &mut self,
+        store: &mut S,
+        log: usize,
+        reading: &Label,
+    ) -> Result<(), LogFault>
         requires { log < S.logs store.old }
         ensures ok { OnOk result (Does (S.told store.old) (S.told store.new) log
             (append_steps self.old.waiting ++ finish_at self.old.keep (marks_at self.old) reading.now)) }
@@ -206,7 +216,7 @@ impl Tail {
         ensures spent { IsErrOf result fault.LabelsSpent →
             (after_at self.old reading.now bytes.now ≡ None)
             × Does (S.told store.old) (S.told store.new) log
-                (append_steps self.old.waiting ++ steps_at self.old reading.now bytes.now) }
+            (append_steps self.old.waiting ++ steps_at self.old reading.now bytes.now) }
         ensures store { IsErrOf result fault.Store → Rose (S.failures store.old) (S.failures store.new) }
         ensures steady { S.failures store.old ≤ S.failures store.new }
         ensures counts { (S.logs store.new ≡ S.logs store.old) × (S.status_files store.new ≡ S.status_files store.old) }
@@ -245,7 +255,7 @@ impl Tail {
         ensures spent { IsErrOf result fault.LabelsSpent →
             (after_at self.old reading.now bytes.now ≡ None)
             × Does (S.told store.old) (S.told store.new) log
-                (append_steps self.old.waiting ++ steps_at self.old reading.now bytes.now) }
+            (append_steps self.old.waiting ++ steps_at self.old reading.now bytes.now) }
         ensures store { IsErrOf result fault.Store → Rose (S.failures store.old) (S.failures store.new) }
         ensures steady { S.failures store.old ≤ S.failures store.new }
         ensures counts { (S.logs store.new ≡ S.logs store.old) × (S.status_files store.new ≡ S.status_files store.old) }
@@ -276,7 +286,7 @@ impl Tail {
         ensures spent { IsErrOf result fault.LabelsSpent →
             (after_at self.old reading.now bytes.now ≡ None)
             × Does (S.told store.old) (S.told store.new) log
-                (append_steps self.old.waiting ++ steps_at self.old reading.now bytes.now) }
+            (append_steps self.old.waiting ++ steps_at self.old reading.now bytes.now) }
         ensures store { IsErrOf result fault.Store → Rose (S.failures store.old) (S.failures store.new) }
         ensures steady { S.failures store.old ≤ S.failures store.new }
         ensures counts { (S.logs store.new ≡ S.logs store.old) × (S.status_files store.new ≡ S.status_files store.old) }

@@ -1,4 +1,4 @@
-use Rattle.std.proofs.Common.{◌≤◌, arith}
+use Rattle.std.proofs.Common.{arith}
 use Rattle.mlog_files.proofs.Goings.{over_full, steps_on-append, standing_on-append}
 use Rattle.mlog_files.proofs.Cutting.{each_text, text_steps}
 use Rattle.mlog_files.proofs.laws.steps_of_a_text.Goals as goal

@@ -19,13 +19,16 @@ returns-in_err-count-clause-fault g c =
 pub returns-then-count-eq0-clause-err : goal.returns-then-count-eq0-clause-err
 returns-then-count-eq0-clause-err g c =
     appended_upto c.args.piece.now c.loop-at.at c.loop-at.invariant.0
-      (subst (λ (n : ℕ). Does (g.S.LogStore.told c.loop-at.store) (g.S.LogStore.told c.append.new.self) c.args.log (append_steps (take n (take (length c.args.piece.now - c.loop-at.at) (drop c.loop-at.at c.args.piece.now))))) c.if-count-eq0.true c.in_ok-count.ensures.files)
+    (subst (λ (n : ℕ). Does (g.S.LogStore.told c.loop-at.store) (g.S.LogStore.told c.append.new.self) c.args.log (append_steps (take n (take (length c.args.piece.now - c.loop-at.at) (drop c.loop-at.at c.args.piece.now))))) c.if-count-eq0.true c.in_ok-count.ensures.files)
 
 pub returns-then-count-eq0-clause-fault : goal.returns-then-count-eq0-clause-fault
 returns-then-count-eq0-clause-fault g c = rose_since _ _ _ c.loop-at.invariant.4 (c.in_ok-count.ensures.none c.if-count-eq0.true (grind (arith, common_steps)))
 
 pub loop-at-preserved : goal.loop-at-preserved
 loop-at-preserved g c = (
-      appended_further c.args.piece.now c.loop-at.at c.in_ok-count.count c.loop-at.invariant.0 c.in_ok-count.ensures.files,
-      grind (arith, common_steps), grind (arith, common_steps), grind (arith, common_steps), grind (arith, common_steps),
-    )
+  appended_further c.args.piece.now c.loop-at.at c.in_ok-count.count c.loop-at.invariant.0 c.in_ok-count.ensures.files,
+  grind (arith, common_steps),
+  grind (arith, common_steps),
+  grind (arith, common_steps),
+  grind (arith, common_steps),
+)

@@ -1,4 +1,4 @@
-use Rattle.std.proofs.Common.{◌≡◌, ◌≤◌, ◌-◌, ℕ, length, take}
+use Rattle.std.proofs.Common.{◌≡◌, ◌≤◌, ◌-◌, length, take}
 use Rattle.mlog_files.specs.Store.{Does}
 use Rattle.mlog_files.specs.Files.{append_steps}
 use Rattle.mlog_files.proofs.store.append_all.Given as goal

@@ -1,6 +1,4 @@
-use Rattle.std.proofs.Common.{◌≡◌, take, Option, None}
-use Rattle.std.specs.List.{fold}
-use Rattle.tai_status.specs.Label.{Tai64n}
+use Rattle.std.proofs.Common.{◌≡◌, take}
 use Rattle.mlog_files.specs.Named.{greatest_label}
 use Rattle.mlog_files.proofs.memory.LogFiles.last_label.Given as goal
 

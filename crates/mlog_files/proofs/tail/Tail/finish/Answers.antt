@@ -15,9 +15,9 @@ returns-in_default-clause-stopped g c =
 pub returns-in-Ok-finish_under-clause-ok : goal.returns-in-Ok-finish_under-clause-ok
 returns-in-Ok-finish_under-clause-ok g c =
     finish_done c.args.self.now.keep (marks_at c.args.self.now) c.args.reading.now c.in-Some.label c.args.self.now.waiting
-      (sym c.label_for.ensures ∙ c.in-Some.is) c.in-Ok.ensures.ok c.in-Ok-finish_under.ensures.ok
+    (sym c.label_for.ensures ∙ c.in-Some.is) c.in-Ok.ensures.ok c.in-Ok-finish_under.ensures.ok
 
 pub returns-in-Err-finish_under-clause-stopped : goal.returns-in-Err-finish_under-clause-stopped
 returns-in-Err-finish_under-clause-stopped g c =
     finish_front c.args.self.now.keep (marks_at c.args.self.now) c.args.reading.now c.in-Some.label c.args.self.now.waiting
-      (sym c.label_for.ensures ∙ c.in-Some.is) c.in-Ok.ensures.ok c.in-Err-finish_under.ensures.err
+    (sym c.label_for.ensures ∙ c.in-Some.is) c.in-Ok.ensures.ok c.in-Err-finish_under.ensures.err
