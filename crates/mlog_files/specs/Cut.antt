@@ -1,5 +1,6 @@
 -- Where the text of a log is cut into files.
-use Rattle.std.specs.Prelude.{◌≡◌, ℕ, ◌+◌, ◌-◌, ◌<◌, ◌≤◌, ◌==◌, nat_lt, nat_le, Bool, true, false, ◌&&◌, ◌||◌, List, [], ◌∷◌, ◌++◌, length, take, map}
+use Rattle.std.specs.Prelude.{◌≡◌, ℕ, ◌+◌, ◌-◌, ◌<◌, ◌≤◌, ◌==◌, nat_lt, nat_le, Bool, true, false, ◌&&◌, ◌||◌}
+use Rattle.std.specs.Prelude.{List, [], ◌∷◌, ◌++◌, length, take, map}
 use Rattle.std.specs.List.{flat_map}
 use Rattle.tai_status.specs.Label.{Tai64n}
 
@@ -12,8 +13,8 @@ pub record Sent : Type 0 where
 abbrev pub sent : Tai64n → List ℕ → List Sent
 sent reading bytes = map (λ byte. record { byte = byte; reading = reading }) bytes
 
--- Whether a file of this many bytes is full, which ends in a newline or not: it has the size; or it is at most 2000 bytes
--- below it, and ends with a line.
+-- Whether a file of this many bytes is full, which ends in a newline or not (multilog's page): it has the size; or it is
+-- at most 2000 bytes below it, and ends with a line.
 abbrev pub fills : ℕ → ℕ → Bool → Bool
 fills size count ends = nat_le size count || (nat_le (size - 2000) count && ends)
 

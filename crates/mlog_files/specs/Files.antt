@@ -15,8 +15,8 @@ pub record Files : Type 0 where
   pub current : List ℕ
   pub olds : List Old
 
--- One byte is appended to the current file; or it becomes the old file of this label, and a new one is begun; or the old
--- file whose name is smallest is removed.
+-- One byte is appended to the current file; or it becomes the old file of this label, and a new one is begun; or the
+-- old file whose name is smallest is removed.
 pub data Step : Type 0 where
   Append : ℕ → Step
   Finish : Tai64n → Step

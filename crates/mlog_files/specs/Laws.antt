@@ -17,7 +17,8 @@ EachIsCut = (size n : ℕ) (text : List Sent) → HasCut size n text
 -- A log whose current file has room goes on by the steps of the text's cut.
 abbrev pub GoesByItsCut : Type 0
 GoesByItsCut = (size keep : ℕ) (log : Standing) (text : List Sent) (pieces : List (List Sent)) (rest : List Sent)
-    → log.count < size → IsCut size log.count text pieces rest → steps_on size keep (Some log) text ≡ steps_of keep log.marks pieces rest
+    → log.count < size → IsCut size log.count text pieces rest
+    → steps_on size keep (Some log) text ≡ steps_of keep log.marks pieces rest
 
 -- A current file that was found with its size or more is finished first, as it stands, under the label that the text's
 -- first reading gives; the text goes into a new one.
@@ -29,5 +30,6 @@ FinishesAnOverfull = (size keep : ℕ) (log : Standing) (s : Sent) (text : List 
 -- A text in two parts goes on as one: the steps of the first, and then those of the second.
 abbrev pub GoesInTurn : Type 0
 GoesInTurn = (size keep : ℕ) (log : Option Standing) (xs ys : List Sent)
-    → (steps_on size keep log (xs ++ ys) ≡ steps_on size keep log xs ++ steps_on size keep (standing_on size keep log xs) ys)
+    → (steps_on size keep log (xs ++ ys)
+    ≡ steps_on size keep log xs ++ steps_on size keep (standing_on size keep log xs) ys)
     × (standing_on size keep log (xs ++ ys) ≡ standing_on size keep (standing_on size keep log xs) ys)

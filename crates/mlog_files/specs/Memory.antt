@@ -11,4 +11,8 @@ pub record Memory : Type 0 where
 
 -- It tells all of it.
 abbrev pub told_of : Memory → Told
-told_of memory = record { files = slice_get memory.logs; statuses = slice_get memory.statuses; alerts = Some memory.alerts }
+told_of memory = record {
+  files = slice_get memory.logs;
+  statuses = slice_get memory.statuses;
+  alerts = Some memory.alerts;
+}

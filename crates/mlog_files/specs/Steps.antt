@@ -40,7 +40,8 @@ abbrev pub steps_of : ℕ → Marks → List (List Sent) → List Sent → List 
 steps_of keep marks [] rest = appends rest
 steps_of keep marks (piece ∷ pieces) rest = elim (label_given marks.last (last_reading greatest piece)) [
   | None ↦ appends piece
-  | Some label ↦ appends piece ++ finish_steps keep marks label ++ steps_of keep (marks_after keep marks label) pieces rest
+  | Some label ↦
+      appends piece ++ finish_steps keep marks label ++ steps_of keep (marks_after keep marks label) pieces rest
 ]
 
 -- the marks after these pieces, where there is a label for each

@@ -38,9 +38,16 @@ pub record Goes (old new : Told) (log : ℕ) (waited waits : List ℕ) (steps : 
   pub does : Does old new log done
   pub whole : done ++ append_steps waits ≡ append_steps waited ++ steps
 
+-- A file that is told is this now. A store may stop to tell it.
+abbrev pub IsNow : Option (List ℕ) → Option (List ℕ) → List ℕ → Type 0
+IsNow None None content = ⊤
+IsNow None (Some new) content = ⊥
+IsNow (Some old) None content = ⊤
+IsNow (Some old) (Some new) content = new ≡ content
+
 -- One status file was replaced by this content, and all else is as before.
 pub record Replaces (old new : Told) (file : ℕ) (content : List ℕ) : Type 0 where
-  pub here : (old.statuses file ≡ None → new.statuses file ≡ None) × ((now : List ℕ) → new.statuses file ≡ Some now → now ≡ content)
+  pub here : IsNow (old.statuses file) (new.statuses file) content
   pub others : (other : ℕ) → other ≢ file → new.statuses other ≡ old.statuses other
   pub files : new.files ≡ old.files
   pub alerts : new.alerts ≡ old.alerts

@@ -22,7 +22,8 @@ pub fn first_cut(size: usize, standing: usize, bytes: &[u8]) -> Cut
     ensures some { 0 < result.len }
     ensures within { result.len ≤ length bytes.now }
     ensures upto { standing + result.len ≤ size }
-    ensures open_before { (k : ℕ) → 0 < k → k < result.len → fills size (standing + k) (slice_index bytes.now (k - 1) == 10) ≡ false }
+    ensures open_before { (k : ℕ) → 0 < k → k < result.len
+        → fills size (standing + k) (slice_index bytes.now (k - 1) == 10) ≡ false }
     ensures full { result.is_full ≡ fills size (standing + result.len) (slice_index bytes.now (result.len - 1) == 10) }
     ensures all { result.is_full ≡ false → result.len ≡ length bytes.now }
 {

@@ -96,7 +96,8 @@ fn is_below(first: &[u8], second: &[u8]) -> bool
 // Where an old file of this name comes to stand.
 fn place_of<A: Allocator>(olds: &[OldFile<A>], name: &[u8]) -> usize
     ensures within { result ≤ length olds.now }
-    ensures place { (old : Old) → old.name ≡ name.now → with_old old olds.now ≡ take result olds.now ++ old ∷ drop result olds.now }
+    ensures place { (old : Old) → old.name ≡ name.now
+        → with_old old olds.now ≡ take result olds.now ++ old ∷ drop result olds.now }
 {
     for (place, old) in olds.iter().enumerate() {
         if !is_below(old.name(), name) {

@@ -91,7 +91,9 @@ impl<A: Allocator> MemoryStore<A> {
     fn fail(&mut self) -> StoreFault
         ensures rose { Rose self.old.failures self.new.failures }
         ensures steady { self.old.failures ≤ self.new.failures }
-        ensures same { (self.new.logs ≡ self.old.logs) × (self.new.statuses ≡ self.old.statuses) × (self.new.alerts ≡ self.old.alerts) }
+        ensures logs { self.new.logs ≡ self.old.logs }
+        ensures statuses { self.new.statuses ≡ self.old.statuses }
+        ensures alerts { self.new.alerts ≡ self.old.alerts }
     {
         self.failures = self.failures.saturating_add(1);
         StoreFault

@@ -15,7 +15,8 @@ pub struct StoreFault;
 /// The files of logs, by the number of the log, status files, by their number, and where alerts go: over folders, or in
 /// memory. A call that fails changed nothing but, at most, the status file that it was to replace.
 pub trait LogStore {
-    ghost use Rattle.std.specs.Prelude.{◌≡◌, ◌<◌, ◌≤◌, ◌∷◌, [], ℕ, None, length, take, IfOk, IfSome, OnErr, MatchResult};
+    ghost use Rattle.std.specs.Prelude.{◌≡◌, ◌<◌, ◌≤◌, ◌∷◌, [], ℕ, length, take};
+    ghost use Rattle.std.specs.Prelude.{IfOk, IfSome, OnErr, MatchResult};
     ghost use Rattle.tai_status.specs.Counted.{Rose};
     ghost use Rattle.mlog_files.specs.Files.{Finish, Remove, append_steps};
     ghost use Rattle.mlog_files.specs.Named.{greatest_label};
@@ -38,7 +39,8 @@ pub trait LogStore {
         ensures files { MatchResult result
             (λ count. Does (told self.old) (told self.new) log (append_steps (take count piece.now)))
             (λ _. Does (told self.old) (told self.new) log []) }
-        ensures none { IfOk result (λ count. count ≡ 0 → 0 < length piece.now → Rose (failures self.old) (failures self.new)) }
+        ensures none { IfOk result (λ count. count ≡ 0 → 0 < length piece.now
+            → Rose (failures self.old) (failures self.new)) }
         ensures fault { OnErr result (Rose (failures self.old) (failures self.new)) }
         ensures steady { failures self.old ≤ failures self.new }
         ensures logs { logs self.new ≡ logs self.old }
@@ -83,7 +85,8 @@ pub trait LogStore {
         ensures alerts { MatchResult result
             (λ count. Alerts (told self.old) (told self.new) (take count piece.now))
             (λ _. Alerts (told self.old) (told self.new) []) }
-        ensures none { IfOk result (λ count. count ≡ 0 → 0 < length piece.now → Rose (failures self.old) (failures self.new)) }
+        ensures none { IfOk result (λ count. count ≡ 0 → 0 < length piece.now
+            → Rose (failures self.old) (failures self.new)) }
         ensures fault { OnErr result (Rose (failures self.old) (failures self.new)) }
         ensures steady { failures self.old ≤ failures self.new }
         ensures logs { logs self.new ≡ logs self.old }

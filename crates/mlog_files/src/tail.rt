@@ -21,8 +21,8 @@ pub enum LogFault {
     LabelsSpent,
 }
 
-/// How far a log has come: how many bytes its current file has, those that wait in memory among them, how many old files
-/// there are, and the greatest label of one.
+/// How far a log has come: how many bytes its current file has, those that wait in memory among them, how many old
+/// files there are, and the greatest label of one.
 #[derive(Drop)]
 pub struct Tail {
     pub size: usize,
@@ -81,7 +81,8 @@ fn hold<S: LogStore>(
     piece: &[u8],
 ) -> Result<(), StoreFault>
     requires { log < S.logs store.old }
-    ensures ok { OnOk result (Goes (S.told store.old) (S.told store.new) log waiting.old waiting.new (append_steps piece.now)) }
+    ensures ok { OnOk result
+        (Goes (S.told store.old) (S.told store.new) log waiting.old waiting.new (append_steps piece.now)) }
     ensures err { OnErr result
         (DoesFront (S.told store.old) (S.told store.new) log (append_steps waiting.old ++ append_steps piece.now)) }
     ensures fault { OnErr result (Rose (S.failures store.old) (S.failures store.new)) }
@@ -101,7 +102,8 @@ fn hold<S: LogStore>(
 }
 
 impl Tail {
-    ghost use Rattle.std.specs.Prelude.{◌≡◌, ◌<◌, ◌≤◌, ◌++◌, [], length, take, IfOk, IfErr, OnOk, OnErr, IsErrOf, IfSome, Some, None};
+    ghost use Rattle.std.specs.Prelude.{◌≡◌, ◌<◌, ◌≤◌, ◌++◌, [], length, take, Some, None};
+    ghost use Rattle.std.specs.Prelude.{IfOk, IfErr, IfSome, OnOk, OnErr, IsErrOf};
     ghost use Rattle.tai_status.specs.Counted.{Rose};
     ghost use Rattle.mlog_files.specs.Files.{append_steps};
     ghost use Rattle.mlog_files.specs.Steps.{finish_steps};
@@ -169,7 +171,8 @@ impl Tail {
         requires { log < S.logs store.old }
         ensures ok { OnOk result (Does (S.told store.old) (S.told store.new) log
             (append_steps self.old.waiting ++ finish_at self.old.keep (marks_at self.old) reading.now)) }
-        ensures stands { OnOk result (finished_at self.old.keep (marks_at self.old) reading.now ≡ Some (standing self.new)) }
+        ensures stands { OnOk result
+            (finished_at self.old.keep (marks_at self.old) reading.now ≡ Some (standing self.new)) }
         ensures empty { OnOk result (self.new.waiting ≡ []) }
         ensures same { (self.new.size ≡ self.old.size) × (self.new.keep ≡ self.old.keep) }
         ensures stopped { OnErr result (DoesFront (S.told store.old) (S.told store.new) log
@@ -206,7 +209,8 @@ impl Tail {
         requires room { self.old.count < self.old.size }
         requires some { 0 < length bytes.now }
         ensures taken { IfOk result (λ taken. (0 < taken) × (taken ≤ length bytes.now)) }
-        ensures done { IfOk result (λ taken. Goes (S.told store.old) (S.told store.new) log self.old.waiting self.new.waiting
+        ensures done { IfOk result (λ taken.
+            Goes (S.told store.old) (S.told store.new) log self.old.waiting self.new.waiting
             (steps_at self.old reading.now (take taken bytes.now))) }
         ensures stands { IfOk result (λ taken.
             after_at self.old reading.now (take taken bytes.now) ≡ Some (standing self.new)) }
@@ -245,7 +249,8 @@ impl Tail {
         requires log { log < S.logs store.old }
         requires some { 0 < length bytes.now }
         ensures taken { IfOk result (λ taken. (0 < taken) × (taken ≤ length bytes.now)) }
-        ensures done { IfOk result (λ taken. Goes (S.told store.old) (S.told store.new) log self.old.waiting self.new.waiting
+        ensures done { IfOk result (λ taken.
+            Goes (S.told store.old) (S.told store.new) log self.old.waiting self.new.waiting
             (steps_at self.old reading.now (take taken bytes.now))) }
         ensures stands { IfOk result (λ taken.
             after_at self.old reading.now (take taken bytes.now) ≡ Some (standing self.new)) }
@@ -267,8 +272,9 @@ impl Tail {
         self.put_open(store, log, reading, bytes)
     }
 
-    /// Puts bytes of one line behind the log's text, in as many calls as the caller likes: the line's reading names the old
-    /// files that these bytes fill. What is done may wait in memory.
+    /// Puts bytes of one line behind the log's text, in as many calls as the caller likes: the line's reading names the
+    /// old files that these bytes fill. Up to a block of them may wait in memory afterwards, until the next call or
+    /// [`Tail::flush`]. After a fault the log goes no further, and what waited is not to be put again.
     pub fn put<S: LogStore>(
         &mut self,
         store: &mut S,
@@ -277,7 +283,8 @@ impl Tail {
         bytes: &[u8],
     ) -> Result<(), LogFault>
         requires log { log < S.logs store.old }
-        ensures done { OnOk result (Goes (S.told store.old) (S.told store.new) log self.old.waiting self.new.waiting
+        ensures done { OnOk result
+            (Goes (S.told store.old) (S.told store.new) log self.old.waiting self.new.waiting
             (steps_at self.old reading.now bytes.now)) }
         ensures stands { OnOk result (after_at self.old reading.now bytes.now ≡ Some (standing self.new)) }
         ensures same { (self.new.size ≡ self.old.size) × (self.new.keep ≡ self.old.keep) }
@@ -305,7 +312,8 @@ impl Tail {
         ensures empty { OnOk result (self.new.waiting ≡ []) }
         ensures stands { standing self.new ≡ standing self.old }
         ensures same { (self.new.size ≡ self.old.size) × (self.new.keep ≡ self.old.keep) }
-        ensures stopped { OnErr result (DoesFront (S.told store.old) (S.told store.new) log (append_steps self.old.waiting)) }
+        ensures stopped { OnErr result
+            (DoesFront (S.told store.old) (S.told store.new) log (append_steps self.old.waiting)) }
         ensures store { IfErr result (λ why. (why ≡ fault.Store) × Rose (S.failures store.old) (S.failures store.new)) }
         ensures steady { S.failures store.old ≤ S.failures store.new }
         ensures counts { (S.logs store.new ≡ S.logs store.old) × (S.status_files store.new ≡ S.status_files store.old) }
