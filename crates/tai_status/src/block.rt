@@ -27,6 +27,7 @@ impl Model for Block {
 }
 
 impl Block {
+    /// Nothing is yet to be written.
     pub fn new() -> Block
         ensures { result ≡ [] }
     {
@@ -36,25 +37,29 @@ impl Block {
         }
     }
 
-    fn as_slice(&self) -> &[u8]
+    /// What is yet to be written.
+    pub fn as_slice(&self) -> &[u8]
         ensures { result.now ≡ self.now }
     {
         &self.bytes[..self.len]
     }
 
-    fn room(&self) -> usize
+    /// How many bytes more there is room for.
+    pub fn room(&self) -> usize
         ensures { result + length self.now ≡ 32768 }
     {
         BLOCK - self.len
     }
 
-    fn clear(&mut self)
+    /// Nothing is to be written any more.
+    pub fn clear(&mut self)
         ensures { self.new ≡ [] }
     {
         self.len = 0;
     }
 
-    fn push(&mut self, piece: &[u8])
+    /// Puts a piece behind what is yet to be written.
+    pub fn push(&mut self, piece: &[u8])
         requires { length self.old + length piece.now ≤ 32768 }
         ensures { self.new ≡ self.old ++ piece.now }
     {

@@ -1,0 +1,6 @@
+mod Places
+mod Doing
+mod Goings
+mod Putting
+mod Cutting
+mod Kept

@@ -1,0 +1,52 @@
+-- The files of a log, and what is done to them.
+use Rattle.std.specs.Prelude.{ℕ, if◌then◌else◌, List, [], ◌∷◌, ◌++◌, map, drop, codes}
+use Rattle.std.specs.Cmp.Lexicographic.{slice_cmp}
+use Rattle.std.specs.Ordering.{is_lt, nat_cmp}
+use Rattle.tai_status.specs.Label.{Tai64n, label_text}
+use Rattle.mlog_files.specs.Cut.{Sent}
+
+-- an old file
+pub record Old : Type 0 where
+  pub name : List ℕ
+  pub bytes : List ℕ
+
+-- the files of a log: the current one, and the old ones in byte order of their names
+pub record Files : Type 0 where
+  pub current : List ℕ
+  pub olds : List Old
+
+-- One byte is appended to the current file; or it becomes the old file of this label, and a new one is begun; or the
+-- old file whose name is smallest is removed.
+pub data Step : Type 0 where
+  Append : ℕ → Step
+  Finish : Tai64n → Step
+  Remove : Step
+
+-- the name of the old file of a label: its text, and `.s`
+abbrev pub old_name : Tai64n → List ℕ
+old_name label = label_text label ++ codes ".s"
+
+-- the old files with one more, before the first whose name is not smaller
+abbrev pub with_old : Old → List Old → List Old
+with_old old [] = old ∷ []
+with_old old (first ∷ olds) =
+    if is_lt (slice_cmp nat_cmp first.name old.name) then first ∷ with_old old olds else old ∷ first ∷ olds
+
+abbrev pub step_files : Step → Files → Files
+step_files (Append byte) files = record { current = files.current ++ byte ∷ []; olds = files.olds }
+step_files (Finish label) files =
+    record { current = []; olds = with_old (record { name = old_name label; bytes = files.current }) files.olds }
+step_files Remove files = record { current = files.current; olds = drop 1 files.olds }
+
+-- the files after these steps, one after another
+abbrev pub files_after : List Step → Files → Files
+files_after [] files = files
+files_after (step ∷ steps) files = files_after steps (step_files step files)
+
+-- the steps that append these bytes
+abbrev pub append_steps : List ℕ → List Step
+append_steps bytes = map (λ byte. Append byte) bytes
+
+-- the steps that append this piece
+abbrev pub appends : List Sent → List Step
+appends piece = map (λ s. Append s.byte) piece

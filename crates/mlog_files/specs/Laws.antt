@@ -1,0 +1,35 @@
+-- What is true of how texts go on.
+use Rattle.std.specs.Prelude.{◌≡◌, ℕ, ◌<◌, ◌≤◌, List, ◌∷◌, ◌++◌, Option, Some}
+use Rattle.mlog_files.specs.Cut.{Sent, IsCut}
+use Rattle.mlog_files.specs.Steps.{steps_of}
+use Rattle.mlog_files.specs.Going.{Standing, finish_at, finished_at, steps_on, standing_on}
+
+-- a cut of a text
+pub record HasCut (size n : ℕ) (text : List Sent) : Type 0 where
+  pub pieces : List (List Sent)
+  pub rest : List Sent
+  pub is_cut : IsCut size n text pieces rest
+
+-- Each text has a cut.
+abbrev pub EachIsCut : Type 0
+EachIsCut = (size n : ℕ) (text : List Sent) → HasCut size n text
+
+-- A log whose current file has room goes on by the steps of the text's cut.
+abbrev pub GoesByItsCut : Type 0
+GoesByItsCut = (size keep : ℕ) (log : Standing) (text : List Sent) (pieces : List (List Sent)) (rest : List Sent)
+    → log.count < size → IsCut size log.count text pieces rest
+    → steps_on size keep (Some log) text ≡ steps_of keep log.marks pieces rest
+
+-- A current file that was found with its size or more is finished first, as it stands, under the label that the text's
+-- first reading gives; the text goes into a new one.
+abbrev pub FinishesAnOverfull : Type 0
+FinishesAnOverfull = (size keep : ℕ) (log : Standing) (s : Sent) (text : List Sent) → 0 < size → size ≤ log.count
+    → steps_on size keep (Some log) (s ∷ text)
+    ≡ finish_at keep log.marks s.reading ++ steps_on size keep (finished_at keep log.marks s.reading) (s ∷ text)
+
+-- A text in two parts goes on as one: the steps of the first, and then those of the second.
+abbrev pub GoesInTurn : Type 0
+GoesInTurn = (size keep : ℕ) (log : Option Standing) (xs ys : List Sent)
+    → (steps_on size keep log (xs ++ ys)
+    ≡ steps_on size keep log xs ++ steps_on size keep (standing_on size keep log xs) ys)
+    × (standing_on size keep log (xs ++ ys) ≡ standing_on size keep (standing_on size keep log xs) ys)

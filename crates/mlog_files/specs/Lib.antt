@@ -1,0 +1,9 @@
+pub mod Cut
+pub mod Files
+pub mod Steps
+pub mod Going
+pub mod Named
+pub mod Store
+pub mod Tails
+pub mod Laws
+pub mod Memory

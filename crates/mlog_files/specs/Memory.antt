@@ -1,0 +1,18 @@
+-- What a store in memory holds.
+use Rattle.std.specs.Prelude.{ℕ, List, Some, slice_get}
+use Rattle.mlog_files.specs.Files.{Files}
+use Rattle.mlog_files.specs.Store.{Told}
+
+pub record Memory : Type 0 where
+  pub logs : List Files
+  pub statuses : List (List ℕ)
+  pub alerts : List ℕ
+  pub failures : ℕ
+
+-- It tells all of it.
+abbrev pub told_of : Memory → Told
+told_of memory = record {
+  files = slice_get memory.logs;
+  statuses = slice_get memory.statuses;
+  alerts = Some memory.alerts;
+}

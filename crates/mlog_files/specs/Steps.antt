@@ -1,0 +1,53 @@
+-- What a text does to the files of a log: the names of old files, the removals, the steps of a cut text.
+use Rattle.std.specs.Prelude.{ℕ, ◌+◌, ◌==◌, nat_le, Bool, ◌&&◌, if◌then◌else◌, List, [], ◌∷◌, ◌++◌, Option, Some, None}
+use Rattle.tai_status.specs.Label.{Tai64n, greatest, is_earlier, plus_nano}
+use Rattle.mlog_files.specs.Cut.{Sent}
+use Rattle.mlog_files.specs.Files.{Step, Finish, Remove, appends}
+
+-- the greatest label of an old file that was given or found, and how many old files there are
+pub record Marks : Type 0 where
+  pub last : Option Tai64n
+  pub kept : ℕ
+
+abbrev pub is_greatest : Tai64n → Bool
+is_greatest label = (label.sec == greatest.sec) && (label.nano == greatest.nano)
+
+-- The label of an old file: the reading, or the next one past the greatest label so far, where there is one. So no old
+-- file is written over.
+abbrev pub label_given : Option Tai64n → Tai64n → Option Tai64n
+label_given None reading = Some reading
+label_given (Some last) reading =
+    if is_earlier last reading then Some reading else if is_greatest last then None else Some (plus_nano last)
+
+-- a finish, and the removal of one old file after it where there are as many as are kept
+abbrev pub finish_steps : ℕ → Marks → Tai64n → List Step
+finish_steps keep marks label = Finish label ∷ (if nat_le keep (marks.kept + 1) then Remove ∷ [] else [])
+
+abbrev pub marks_after : ℕ → Marks → Tai64n → Marks
+marks_after keep marks label = record {
+  last = Some label;
+  kept = if nat_le keep (marks.kept + 1) then marks.kept else marks.kept + 1;
+}
+
+-- the reading of the last byte
+abbrev pub last_reading : Tai64n → List Sent → Tai64n
+last_reading other [] = other
+last_reading other (s ∷ rest) = last_reading s.reading rest
+
+-- The steps for pieces that each fill a file, and a last one: each piece is appended, and finished under the label that
+-- the reading of its last byte gives. They end where there is no label.
+abbrev pub steps_of : ℕ → Marks → List (List Sent) → List Sent → List Step
+steps_of keep marks [] rest = appends rest
+steps_of keep marks (piece ∷ pieces) rest = elim (label_given marks.last (last_reading greatest piece)) [
+  | None ↦ appends piece
+  | Some label ↦
+      appends piece ++ finish_steps keep marks label ++ steps_of keep (marks_after keep marks label) pieces rest
+]
+
+-- the marks after these pieces, where there is a label for each
+abbrev pub marks_of : ℕ → Marks → List (List Sent) → Option Marks
+marks_of keep marks [] = Some marks
+marks_of keep marks (piece ∷ pieces) = elim (label_given marks.last (last_reading greatest piece)) [
+  | None ↦ None
+  | Some label ↦ marks_of keep (marks_after keep marks label) pieces
+]

@@ -1,0 +1,30 @@
+-- Where a log's end stands.
+use Rattle.std.specs.Prelude.{ℕ, List, length, Option, Some}
+use Rattle.tai_status.specs.Label.{Tai64n}
+use Rattle.mlog_files.specs.Cut.{sent}
+use Rattle.mlog_files.specs.Files.{Files, Step}
+use Rattle.mlog_files.specs.Steps.{Marks}
+use Rattle.mlog_files.specs.Going.{Standing, steps_on, standing_on}
+use Rattle.mlog_files.specs.Named.{greatest_label}
+use Rattle.mlog_files.specs.declared.tail.Tail.{Tail}
+
+abbrev pub marks_at : Tail → Marks
+marks_at tail = record { last = tail.last; kept = tail.kept }
+
+abbrev pub standing : Tail → Standing
+standing tail = record { count = tail.count; marks = marks_at tail }
+
+-- where a log stands that was found with these files
+abbrev pub found : Files → Standing
+found files = record {
+  count = length files.current;
+  marks = record { last = greatest_label files.olds; kept = length files.olds };
+}
+
+-- the steps for bytes of a line with this reading
+abbrev pub steps_at : Tail → Tai64n → List ℕ → List Step
+steps_at tail reading bytes = steps_on tail.size tail.keep (Some (standing tail)) (sent reading bytes)
+
+-- where the log stands after them; nowhere where there was no label for an old file
+abbrev pub after_at : Tail → Tai64n → List ℕ → Option Standing
+after_at tail reading bytes = standing_on tail.size tail.keep (Some (standing tail)) (sent reading bytes)

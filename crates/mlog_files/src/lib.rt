@@ -1,0 +1,16 @@
+//! The files of a log, as multilog keeps them: where the text is cut into files, under which names old files stand, and
+//! which are removed; over any store.
+#![tactic(auto)]
+
+mod cut;
+mod laws;
+mod memory;
+mod memory_store;
+mod store;
+mod tail;
+
+pub use laws::steps_of_a_text;
+pub use memory::{LogFiles, OldFile};
+pub use memory_store::{MemoryStore, StatusFile};
+pub use store::{LogStore, StoreFault};
+pub use tail::{LogFault, Tail};

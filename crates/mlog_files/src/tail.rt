@@ -1,0 +1,326 @@
+//! The end of a log, where its text goes on.
+ghost use Rattle.std.specs.Prelude.{◌≡◌, ◌≤◌, ◌<◌, ◌++◌, [], length, OnOk, OnErr, Some};
+ghost use Rattle.tai_status.specs.Counted.{Rose};
+ghost use Rattle.mlog_files.specs.Files.{append_steps};
+ghost use Rattle.mlog_files.specs.Steps.{label_given};
+ghost use Rattle.mlog_files.specs.Store.{Does, DoesFront, Goes};
+
+use crate::cut::first_cut;
+use crate::store::{LogStore, StoreFault, append_all};
+use tai_status::{BLOCK, Block, Label};
+use thiserror::Error;
+
+/// Why a log goes no further.
+#[derive(Clone, Copy, Debug, PartialEq, Eq, Error)]
+pub enum LogFault {
+    /// The store failed.
+    #[error("Store")]
+    Store,
+    /// There is no greater label for an old file.
+    #[error("LabelsSpent")]
+    LabelsSpent,
+}
+
+/// How far a log has come: how many bytes its current file has, those that wait in memory among them, how many old
+/// files there are, and the greatest label of one.
+#[derive(Drop)]
+pub struct Tail {
+    pub size: usize,
+    pub keep: u64,
+    pub count: usize,
+    pub kept: u64,
+    pub last: Option<Label>,
+    pub waiting: Block,
+    ghost sized: { 2000 ≤ size },
+    ghost keeps: { 2 ≤ keep },
+}
+
+// The label of an old file, where there is one.
+fn label_for(last: &Option<Label>, reading: &Label) -> Option<Label>
+    ensures { result ≡ label_given last.now reading.now }
+{
+    match last {
+        None => Some(*reading),
+        Some(last) => label_past(last, reading),
+    }
+}
+
+// The reading, or the next label past the last one.
+fn label_past(last: &Label, reading: &Label) -> Option<Label>
+    ensures { result ≡ label_given (Some last.now) reading.now }
+{
+    if last < reading {
+        Some(*reading)
+    } else if *last == Label::MAX {
+        None
+    } else {
+        Some(last.plus_nano())
+    }
+}
+
+// Appends what waits.
+fn write_out<S: LogStore>(waiting: &mut Block, store: &mut S, log: usize) -> Result<(), StoreFault>
+    requires { log < S.logs store.old }
+    ensures ok { OnOk result (Does (S.told store.old) (S.told store.new) log (append_steps waiting.old)) }
+    ensures empty { OnOk result (waiting.new ≡ []) }
+    ensures err { OnErr result (DoesFront (S.told store.old) (S.told store.new) log (append_steps waiting.old)) }
+    ensures fault { OnErr result (Rose (S.failures store.old) (S.failures store.new)) }
+    ensures steady { S.failures store.old ≤ S.failures store.new }
+    ensures counts { (S.logs store.new ≡ S.logs store.old) × (S.status_files store.new ≡ S.status_files store.old) }
+{
+    append_all(store, log, waiting.as_slice())?;
+    waiting.clear();
+    Ok(())
+}
+
+// Puts a piece behind what waits, which is appended first where there is no room.
+fn hold<S: LogStore>(
+    waiting: &mut Block,
+    store: &mut S,
+    log: usize,
+    piece: &[u8],
+) -> Result<(), StoreFault>
+    requires { log < S.logs store.old }
+    ensures ok { OnOk result
+        (Goes (S.told store.old) (S.told store.new) log waiting.old waiting.new (append_steps piece.now)) }
+    ensures err { OnErr result
+        (DoesFront (S.told store.old) (S.told store.new) log (append_steps waiting.old ++ append_steps piece.now)) }
+    ensures fault { OnErr result (Rose (S.failures store.old) (S.failures store.new)) }
+    ensures steady { S.failures store.old ≤ S.failures store.new }
+    ensures counts { (S.logs store.new ≡ S.logs store.old) × (S.status_files store.new ≡ S.status_files store.old) }
+{
+    if piece.len() <= waiting.room() {
+        waiting.push(piece);
+        return Ok(());
+    }
+    write_out(waiting, store, log)?;
+    if piece.len() <= BLOCK {
+        waiting.push(piece);
+        return Ok(());
+    }
+    append_all(store, log, piece)
+}
+
+impl Tail {
+    ghost use Rattle.std.specs.Prelude.{◌≡◌, ◌<◌, ◌≤◌, ◌++◌, [], length, take, Some, None};
+    ghost use Rattle.std.specs.Prelude.{IfOk, IfErr, IfSome, OnOk, OnErr, IsErrOf};
+    ghost use Rattle.tai_status.specs.Counted.{Rose};
+    ghost use Rattle.mlog_files.specs.Files.{append_steps};
+    ghost use Rattle.mlog_files.specs.Steps.{finish_steps};
+    ghost use Rattle.mlog_files.specs.Going.{begun, finish_at, finished_at};
+    ghost use Rattle.mlog_files.specs.Store.{Does, DoesFront, Goes};
+    ghost use Rattle.mlog_files.specs.Tails.{marks_at, standing, found, steps_at, after_at};
+    ghost use Rattle.mlog_files.specs.declared.tail.LogFault.TheVariants as fault;
+
+    /// The end of a log as the store holds it.
+    pub fn open<S: LogStore>(store: &S, log: usize, size: usize, keep: u64) -> Tail
+        requires log { log < S.logs store.now }
+        requires size { 2000 ≤ size }
+        requires keep { 2 ≤ keep }
+        ensures limits { (result.size ≡ size) × (result.keep ≡ keep) }
+        ensures waiting { result.waiting ≡ [] }
+        ensures found { IfSome ((S.told store.now).files log) (λ files. standing result ≡ found files) }
+    {
+        Tail {
+            size,
+            keep,
+            count: store.length(log) as usize,
+            kept: store.old_count(log),
+            last: store.last_label(log),
+            waiting: Block::new(),
+        }
+    }
+
+    // Finishes the current file, and removes an old one where there are as many as are kept.
+    fn finish_under<S: LogStore>(
+        &mut self,
+        store: &mut S,
+        log: usize,
+        label: Label,
+    ) -> Result<(), StoreFault>
+        requires { log < S.logs store.old }
+        ensures ok { OnOk result (Does (S.told store.old) (S.told store.new) log
+            (finish_steps self.old.keep (marks_at self.old) label)) }
+        ensures stands { OnOk result (standing self.new ≡ begun self.old.keep (marks_at self.old) label) }
+        ensures waiting { self.new.waiting ≡ self.old.waiting }
+        ensures same { (self.new.size ≡ self.old.size) × (self.new.keep ≡ self.old.keep) }
+        ensures err { OnErr result (DoesFront (S.told store.old) (S.told store.new) log
+            (finish_steps self.old.keep (marks_at self.old) label)) }
+        ensures fault { OnErr result (Rose (S.failures store.old) (S.failures store.new)) }
+        ensures steady { S.failures store.old ≤ S.failures store.new }
+        ensures counts { (S.logs store.new ≡ S.logs store.old) × (S.status_files store.new ≡ S.status_files store.old) }
+    {
+        store.finish(log, &label)?;
+        if self.kept >= self.keep - 1 {
+            store.remove_smallest(log)?;
+        } else {
+            self.kept += 1;
+        }
+        self.last = Some(label);
+        self.count = 0;
+        Ok(())
+    }
+
+    // Finishes the current file, with what waits.
+    fn finish<S: LogStore>(
+        &mut self,
+        store: &mut S,
+        log: usize,
+        reading: &Label,
+    ) -> Result<(), LogFault>
+        requires { log < S.logs store.old }
+        ensures ok { OnOk result (Does (S.told store.old) (S.told store.new) log
+            (append_steps self.old.waiting ++ finish_at self.old.keep (marks_at self.old) reading.now)) }
+        ensures stands { OnOk result
+            (finished_at self.old.keep (marks_at self.old) reading.now ≡ Some (standing self.new)) }
+        ensures empty { OnOk result (self.new.waiting ≡ []) }
+        ensures same { (self.new.size ≡ self.old.size) × (self.new.keep ≡ self.old.keep) }
+        ensures stopped { OnErr result (DoesFront (S.told store.old) (S.told store.new) log
+            (append_steps self.old.waiting ++ finish_at self.old.keep (marks_at self.old) reading.now)) }
+        ensures spent { IsErrOf result fault.LabelsSpent →
+            (finished_at self.old.keep (marks_at self.old) reading.now ≡ None)
+            × Does (S.told store.old) (S.told store.new) log (append_steps self.old.waiting) }
+        ensures store { IsErrOf result fault.Store → Rose (S.failures store.old) (S.failures store.new) }
+        ensures steady { S.failures store.old ≤ S.failures store.new }
+        ensures counts { (S.logs store.new ≡ S.logs store.old) × (S.status_files store.new ≡ S.status_files store.old) }
+    {
+        match write_out(&mut self.waiting, store, log) {
+            Ok(()) => {}
+            Err(_) => return Err(LogFault::Store),
+        }
+        let Some(label) = label_for(&self.last, reading) else {
+            return Err(LogFault::LabelsSpent);
+        };
+        match self.finish_under(store, log, label) {
+            Ok(()) => Ok(()),
+            Err(_) => Err(LogFault::Store),
+        }
+    }
+
+    // Puts a front of a line's bytes into a current file that has room, and tells how long it is.
+    fn put_open<S: LogStore>(
+        &mut self,
+        store: &mut S,
+        log: usize,
+        reading: &Label,
+        bytes: &[u8],
+    ) -> Result<usize, LogFault>
+        requires log { log < S.logs store.old }
+        requires room { self.old.count < self.old.size }
+        requires some { 0 < length bytes.now }
+        ensures taken { IfOk result (λ taken. (0 < taken) × (taken ≤ length bytes.now)) }
+        ensures done { IfOk result (λ taken.
+            Goes (S.told store.old) (S.told store.new) log self.old.waiting self.new.waiting
+            (steps_at self.old reading.now (take taken bytes.now))) }
+        ensures stands { IfOk result (λ taken.
+            after_at self.old reading.now (take taken bytes.now) ≡ Some (standing self.new)) }
+        ensures same { (self.new.size ≡ self.old.size) × (self.new.keep ≡ self.old.keep) }
+        ensures stopped { OnErr result (DoesFront (S.told store.old) (S.told store.new) log
+            (append_steps self.old.waiting ++ steps_at self.old reading.now bytes.now)) }
+        ensures spent { IsErrOf result fault.LabelsSpent →
+            (after_at self.old reading.now bytes.now ≡ None)
+            × Does (S.told store.old) (S.told store.new) log
+            (append_steps self.old.waiting ++ steps_at self.old reading.now bytes.now) }
+        ensures store { IsErrOf result fault.Store → Rose (S.failures store.old) (S.failures store.new) }
+        ensures steady { S.failures store.old ≤ S.failures store.new }
+        ensures counts { (S.logs store.new ≡ S.logs store.old) × (S.status_files store.new ≡ S.status_files store.old) }
+    {
+        let cut = first_cut(self.size, self.count, bytes);
+        match hold(&mut self.waiting, store, log, &bytes[..cut.len]) {
+            Ok(()) => {}
+            Err(_) => return Err(LogFault::Store),
+        }
+        if cut.is_full {
+            self.finish(store, log, reading)?;
+        } else {
+            self.count += cut.len;
+        }
+        Ok(cut.len)
+    }
+
+    // Puts a front of a line's bytes. A file that was found over-full is finished first.
+    fn put_part<S: LogStore>(
+        &mut self,
+        store: &mut S,
+        log: usize,
+        reading: &Label,
+        bytes: &[u8],
+    ) -> Result<usize, LogFault>
+        requires log { log < S.logs store.old }
+        requires some { 0 < length bytes.now }
+        ensures taken { IfOk result (λ taken. (0 < taken) × (taken ≤ length bytes.now)) }
+        ensures done { IfOk result (λ taken.
+            Goes (S.told store.old) (S.told store.new) log self.old.waiting self.new.waiting
+            (steps_at self.old reading.now (take taken bytes.now))) }
+        ensures stands { IfOk result (λ taken.
+            after_at self.old reading.now (take taken bytes.now) ≡ Some (standing self.new)) }
+        ensures same { (self.new.size ≡ self.old.size) × (self.new.keep ≡ self.old.keep) }
+        ensures stopped { OnErr result (DoesFront (S.told store.old) (S.told store.new) log
+            (append_steps self.old.waiting ++ steps_at self.old reading.now bytes.now)) }
+        ensures spent { IsErrOf result fault.LabelsSpent →
+            (after_at self.old reading.now bytes.now ≡ None)
+            × Does (S.told store.old) (S.told store.new) log
+            (append_steps self.old.waiting ++ steps_at self.old reading.now bytes.now) }
+        ensures store { IsErrOf result fault.Store → Rose (S.failures store.old) (S.failures store.new) }
+        ensures steady { S.failures store.old ≤ S.failures store.new }
+        ensures counts { (S.logs store.new ≡ S.logs store.old) × (S.status_files store.new ≡ S.status_files store.old) }
+    {
+        if self.count < self.size {
+            return self.put_open(store, log, reading, bytes);
+        }
+        self.finish(store, log, reading)?;
+        self.put_open(store, log, reading, bytes)
+    }
+
+    /// Puts bytes of one line behind the log's text, in as many calls as the caller likes: the line's reading names the
+    /// old files that these bytes fill. Up to a block of them may wait in memory afterwards, until the next call or
+    /// [`Tail::flush`]. After a fault the log goes no further, and what waited is not to be put again.
+    pub fn put<S: LogStore>(
+        &mut self,
+        store: &mut S,
+        log: usize,
+        reading: &Label,
+        bytes: &[u8],
+    ) -> Result<(), LogFault>
+        requires log { log < S.logs store.old }
+        ensures done { OnOk result
+            (Goes (S.told store.old) (S.told store.new) log self.old.waiting self.new.waiting
+            (steps_at self.old reading.now bytes.now)) }
+        ensures stands { OnOk result (after_at self.old reading.now bytes.now ≡ Some (standing self.new)) }
+        ensures same { (self.new.size ≡ self.old.size) × (self.new.keep ≡ self.old.keep) }
+        ensures stopped { OnErr result (DoesFront (S.told store.old) (S.told store.new) log
+            (append_steps self.old.waiting ++ steps_at self.old reading.now bytes.now)) }
+        ensures spent { IsErrOf result fault.LabelsSpent →
+            (after_at self.old reading.now bytes.now ≡ None)
+            × Does (S.told store.old) (S.told store.new) log
+            (append_steps self.old.waiting ++ steps_at self.old reading.now bytes.now) }
+        ensures store { IsErrOf result fault.Store → Rose (S.failures store.old) (S.failures store.new) }
+        ensures steady { S.failures store.old ≤ S.failures store.new }
+        ensures counts { (S.logs store.new ≡ S.logs store.old) × (S.status_files store.new ≡ S.status_files store.old) }
+    {
+        let mut at = 0;
+        while at < bytes.len() {
+            at += self.put_part(store, log, reading, &bytes[at..])?;
+        }
+        Ok(())
+    }
+
+    /// Appends what waits in memory.
+    pub fn flush<S: LogStore>(&mut self, store: &mut S, log: usize) -> Result<(), LogFault>
+        requires log { log < S.logs store.old }
+        ensures done { OnOk result (Does (S.told store.old) (S.told store.new) log (append_steps self.old.waiting)) }
+        ensures empty { OnOk result (self.new.waiting ≡ []) }
+        ensures stands { standing self.new ≡ standing self.old }
+        ensures same { (self.new.size ≡ self.old.size) × (self.new.keep ≡ self.old.keep) }
+        ensures stopped { OnErr result
+            (DoesFront (S.told store.old) (S.told store.new) log (append_steps self.old.waiting)) }
+        ensures store { IfErr result (λ why. (why ≡ fault.Store) × Rose (S.failures store.old) (S.failures store.new)) }
+        ensures steady { S.failures store.old ≤ S.failures store.new }
+        ensures counts { (S.logs store.new ≡ S.logs store.old) × (S.status_files store.new ≡ S.status_files store.old) }
+    {
+        match write_out(&mut self.waiting, store, log) {
+            Ok(()) => Ok(()),
+            Err(_) => Err(LogFault::Store),
+        }
+    }
+}
