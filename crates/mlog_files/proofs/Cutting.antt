@@ -2,7 +2,8 @@
 use Rattle.std.proofs.Common.{◌≡◌, ℕ, zero, suc, ◌+◌, ◌<◌, ◌≤◌, ◌==◌, nat_lt, Bool, true, false, List, [], ◌∷◌, ◌++◌, length, take, Option, Some, None, refl, sym, ap, ◌∙◌, arith, append_assoc, append-nil}
 use Rattle.std.specs.List.{flat_map}
 use Rattle.tai_status.specs.Label.{Tai64n, greatest}
-use Rattle.mlog_files.specs.Cut.{Sent, fills, is_full, IsPiece, IsOpen, AreCut, IsCut}
+use Rattle.tai_status.specs.Lines.{Sent}
+use Rattle.mlog_files.specs.Cut.{fills, is_full, IsPiece, IsOpen, AreCut, IsCut}
 use Rattle.mlog_files.specs.Files.{Step, Append, appends}
 use Rattle.mlog_files.specs.Steps.{Marks, label_given, last_reading, finish_steps, marks_after, steps_of}
 use Rattle.mlog_files.specs.Going.{Standing, begun, finish_under, stands_under, finish_at, finished_at, steps_on, standing_on}

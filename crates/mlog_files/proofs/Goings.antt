@@ -4,7 +4,8 @@ use Rattle.std.proofs.lemmas.List.{get_or-take, length-take-le, take_rest, map-a
 use Rattle.std.proofs.lemmas.Bool.{cases_lt}
 use Rattle.std.proofs.Math.Seq.{take-add}
 use Rattle.tai_status.specs.Label.{Tai64n}
-use Rattle.mlog_files.specs.Cut.{Sent, sent, fills}
+use Rattle.tai_status.specs.Lines.{Sent, sent}
+use Rattle.mlog_files.specs.Cut.{fills}
 use Rattle.mlog_files.specs.Files.{Step, Append, append_steps}
 use Rattle.mlog_files.specs.Steps.{Marks, label_given}
 use Rattle.mlog_files.specs.Going.{Standing, begun, stands_under, finish_at, finished_at, byte_steps, after_byte, first_steps, ready, steps_on, standing_on}

@@ -2,7 +2,8 @@
 use Rattle.std.proofs.Common.{◌≡◌, ℕ, ◌+◌, ◌-◌, ◌<◌, ◌≤◌, ◌==◌, Bool, true, false, List, [], ◌∷◌, ◌++◌, length, take, drop, get_or, Option, Some, None, Result, Ok, Err, IfOk, refl, sym, subst, ap, ◌∙◌, arith, append_assoc, append-nil}
 use Rattle.std.proofs.lemmas.List.{take-append-drop}
 use Rattle.tai_status.specs.Label.{Tai64n}
-use Rattle.mlog_files.specs.Cut.{Sent, sent, fills}
+use Rattle.tai_status.specs.Lines.{Sent, sent}
+use Rattle.mlog_files.specs.Cut.{fills}
 use Rattle.mlog_files.specs.Files.{Files, Step, append_steps}
 use Rattle.mlog_files.specs.Steps.{Marks, label_given}
 use Rattle.mlog_files.specs.Going.{Standing, finish_under, stands_under, finish_at, finished_at, steps_on, standing_on}

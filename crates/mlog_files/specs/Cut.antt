@@ -1,17 +1,8 @@
 -- Where the text of a log is cut into files.
 use Rattle.std.specs.Prelude.{◌≡◌, ℕ, ◌+◌, ◌-◌, ◌<◌, ◌≤◌, ◌==◌, nat_lt, nat_le, Bool, true, false, ◌&&◌, ◌||◌}
-use Rattle.std.specs.Prelude.{List, [], ◌∷◌, ◌++◌, length, take, map}
+use Rattle.std.specs.Prelude.{List, [], ◌∷◌, ◌++◌, length, take}
 use Rattle.std.specs.List.{flat_map}
-use Rattle.tai_status.specs.Label.{Tai64n}
-
--- A byte of a log's text, and the label that the clock gave for its line.
-pub record Sent : Type 0 where
-  pub byte : ℕ
-  pub reading : Tai64n
-
--- bytes of one line
-abbrev pub sent : Tai64n → List ℕ → List Sent
-sent reading bytes = map (λ byte. record { byte = byte; reading = reading }) bytes
+use Rattle.tai_status.specs.Lines.{Sent}
 
 -- Whether a file of this many bytes is full, which ends in a newline or not (multilog's page): it has the size; or it is
 -- at most 2000 bytes below it, and ends with a line.
@@ -46,8 +37,3 @@ AreCut size n (piece ∷ pieces) rest = IsPiece size n piece × AreCut size 0 pi
 pub record IsCut (size n : ℕ) (text : List Sent) (pieces : List (List Sent)) (rest : List Sent) : Type 0 where
   pub whole : text ≡ flat_map (λ piece. piece) pieces ++ rest
   pub each : AreCut size n pieces rest
-
--- how many bytes stand before the last piece
-abbrev pub stands_after : ℕ → List (List Sent) → ℕ
-stands_after n [] = n
-stands_after n (piece ∷ pieces) = 0

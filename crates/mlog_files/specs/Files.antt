@@ -3,7 +3,7 @@ use Rattle.std.specs.Prelude.{ℕ, if◌then◌else◌, List, [], ◌∷◌, ◌
 use Rattle.std.specs.Cmp.Lexicographic.{slice_cmp}
 use Rattle.std.specs.Ordering.{is_lt, nat_cmp}
 use Rattle.tai_status.specs.Label.{Tai64n, label_text}
-use Rattle.mlog_files.specs.Cut.{Sent}
+use Rattle.tai_status.specs.Lines.{Sent}
 
 -- an old file
 pub record Old : Type 0 where

@@ -1,7 +1,8 @@
 -- How a log goes on, byte by byte. The law `steps_of_a_text` says that these are the steps of the text's cut.
 use Rattle.std.specs.Prelude.{ℕ, ◌+◌, ◌==◌, nat_le, if◌then◌else◌, List, [], ◌∷◌, ◌++◌, Option, Some, None}
 use Rattle.tai_status.specs.Label.{Tai64n}
-use Rattle.mlog_files.specs.Cut.{Sent, fills}
+use Rattle.tai_status.specs.Lines.{Sent}
+use Rattle.mlog_files.specs.Cut.{fills}
 use Rattle.mlog_files.specs.Files.{Step, Append}
 use Rattle.mlog_files.specs.Steps.{Marks, label_given, finish_steps, marks_after}
 

@@ -1,6 +1,7 @@
 -- What is true of how texts go on.
 use Rattle.std.specs.Prelude.{◌≡◌, ℕ, ◌<◌, ◌≤◌, List, ◌∷◌, ◌++◌, Option, Some}
-use Rattle.mlog_files.specs.Cut.{Sent, IsCut}
+use Rattle.tai_status.specs.Lines.{Sent}
+use Rattle.mlog_files.specs.Cut.{IsCut}
 use Rattle.mlog_files.specs.Steps.{steps_of}
 use Rattle.mlog_files.specs.Going.{Standing, finish_at, finished_at, steps_on, standing_on}
 

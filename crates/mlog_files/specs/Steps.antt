@@ -1,7 +1,7 @@
 -- What a text does to the files of a log: the names of old files, the removals, the steps of a cut text.
 use Rattle.std.specs.Prelude.{ℕ, ◌+◌, ◌==◌, nat_le, Bool, ◌&&◌, if◌then◌else◌, List, [], ◌∷◌, ◌++◌, Option, Some, None}
 use Rattle.tai_status.specs.Label.{Tai64n, greatest, is_earlier, plus_nano}
-use Rattle.mlog_files.specs.Cut.{Sent}
+use Rattle.tai_status.specs.Lines.{Sent}
 use Rattle.mlog_files.specs.Files.{Step, Finish, Remove, appends}
 
 -- the greatest label of an old file that was given or found, and how many old files there are
@@ -42,12 +42,4 @@ steps_of keep marks (piece ∷ pieces) rest = elim (label_given marks.last (last
   | None ↦ appends piece
   | Some label ↦
       appends piece ++ finish_steps keep marks label ++ steps_of keep (marks_after keep marks label) pieces rest
-]
-
--- the marks after these pieces, where there is a label for each
-abbrev pub marks_of : ℕ → Marks → List (List Sent) → Option Marks
-marks_of keep marks [] = Some marks
-marks_of keep marks (piece ∷ pieces) = elim (label_given marks.last (last_reading greatest piece)) [
-  | None ↦ None
-  | Some label ↦ marks_of keep (marks_after keep marks label) pieces
 ]

@@ -1,7 +1,7 @@
 -- Where a log's end stands.
 use Rattle.std.specs.Prelude.{ℕ, List, length, Option, Some}
 use Rattle.tai_status.specs.Label.{Tai64n}
-use Rattle.mlog_files.specs.Cut.{sent}
+use Rattle.tai_status.specs.Lines.{sent}
 use Rattle.mlog_files.specs.Files.{Files, Step}
 use Rattle.mlog_files.specs.Steps.{Marks}
 use Rattle.mlog_files.specs.Going.{Standing, steps_on, standing_on}

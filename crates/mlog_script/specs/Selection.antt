@@ -4,7 +4,7 @@ use Rattle.std.specs.Prelude.{◌≡◌, ℕ, ◌-◌, ◌==◌, Bool, true, fal
 use Rattle.std.specs.List.{list_any, filter_map, flat_map}
 use Rattle.star_match.specs.Star.{star_matches}
 use Rattle.tai_status.specs.Label.{Tai64n}
-use Rattle.tai_status.specs.Lines.{stamp, texts_of}
+use Rattle.tai_status.specs.Lines.{stamp, texts_of, Sent, sent}
 use Rattle.mlog_script.specs.Placed.{Placed, placed, last_given}
 use Rattle.mlog_script.specs.Script.{Act, Select, Deselect, is_stamp, is_alert, is_log, is_file}
 
@@ -64,14 +64,6 @@ chosen_line script label line = chosen script (take 1000 (shown script label lin
 -- the flag of this number, numbers counting from 0
 abbrev pub flag_at : List Bool → ℕ → Bool
 flag_at flags n = unwrap_or (slice_get flags n) false
-
--- a byte of a log, and the reading of its line
-pub record Sent : Type 0 where
-  pub byte : ℕ
-  pub reading : Tai64n
-
-abbrev pub sent : Tai64n → List ℕ → List Sent
-sent label bytes = map (λ byte. record { byte = byte; reading = label }) bytes
 
 -- what a line adds to a log: the whole line and a newline, where it is selected there
 abbrev pub to_log : List Act → ℕ → Tai64n → List ℕ → List Sent

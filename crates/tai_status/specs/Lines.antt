@@ -1,5 +1,5 @@
 -- The lines of a text, and their stamps.
-use Rattle.std.specs.Prelude.{◌≡◌, ℕ, ◌==◌, not, filter, if◌then◌else◌, List, [], ◌∷◌, ◌++◌, length, Option, Some, None, ⊤}
+use Rattle.std.specs.Prelude.{◌≡◌, ℕ, ◌==◌, not, filter, if◌then◌else◌, List, [], ◌∷◌, ◌++◌, length, map, Option, Some, None, ⊤}
 use Rattle.std.specs.List.{onto_first}
 use Rattle.tai_status.specs.Label.{Tai64n, label_text}
 use Rattle.tai_status.specs.Counted.{Device, Gives, Wrote, WroteFront}
@@ -21,6 +21,15 @@ without_newline line = filter (λ byte. not (byte == 10)) line
 -- what stands before a line: its label's text and a space
 unfoldable pub stamp : Tai64n → List ℕ
 stamp label = label_text label ++ 32 ∷ []
+
+-- A byte, and the label that the clock gave for its line.
+pub record Sent : Type 0 where
+  pub byte : ℕ
+  pub reading : Tai64n
+
+-- bytes of one line
+abbrev pub sent : Tai64n → List ℕ → List Sent
+sent reading bytes = map (λ byte. record { byte = byte; reading = reading }) bytes
 
 -- each line after its stamp; a line without a label isn't there
 abbrev pub stamped : List Tai64n → List (List ℕ) → List ℕ
