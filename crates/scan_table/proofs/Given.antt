@@ -1,12 +1,14 @@
 -- What a scan gives: new slots and lives, and their numbers and names.
 use Rattle.std.proofs.Common.{◌≡◌, ◌≢◌, ℕ, ◌+◌, ◌<◌, ◌≤◌, Bool, true, false, List, [], ◌∷◌, ◌++◌, length, get_or, sym, ap, ◌∙◌, refl, arith, inl, inr, ◌⊎◌, zero, suc, Option, Some, None, if◌then◌else◌, subst}
 use Rattle.std.specs.List.{AllPairs, All, sum_by}
+use Rattle.std.specs.Option.{IfSome}
 use Rattle.std.proofs.lemmas.List.Elements.{All-nil, All-cons, All-head, All-tail, All-append, All-weaker}
 use Rattle.std.proofs.lemmas.List.Kept.{AllPairs-cons}
 use Rattle.std.proofs.lemmas.List.Sums.{sum_by-cons}
 use Rattle.scan_table.specs.declared.part.PartId.{PartId}
 use Rattle.scan_table.specs.declared.part.Role.{Role}
 use Rattle.scan_table.specs.declared.part.Role.TheVariants.{Main, Log}
+use Rattle.scan_table.specs.declared.slot.Life.{Life}
 use Rattle.scan_table.specs.Slots.{Row, SlotState, SlotPart, is_name, name_order, is_pair, roles_of, ended_roles, parts_of}
 use Rattle.scan_table.specs.Scan.{IsBelow, slot_of, need, is_refused, in_turn, new_slot, new_slots_at, new_slots_where, restarts_at, restarts_where, lives_from}
 use Rattle.scan_table.specs.Index.{IsBefore, IsNumbered}
@@ -66,35 +68,27 @@ slots-above slots rows low n (row ∷ rest) le =
     all-slots (λ (slot : SlotState). low ≤ slot.number) slots rows n row rest (λ is needs none. le)
       (slots-above slots rows low (n + need slots rows row) rest (omega arith))
 
-numbered-more : (next more : ℕ) (slot : SlotState) → next ≤ more → IsNumbered next slot → IsNumbered more slot
+life-more : (next more : ℕ) (log : Option Life) → next ≤ more → IfSome log (λ (life : Life). life.number < next) → IfSome log (λ (life : Life). life.number < more)
+life-more next more None le below = below
+life-more next more (Some life) le below = omega (arith, below, le)
+
+pub numbered-more : (next more : ℕ) (slot : SlotState) → next ≤ more → IsNumbered next slot → IsNumbered more slot
 numbered-more next more slot le is =
-    record { number = omega (arith, is.number, le); lives = λ k d b. (let h = is.lives k d b in omega (arith, h, le)) }
-
--- a slot whose lives come after its number
-lives-numbered : (next : ℕ) (slot : SlotState) → slot.number < next → All (λ (part : SlotPart). part.life.number < next) (parts_of slot) → IsNumbered next slot
-lives-numbered next slot n l = record { number = n; lives = l }
-
-abbrev below-next : ℕ → SlotPart → Type 0
-below-next next part = part.life.number < next
-
-lone-numbered : (n : ℕ) (row : Row) → IsNumbered (n + 2) (record { number = n; name = row.name; main = record { number = n + 1; has_ended = false }; log = None })
-lone-numbered n row =
-    lives-numbered (n + 2) (record { number = n; name = row.name; main = record { number = n + 1; has_ended = false }; log = None }) (omega arith)
-      (All-cons (below-next (n + 2)) (record { role = Main; life = record { number = n + 1; has_ended = false } }) [] (omega arith) (All-nil (below-next (n + 2))))
-
-pair-numbered : (n : ℕ) (row : Row) → IsNumbered (n + 3) (record { number = n; name = row.name; main = record { number = n + 1; has_ended = false }; log = Some (record { number = n + 2; has_ended = false }) })
-pair-numbered n row =
-    lives-numbered (n + 3) (record { number = n; name = row.name; main = record { number = n + 1; has_ended = false }; log = Some (record { number = n + 2; has_ended = false }) }) (omega arith)
-      (All-cons (below-next (n + 3)) (record { role = Main; life = record { number = n + 1; has_ended = false } }) (record { role = Log; life = record { number = n + 2; has_ended = false } } ∷ []) (omega arith)
-        (All-cons (below-next (n + 3)) (record { role = Log; life = record { number = n + 2; has_ended = false } }) [] (omega arith) (All-nil (below-next (n + 3)))))
+    record { number = omega (arith, is.number, le); main = omega (arith, is.main, le); log = life-more next more slot.log le is.log }
 
 -- a new slot's numbers are those that its row needs
 new-numbered : (n : ℕ) (row : Row) → IsNumbered (n + (1 + length (roles_of row))) (new_slot n row)
 new-numbered n row =
-    elim (is_pair row) as (λ b. is_pair row ≡ b → IsNumbered (n + (1 + length (roles_of row))) (new_slot n row)) [
-      true ↦ λ is. rw is (pair-numbered n row)
-    | false ↦ λ is. rw is (lone-numbered n row)
-    ] refl
+    elim (is_pair row) as (λ b. IsNumbered (n + (1 + length (if b then Main ∷ Log ∷ [] else Main ∷ [])))
+        (record {
+          number = n;
+          name = row.name;
+          main = record { number = n + 1; has_ended = false };
+          log = if b then Some (record { number = n + 2; has_ended = false }) else None;
+        })) [
+      true ↦ record { number = omega arith; main = omega arith; log = omega arith }
+    | false ↦ record { number = omega arith; main = omega arith; log = tt }
+    ]
 
 pub slots-numbered : (slots : List SlotState) (rows : List Row) (n : ℕ) (rest : List Row) →
     All (IsNumbered (n + sum_by (need slots rows) rest)) (slots_from slots rows n rest)

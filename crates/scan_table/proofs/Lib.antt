@@ -6,3 +6,5 @@ mod Indexed
 mod Searched
 mod Placed
 mod Given
+mod Dropped
+mod After

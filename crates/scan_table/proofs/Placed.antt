@@ -12,7 +12,7 @@ use Rattle.std.proofs.lemmas.List.Folds.{list_any_none, list_any_at}
 use Rattle.scan_table.specs.declared.part.PartId.{PartId}
 use Rattle.scan_table.specs.declared.part.Role.TheVariants.{Main, Log}
 use Rattle.scan_table.specs.Slots.{SlotState, is_main}
-use Rattle.scan_table.specs.Table.{slot_ended, has_running, renewed, restarted, is_at}
+use Rattle.scan_table.specs.Table.{slot_ended, has_running, renewed, restarted, is_at, slot_at}
 use Rattle.scan_table.specs.Index.{IsBefore, IsPlaceOf, HasNot}
 
 and-false : (b : Bool) → (b && false) ≡ false
@@ -171,3 +171,23 @@ pub renewed-last : (parts : List PartId) (i : ℕ) (slots whole : List SlotState
     map (renewed (drop i parts)) slots ≡ whole → slots ≡ whole
 renewed-last parts i slots whole end so =
     sym (map-none (renewed []) slots (λ k d b. renewed-none (get_or slots k d))) ∙ ap (λ ps. map (renewed ps) slots) (sym (drop_of_length-le parts end)) ∙ so
+
+-- the slot at the place of a number
+pub slot-at-here : (slots : List SlotState) (number place : ℕ) (slot : SlotState) → AllPairs IsBefore slots → IsPlaceOf slots number place →
+    slot ≡ get_or slots place slot → Some slot ≡ slot_at slots number
+slot-at-here [] number place slot rising at read = absurd (omega (arith, at.within))
+slot-at-here (first ∷ slots) number zero slot rising at read =
+    let is : (first.number == number) ≡ true = (let h = at.here first in grind (arith, nat_tests)) in
+    ap (λ (s : SlotState). Some s) read ∙ rw is refl
+slot-at-here (first ∷ slots) number (suc place) slot rising at read =
+    let other : first.number ≢ number = others (first ∷ slots) number (suc place) rising at 0 first (omega arith) (omega arith) in
+    let no : (first.number == number) ≡ false = grind (arith, nat_tests) in
+    slot-at-here slots number place slot (λ i j d b w. rising (suc i) (suc j) d (omega arith) (omega arith))
+      (record { within = omega (arith, at.within); here = λ d. at.here d }) read ∙ rw no refl
+
+pub slot-at-nowhere : (slots : List SlotState) (number : ℕ) → HasNot slots number → None ≡ slot_at slots number
+slot-at-nowhere [] number none = refl
+slot-at-nowhere (first ∷ slots) number none =
+    let other : first.number ≢ number = none 0 first (omega arith) in
+    let no : (first.number == number) ≡ false = grind (arith, nat_tests) in
+    slot-at-nowhere slots number (λ k d b. none (suc k) d (omega arith)) ∙ rw no refl

@@ -1,9 +1,11 @@
 -- An index of names: the places of names, in the byte order of the names.
 use Rattle.std.specs.Prelude.{◌≡◌, ℕ, ◌<◌, ◌≤◌, ◌==◌, ◌≢◌, List, [], length, slice_index, slice_index_or, map, Result, Ok, Err, Option, Some, None, nat_le}
 use Rattle.std.specs.List.{All, AllPairs}
+use Rattle.std.specs.Option.{IfSome}
 use Rattle.std.specs.declared.cmp.Ordering.{Ordering}
 use Rattle.std.specs.declared.cmp.Ordering.TheVariants.{Less, Equal, Greater}
-use Rattle.scan_table.specs.Slots.{name_order, SlotState, SlotPart, parts_of}
+use Rattle.scan_table.specs.declared.slot.Life.{Life}
+use Rattle.scan_table.specs.Slots.{name_order, SlotState}
 use Rattle.scan_table.specs.Table.{TableState}
 
 abbrev pub names_of : List SlotState → List (List ℕ)
@@ -39,7 +41,8 @@ IsBefore a b = a.number < b.number
 -- The slot's number and its lives were given before this number.
 pub record IsNumbered (next : ℕ) (slot : SlotState) : Type 0 where
   pub number : slot.number < next
-  pub lives : All (λ (part : SlotPart). part.life.number < next) (parts_of slot)
+  pub main : slot.main.number < next
+  pub log : IfSome slot.log (λ (life : Life). life.number < next)
 
 -- what holds of every table and its index
 pub record IsTable (slots : List SlotState) (next : ℕ) (index : List ℕ) : Type 0 where

@@ -1,5 +1,5 @@
 -- A table of slots, and what scans and ends do to it.
-use Rattle.std.specs.Prelude.{◌≡◌, ℕ, ◌+◌, ◌==◌, ◌<◌, ◌^◌, ◌&&◌, ◌||◌, Bool, true, false, not, List, [], ◌∷◌, ◌++◌, map, if◌then◌else◌, Option, Some, None}
+use Rattle.std.specs.Prelude.{◌≡◌, ℕ, ◌+◌, ◌==◌, ◌<◌, ◌^◌, ◌&&◌, ◌||◌, Bool, true, false, not, List, [], ◌∷◌, ◌++◌, map, if◌then◌else◌, Option, Some, None, is_some}
 use Rattle.std.specs.List.{list_any, AllPairs, All}
 use Rattle.std.specs.Option.{option_map}
 use Rattle.scan_table.specs.declared.part.Role.{Role}
@@ -13,6 +13,10 @@ use Rattle.scan_table.specs.Scan.{kept, needs, restarts, new_slots}
 pub record TableState : Type 0 where
   pub slots : List SlotState
   pub next : ℕ
+
+-- a table without slots
+abbrev pub new_table : ℕ → TableState
+new_table next = record { slots = []; next = next }
 
 -- whether a part is that of a slot's number and a role
 abbrev pub is_at : PartId → ℕ → Role → Bool
@@ -76,3 +80,11 @@ is_running table part = list_any (has_running part) table.slots
 abbrev pub slot_at : List SlotState → ℕ → Option SlotState
 slot_at [] number = None
 slot_at (slot ∷ slots) number = if slot.number == number then Some slot else slot_at slots number
+
+-- whether there is a slot, and it is a pair's
+abbrev pub has_log : Option SlotState → Bool
+has_log None = false
+has_log (Some slot) = is_some slot.log
+
+abbrev pub name_of : SlotState → List ℕ
+name_of slot = slot.name

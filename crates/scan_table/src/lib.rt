@@ -11,7 +11,10 @@ mod place;
 mod plan;
 mod row;
 mod slot;
+mod table;
 
 pub use fault::ScanFault;
 pub use part::{Numbers, PartId, Parts, Role};
 pub use row::DirRow;
+pub use slot::MAX_SLOTS;
+pub use table::{ScanOut, ScanTable};

@@ -1,7 +1,7 @@
 //! What is done to the slot of a number.
-ghost use Rattle.std.specs.Prelude.{◌≡◌, ◌≢◌, ◌<◌, ℕ, length, map, slice_index_or, MatchOption, ◌∷◌, []};
+ghost use Rattle.std.specs.Prelude.{◌≡◌, ◌≢◌, ◌<◌, ℕ, length, map, slice_index_or, MatchOption, ◌∷◌, [], option_copied};
 ghost use Rattle.std.specs.List.{AllPairs, All, list_any};
-ghost use Rattle.scan_table.specs.Table.{slot_ended, has_running, renewed};
+ghost use Rattle.scan_table.specs.Table.{slot_ended, has_running, renewed, slot_at};
 ghost use Rattle.scan_table.specs.Index.{IsBefore, IsPlaceOf, HasNot};
 
 use crate::part::PartId;
@@ -28,6 +28,17 @@ fn place_of<A: Allocator>(slots: &[Slot<A>], number: u64) -> Option<usize>
         }
     }
     None
+}
+
+/// The slot of a number.
+pub(crate) fn slot_at<A: Allocator>(slots: &[Slot<A>], number: u64) -> Option<&Slot<A>>
+    requires { AllPairs IsBefore slots.now }
+    ensures { option_copied result ≡ slot_at slots.now number }
+{
+    match place_of(slots, number) {
+        Some(place) => Some(&slots[place]),
+        None => None,
+    }
 }
 
 /// Ends a part: whether it was there and had not ended.

@@ -1,15 +1,16 @@
 //! What a scan does, planned before anything changes.
-ghost use Rattle.std.specs.Prelude.{◌≡◌, ◌+◌, ◌<◌, ◌≤◌, ◌++◌, ◌^◌, ◌∷◌, [], if◌then◌else◌, length, map, take, drop, nat_le, None, IfOk, OnOk, IfErr, option_copied, List, ℕ};
+ghost use Rattle.std.specs.Prelude.{◌≡◌, ◌+◌, ◌<◌, ◌≤◌, ◌++◌, ◌^◌, ◌∷◌, [], if◌then◌else◌, length, map, take, drop, nat_le, None, false, IfOk, OnOk, IfErr, option_copied, List, ℕ, vec_len, vec_capacity};
 ghost use Rattle.std.specs.List.{flat_map};
 ghost use Rattle.scan_table.specs.Slots.{is_pair, roles_of, ended_roles, ids_of};
-ghost use Rattle.scan_table.specs.Scan.{AreRising, has_row, is_dropped, drops, kept, slot_of, room, need_where, needs, is_exhausted, lives_from, new_slot, new_slots_where, new_slots, restarts, refused, starts};
+ghost use Rattle.scan_table.specs.Scan.{AreRising, has_row, is_dropped, drops, kept, slot_of, room, need_where, needs, is_exhausted, IsCause, lives_from, new_slot, new_slots_where, new_slots, restarts, refused, starts};
 ghost use Rattle.scan_table.specs.Index.{names_of, IsIndex};
-ghost use Rattle.scan_table.specs.Turns.{turn_need, turn_slots, turn_restarts, turn_refused, is_counted};
+ghost use Rattle.scan_table.specs.Turns.{turn_need, turn_slots, turn_restarts, turn_refused, is_counted, IsPlan};
 
+use crate::fault::ScanFault;
 use crate::index::slot_of;
 use crate::part::{PartId, Role};
-use crate::row::DirRow;
-use crate::slot::{Life, Slot};
+use crate::row::{DirRow, check_order};
+use crate::slot::{Life, MAX_SLOTS, Slot};
 use std::alloc::{AllocError, Allocator, Global};
 use tai_status::Name;
 
@@ -50,7 +51,7 @@ fn drops<A: Allocator>(
 }
 
 /// How many slots a scan of these rows keeps.
-pub(crate) fn kept_count<A: Allocator>(slots: &[Slot<A>], rows: &[DirRow<A>]) -> usize
+fn kept_count<A: Allocator>(slots: &[Slot<A>], rows: &[DirRow<A>]) -> usize
     ensures { result ≡ length (kept slots.now rows.now) }
 {
     let mut count = 0;
@@ -64,7 +65,9 @@ pub(crate) fn kept_count<A: Allocator>(slots: &[Slot<A>], rows: &[DirRow<A>]) ->
 
 /// Drops the slots that a scan of these rows drops.
 pub(crate) fn keep<A: Allocator>(slots: &mut Vec<Slot<A>, A>, rows: &[DirRow<A>])
-    ensures { slots.new.items ≡ kept slots.old.items rows.now }
+    ensures items { slots.new.items ≡ kept slots.old.items rows.now }
+    ensures len { vec_len slots.new ≤ vec_len slots.old }
+    ensures room { vec_capacity slots.new ≡ vec_capacity slots.old }
 {
     slots.retain(|slot| !is_dropped(rows, slot));
 }
@@ -111,7 +114,7 @@ fn count(is_new: bool) -> usize
 }
 
 /// Whether a scan needs more numbers than there are.
-pub(crate) fn is_exhausted<A: Allocator>(
+fn is_exhausted<A: Allocator>(
     slots: &[Slot<A>],
     index: &[usize],
     rows: &[DirRow<A>],
@@ -327,4 +330,103 @@ fn give_all<A: Allocator + Clone>(
         gifts.give(alloc, slots, index, row, room)?;
     }
     Ok(gifts)
+}
+
+/// What a scan does, with all that it needs of memory but for the slots' own room.
+#[derive(Drop)]
+pub(crate) struct Plan<A: Allocator = Global> {
+    pub(crate) starts: Vec<PartId, A>,
+    pub(crate) drops: Vec<u64, A>,
+    pub(crate) gifts: Gifts<A>,
+}
+
+/// Puts the parts of a slot at the end.
+fn push_parts<A: Allocator>(list: &mut Vec<PartId, A>, slot: &Slot<A>) -> Result<(), AllocError>
+    ensures { OnOk result (list.new.items ≡ list.old.items ++ ids_of slot.now) }
+{
+    list.push(PartId {
+        slot: slot.number,
+        role: Role::Main,
+        life: slot.main.number,
+    })?;
+    if let Some(log) = slot.log {
+        list.push(PartId {
+            slot: slot.number,
+            role: Role::Log,
+            life: log.number,
+        })?;
+    }
+    Ok(())
+}
+
+/// The parts of slots.
+fn parts_of<A: Allocator>(alloc: A, slots: &[Slot<A>]) -> Result<Vec<PartId, A>, AllocError>
+    ensures { IfOk result (λ parts. parts.items ≡ flat_map ids_of slots.now) }
+{
+    let mut parts = Vec::new(alloc);
+    for slot in slots {
+        push_parts(&mut parts, slot)?;
+    }
+    Ok(parts)
+}
+
+/// What there is to do, once the numbers are known to be enough.
+fn gather<A: Allocator + Clone>(
+    alloc: &A,
+    slots: &[Slot<A>],
+    index: &[usize],
+    rows: &[DirRow<A>],
+    room: usize,
+    next: u64,
+) -> Result<Plan<A>, AllocError>
+    requires index { IsIndex (names_of slots.now) index.now }
+    requires whole { length index.now ≡ length slots.now }
+    requires rising { AreRising rows.now }
+    requires room { room ≡ Rattle.scan_table.specs.Scan.room slots.now rows.now }
+    requires numbers { next + needs slots.now rows.now < 2 ^ 64 }
+    ensures { IfOk result (λ plan. IsPlan slots.now next rows.now plan.gifts.slots.items plan.starts.items plan.gifts.restarts.items
+        plan.drops.items plan.gifts.refused.items plan.gifts.number) }
+{
+    let drops = drops(alloc.clone()?, slots, rows)?;
+    let gifts = give_all(alloc, slots, index, rows, room, next)?;
+    let starts = parts_of(alloc.clone()?, &gifts.slots)?;
+    Ok(Plan {
+        starts,
+        drops,
+        gifts,
+    })
+}
+
+/// How many more slots there may be after a scan of these rows.
+fn room<A: Allocator>(slots: &[Slot<A>], rows: &[DirRow<A>]) -> usize
+    ensures { result ≡ Rattle.scan_table.specs.Scan.room slots.now rows.now }
+{
+    MAX_SLOTS.saturating_sub(kept_count(slots, rows))
+}
+
+/// What a scan does.
+pub(crate) fn plan_scan<A: Allocator + Clone>(
+    alloc: &A,
+    slots: &[Slot<A>],
+    index: &[usize],
+    rows: &[DirRow<A>],
+    next: u64,
+) -> Result<Plan<A>, ScanFault>
+    requires index { IsIndex (names_of slots.now) index.now }
+    requires whole { length index.now ≡ length slots.now }
+    ensures rising { OnOk result (AreRising rows.now) }
+    ensures enough { OnOk result (is_exhausted slots.now next rows.now ≡ false) }
+    ensures plan { IfOk result (λ plan. IsPlan slots.now next rows.now plan.gifts.slots.items plan.starts.items plan.gifts.restarts.items
+        plan.drops.items plan.gifts.refused.items plan.gifts.number) }
+    ensures cause { IfErr result (λ fault. IsCause slots.now next rows.now fault) }
+{
+    check_order(rows)?;
+    let room = room(slots, rows);
+    if is_exhausted(slots, index, rows, room, next) {
+        return Err(ScanFault::Exhausted);
+    }
+    match gather(alloc, slots, index, rows, room, next) {
+        Ok(plan) => Ok(plan),
+        Err(_) => Err(ScanFault::OutOfMemory),
+    }
 }

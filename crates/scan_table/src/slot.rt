@@ -6,6 +6,9 @@ use std::alloc::{Allocator, Global};
 use std::marker::Model;
 use tai_status::Name;
 
+/// The most slots that there are.
+pub const MAX_SLOTS: usize = 1000;
+
 /// A part's life, and whether it has ended.
 #[derive(Clone, Copy, Debug)]
 pub(crate) struct Life {
