@@ -2,7 +2,7 @@
 use Rattle.std.proofs.Common.{◌≡◌, ◌≢◌, ℕ, ◌+◌, ◌<◌, ◌≤◌, Bool, true, false, not, ◌==◌, List, [], ◌∷◌, ◌++◌, length, get_or, map, sym, ap, ◌∙◌, refl, arith, zero, suc, Option, Some, None, if◌then◌else◌, subst}
 use Rattle.std.specs.List.{AllPairs, All, filter}
 use Rattle.std.specs.Option.{option_map, IfSome}
-use Rattle.std.proofs.lemmas.List.{get_or-map, length-map, map-append}
+use Rattle.std.proofs.lemmas.List.{get_or-map, length-map, length-append}
 use Rattle.std.proofs.lemmas.List.Elements.{All-nil, All-cons, All-head, All-tail, All-append, All-weaker, All-filter}
 use Rattle.std.proofs.lemmas.List.Kept.{AllPairs-filter}
 use Rattle.scan_table.specs.declared.part.PartId.{PartId}
@@ -11,7 +11,7 @@ use Rattle.scan_table.specs.declared.part.Role.TheVariants.{Main, Log}
 use Rattle.scan_table.specs.declared.slot.Life.{Life}
 use Rattle.scan_table.specs.Slots.{Row, SlotState, SlotPart, eligible, is_eligible, parts_of}
 use Rattle.scan_table.specs.Scan.{AreRising, IsBelow, kept, is_dropped, needs, need, restarts, new_slots}
-use Rattle.scan_table.specs.Table.{slot_ended, renewed, restarted, life_ended, is_at}
+use Rattle.scan_table.specs.Table.{slot_ended, renewed, restarted, life_ended, is_at, scanned}
 use Rattle.scan_table.specs.Index.{names_of, IsBefore, IsNumbered, IsTable, IsIndex, AreDistinct}
 use Rattle.scan_table.proofs.Rising.{rising-pairs}
 use Rattle.scan_table.proofs.Placed.{renewed-rising}
@@ -129,3 +129,52 @@ scanned-distinct slots next rows rising distinct =
         (renewed (restarts slots next rows)) (kept slots rows) (λ slot h. h)
         (All-filter (λ slot. not (is_dropped rows slot)) (λ slot. All (λ (new : SlotState). slot.name ≢ new.name) (new_slots slots next rows)) slots
           (λ k d b j e w. slots-new slots rows next (eligible rows) j e w k d b)))
+
+-- the table that a planned scan leaves
+pub table-scanned : (slots : List SlotState) (next : ℕ) (rows : List Row) (again : List PartId) (made after : List SlotState) (counter : ℕ) (index : List ℕ) →
+    AllPairs IsBefore slots → All (IsNumbered next) slots → again ≡ restarts slots next rows → made ≡ new_slots slots next rows → counter ≡ next + needs slots rows →
+    after ≡ map (renewed again) (kept slots rows) ++ made → IsIndex (names_of after) index → length index ≡ length after → IsTable after counter index
+table-scanned slots next rows again made after counter index rising numbered is-again is-made is-counter is-after indexed whole =
+    let same : after ≡ map (renewed (restarts slots next rows)) (kept slots rows) ++ new_slots slots next rows =
+      is-after ∙ ap (λ xs. map (renewed xs) (kept slots rows) ++ made) is-again ∙ ap (λ xs. map (renewed (restarts slots next rows)) (kept slots rows) ++ xs) is-made in
+    record {
+      rising = subst (λ xs. AllPairs IsBefore xs) (sym same) (scanned-rising slots next rows rising numbered);
+      numbered = subst (λ n. All (IsNumbered n) after) (sym is-counter)
+        (subst (λ xs. All (IsNumbered (next + needs slots rows)) xs) (sym same) (scanned-numbered slots next rows numbered));
+      indexed = indexed;
+      whole = whole;
+    }
+
+-- no name twice in it
+pub planned-distinct : (slots : List SlotState) (next : ℕ) (rows : List Row) (again : List PartId) (made : List SlotState) (index : List ℕ) →
+    AreRising rows → IsTable slots next index → again ≡ restarts slots next rows → made ≡ new_slots slots next rows →
+    AreDistinct (map (renewed again) (kept slots rows) ++ made)
+planned-distinct slots next rows again made index rising is is-again is-made =
+    let same : map (renewed again) (kept slots rows) ++ made ≡ map (renewed (restarts slots next rows)) (kept slots rows) ++ new_slots slots next rows =
+      ap (λ xs. map (renewed xs) (kept slots rows) ++ made) is-again ∙ ap (λ xs. map (renewed (restarts slots next rows)) (kept slots rows) ++ xs) is-made in
+    subst AreDistinct (sym same) (scanned-distinct slots next rows rising (slots-distinct slots index is.indexed is.whole))
+
+kept-fits : (slots : List SlotState) (rows : List Row) → length (kept slots rows) ≤ length slots
+kept-fits [] rows = omega arith
+kept-fits (slot ∷ slots) rows =
+    let rest : length (kept slots rows) ≤ length slots = kept-fits slots rows in
+    elim (not (is_dropped rows slot)) as (λ b. length (if b then slot ∷ kept slots rows else kept slots rows) ≤ length (slot ∷ slots)) [
+      true ↦ omega (arith, rest)
+    | false ↦ omega (arith, rest)
+    ]
+
+-- no more slots than there were, and the new ones
+pub length-after : (slots : List SlotState) (rows : List Row) (again : List PartId) (made : List SlotState) →
+    length (map (renewed again) (kept slots rows) ++ made) ≤ length slots + length made
+length-after slots rows again made =
+    let kept-length : length (kept slots rows) ≤ length slots = kept-fits slots rows in
+    omega (arith, length-append (map (renewed again) (kept slots rows)) made, length-map (kept slots rows) (renewed again), kept-length)
+
+-- it is the scanned one
+pub table-is : (slots : List SlotState) (next : ℕ) (rows : List Row) (again : List PartId) (made after : List SlotState) (counter : ℕ) →
+    again ≡ restarts slots next rows → made ≡ new_slots slots next rows → counter ≡ next + needs slots rows →
+    after ≡ map (renewed again) (kept slots rows) ++ made → record { slots = after; next = counter } ≡ scanned (record { slots = slots; next = next }) rows
+table-is slots next rows again made after counter is-again is-made is-counter is-after =
+    let same : after ≡ map (renewed (restarts slots next rows)) (kept slots rows) ++ new_slots slots next rows =
+      is-after ∙ ap (λ xs. map (renewed xs) (kept slots rows) ++ made) is-again ∙ ap (λ xs. map (renewed (restarts slots next rows)) (kept slots rows) ++ xs) is-made in
+    rw (same, is-counter) refl

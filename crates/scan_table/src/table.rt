@@ -105,6 +105,30 @@ fn change<A: Allocator>(
     let _ = slots.append(&mut new);
 }
 
+/// Takes the room that a scan needs, and then carries it out. Where the room is refused nothing changes.
+fn carry_out<A: Allocator>(
+    slots: &mut Vec<Slot<A>, A>,
+    index: &mut Vec<usize, A>,
+    rows: &[DirRow<A>],
+    restarts: &[PartId],
+    new: Vec<Slot<A>, A>,
+) -> Result<(), AllocError>
+    requires rising { AllPairs IsBefore slots.old.items }
+    requires whole { length index.old.items ≡ length slots.old.items }
+    requires distinct { AreDistinct (map (renewed restarts.now) (kept slots.old.items rows.now) ++ new.items) }
+    ensures slots { OnOk result (slots.new.items
+        ≡ map (renewed restarts.now) (kept slots.old.items rows.now) ++ new.items) }
+    ensures index { OnOk result (IsIndex (names_of slots.new.items) index.new.items) }
+    ensures whole { OnOk result (length index.new.items ≡ length slots.new.items) }
+    ensures slots_stay { OnErr result (slots.new.items ≡ slots.old.items) }
+    ensures index_stays { OnErr result (index.new.items ≡ index.old.items) }
+{
+    reserve(slots, index, new.len())?;
+    change(slots, rows, restarts, new);
+    index_all(slots, index);
+    Ok(())
+}
+
 impl<A: Allocator + Clone> ScanTable<A> {
     /// A table without slots, whose first number is this one.
     pub fn new(alloc: A, next: u64) -> Result<ScanTable<A>, AllocError>
@@ -175,9 +199,6 @@ impl<A: Allocator + Clone> ScanTable<A> {
         ensures cause { IfErr result (λ fault. IsCause self.old.slots self.old.next rows.now fault) }
     {
         let plan = plan_scan(&self.alloc, &self.slots, &self.index, rows, self.next)?;
-        if reserve(&mut self.slots, &mut self.index, plan.gifts.slots.len()).is_err() {
-            return Err(ScanFault::OutOfMemory);
-        }
         let Plan {
             starts,
             drops,
@@ -190,8 +211,9 @@ impl<A: Allocator + Clone> ScanTable<A> {
             number,
             ..
         } = gifts;
-        change(&mut self.slots, rows, &restarts, slots);
-        index_all(&self.slots, &mut self.index);
+        let Ok(()) = carry_out(&mut self.slots, &mut self.index, rows, &restarts, slots) else {
+            return Err(ScanFault::OutOfMemory);
+        };
         self.next = number;
         Ok(ScanOut {
             starts: Parts::from_vec(starts),
