@@ -19,8 +19,8 @@ pub AllPairs-append : {T : Type 0} (R : T → T → Type 0) (xs ys : List T) →
 AllPairs-append R [] ys one two cross = two
 AllPairs-append R (x ∷ xs) ys one two cross =
     AllPairs-cons R x (xs ++ ys)
-      (All-append (R x) xs ys (λ k d b. one 0 (suc k) d (omega arith) (omega arith)) (All-head (λ z. All (R z) ys) x xs cross))
-      (AllPairs-append R xs ys (λ i j d b w. one (suc i) (suc j) d (omega arith) (omega arith)) two (All-tail (λ z. All (R z) ys) x xs cross))
+    (All-append (R x) xs ys (λ k d b. one 0 (suc k) d (omega arith) (omega arith)) (All-head (λ z. All (R z) ys) x xs cross))
+    (AllPairs-append R xs ys (λ i j d b w. one (suc i) (suc j) d (omega arith) (omega arith)) two (All-tail (λ z. All (R z) ys) x xs cross))
 
 pub pairs-head : {T : Type 0} (R : T → T → Type 0) (x : T) (xs : List T) → AllPairs R (x ∷ xs) → All (R x) xs
 pairs-head R x xs pairs k d b = pairs 0 (suc k) d (omega arith) (omega arith)
@@ -36,12 +36,12 @@ data Gift (slots : List SlotState) (rows : List Row) (n : ℕ) (row : Row) : Typ
 gift : (slots : List SlotState) (rows : List Row) (n : ℕ) (row : Row) → Gift slots rows n row
 gift slots rows n row =
     elim (slot_of slots row) as (λ s. slot_of slots row ≡ s → Gift slots rows n row) [
-      None ↦ λ none.
-        elim (is_refused slots rows row) as (λ b. is_refused slots rows row ≡ b → Gift slots rows n row) [
-          true ↦ λ is. Nothing (rw (none, is) refl)
-        | false ↦ λ is. ASlot (rw (none, is) refl) (rw (none, is) refl) none
-        ] refl
-    | (Some slot) ↦ λ some. Nothing (rw some refl)
+      | None ↦ λ none.
+          elim (is_refused slots rows row) as (λ b. is_refused slots rows row ≡ b → Gift slots rows n row) [
+            | true ↦ λ is. Nothing (rw (none, is) refl)
+            | false ↦ λ is. ASlot (rw (none, is) refl) (rw (none, is) refl) none
+          ] refl
+      | (Some slot) ↦ λ some. Nothing (rw some refl)
     ] refl
 
 -- the new slots of some rows, from a number on
@@ -54,11 +54,11 @@ all-slots : (P : SlotState → Type 0) (slots : List SlotState) (rows : List Row
     All P (slots_from slots rows (n + need slots rows row) rest) → All P (slots_from slots rows n (row ∷ rest))
 all-slots P slots rows n row rest here later =
     All-append P (new_slots_at slots rows n row) (slots_from slots rows (n + need slots rows row) rest)
-      (elim (gift slots rows n row) [
-        (Nothing is) ↦ subst (λ xs. All P xs) (sym is) (All-nil P)
+    (elim (gift slots rows n row) [
+      | (Nothing is) ↦ subst (λ xs. All P xs) (sym is) (All-nil P)
       | (ASlot is needs none) ↦ subst (λ xs. All P xs) (sym is) (All-cons P (new_slot n row) [] (here is needs none) (All-nil P))
-      ])
-      later
+    ])
+    later
 
 -- The numbers of new slots are given from n on.
 pub slots-above : (slots : List SlotState) (rows : List Row) (low n : ℕ) (rest : List Row) → low ≤ n →
@@ -66,7 +66,7 @@ pub slots-above : (slots : List SlotState) (rows : List Row) (low n : ℕ) (rest
 slots-above slots rows low n [] le = All-nil (λ (slot : SlotState). low ≤ slot.number)
 slots-above slots rows low n (row ∷ rest) le =
     all-slots (λ (slot : SlotState). low ≤ slot.number) slots rows n row rest (λ is needs none. le)
-      (slots-above slots rows low (n + need slots rows row) rest (omega arith))
+    (slots-above slots rows low (n + need slots rows row) rest (omega arith))
 
 life-more : (next more : ℕ) (log : Option Life) → next ≤ more → IfSome log (λ (life : Life). life.number < next) → IfSome log (λ (life : Life). life.number < more)
 life-more next more None le below = below
@@ -80,14 +80,14 @@ numbered-more next more slot le is =
 new-numbered : (n : ℕ) (row : Row) → IsNumbered (n + (1 + length (roles_of row))) (new_slot n row)
 new-numbered n row =
     elim (is_pair row) as (λ b. IsNumbered (n + (1 + length (if b then Main ∷ Log ∷ [] else Main ∷ [])))
-        (record {
-          number = n;
-          name = row.name;
-          main = record { number = n + 1; has_ended = false };
-          log = if b then Some (record { number = n + 2; has_ended = false }) else None;
-        })) [
-      true ↦ record { number = omega arith; main = omega arith; log = omega arith }
-    | false ↦ record { number = omega arith; main = omega arith; log = tt }
+    (record {
+      number = n;
+      name = row.name;
+      main = record { number = n + 1; has_ended = false };
+      log = if b then Some (record { number = n + 2; has_ended = false }) else None;
+    })) [
+      | true ↦ record { number = omega arith; main = omega arith; log = omega arith }
+      | false ↦ record { number = omega arith; main = omega arith; log = tt }
     ]
 
 pub slots-numbered : (slots : List SlotState) (rows : List Row) (n : ℕ) (rest : List Row) →
@@ -95,12 +95,12 @@ pub slots-numbered : (slots : List SlotState) (rows : List Row) (n : ℕ) (rest 
 slots-numbered slots rows n [] = All-nil (IsNumbered (n + sum_by (need slots rows) []))
 slots-numbered slots rows n (row ∷ rest) =
     let whole : n + sum_by (need slots rows) (row ∷ rest) ≡ n + need slots rows row + sum_by (need slots rows) rest =
-      omega (arith, sum_by-cons (need slots rows) row rest) in
+    omega (arith, sum_by-cons (need slots rows) row rest) in
     subst (λ next. All (IsNumbered next) (slots_from slots rows n (row ∷ rest))) (sym whole)
-      (all-slots (IsNumbered (n + need slots rows row + sum_by (need slots rows) rest)) slots rows n row rest
-        (λ is needs none. numbered-more (n + (1 + length (roles_of row))) (n + need slots rows row + sum_by (need slots rows) rest) (new_slot n row)
-          (omega (arith, needs)) (new-numbered n row))
-        (slots-numbered slots rows (n + need slots rows row) rest))
+    (all-slots (IsNumbered (n + need slots rows row + sum_by (need slots rows) rest)) slots rows n row rest
+    (λ is needs none. numbered-more (n + (1 + length (roles_of row))) (n + need slots rows row + sum_by (need slots rows) rest) (new_slot n row)
+    (omega (arith, needs)) (new-numbered n row))
+    (slots-numbered slots rows (n + need slots rows row) rest))
 
 -- one row's new slot before those of later rows
 pairs-slots : (R : SlotState → SlotState → Type 0) (slots : List SlotState) (rows : List Row) (n : ℕ) (row : Row) (rest : List Row) →
@@ -108,18 +108,18 @@ pairs-slots : (R : SlotState → SlotState → Type 0) (slots : List SlotState) 
     AllPairs R (slots_from slots rows (n + need slots rows row) rest) → AllPairs R (slots_from slots rows n (row ∷ rest))
 pairs-slots R slots rows n row rest here later =
     elim (gift slots rows n row) [
-      (Nothing is) ↦ subst (λ xs. AllPairs R (xs ++ slots_from slots rows (n + need slots rows row) rest)) (sym is) later
-    | (ASlot is needs none) ↦ subst (λ xs. AllPairs R (xs ++ slots_from slots rows (n + need slots rows row) rest)) (sym is)
-        (AllPairs-cons R (new_slot n row) (slots_from slots rows (n + need slots rows row) rest) (here needs) later)
+      | (Nothing is) ↦ subst (λ xs. AllPairs R (xs ++ slots_from slots rows (n + need slots rows row) rest)) (sym is) later
+      | (ASlot is needs none) ↦ subst (λ xs. AllPairs R (xs ++ slots_from slots rows (n + need slots rows row) rest)) (sym is)
+          (AllPairs-cons R (new_slot n row) (slots_from slots rows (n + need slots rows row) rest) (here needs) later)
     ]
 
 pub slots-rising : (slots : List SlotState) (rows : List Row) (n : ℕ) (rest : List Row) → AllPairs IsBefore (slots_from slots rows n rest)
 slots-rising slots rows n [] = λ i j d b w. absurd (omega arith)
 slots-rising slots rows n (row ∷ rest) =
     pairs-slots IsBefore slots rows n row rest
-      (λ needs. All-weaker (λ (slot : SlotState). n + 1 ≤ slot.number) (IsBefore (new_slot n row)) (λ slot le. omega (arith, le)) (slots_from slots rows (n + need slots rows row) rest)
-        (slots-above slots rows (n + 1) (n + need slots rows row) rest (omega (arith, needs))))
-      (slots-rising slots rows (n + need slots rows row) rest)
+    (λ needs. All-weaker (λ (slot : SlotState). n + 1 ≤ slot.number) (IsBefore (new_slot n row)) (λ slot le. omega (arith, le)) (slots_from slots rows (n + need slots rows row) rest)
+    (slots-above slots rows (n + 1) (n + need slots rows row) rest (omega (arith, needs))))
+    (slots-rising slots rows (n + need slots rows row) rest)
 
 -- What holds of each row's name holds of each new slot's.
 slots-named : (P : List ℕ → Type 0) (slots : List SlotState) (rows : List Row) (n : ℕ) (rest : List Row) →
@@ -127,7 +127,7 @@ slots-named : (P : List ℕ → Type 0) (slots : List SlotState) (rows : List Ro
 slots-named P slots rows n [] all = All-nil (λ (slot : SlotState). P slot.name)
 slots-named P slots rows n (row ∷ rest) all =
     all-slots (λ (slot : SlotState). P slot.name) slots rows n row rest (λ is needs none. All-head (λ (r : Row). P r.name) row rest all)
-      (slots-named P slots rows (n + need slots rows row) rest (All-tail (λ (r : Row). P r.name) row rest all))
+    (slots-named P slots rows (n + need slots rows row) rest (All-tail (λ (r : Row). P r.name) row rest all))
 
 -- New slots have different names.
 pub slots-differ : (slots : List SlotState) (rows : List Row) (n : ℕ) (rest : List Row) → AllPairs IsBelow rest →
@@ -135,18 +135,18 @@ pub slots-differ : (slots : List SlotState) (rows : List Row) (n : ℕ) (rest : 
 slots-differ slots rows n [] pairs = λ i j d b w. absurd (omega arith)
 slots-differ slots rows n (row ∷ rest) pairs =
     pairs-slots (λ (a : SlotState) (b : SlotState). a.name ≢ b.name) slots rows n row rest
-      (λ needs. slots-named (λ name. row.name ≢ name) slots rows (n + need slots rows row) rest
-        (All-weaker (IsBelow row) (λ (other : Row). row.name ≢ other.name) (λ other less. below-differs row.name other.name less) rest (pairs-head IsBelow row rest pairs)))
-      (slots-differ slots rows (n + need slots rows row) rest (pairs-tail IsBelow row rest pairs))
+    (λ needs. slots-named (λ name. row.name ≢ name) slots rows (n + need slots rows row) rest
+    (All-weaker (IsBelow row) (λ (other : Row). row.name ≢ other.name) (λ other less. below-differs row.name other.name less) rest (pairs-head IsBelow row rest pairs)))
+    (slots-differ slots rows (n + need slots rows row) rest (pairs-tail IsBelow row rest pairs))
 
 -- where no slot has a row's name
 none-named : (slots : List SlotState) (row : Row) → slot_of slots row ≡ None → All (λ (slot : SlotState). slot.name ≢ row.name) slots
 none-named [] row none = All-nil (λ (slot : SlotState). slot.name ≢ row.name)
 none-named (slot ∷ slots) row none =
     elim (is_name row.name slot.name) as (λ b. is_name row.name slot.name ≡ b → (if b then Some slot else slot_of slots row) ≡ None → All (λ (s : SlotState). s.name ≢ row.name) (slot ∷ slots)) [
-      true ↦ λ is e. cc
-    | false ↦ λ is e.
-        All-cons (λ (s : SlotState). s.name ≢ row.name) slot slots
+      | true ↦ λ is e. cc
+      | false ↦ λ is e.
+          All-cons (λ (s : SlotState). s.name ≢ row.name) slot slots
           (λ same. (let yes : is_name row.name slot.name ≡ true = same-named row.name slot.name (sym same) in cc))
           (none-named slots row e)
     ] refl none
@@ -157,8 +157,8 @@ pub slots-new : (slots : List SlotState) (rows : List Row) (n : ℕ) (rest : Lis
 slots-new slots rows n [] = All-nil (λ (new : SlotState). All (λ (slot : SlotState). slot.name ≢ new.name) slots)
 slots-new slots rows n (row ∷ rest) =
     all-slots (λ (new : SlotState). All (λ (slot : SlotState). slot.name ≢ new.name) slots) slots rows n row rest
-      (λ is needs none. none-named slots row none)
-      (slots-new slots rows (n + need slots rows row) rest)
+    (λ is needs none. none-named slots row none)
+    (slots-new slots rows (n + need slots rows row) rest)
 
 lives-below : (next n slot : ℕ) (roles : List Role) → n + length roles ≤ next → All (λ (part : PartId). part.life < next) (lives_from n slot roles)
 lives-below next n slot [] le = All-nil (λ (part : PartId). part.life < next)
@@ -169,10 +169,10 @@ restarts-here : (next : ℕ) (slots : List SlotState) (rows : List Row) (n : ℕ
     All (λ (part : PartId). part.life < next) (restarts_at slots rows n row)
 restarts-here next slots rows n row le =
     elim (slot_of slots row) as (λ s. slot_of slots row ≡ s → All (λ (part : PartId). part.life < next) (restarts_where n s)) [
-      None ↦ λ none. All-nil (λ (part : PartId). part.life < next)
-    | (Some slot) ↦ λ some.
-        let needs : need slots rows row ≡ length (ended_roles slot) = rw some refl in
-        lives-below next n slot.number (ended_roles slot) (omega (arith, needs))
+      | None ↦ λ none. All-nil (λ (part : PartId). part.life < next)
+      | (Some slot) ↦ λ some.
+          let needs : need slots rows row ≡ length (ended_roles slot) = rw some refl in
+          lives-below next n slot.number (ended_roles slot) (omega (arith, needs))
     ] refl
 
 -- The lives of restarts are below the next number.
@@ -182,5 +182,5 @@ restarts-below next slots rows n [] le = All-nil (λ (part : PartId). part.life 
 restarts-below next slots rows n (row ∷ rest) le =
     let sum = sum_by-cons (need slots rows) row rest in
     All-append (λ (part : PartId). part.life < next) (restarts_at slots rows n row) (in_turn (need slots rows) (restarts_at slots rows) (n + need slots rows row) rest)
-      (restarts-here next slots rows n row (omega (arith, sum)))
-      (restarts-below next slots rows (n + need slots rows row) rest (omega (arith, sum)))
+    (restarts-here next slots rows n row (omega (arith, sum)))
+    (restarts-below next slots rows (n + need slots rows row) rest (omega (arith, sum)))

@@ -7,4 +7,5 @@ mod Searched
 mod Placed
 mod Given
 mod Dropped
+mod Rows
 mod After

@@ -35,6 +35,6 @@ same-named a b same = (bytes_eq-Decides a b).1 same
 pub differs-named : (a b : List ℕ) → a ≢ b → is_name a b ≡ false
 differs-named a b differs =
     elim (is_name a b) as (λ t. is_name a b ≡ t → t ≡ false) [
-      true ↦ λ is. absurd (differs (named-same a b is))
-    | false ↦ λ is. refl
+      | true ↦ λ is. absurd (differs (named-same a b is))
+      | false ↦ λ is. refl
     ] refl

@@ -26,9 +26,9 @@ others slots number place rising at k d within other =
     let here : (get_or slots place d).number ≡ number = at.here d in
     let in-place : place < length slots = at.within in
     elim (cases_lt k place) [
-      (inl below) ↦ let less : (get_or slots k d).number < (get_or slots place d).number = rising k place d below in-place in λ same. absurd (omega arith)
-    | (inr above) ↦
-        let less : (get_or slots place d).number < (get_or slots k d).number = rising place k d (omega arith) within in λ same. absurd (omega arith)
+      | (inl below) ↦ let less : (get_or slots k d).number < (get_or slots place d).number = rising k place d below in-place in λ same. absurd (omega arith)
+      | (inr above) ↦
+          let less : (get_or slots place d).number < (get_or slots k d).number = rising place k d (omega arith) within in λ same. absurd (omega arith)
     ]
 
 -- where f leaves each element as it is
@@ -52,26 +52,26 @@ pub any-one : {T : Type 0} (p : T → Bool) (xs : List T) (place : ℕ) (old : T
     ((k : ℕ) (d : T) → k < length xs → k ≢ place → p (get_or xs k d) ≡ false) → p old ≡ list_any p xs
 any-one p xs place old within read h =
     elim (p old) as (λ b. p old ≡ b → b ≡ list_any p xs) [
-      true ↦ λ is. sym (list_any_at p xs place old within (ap p (sym read) ∙ is))
-    | false ↦ λ is. sym (list_any_none p xs (λ k d b.
-        elim (cases_lt k place) [
-          (inl below) ↦ h k d b (omega arith)
-        | (inr above) ↦ elim (cases_lt place k) [
-            (inl below) ↦ h k d b (omega arith)
-          | (inr same) ↦
-              let e : k ≡ place = omega arith in
-              ap (λ n. p (get_or xs n d)) e ∙ ap p (get_or_default xs place d old within ∙ sym read) ∙ is
-          ]
-        ]))
+      | true ↦ λ is. sym (list_any_at p xs place old within (ap p (sym read) ∙ is))
+      | false ↦ λ is. sym (list_any_none p xs (λ k d b.
+          elim (cases_lt k place) [
+            | (inl below) ↦ h k d b (omega arith)
+            | (inr above) ↦ elim (cases_lt place k) [
+              | (inl below) ↦ h k d b (omega arith)
+              | (inr same) ↦
+                  let e : k ≡ place = omega arith in
+                  ap (λ n. p (get_or xs n d)) e ∙ ap p (get_or_default xs place d old within ∙ sym read) ∙ is
+            ]
+          ]))
     ] refl
 
 other-ended : (part : PartId) (slot : SlotState) → slot.number ≢ part.slot → slot_ended part slot ≡ slot
-other-ended part slot other = 
+other-ended part slot other =
     let no : (slot.number == part.slot) ≡ false = grind (arith, nat_tests) in
     rw no refl
 
 other-running : (part : PartId) (slot : SlotState) → slot.number ≢ part.slot → has_running part slot ≡ false
-other-running part slot other = 
+other-running part slot other =
     let no : (slot.number == part.slot) ≡ false = grind (arith, nat_tests) in
     rw no refl
 
@@ -84,14 +84,14 @@ pub ended-at : (slots : List SlotState) (part : PartId) (place : ℕ) (d new : S
 ended-at slots part place d new rising at is =
     ap (set slots place) is ∙
     map-one (slot_ended part) slots place (get_or slots place d) at.within (again slots place d at.within)
-      (λ k e b other. other-ended part (get_or slots k e) (others slots part.slot place rising at k e b other))
+    (λ k e b other. other-ended part (get_or slots k e) (others slots part.slot place rising at k e b other))
 
 pub running-at : (slots : List SlotState) (part : PartId) (place : ℕ) (d : SlotState) (result : Bool) → AllPairs IsBefore slots → IsPlaceOf slots part.slot place →
     result ≡ has_running part (get_or slots place d) → result ≡ list_any (has_running part) slots
 running-at slots part place d result rising at is =
     is ∙
     any-one (has_running part) slots place (get_or slots place d) at.within (again slots place d at.within)
-      (λ k e b other. other-running part (get_or slots k e) (others slots part.slot place rising at k e b other))
+    (λ k e b other. other-running part (get_or slots k e) (others slots part.slot place rising at k e b other))
 
 pub ended-nowhere : (slots : List SlotState) (part : PartId) → HasNot slots part.slot → slots ≡ map (slot_ended part) slots
 ended-nowhere slots part none = sym (map-none (slot_ended part) slots (λ k d b. other-ended part (get_or slots k d) (none k d b)))
@@ -105,8 +105,8 @@ other-renewed part slot other =
     let main : is_at part slot.number Main ≡ false = rw no (and-false (is_main part.role)) in
     let log : is_at part slot.number Log ≡ false = rw no (and-false (not (is_main part.role))) in
     elim slot.log as (λ l. slot.log ≡ l → renewed (part ∷ []) slot ≡ slot) [
-      None ↦ λ e. rw (main, e) refl
-    | (Some life) ↦ λ e. rw (main, e, log) refl
+      | None ↦ λ e. rw (main, e) refl
+      | (Some life) ↦ λ e. rw (main, e, log) refl
     ] refl
 
 pub renewed-at : (slots : List SlotState) (part : PartId) (place : ℕ) (d new : SlotState) → AllPairs IsBefore slots → IsPlaceOf slots part.slot place →
@@ -114,7 +114,7 @@ pub renewed-at : (slots : List SlotState) (part : PartId) (place : ℕ) (d new :
 renewed-at slots part place d new rising at is =
     ap (set slots place) is ∙
     map-one (renewed (part ∷ [])) slots place (get_or slots place d) at.within (again slots place d at.within)
-      (λ k e b other. other-renewed part (get_or slots k e) (others slots part.slot place rising at k e b other))
+    (λ k e b other. other-renewed part (get_or slots k e) (others slots part.slot place rising at k e b other))
 
 pub renewed-nowhere : (slots : List SlotState) (part : PartId) → HasNot slots part.slot → slots ≡ map (renewed (part ∷ [])) slots
 renewed-nowhere slots part none = sym (map-none (renewed (part ∷ [])) slots (λ k d b. other-renewed part (get_or slots k d) (none k d b)))
@@ -122,24 +122,24 @@ renewed-nowhere slots part none = sym (map-none (renewed (part ∷ [])) slots (�
 -- renewed by the first of these parts, and then by the others
 renewed-more : (part : PartId) (parts : List PartId) (slot : SlotState) → renewed parts (renewed (part ∷ []) slot) ≡ renewed (part ∷ parts) slot
 renewed-more part parts slot =
-    elim slot.log as (λ l. 
-        record {
-          number = slot.number;
-          name = slot.name;
-          main = restarted parts slot.number Main (restarted (part ∷ []) slot.number Main slot.main);
-          log = option_map (restarted parts slot.number Log) (option_map (restarted (part ∷ []) slot.number Log) l);
-        } ≡ record {
-          number = slot.number;
-          name = slot.name;
-          main = restarted (part ∷ parts) slot.number Main slot.main;
-          log = option_map (restarted (part ∷ parts) slot.number Log) l;
-        }) [ None ↦ refl | (Some life) ↦ refl ]
+    elim slot.log as (λ l.
+    record {
+      number = slot.number;
+      name = slot.name;
+      main = restarted parts slot.number Main (restarted (part ∷ []) slot.number Main slot.main);
+      log = option_map (restarted parts slot.number Log) (option_map (restarted (part ∷ []) slot.number Log) l);
+    } ≡ record {
+      number = slot.number;
+      name = slot.name;
+      main = restarted (part ∷ parts) slot.number Main slot.main;
+      log = option_map (restarted (part ∷ parts) slot.number Log) l;
+    }) [ None ↦ refl | (Some life) ↦ refl ]
 
 renewed-none : (slot : SlotState) → renewed [] slot ≡ slot
 renewed-none slot =
     elim slot.log as (λ l. slot.log ≡ l → renewed [] slot ≡ slot) [
-      None ↦ λ e. rw e refl
-    | (Some life) ↦ λ e. rw e refl
+      | None ↦ λ e. rw e refl
+      | (Some life) ↦ λ e. rw e refl
     ] refl
 
 pub renewed-all : (part : PartId) (parts : List PartId) (slots : List SlotState) → map (renewed parts) (map (renewed (part ∷ [])) slots) ≡ map (renewed (part ∷ parts)) slots
@@ -183,7 +183,7 @@ slot-at-here (first ∷ slots) number (suc place) slot rising at read =
     let other : first.number ≢ number = others (first ∷ slots) number (suc place) rising at 0 first (omega arith) (omega arith) in
     let no : (first.number == number) ≡ false = grind (arith, nat_tests) in
     slot-at-here slots number place slot (λ i j d b w. rising (suc i) (suc j) d (omega arith) (omega arith))
-      (record { within = omega (arith, at.within); here = λ d. at.here d }) read ∙ rw no refl
+    (record { within = omega (arith, at.within); here = λ d. at.here d }) read ∙ rw no refl
 
 pub slot-at-nowhere : (slots : List SlotState) (number : ℕ) → HasNot slots number → None ≡ slot_at slots number
 slot-at-nowhere [] number none = refl

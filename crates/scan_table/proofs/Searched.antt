@@ -18,10 +18,10 @@ pub below-more : (names : List (List ℕ)) (index : List ℕ) (middle : ℕ) (na
     name_order (name_at names index middle) name ≡ Less → (k : ℕ) → k < middle + 1 → name_order (name_at names index k) name ≡ Less
 below-more names index middle name is within less k b =
     elim (cases_lt k middle) [
-      (inl below) ↦ nat_list_cmp_total.trans (name_at names index k) (name_at names index middle) name (is.rising k middle below within) less
-    | (inr same) ↦
-        let e : k ≡ middle = omega arith in
-        ap (λ n. name_order (name_at names index n) name) e ∙ less
+      | (inl below) ↦ nat_list_cmp_total.trans (name_at names index k) (name_at names index middle) name (is.rising k middle below within) less
+      | (inr same) ↦
+          let e : k ≡ middle = omega arith in
+          ap (λ n. name_order (name_at names index n) name) e ∙ less
     ]
 
 -- The names from a greater one on are greater.
@@ -29,13 +29,13 @@ pub above-more : (names : List (List ℕ)) (index : List ℕ) (middle : ℕ) (na
     name_order (name_at names index middle) name ≡ Greater → (k : ℕ) → middle ≤ k → k < length index → name_order (name_at names index k) name ≡ Greater
 above-more names index middle name is greater k b within =
     elim (cases_lt middle k) [
-      (inl below) ↦
-        nat_list_cmp_total.antisymm (name_at names index k) name ∙
-        ap ordering_reverse (nat_list_cmp_total.trans name (name_at names index middle) (name_at names index k)
+      | (inl below) ↦
+          nat_list_cmp_total.antisymm (name_at names index k) name ∙
+          ap ordering_reverse (nat_list_cmp_total.trans name (name_at names index middle) (name_at names index k)
           (above-below (name_at names index middle) name greater) (is.rising middle k below within))
-    | (inr same) ↦
-        let e : k ≡ middle = omega arith in
-        ap (λ n. name_order (name_at names index n) name) e ∙ greater
+      | (inr same) ↦
+          let e : k ≡ middle = omega arith in
+          ap (λ n. name_order (name_at names index n) name) e ∙ greater
     ]
 
 -- the name of the slot at a place of an index
@@ -76,10 +76,10 @@ pub searched-none : (slots : List SlotState) (index : List ℕ) (name : List ℕ
 searched-none slots index name at is whole searched k d b =
     let found = is.all k (omega (arith, whole)) in
     let read : name_at (names_of slots) index found.0 ≡ (get_or slots k d).name =
-      ap (λ n. get_or (names_of slots) n []) found.2 ∙ get_or-map (λ (s : SlotState). s.name) slots k d [] b in
+    ap (λ n. get_or (names_of slots) n []) found.2 ∙ get_or-map (λ (s : SlotState). s.name) slots k d [] b in
     elim (cases_lt found.0 at) [
-      (inl below) ↦ λ same. below-differs (name_at (names_of slots) index found.0) name (searched.1 found.0 below) (read ∙ same)
-    | (inr above) ↦ λ same. below-differs name (name_at (names_of slots) index found.0) (above-below (name_at (names_of slots) index found.0) name (searched.2 found.0 above found.1)) (sym (read ∙ same))
+      | (inl below) ↦ λ same. below-differs (name_at (names_of slots) index found.0) name (searched.1 found.0 below) (read ∙ same)
+      | (inr above) ↦ λ same. below-differs name (name_at (names_of slots) index found.0) (above-below (name_at (names_of slots) index found.0) name (searched.2 found.0 above found.1)) (sym (read ∙ same))
     ]
 
 -- the slots of a whole index have different names
@@ -88,7 +88,7 @@ pub slots-distinct : (slots : List SlotState) (index : List ℕ) → IsIndex (na
 slots-distinct slots index is whole i j d before within =
     let lengths : length (names_of slots) ≡ length slots = length-map slots (λ (s : SlotState). s.name) in
     let differ : get_or (names_of slots) i [] ≢ get_or (names_of slots) j [] =
-      index-distinct (names_of slots) index is (whole ∙ sym lengths) i j [] before (omega (arith, lengths)) in
+    index-distinct (names_of slots) index is (whole ∙ sym lengths) i j [] before (omega (arith, lengths)) in
     λ same. differ (get_or-map (λ (s : SlotState). s.name) slots i d [] (omega arith) ∙ same ∙ sym (get_or-map (λ (s : SlotState). s.name) slots j d [] within))
 
 -- The numbers up to a smaller one are smaller.
@@ -96,10 +96,10 @@ pub number-below : (slots : List SlotState) (middle number here : ℕ) → AllPa
     ((d : SlotState) → (get_or slots middle d).number ≡ here) → here < number → (k : ℕ) (d : SlotState) → k < middle + 1 → (get_or slots k d).number < number
 number-below slots middle number here rising within read less k d b =
     elim (cases_lt k middle) [
-      (inl below) ↦ (let h : (get_or slots k d).number < (get_or slots middle d).number = rising k middle d below within in omega (arith, h, read d))
-    | (inr same) ↦
-        let e : k ≡ middle = omega arith in
-        omega (arith, read d, ap (λ n. (get_or slots n d).number) e)
+      | (inl below) ↦ (let h : (get_or slots k d).number < (get_or slots middle d).number = rising k middle d below within in omega (arith, h, read d))
+      | (inr same) ↦
+          let e : k ≡ middle = omega arith in
+          omega (arith, read d, ap (λ n. (get_or slots n d).number) e)
     ]
 
 -- The numbers from a greater one on are greater.
@@ -107,12 +107,11 @@ pub number-above : (slots : List SlotState) (middle number here : ℕ) → AllPa
     ((d : SlotState) → (get_or slots middle d).number ≡ here) → number < here → (k : ℕ) (d : SlotState) → middle ≤ k → k < length slots → number < (get_or slots k d).number
 number-above slots middle number here rising read greater k d b within =
     elim (cases_lt middle k) [
-      (inl below) ↦ (let h : (get_or slots middle d).number < (get_or slots k d).number = rising middle k d below within in omega (arith, h, read d))
-    | (inr same) ↦
-        let e : k ≡ middle = omega arith in
-        omega (arith, read d, ap (λ n. (get_or slots n d).number) e)
+      | (inl below) ↦ (let h : (get_or slots middle d).number < (get_or slots k d).number = rising middle k d below within in omega (arith, h, read d))
+      | (inr same) ↦
+          let e : k ≡ middle = omega arith in
+          omega (arith, read d, ap (λ n. (get_or slots n d).number) e)
     ]
-
 
 -- the slot that a search found
 pub searched-some : (slots : List SlotState) (index : List ℕ) (row : Row) (name : List ℕ) (at : ℕ) (slot : SlotState) → IsIndex (names_of slots) index → length index ≡ length slots →
@@ -128,16 +127,16 @@ pub searched-new : (slots : List SlotState) (index : List ℕ) (name : List ℕ)
     IsSearched (names_of slots) index name result → (result ≡ Ok at) ⊎ (result ≡ Err at) → IsIndex (names_of slots) (insert index at (length index))
 searched-new slots index name slot result at is bound distinct read named searched so =
     let last : get_or (names_of slots) (length index) [] ≡ name =
-      get_or-map (λ (s : SlotState). s.name) slots (length index) slot [] bound ∙ sym (ap (λ (s : SlotState). s.name) read) ∙ sym named in
+    get_or-map (λ (s : SlotState). s.name) slots (length index) slot [] bound ∙ sym (ap (λ (s : SlotState). s.name) read) ∙ sym named in
     elim so [
-      (inl ok) ↦
-        let found : IsSearched (names_of slots) index name (Ok at) = subst (λ r. IsSearched (names_of slots) index name r) ok searched in
-        let place : get_or index at 0 < length index = is.within at found.0 in
-        let here : (get_or slots (get_or index at 0) slot).name ≡ (get_or slots (length index) slot).name =
+      | (inl ok) ↦
+          let found : IsSearched (names_of slots) index name (Ok at) = subst (λ r. IsSearched (names_of slots) index name r) ok searched in
+          let place : get_or index at 0 < length index = is.within at found.0 in
+          let here : (get_or slots (get_or index at 0) slot).name ≡ (get_or slots (length index) slot).name =
           sym (get_or-map (λ (s : SlotState). s.name) slots (get_or index at 0) slot [] (omega arith)) ∙
           equal-same (name_at (names_of slots) index at) name found.1 ∙ named ∙ ap (λ (s : SlotState). s.name) read in
-        absurd (distinct (get_or index at 0) (length index) slot place bound here)
-    | (inr err) ↦ index-insert (names_of slots) index at name is last (subst (λ r. IsSearched (names_of slots) index name r) err searched)
+          absurd (distinct (get_or index at 0) (length index) slot place bound here)
+      | (inr err) ↦ index-insert (names_of slots) index at name is last (subst (λ r. IsSearched (names_of slots) index name r) err searched)
     ]
 
 -- the number of the slot at a place

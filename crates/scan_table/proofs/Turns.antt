@@ -42,11 +42,11 @@ pub refused-at : (slots : List SlotState) (rows : List Row) (before : List Row) 
     is_refused slots rows row ≡ nat_le (room slots rows) (length (new_rows slots before))
 refused-at slots rows before row after whole rising is new =
     let ns : new_rows slots rows ≡ new_rows slots before ++ row ∷ new_rows slots after =
-      ap (new_rows slots) (sym whole) ∙ new_rows-append slots before (row ∷ after) ∙ ap (λ xs. new_rows slots before ++ xs) (new_rows-head slots row after is new) in
+    ap (new_rows slots) (sym whole) ∙ new_rows-append slots before (row ∷ after) ∙ ap (λ xs. new_rows slots before ++ xs) (new_rows-head slots row after is new) in
     among-later (new_rows slots rows) (room slots rows) (length (new_rows slots before)) row
-      (AllPairs-filter IsBelow (is_new slots) (eligible rows) (AllPairs-filter IsBelow is_eligible rows (rising-pairs rows rising)))
-      (rw (ns, length-append (new_rows slots before) (row ∷ new_rows slots after)) (omega arith))
-      (λ d. ap (λ xs. slice_index_or xs (length (new_rows slots before)) d) ns ∙ get_or-append_seam (new_rows slots before) row (new_rows slots after) d)
+    (AllPairs-filter IsBelow (is_new slots) (eligible rows) (AllPairs-filter IsBelow is_eligible rows (rising-pairs rows rising)))
+    (rw (ns, length-append (new_rows slots before) (row ∷ new_rows slots after)) (omega arith))
+    (λ d. ap (λ xs. slice_index_or xs (length (new_rows slots before)) d) ns ∙ get_or-append_seam (new_rows slots before) row (new_rows slots after) d)
 
 -- what a row needs, told by the count of new names before it
 pub need-at : (slots : List SlotState) (rows : List Row) (before : List Row) (row : Row) (after : List Row) →
@@ -54,8 +54,8 @@ pub need-at : (slots : List SlotState) (rows : List Row) (before : List Row) (ro
     need slots rows row ≡ need_where (nat_le (room slots rows) (length (new_rows slots before))) row (slot_of slots row)
 need-at slots rows before row after whole rising is =
     elim (slot_of slots row) as (λ s. slot_of slots row ≡ s → need_where (is_refused slots rows row) row s ≡ need_where (nat_le (room slots rows) (length (new_rows slots before))) row s) [
-      None ↦ λ none. ap (λ b. need_where b row None) (refused-at slots rows before row after whole rising is (ap is_none none))
-    | (Some slot) ↦ λ some. refl
+      | None ↦ λ none. ap (λ b. need_where b row None) (refused-at slots rows before row after whole rising is (ap is_none none))
+      | (Some slot) ↦ λ some. refl
     ] refl
 
 -- a row's needs, and those of the rest
@@ -65,10 +65,10 @@ turn-needs : (slots : List SlotState) (rows : List Row) (before : List Row) (row
     turn_need slots (nat_le (room slots rows) (length (new_rows slots before))) row + sum_by (need slots rows) (eligible after)
 turn-needs slots rows before row after whole rising =
     elim (is_eligible row) as (λ b. is_eligible row ≡ b →
-        sum_by (need slots rows) (if b then row ∷ eligible after else eligible after) ≡
-        (if b then need_where (nat_le (room slots rows) (length (new_rows slots before))) row (slot_of slots row) else 0) + sum_by (need slots rows) (eligible after)) [
-      true ↦ λ is. sum_by-cons (need slots rows) row (eligible after) ∙ ap (λ n. n + sum_by (need slots rows) (eligible after)) (need-at slots rows before row after whole rising is)
-    | false ↦ λ is. omega arith
+    sum_by (need slots rows) (if b then row ∷ eligible after else eligible after) ≡
+    (if b then need_where (nat_le (room slots rows) (length (new_rows slots before))) row (slot_of slots row) else 0) + sum_by (need slots rows) (eligible after)) [
+      | true ↦ λ is. sum_by-cons (need slots rows) row (eligible after) ∙ ap (λ n. n + sum_by (need slots rows) (eligible after)) (need-at slots rows before row after whole rising is)
+      | false ↦ λ is. omega arith
     ] refl
 
 pub row-needs : (slots : List SlotState) (rows : List Row) (i : ℕ) (d : Row) → i < length rows → AreRising rows →
@@ -81,8 +81,8 @@ row-needs slots rows i d within rising =
 count-one : (slots : List SlotState) (row : Row) → length (new_rows slots (row ∷ [])) ≡ (if is_counted slots row then 1 else 0)
 count-one slots row =
     elim (is_eligible row) as (λ b. length (filter (is_new slots) (if b then row ∷ [] else [])) ≡ (if (b && is_new slots row) then 1 else 0)) [
-      true ↦ elim (is_new slots row) as (λ b. length (if b then row ∷ [] else []) ≡ (if b then 1 else 0)) [ true ↦ refl | false ↦ refl ]
-    | false ↦ refl
+      | true ↦ elim (is_new slots row) as (λ b. length (if b then row ∷ [] else []) ≡ (if b then 1 else 0)) [ true ↦ refl | false ↦ refl ]
+      | false ↦ refl
     ]
 
 -- the new names, counted
@@ -102,13 +102,13 @@ turn-gifts : {T : Type 0} (slots : List SlotState) (rows : List Row) (gift : ℕ
     in_turn (need slots rows) gift (n + turn_need slots (nat_le (room slots rows) (length (new_rows slots before))) row) (eligible after)
 turn-gifts slots rows gift n before row after whole rising =
     elim (is_eligible row) as (λ b. is_eligible row ≡ b →
-        in_turn (need slots rows) gift n (if b then row ∷ eligible after else eligible after) ≡
-        (if b then gift n row else []) ++
-        in_turn (need slots rows) gift (n + (if b then need_where (nat_le (room slots rows) (length (new_rows slots before))) row (slot_of slots row) else 0)) (eligible after)) [
-      true ↦ λ is. ap (λ m. gift n row ++ in_turn (need slots rows) gift (n + m) (eligible after)) (need-at slots rows before row after whole rising is)
-    | false ↦ λ is.
-        let e : n ≡ n + 0 = omega arith in
-        ap (λ m. in_turn (need slots rows) gift m (eligible after)) e
+    in_turn (need slots rows) gift n (if b then row ∷ eligible after else eligible after) ≡
+    (if b then gift n row else []) ++
+    in_turn (need slots rows) gift (n + (if b then need_where (nat_le (room slots rows) (length (new_rows slots before))) row (slot_of slots row) else 0)) (eligible after)) [
+      | true ↦ λ is. ap (λ m. gift n row ++ in_turn (need slots rows) gift (n + m) (eligible after)) (need-at slots rows before row after whole rising is)
+      | false ↦ λ is.
+          let e : n ≡ n + 0 = omega arith in
+          ap (λ m. in_turn (need slots rows) gift m (eligible after)) e
     ] refl
 
 pub row-gifts : {T : Type 0} (slots : List SlotState) (rows : List Row) (gift : ℕ → Row → List T) (n : ℕ) (i : ℕ) (d : Row) → i < length rows → AreRising rows →
@@ -131,14 +131,14 @@ turn-slots : (slots : List SlotState) (rows : List Row) (n : ℕ) (before : List
     (if is_eligible row then new_slots_at slots rows n row else []) ≡ turn_slots slots (nat_le (room slots rows) (length (new_rows slots before))) n row
 turn-slots slots rows n before row after whole rising =
     elim (is_eligible row) as (λ b. is_eligible row ≡ b →
-        (if b then new_slots_at slots rows n row else []) ≡ (if b then new_slots_where (nat_le (room slots rows) (length (new_rows slots before))) n row (slot_of slots row) else [])) [
-      true ↦ λ is.
-        elim (slot_of slots row) as (λ s. slot_of slots row ≡ s →
-            new_slots_where (is_refused slots rows row) n row s ≡ new_slots_where (nat_le (room slots rows) (length (new_rows slots before))) n row s) [
-          None ↦ λ none. ap (λ b. new_slots_where b n row None) (refused-at slots rows before row after whole rising is (ap is_none none))
-        | (Some slot) ↦ λ some. refl
-        ] refl
-    | false ↦ λ is. refl
+    (if b then new_slots_at slots rows n row else []) ≡ (if b then new_slots_where (nat_le (room slots rows) (length (new_rows slots before))) n row (slot_of slots row) else [])) [
+      | true ↦ λ is.
+          elim (slot_of slots row) as (λ s. slot_of slots row ≡ s →
+          new_slots_where (is_refused slots rows row) n row s ≡ new_slots_where (nat_le (room slots rows) (length (new_rows slots before))) n row s) [
+            | None ↦ λ none. ap (λ b. new_slots_where b n row None) (refused-at slots rows before row after whole rising is (ap is_none none))
+            | (Some slot) ↦ λ some. refl
+          ] refl
+      | false ↦ λ is. refl
     ] refl
 
 pub row-slots : (slots : List SlotState) (rows : List Row) (n i : ℕ) (d : Row) → i < length rows → AreRising rows →
@@ -148,7 +148,7 @@ pub row-slots : (slots : List SlotState) (rows : List Row) (n i : ℕ) (d : Row)
 row-slots slots rows n i d within rising =
     row-gifts slots rows (new_slots_at slots rows) n i d within rising ∙
     ap (λ (xs : List SlotState). xs ++ in_turn (need slots rows) (new_slots_at slots rows) (n + turn_need slots (nat_le (room slots rows) (length (new_rows slots (take i rows)))) (slice_index_or rows i d)) (eligible (drop (i + 1) rows)))
-      (turn-slots slots rows n (take i rows) (slice_index_or rows i d) (drop (i + 1) rows) (parted rows i d within) rising)
+    (turn-slots slots rows n (take i rows) (slice_index_or rows i d) (drop (i + 1) rows) (parted rows i d within) rising)
 
 -- what is made so far and what is left, after a turn
 pub turned : {T : Type 0} (made made' given rest rest' whole : List T) → made ++ rest ≡ whole → rest ≡ given ++ rest' → made' ≡ made ++ given → made' ++ rest' ≡ whole
@@ -185,8 +185,8 @@ pub slots-turned : (slots : List SlotState) (rows : List Row) (n n' i made r : �
     list' ++ in_turn (need slots rows) (new_slots_at slots rows) n' (eligible (drop (i + 1) rows)) ≡ whole
 slots-turned slots rows n n' i made r d row list list' whole within rising at made-is r-is n-is all more =
     turned list list' (turn_slots slots (nat_le r made) n row) (in_turn (need slots rows) (new_slots_at slots rows) n (eligible (drop i rows)))
-      (in_turn (need slots rows) (new_slots_at slots rows) n' (eligible (drop (i + 1) rows))) whole all
-      (rw (n-is, sym at, made-is, r-is) (row-slots slots rows n i d within rising)) more
+    (in_turn (need slots rows) (new_slots_at slots rows) n' (eligible (drop (i + 1) rows))) whole all
+    (rw (n-is, sym at, made-is, r-is) (row-slots slots rows n i d within rising)) more
 
 pub restarts-turned : (slots : List SlotState) (rows : List Row) (n n' i made r : ℕ) (d row : Row) (list list' whole : List PartId) → i < length rows → AreRising rows →
     slice_index_or rows i d ≡ row → made ≡ length (new_rows slots (take i rows)) → r ≡ room slots rows →
@@ -196,8 +196,8 @@ pub restarts-turned : (slots : List SlotState) (rows : List Row) (n n' i made r 
     list' ++ in_turn (need slots rows) (restarts_at slots rows) n' (eligible (drop (i + 1) rows)) ≡ whole
 restarts-turned slots rows n n' i made r d row list list' whole within rising at made-is r-is n-is all more =
     turned list list' (turn_restarts slots n row) (in_turn (need slots rows) (restarts_at slots rows) n (eligible (drop i rows)))
-      (in_turn (need slots rows) (restarts_at slots rows) n' (eligible (drop (i + 1) rows))) whole all
-      (rw (n-is, sym at, made-is, r-is) (row-gifts slots rows (restarts_at slots rows) n i d within rising)) more
+    (in_turn (need slots rows) (restarts_at slots rows) n' (eligible (drop (i + 1) rows))) whole all
+    (rw (n-is, sym at, made-is, r-is) (row-gifts slots rows (restarts_at slots rows) n i d within rising)) more
 
 -- what is left behind a place of a list with one more element
 drop-one : {T : Type 0} (r : ℕ) (xs : List T) (y : T) → drop r (xs ++ y ∷ []) ≡ drop r xs ++ (if nat_le r (length xs) then y ∷ [] else [])
@@ -220,8 +220,8 @@ drop-more r xs false y = ap (drop r) (append-nil xs) ∙ sym (append-nil (drop r
 new-one : (slots : List SlotState) (row : Row) → new_rows slots (row ∷ []) ≡ (if is_counted slots row then row ∷ [] else [])
 new-one slots row =
     elim (is_eligible row) as (λ b. filter (is_new slots) (if b then row ∷ [] else []) ≡ (if (b && is_new slots row) then row ∷ [] else [])) [
-      true ↦ elim (is_new slots row) as (λ b. (if b then row ∷ [] else []) ≡ (if b then row ∷ [] else [])) [ true ↦ refl | false ↦ refl ]
-    | false ↦ refl
+      | true ↦ elim (is_new slots row) as (λ b. (if b then row ∷ [] else []) ≡ (if b then row ∷ [] else [])) [ true ↦ refl | false ↦ refl ]
+      | false ↦ refl
     ]
 
 names-of-one : (b : Bool) (row : Row) → map (λ (other : Row). other.name) (if b then row ∷ [] else []) ≡ (if b then row.name ∷ [] else [])
@@ -236,14 +236,14 @@ pub refused-turned : (slots : List SlotState) (rows : List Row) (i made r : ℕ)
     list' ≡ map (λ (other : Row). other.name) (drop r (new_rows slots (take (i + 1) rows)))
 refused-turned slots rows i made r d row list list' within at made-is r-is so more =
     let next : new_rows slots (take (i + 1) rows) ≡ new_rows slots (take i rows) ++ (if is_counted slots row then row ∷ [] else []) =
-      ap (new_rows slots) (take-next rows i d within) ∙ new_rows-append slots (take i rows) (slice_index_or rows i d ∷ []) ∙
-      ap (λ (x : Row). new_rows slots (take i rows) ++ new_rows slots (x ∷ [])) at ∙
-      ap (λ xs. new_rows slots (take i rows) ++ xs) (new-one slots row) in
+    ap (new_rows slots) (take-next rows i d within) ∙ new_rows-append slots (take i rows) (slice_index_or rows i d ∷ []) ∙
+    ap (λ (x : Row). new_rows slots (take i rows) ++ new_rows slots (x ∷ [])) at ∙
+    ap (λ xs. new_rows slots (take i rows) ++ xs) (new-one slots row) in
     let cut : map (λ (other : Row). other.name) (drop r (new_rows slots (take (i + 1) rows))) ≡ list ++ turn_refused slots (nat_le r made) row =
-      ap (λ xs. map (λ (other : Row). other.name) (drop r xs)) next ∙
-      ap (map (λ (other : Row). other.name)) (drop-more r (new_rows slots (take i rows)) (is_counted slots row) row) ∙
-      map-append (λ (other : Row). other.name) (drop r (new_rows slots (take i rows))) (if is_counted slots row && nat_le r (length (new_rows slots (take i rows))) then row ∷ [] else []) ∙
-      ap (λ xs. xs ++ map (λ (other : Row). other.name) (if is_counted slots row && nat_le r (length (new_rows slots (take i rows))) then row ∷ [] else [])) (sym so) ∙
-      ap (λ xs. list ++ xs) (names-of-one (is_counted slots row && nat_le r (length (new_rows slots (take i rows)))) row) ∙
-      ap (λ n. list ++ (if is_counted slots row && nat_le r n then row.name ∷ [] else [])) (sym made-is) in
+    ap (λ xs. map (λ (other : Row). other.name) (drop r xs)) next ∙
+    ap (map (λ (other : Row). other.name)) (drop-more r (new_rows slots (take i rows)) (is_counted slots row) row) ∙
+    map-append (λ (other : Row). other.name) (drop r (new_rows slots (take i rows))) (if is_counted slots row && nat_le r (length (new_rows slots (take i rows))) then row ∷ [] else []) ∙
+    ap (λ xs. xs ++ map (λ (other : Row). other.name) (if is_counted slots row && nat_le r (length (new_rows slots (take i rows))) then row ∷ [] else [])) (sym so) ∙
+    ap (λ xs. list ++ xs) (names-of-one (is_counted slots row && nat_le r (length (new_rows slots (take i rows)))) row) ∙
+    ap (λ n. list ++ (if is_counted slots row && nat_le r n then row.name ∷ [] else [])) (sym made-is) in
     more ∙ sym cut

@@ -60,7 +60,7 @@ life_ended part role life = record { number = life.number; has_ended = life.has_
 abbrev pub slot_ended : PartId → SlotState → SlotState
 slot_ended part slot =
     if slot.number == part.slot then
-      record { number = slot.number; name = slot.name; main = life_ended part Main slot.main; log = option_map (life_ended part Log) slot.log }
+    record { number = slot.number; name = slot.name; main = life_ended part Main slot.main; log = option_map (life_ended part Log) slot.log }
     else slot
 
 -- A table after the end of a part: only that part's flag changes.

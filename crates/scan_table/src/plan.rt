@@ -12,15 +12,22 @@ use crate::part::{PartId, Role};
 use crate::row::{DirRow, check_order};
 use crate::slot::{Life, MAX_SLOTS, Slot};
 use std::alloc::{AllocError, Allocator, Global};
+use std::cmp::Ordering;
 use tai_status::Name;
 
 /// Whether a slot has an eligible row.
 fn has_row<A: Allocator>(rows: &[DirRow<A>], slot: &Slot<A>) -> bool
+    requires { AreRising rows.now }
     ensures { result ≡ has_row rows.now slot.now }
 {
-    for row in rows {
-        if row.is_eligible() && row.name() == slot.name() {
-            return true;
+    let mut low = 0;
+    let mut high = rows.len();
+    while low < high {
+        let middle = low + (high - low) / 2;
+        match rows[middle].name().cmp(slot.name()) {
+            Ordering::Less => low = middle + 1,
+            Ordering::Equal => return rows[middle].is_eligible(),
+            Ordering::Greater => high = middle,
         }
     }
     false
@@ -28,6 +35,7 @@ fn has_row<A: Allocator>(rows: &[DirRow<A>], slot: &Slot<A>) -> bool
 
 /// Whether a scan of these rows drops a slot.
 fn is_dropped<A: Allocator>(rows: &[DirRow<A>], slot: &Slot<A>) -> bool
+    requires { AreRising rows.now }
     ensures { result ≡ is_dropped rows.now slot.now }
 {
     slot.all_ended() && !has_row(rows, slot)
@@ -39,6 +47,7 @@ fn drops<A: Allocator>(
     slots: &[Slot<A>],
     rows: &[DirRow<A>],
 ) -> Result<Vec<u64, A>, AllocError>
+    requires { AreRising rows.now }
     ensures { IfOk result (λ numbers. numbers.items ≡ drops slots.now rows.now) }
 {
     let mut numbers = Vec::new(alloc);
@@ -52,6 +61,7 @@ fn drops<A: Allocator>(
 
 /// How many slots a scan of these rows keeps.
 fn kept_count<A: Allocator>(slots: &[Slot<A>], rows: &[DirRow<A>]) -> usize
+    requires { AreRising rows.now }
     ensures { result ≡ length (kept slots.now rows.now) }
 {
     let mut count = 0;
@@ -65,11 +75,16 @@ fn kept_count<A: Allocator>(slots: &[Slot<A>], rows: &[DirRow<A>]) -> usize
 
 /// Drops the slots that a scan of these rows drops.
 pub(crate) fn keep<A: Allocator>(slots: &mut Vec<Slot<A>, A>, rows: &[DirRow<A>])
+    requires { AreRising rows.now }
     ensures items { slots.new.items ≡ kept slots.old.items rows.now }
     ensures len { vec_len slots.new ≤ vec_len slots.old }
     ensures room { vec_capacity slots.new ≡ vec_capacity slots.old }
 {
-    slots.retain(|slot| !is_dropped(rows, slot));
+    slots.retain(
+        |slot|
+            requires { AreRising rows.now }
+        { !is_dropped(rows, slot) },
+    );
 }
 
 /// How many numbers a row needs.
@@ -399,6 +414,7 @@ fn gather<A: Allocator + Clone>(
 
 /// How many more slots there may be after a scan of these rows.
 fn room<A: Allocator>(slots: &[Slot<A>], rows: &[DirRow<A>]) -> usize
+    requires { AreRising rows.now }
     ensures { result ≡ Rattle.scan_table.specs.Scan.room slots.now rows.now }
 {
     MAX_SLOTS.saturating_sub(kept_count(slots, rows))

@@ -95,6 +95,7 @@ fn change<A: Allocator>(
     restarts: &[PartId],
     new: Vec<Slot<A>, A>,
 )
+    requires rows { AreRising rows.now }
     requires rising { AllPairs IsBefore slots.old.items }
     requires room { vec_len slots.old + vec_len new ≤ vec_capacity slots.old }
     ensures { slots.new.items ≡ map (renewed restarts.now) (kept slots.old.items rows.now) ++ new.items }
@@ -113,6 +114,7 @@ fn carry_out<A: Allocator>(
     restarts: &[PartId],
     new: Vec<Slot<A>, A>,
 ) -> Result<(), AllocError>
+    requires rows { AreRising rows.now }
     requires rising { AllPairs IsBefore slots.old.items }
     requires whole { length index.old.items ≡ length slots.old.items }
     requires distinct { AreDistinct (map (renewed restarts.now) (kept slots.old.items rows.now) ++ new.items) }

@@ -14,7 +14,7 @@ pub loop-part-preserved : goal.loop-part-preserved
 loop-part-preserved g c =
     record {
       rising = subst (λ slots. AllPairs IsBefore slots) (sym c.restart.ensures)
-        (renewed-rising (get_or c.args.parts.now c.loop-part.part-index past ∷ []) c.loop-part.slots c.loop-part.invariant.rising);
+          (renewed-rising (get_or c.args.parts.now c.loop-part.part-index past ∷ []) c.loop-part.slots c.loop-part.invariant.rising);
       left = renewed-next c.args.parts.now c.loop-part.part-index past c.loop-part.slots c.restart.new.slots _ c.loop-part-test.true c.restart.ensures c.loop-part.invariant.left;
     }
 

@@ -10,23 +10,23 @@ pub returns-then-need-left : goal.returns-then-need-left
 returns-then-need-left g c =
     let r = row-needs c.args.slots.now c.args.rows.now c.loop-row.row-index c.row-item.result c.loop-row-test.true c.requires.rising in
     let e : turn_need c.args.slots.now (nat_le (room c.args.slots.now c.args.rows.now) (length (new_rows c.args.slots.now (take c.loop-row.row-index c.args.rows.now)))) (slice_index_or c.args.rows.now c.loop-row.row-index c.row-item.result) ≡ c.turn-need.result.0 =
-      rw (sym c.row-item.is, sym c.loop-row.invariant.made, sym c.requires.room) (sym c.turn-need.ensures.need) in
+    rw (sym c.row-item.is, sym c.loop-row.invariant.made, sym c.requires.room) (sym c.turn-need.ensures.need) in
     past-need c.loop-row.left c.turn-need.result.0 (sum_by (need c.args.slots.now c.args.rows.now) (eligible (drop (c.loop-row.row-index + 1) c.args.rows.now))) _
-      (r ∙ ap (λ n. n + sum_by (need c.args.slots.now c.args.rows.now) (eligible (drop (c.loop-row.row-index + 1) c.args.rows.now))) e) c.if-need-left.true
+    (r ∙ ap (λ n. n + sum_by (need c.args.slots.now c.args.rows.now) (eligible (drop (c.loop-row.row-index + 1) c.args.rows.now))) e) c.if-need-left.true
     ∙ c.loop-row.invariant.left
 
 pub loop-row-preserved : goal.loop-row-preserved
 loop-row-preserved g c =
     let r = row-needs c.args.slots.now c.args.rows.now c.loop-row.row-index c.row-item.result c.loop-row-test.true c.requires.rising in
     let e : turn_need c.args.slots.now (nat_le (room c.args.slots.now c.args.rows.now) (length (new_rows c.args.slots.now (take c.loop-row.row-index c.args.rows.now)))) (slice_index_or c.args.rows.now c.loop-row.row-index c.row-item.result) ≡ c.turn-need.result.0 =
-      rw (sym c.row-item.is, sym c.loop-row.invariant.made, sym c.requires.room) (sym c.turn-need.ensures.need) in
+    rw (sym c.row-item.is, sym c.loop-row.invariant.made, sym c.requires.room) (sym c.turn-need.ensures.need) in
     let n = row-new c.args.slots.now c.args.rows.now c.loop-row.row-index c.row-item.result c.loop-row-test.true in
     let k : (if is_counted c.args.slots.now (slice_index_or c.args.rows.now c.loop-row.row-index c.row-item.result) then 1 else 0) ≡ c.count-made.result =
-      rw (sym c.row-item.is, sym c.turn-need.ensures.new) (sym c.count-made.ensures.count) in
+    rw (sym c.row-item.is, sym c.turn-need.ensures.new) (sym c.count-made.ensures.count) in
     record {
       made = sym (n ∙ ap (λ m. length (new_rows c.args.slots.now (take c.loop-row.row-index c.args.rows.now)) + m) k ∙ ap (λ m. m + c.count-made.result) (sym c.loop-row.invariant.made));
       bound = grind (arith, c.count-made.ensures.bound, c.loop-row.invariant.bound);
       left = within-need c.loop-row.left c.turn-need.result.0 (sum_by (need c.args.slots.now c.args.rows.now) (eligible (drop (c.loop-row.row-index + 1) c.args.rows.now))) _
-        (r ∙ ap (λ m. m + sum_by (need c.args.slots.now c.args.rows.now) (eligible (drop (c.loop-row.row-index + 1) c.args.rows.now))) e) c.if-need-left.false
-        ∙ c.loop-row.invariant.left;
+          (r ∙ ap (λ m. m + sum_by (need c.args.slots.now c.args.rows.now) (eligible (drop (c.loop-row.row-index + 1) c.args.rows.now))) e) c.if-need-left.false
+          ∙ c.loop-row.invariant.left;
     }

@@ -8,4 +8,4 @@ use Rattle.scan_table.proofs.table.change.Goals as goal
 pub restart_in-requires : goal.restart_in-requires
 restart_in-requires g c =
     subst (λ slots. AllPairs IsBefore slots) (sym c.keep.ensures.items)
-      (AllPairs-filter IsBefore (λ slot. not (is_dropped c.args.rows.now slot)) c.args.slots.now.items c.requires.rising)
+    (AllPairs-filter IsBefore (λ slot. not (is_dropped c.args.rows.now slot)) c.args.slots.now.items c.requires.rising)
