@@ -1,16 +1,16 @@
 -- What holds of a table after an end and after a scan.
-use Rattle.std.proofs.Common.{◌≡◌, ◌≢◌, ℕ, ◌+◌, ◌<◌, ◌≤◌, Bool, true, false, not, ◌==◌, List, [], ◌∷◌, ◌++◌, length, get_or, map, sym, ap, ◌∙◌, refl, arith, zero, suc, Option, Some, None, if◌then◌else◌, subst}
-use Rattle.std.specs.List.{AllPairs, All, filter}
+use Rattle.std.proofs.Common.{◌≡◌, ◌≢◌, ℕ, ◌+◌, ◌<◌, ◌≤◌, true, false, not, ◌==◌, List, [], ◌∷◌, ◌++◌, length, get_or, map, sym, ap, ◌∙◌, refl, arith, Option, Some, None, if◌then◌else◌, subst}
+use Rattle.std.specs.List.{AllPairs, All}
 use Rattle.std.specs.Option.{option_map, IfSome}
 use Rattle.std.proofs.lemmas.List.{get_or-map, length-map, length-append}
-use Rattle.std.proofs.lemmas.List.Elements.{All-nil, All-cons, All-head, All-tail, All-append, All-weaker, All-filter}
+use Rattle.std.proofs.lemmas.List.Elements.{All-head, All-tail, All-append, All-weaker, All-filter}
 use Rattle.std.proofs.lemmas.List.Kept.{AllPairs-filter}
 use Rattle.scan_table.specs.declared.part.PartId.{PartId}
 use Rattle.scan_table.specs.declared.part.Role.{Role}
 use Rattle.scan_table.specs.declared.part.Role.TheVariants.{Main, Log}
 use Rattle.scan_table.specs.declared.slot.Life.{Life}
-use Rattle.scan_table.specs.Slots.{Row, SlotState, SlotPart, eligible, is_eligible, parts_of}
-use Rattle.scan_table.specs.Scan.{AreRising, IsBelow, kept, is_dropped, needs, need, restarts, new_slots}
+use Rattle.scan_table.specs.Slots.{Row, SlotState, eligible, is_eligible}
+use Rattle.scan_table.specs.Scan.{AreRising, IsBelow, kept, is_dropped, needs, restarts, new_slots}
 use Rattle.scan_table.specs.Table.{slot_ended, renewed, restarted, life_ended, is_at, scanned}
 use Rattle.scan_table.specs.Index.{names_of, IsBefore, IsNumbered, IsTable, IsIndex, AreDistinct}
 use Rattle.scan_table.proofs.Rising.{rising-pairs}

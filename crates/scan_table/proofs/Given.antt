@@ -1,5 +1,5 @@
 -- What a scan gives: new slots and lives, and their numbers and names.
-use Rattle.std.proofs.Common.{◌≡◌, ◌≢◌, ℕ, ◌+◌, ◌<◌, ◌≤◌, Bool, true, false, List, [], ◌∷◌, ◌++◌, length, get_or, sym, ap, ◌∙◌, refl, arith, inl, inr, ◌⊎◌, zero, suc, Option, Some, None, if◌then◌else◌, subst}
+use Rattle.std.proofs.Common.{◌≡◌, ◌≢◌, ℕ, ◌+◌, ◌<◌, ◌≤◌, true, false, List, [], ◌∷◌, ◌++◌, length, sym, refl, arith, suc, Option, Some, None, if◌then◌else◌, subst}
 use Rattle.std.specs.List.{AllPairs, All, sum_by}
 use Rattle.std.specs.Option.{IfSome}
 use Rattle.std.proofs.lemmas.List.Elements.{All-nil, All-cons, All-head, All-tail, All-append, All-weaker}
@@ -9,8 +9,8 @@ use Rattle.scan_table.specs.declared.part.PartId.{PartId}
 use Rattle.scan_table.specs.declared.part.Role.{Role}
 use Rattle.scan_table.specs.declared.part.Role.TheVariants.{Main, Log}
 use Rattle.scan_table.specs.declared.slot.Life.{Life}
-use Rattle.scan_table.specs.Slots.{Row, SlotState, SlotPart, is_name, name_order, is_pair, roles_of, ended_roles, parts_of}
-use Rattle.scan_table.specs.Scan.{IsBelow, slot_of, need, is_refused, in_turn, new_slot, new_slots_at, new_slots_where, restarts_at, restarts_where, lives_from}
+use Rattle.scan_table.specs.Slots.{Row, SlotState, is_name, is_pair, roles_of, ended_roles}
+use Rattle.scan_table.specs.Scan.{IsBelow, slot_of, need, is_refused, in_turn, new_slot, new_slots_at, restarts_at, restarts_where, lives_from}
 use Rattle.scan_table.specs.Index.{IsBefore, IsNumbered}
 use Rattle.scan_table.proofs.Orders.{below-differs, same-named}
 

@@ -9,7 +9,7 @@ use Rattle.std.proofs.lemmas.Cmp.{nat_list_cmp_total}
 use Rattle.std.proofs.lemmas.List.{get_or_default}
 use Rattle.std.proofs.lemmas.List.Folds.{list_any_none}
 use Rattle.scan_table.specs.Slots.{Row, SlotState, name_order, is_name, is_eligible}
-use Rattle.scan_table.specs.Scan.{AreRising, IsBelow, has_row}
+use Rattle.scan_table.specs.Scan.{AreRising, has_row}
 use Rattle.scan_table.proofs.Rising.{rising-pairs}
 use Rattle.scan_table.proofs.Orders.{above-below, equal-same, same-named, differs-named, below-differs}
 use Rattle.scan_table.proofs.Placed.{any-one}

@@ -1,15 +1,15 @@
 -- What a search by halves finds.
-use Rattle.std.proofs.Common.{◌≡◌, ◌≢◌, ℕ, ◌+◌, ◌<◌, ◌≤◌, Bool, true, false, List, [], ◌∷◌, length, get_or, map, sym, ap, ◌∙◌, refl, arith, inl, inr, zero, suc, Option, Some, None, if◌then◌else◌, subst, Result, Ok, Err, ◌⊎◌}
+use Rattle.std.proofs.Common.{◌≡◌, ◌≢◌, ℕ, ◌+◌, ◌<◌, ◌≤◌, true, false, List, [], ◌∷◌, length, get_or, sym, ap, ◌∙◌, refl, arith, inl, inr, zero, suc, Some, None, subst, Result, Ok, Err, ◌⊎◌}
 use Rattle.std.specs.List.{AllPairs, All, insert}
 use Rattle.std.specs.Ordering.{ordering_reverse}
 use Rattle.std.specs.declared.cmp.Ordering.{Ordering}
-use Rattle.std.specs.declared.cmp.Ordering.TheVariants.{Less, Equal, Greater}
+use Rattle.std.specs.declared.cmp.Ordering.TheVariants.{Less, Greater}
 use Rattle.std.proofs.lemmas.Bool.{cases_lt}
 use Rattle.std.proofs.lemmas.Cmp.{nat_list_cmp_total}
 use Rattle.std.proofs.lemmas.List.{get_or-map, get_or_default, length-map}
 use Rattle.scan_table.specs.Slots.{Row, SlotState, name_order, is_name}
 use Rattle.scan_table.specs.Scan.{slot_of}
-use Rattle.scan_table.specs.Index.{names_of, name_at, IsIndex, IsSearched, AreDistinct, IsBefore}
+use Rattle.scan_table.specs.Index.{names_of, name_at, IsIndex, IsSearched, IsBefore}
 use Rattle.scan_table.proofs.Indexed.{index-distinct, index-insert}
 use Rattle.scan_table.proofs.Orders.{above-below, equal-same, same-named, differs-named, below-differs}
 

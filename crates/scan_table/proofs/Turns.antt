@@ -1,6 +1,6 @@
 -- What a row's turn is worth.
-use Rattle.std.proofs.Common.{◌≡◌, ℕ, ◌+◌, ◌-◌, ◌<◌, ◌≤◌, Bool, true, false, not, List, [], ◌∷◌, ◌++◌, length, take, drop, filter, slice_index_or, nat_le, sym, ap, ◌∙◌, refl, Option, Some, None, is_none, zero, suc, map, arith, append_assoc, ◌^◌, nat_lt, ◌&&◌, if◌then◌else◌}
-use Rattle.std.specs.List.{list_any, AllPairs, sum_by}
+use Rattle.std.proofs.Common.{◌≡◌, ℕ, ◌+◌, ◌-◌, ◌<◌, ◌≤◌, Bool, true, false, List, [], ◌∷◌, ◌++◌, length, take, drop, filter, slice_index_or, nat_le, sym, ap, ◌∙◌, refl, Some, None, is_none, zero, suc, map, arith, append_assoc, ◌^◌, nat_lt, ◌&&◌, if◌then◌else◌}
+use Rattle.std.specs.List.{sum_by}
 use Rattle.std.proofs.Math.Seq.{drop-nil, drop-cons, take-suc, get_or-append_seam}
 use Rattle.std.proofs.lemmas.List.{take-append-drop, length-append, append-nil, map-append}
 use Rattle.std.proofs.lemmas.Bool.Decides.{nat_tests}
@@ -9,7 +9,7 @@ use Rattle.std.proofs.lemmas.List.Elements.{filter-append}
 use Rattle.std.proofs.lemmas.List.Kept.{AllPairs-filter}
 use Rattle.scan_table.specs.declared.part.PartId.{PartId}
 use Rattle.scan_table.specs.Slots.{Row, is_eligible, eligible, SlotState}
-use Rattle.scan_table.specs.Scan.{AreRising, IsBelow, is_new, new_rows, refused_rows, is_refused, room, slot_of, need, need_where, in_turn, new_slots, restarts, new_slots_at, new_slots_where, restarts_at}
+use Rattle.scan_table.specs.Scan.{AreRising, IsBelow, is_new, new_rows, is_refused, room, slot_of, need, need_where, in_turn, new_slots_at, new_slots_where, restarts_at}
 use Rattle.scan_table.specs.Turns.{turn_need, is_counted, turn_slots, turn_restarts, turn_refused}
 use Rattle.scan_table.proofs.Rising.{rising-pairs, among-later}
 

@@ -1,9 +1,8 @@
 -- Worked scans, by computation.
-use Rattle.std.proofs.Common.{◌≡◌, List, [], ◌∷◌, true, false, refl, replicate, codes, map, Some, None}
+use Rattle.std.proofs.Common.{◌≡◌, List, [], ◌∷◌, true, false, refl, replicate, codes, Some}
 use Rattle.scan_table.specs.declared.part.Role.TheVariants.{Main, Log}
-use Rattle.scan_table.specs.declared.part.PartId.{PartId}
 use Rattle.scan_table.specs.Slots.{Row, SlotState}
-use Rattle.scan_table.specs.Scan.{starts, restarts, drops, refused, is_exhausted}
+use Rattle.scan_table.specs.Scan.{starts, restarts, drops, is_exhausted}
 
 abbrev rows : List Row
 rows =

@@ -1,12 +1,10 @@
 -- An index of names: the places of names, in the byte order of the names.
-use Rattle.std.specs.Prelude.{◌≡◌, ℕ, ◌<◌, ◌≤◌, ◌==◌, ◌≢◌, List, [], length, slice_index, slice_index_or, map, Result, Ok, Err, Option, Some, None, nat_le}
+use Rattle.std.specs.Prelude.{◌≡◌, ℕ, ◌<◌, ◌≤◌, ◌≢◌, List, [], length, slice_index, slice_index_or, map, Result, Ok, Err}
 use Rattle.std.specs.List.{All, AllPairs}
 use Rattle.std.specs.Option.{IfSome}
-use Rattle.std.specs.declared.cmp.Ordering.{Ordering}
 use Rattle.std.specs.declared.cmp.Ordering.TheVariants.{Less, Equal, Greater}
 use Rattle.scan_table.specs.declared.slot.Life.{Life}
 use Rattle.scan_table.specs.Slots.{name_order, SlotState}
-use Rattle.scan_table.specs.Table.{TableState}
 
 abbrev pub names_of : List SlotState → List (List ℕ)
 names_of slots = map (λ (slot : SlotState). slot.name) slots

@@ -9,7 +9,6 @@ use Rattle.scan_table.specs.declared.part.Role.{Role}
 use Rattle.scan_table.specs.declared.part.PartId.{PartId}
 use Rattle.scan_table.specs.declared.fault.ScanFault.{ScanFault}
 use Rattle.scan_table.specs.declared.fault.ScanFault.TheVariants as fault
-use Rattle.scan_table.specs.declared.slot.Life.{Life}
 use Rattle.scan_table.specs.Slots.{name_order, is_name, Row, eligible, is_pair, roles_of, SlotState, all_ended, ended_roles, ids_of}
 
 abbrev pub IsBelow : Row → Row → Type 0

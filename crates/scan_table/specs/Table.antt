@@ -1,12 +1,12 @@
 -- A table of slots, and what scans and ends do to it.
-use Rattle.std.specs.Prelude.{◌≡◌, ℕ, ◌+◌, ◌==◌, ◌<◌, ◌^◌, ◌&&◌, ◌||◌, Bool, true, false, not, List, [], ◌∷◌, ◌++◌, map, if◌then◌else◌, Option, Some, None, is_some}
-use Rattle.std.specs.List.{list_any, AllPairs, All}
+use Rattle.std.specs.Prelude.{ℕ, ◌+◌, ◌==◌, ◌&&◌, ◌||◌, Bool, false, not, List, [], ◌∷◌, ◌++◌, map, if◌then◌else◌, Option, Some, None, is_some}
+use Rattle.std.specs.List.{list_any}
 use Rattle.std.specs.Option.{option_map}
 use Rattle.scan_table.specs.declared.part.Role.{Role}
 use Rattle.scan_table.specs.declared.part.Role.TheVariants.{Main, Log}
 use Rattle.scan_table.specs.declared.part.PartId.{PartId}
 use Rattle.scan_table.specs.declared.slot.Life.{Life}
-use Rattle.scan_table.specs.Slots.{is_name, Row, is_main, SlotState, SlotPart, parts_of}
+use Rattle.scan_table.specs.Slots.{Row, is_main, SlotState, SlotPart, parts_of}
 use Rattle.scan_table.specs.Scan.{kept, needs, restarts, new_slots}
 
 -- the slots, and the counter: the number that is given next

@@ -1,4 +1,4 @@
-use Rattle.std.proofs.Common.{◌≡◌, ◌<◌, ◌∙◌, sym, ap, inl, inr, rules, subst, length, ◌⊎◌, Ok, Err, List, ℕ, get_or}
+use Rattle.std.proofs.Common.{◌≡◌, ◌<◌, sym, inl, inr, rules, subst, length, ◌⊎◌, Ok, Err, List, ℕ, get_or}
 use Rattle.std.specs.List.{insert}
 use Rattle.scan_table.specs.Index.{IsIndex, IsSearched, names_of}
 use Rattle.scan_table.proofs.Searched.{searched-new}

@@ -1,4 +1,4 @@
-use Rattle.std.proofs.Common.{◌≡◌, ◌≢◌, sym, subst, List, ℕ}
+use Rattle.std.proofs.Common.{◌≢◌, sym, subst, List, ℕ}
 use Rattle.std.specs.List.{All}
 use Rattle.scan_table.specs.Slots.{SlotState}
 use Rattle.scan_table.proofs.Searched.{searched-some, searched-none, slot-nowhere}

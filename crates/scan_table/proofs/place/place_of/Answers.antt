@@ -1,5 +1,4 @@
-use Rattle.std.proofs.Common.{◌≡◌, ◌+◌, ◌-◌, ◌/◌, ◌<◌, ℕ, length, get_or, arith, sym, ap, ◌∙◌}
-use Rattle.scan_table.specs.Slots.{SlotState}
+use Rattle.std.proofs.Common.{◌+◌, ◌-◌, ◌/◌, ◌<◌, length, arith}
 use Rattle.scan_table.proofs.Searched.{number-below, number-above, number-read}
 use Rattle.scan_table.proofs.place.place_of.Goals as goal
 

@@ -1,4 +1,4 @@
-use Rattle.std.proofs.Common.{◌≡◌, ℕ, ◌<◌, ◌≤◌, ◌-◌, length, get_or}
+use Rattle.std.proofs.Common.{ℕ, ◌<◌, ◌≤◌, ◌-◌, length, get_or}
 use Rattle.scan_table.specs.Slots.{SlotState}
 use Rattle.scan_table.proofs.place.place_of.Given as goal
 

@@ -1,4 +1,4 @@
-use Rattle.std.proofs.Common.{◌≡◌, ◌∙◌, ◌++◌, ◌∷◌, [], ℕ, sym, ap, refl}
+use Rattle.std.proofs.Common.{◌∙◌, ◌++◌, ◌∷◌, [], ℕ, sym, ap, refl}
 use Rattle.scan_table.proofs.Dropped.{dropped-next, kept-next}
 use Rattle.scan_table.proofs.plan.drops.Goals as goal
 use Rattle.scan_table.proofs.plan.drops.Goals.{then-is_dropped+in_ok-push, else-is_dropped}

@@ -1,4 +1,4 @@
-use Rattle.std.proofs.Common.{rules, arith, ◌≡◌, ℕ, ◌+◌, ◌<◌, ◌≤◌, ◌-◌, length, nat_lt, nat_le, true, false, List, slice_index_or, sym, ap, ◌∙◌, refl, take, drop, if◌then◌else◌}
+use Rattle.std.proofs.Common.{arith, ◌≡◌, ◌+◌, length, nat_le, slice_index_or, sym, ap, ◌∙◌, take, drop, if◌then◌else◌}
 use Rattle.std.specs.List.{sum_by}
 use Rattle.scan_table.specs.Slots.{eligible}
 use Rattle.scan_table.specs.Scan.{need, new_rows, room}

@@ -1,4 +1,3 @@
-use Rattle.std.proofs.Common.{◌≡◌, ◌<◌}
 use Rattle.std.specs.List.{AllAdjacentBelow}
 use Rattle.scan_table.specs.Scan.{IsBelow}
 use Rattle.scan_table.proofs.row.check_order.Given as goal

@@ -1,4 +1,4 @@
-use Rattle.std.proofs.Common.{◌≡◌, ◌++◌, ◌∙◌, ◌+◌, ◌≤◌, length, map, sym, subst, ap, arith}
+use Rattle.std.proofs.Common.{◌≡◌, ◌++◌, ◌∙◌, length, map, sym, subst, ap, arith}
 use Rattle.std.specs.List.{AllPairs}
 use Rattle.scan_table.specs.Scan.{kept}
 use Rattle.scan_table.specs.Table.{renewed}

@@ -1,4 +1,4 @@
-use Rattle.std.proofs.Common.{◌≡◌, sym, subst, not}
+use Rattle.std.proofs.Common.{sym, subst, not}
 use Rattle.std.specs.List.{AllPairs}
 use Rattle.std.proofs.lemmas.List.Kept.{AllPairs-filter}
 use Rattle.scan_table.specs.Scan.{is_dropped}

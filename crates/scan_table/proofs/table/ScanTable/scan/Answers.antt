@@ -1,4 +1,4 @@
-use Rattle.std.proofs.Common.{◌≡◌, ◌∙◌, ◌+◌, sym, ap}
+use Rattle.std.proofs.Common.{◌∙◌, ◌+◌, ap}
 use Rattle.scan_table.specs.Scan.{restarts, new_slots, needs}
 use Rattle.scan_table.specs.Table.{scanned}
 use Rattle.scan_table.proofs.After.{table-scanned, table-is, planned-distinct}
