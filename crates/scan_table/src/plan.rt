@@ -174,7 +174,8 @@ fn push_restarts<A: Allocator>(
     number: u64,
 ) -> Result<(), AllocError>
     requires { number + length (ended_roles slot.now) < 2 ^ 64 }
-    ensures { OnOk result (list.new.items ≡ list.old.items ++ lives_from number slot.now.number (ended_roles slot.now)) }
+    ensures { OnOk result (list.new.items
+        ≡ list.old.items ++ lives_from number slot.now.number (ended_roles slot.now)) }
 {
     let mut life = number;
     if slot.main.has_ended {
@@ -234,7 +235,8 @@ impl<A: Allocator + Clone> Gifts<A> {
     /// Gives a row with a slot its restarts.
     fn give_restarts(&mut self, slot: &Slot<A>) -> Result<(), AllocError>
         requires { self.old.number + length (ended_roles slot.now) < 2 ^ 64 }
-        ensures restarts { OnOk result (self.new.restarts.items ≡ self.old.restarts.items ++ lives_from self.old.number slot.now.number (ended_roles slot.now)) }
+        ensures restarts { OnOk result (self.new.restarts.items
+            ≡ self.old.restarts.items ++ lives_from self.old.number slot.now.number (ended_roles slot.now)) }
         ensures number { OnOk result (self.new.number ≡ self.old.number + length (ended_roles slot.now)) }
         ensures slots { self.new.slots ≡ self.old.slots }
         ensures refused { self.new.refused ≡ self.old.refused }
@@ -248,7 +250,8 @@ impl<A: Allocator + Clone> Gifts<A> {
     /// Gives a row with a new name its slot.
     fn give_slot(&mut self, alloc: &A, row: &DirRow<A>) -> Result<(), AllocError>
         requires fits { self.old.number + 1 + length (roles_of row.now) < 2 ^ 64 }
-        ensures slots { OnOk result (self.new.slots.items ≡ self.old.slots.items ++ new_slot self.old.number row.now ∷ []) }
+        ensures slots { OnOk result (self.new.slots.items
+            ≡ self.old.slots.items ++ new_slot self.old.number row.now ∷ []) }
         ensures number { OnOk result (self.new.number ≡ self.old.number + 1 + length (roles_of row.now)) }
         ensures restarts { self.new.restarts ≡ self.old.restarts }
         ensures refused { self.new.refused ≡ self.old.refused }
@@ -399,8 +402,8 @@ fn gather<A: Allocator + Clone>(
     requires rising { AreRising rows.now }
     requires room { room ≡ Rattle.scan_table.specs.Scan.room slots.now rows.now }
     requires numbers { next + needs slots.now rows.now < 2 ^ 64 }
-    ensures { IfOk result (λ plan. IsPlan slots.now next rows.now plan.gifts.slots.items plan.starts.items plan.gifts.restarts.items
-        plan.drops.items plan.gifts.refused.items plan.gifts.number) }
+    ensures { IfOk result (λ plan. IsPlan slots.now next rows.now
+        plan.gifts.slots.items plan.starts.items plan.gifts.restarts.items plan.drops.items plan.gifts.refused.items plan.gifts.number) }
 {
     let drops = drops(alloc.clone()?, slots, rows)?;
     let gifts = give_all(alloc, slots, index, rows, room, next)?;
@@ -432,8 +435,8 @@ pub(crate) fn plan_scan<A: Allocator + Clone>(
     requires whole { length index.now ≡ length slots.now }
     ensures rising { OnOk result (AreRising rows.now) }
     ensures enough { OnOk result (is_exhausted slots.now next rows.now ≡ false) }
-    ensures plan { IfOk result (λ plan. IsPlan slots.now next rows.now plan.gifts.slots.items plan.starts.items plan.gifts.restarts.items
-        plan.drops.items plan.gifts.refused.items plan.gifts.number) }
+    ensures plan { IfOk result (λ plan. IsPlan slots.now next rows.now
+        plan.gifts.slots.items plan.starts.items plan.gifts.restarts.items plan.drops.items plan.gifts.refused.items plan.gifts.number) }
     ensures cause { IfErr result (λ fault. IsCause slots.now next rows.now fault) }
 {
     check_order(rows)?;

@@ -28,7 +28,13 @@ impl<A: Allocator> Model for DirRow<A> {
 
     ghost Value = { Row };
 
-    ghost view = { λ row. record { name = row.name; is_dir = row.is_dir; has_log = row.has_log; down = row.down; log_down = row.log_down } };
+    ghost view = { λ row. record {
+      name = row.name;
+      is_dir = row.is_dir;
+      has_log = row.has_log;
+      down = row.down;
+      log_down = row.log_down;
+    } };
 }
 
 impl<A: Allocator> DirRow<A> {
