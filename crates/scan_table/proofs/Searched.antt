@@ -8,9 +8,10 @@ use Rattle.std.proofs.lemmas.Bool.{cases_lt}
 use Rattle.std.proofs.lemmas.Cmp.{nat_list_cmp_total}
 use Rattle.std.proofs.lemmas.List.{get_or-map, get_or_default, length-map}
 use Rattle.scan_table.specs.Slots.{Row, SlotState, name_order, is_name}
-use Rattle.scan_table.specs.Scan.{slot_of}
-use Rattle.scan_table.specs.Index.{names_of, name_at, IsIndex, IsSearched, IsBefore}
+use Rattle.scan_table.specs.Scan.{slot_of, AreRising}
+use Rattle.scan_table.specs.Index.{names_of, name_at, IsIndex, IsSearched, ArePassed, IsBefore}
 use Rattle.scan_table.proofs.Indexed.{index-distinct, index-insert}
+use Rattle.scan_table.proofs.Rising.{rising-pairs}
 use Rattle.scan_table.proofs.Orders.{above-below, equal-same, same-named, differs-named, below-differs}
 
 -- The names up to a smaller one are smaller.
@@ -144,3 +145,17 @@ pub number-read : (slots : List SlotState) (place : ℕ) (slot : SlotState) (her
     (d : SlotState) → (get_or slots place d).number ≡ here
 number-read slots place slot here within read is d =
     ap (λ (s : SlotState). s.number) (get_or_default slots place d slot within ∙ sym read) ∙ sym is
+
+-- the names before the place of a name are passed
+pub found-passed : (names : List (List ℕ)) (index : List ℕ) (name : List ℕ) (at : ℕ) → IsIndex names index → IsSearched names index name (Ok at) →
+    ArePassed names index at name
+found-passed names index name at is searched k below =
+    ap (name_order (name_at names index k)) (sym (equal-same (name_at names index at) name searched.1)) ∙ is.rising k at below searched.0
+
+-- Names that are passed at a row are passed at all later ones.
+pub passed-on : (names : List (List ℕ)) (index : List ℕ) (at : ℕ) (rows : List Row) (i : ℕ) (row : Row) → AreRising rows → i < length rows → row ≡ get_or rows i row →
+    ArePassed names index at row.name → (j : ℕ) (d : Row) → i + 1 ≤ j → j < length rows → ArePassed names index at (get_or rows j d).name
+passed-on names index at rows i row rising within read passed j d after b k below =
+    let less : name_order row.name (get_or rows j d).name ≡ Less =
+    ap (λ (r : Row). name_order r.name (get_or rows j d).name) (read ∙ get_or_default rows i row d within) ∙ rising-pairs rows rising i j d (omega arith) b in
+    nat_list_cmp_total.trans (name_at names index k) row.name (get_or rows j d).name (passed k below) less

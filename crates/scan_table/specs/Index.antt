@@ -19,13 +19,17 @@ pub record IsIndex (names : List (List ℕ)) (index : List ℕ) : Type 0 where
   pub rising : (j k : ℕ) → j < k → k < length index → name_order (name_at names index j) (name_at names index k) ≡ Less
   pub all : (place : ℕ) → place < length index → (k : ℕ) × (k < length index) × (slice_index index k ≡ place)
 
+-- The names of an index before a place are smaller than a name.
+abbrev pub ArePassed : List (List ℕ) → List ℕ → ℕ → List ℕ → Type 0
+ArePassed names index place name = (k : ℕ) → k < place → name_order (name_at names index k) name ≡ Less
+
 -- where a name stands in an index, or between which names it would stand
 abbrev pub IsSearched : List (List ℕ) → List ℕ → List ℕ → Result ℕ ℕ → Type 0
 IsSearched names index name (Ok place) =
     (place < length index) × (name_order (name_at names index place) name ≡ Equal)
 IsSearched names index name (Err place) =
     (place ≤ length index)
-    × ((k : ℕ) → k < place → name_order (name_at names index k) name ≡ Less)
+    × ArePassed names index place name
     × ((k : ℕ) → place ≤ k → k < length index → name_order (name_at names index k) name ≡ Greater)
 
 -- No two slots have the same name.

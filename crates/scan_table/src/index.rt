@@ -1,7 +1,7 @@
 //! The index of slots by name.
 ghost use Rattle.std.specs.Prelude.{◌≡◌, ◌+◌, ◌<◌, ◌≤◌, length, vec_len, vec_capacity, option_copied};
 ghost use Rattle.scan_table.specs.Scan.{slot_of};
-ghost use Rattle.scan_table.specs.Index.{names_of, IsIndex, IsSearched, AreDistinct};
+ghost use Rattle.scan_table.specs.Index.{names_of, IsIndex, IsSearched, ArePassed, AreDistinct};
 
 use crate::row::DirRow;
 use crate::slot::Slot;
@@ -27,19 +27,54 @@ fn search<A: Allocator>(slots: &[Slot<A>], index: &[usize], name: &str) -> Resul
     Err(low)
 }
 
-/// The slot of a row's name, by an index of all slots.
+/// Where a name stands in an index, or where it would stand, sought from a place on whose earlier names are smaller.
+fn seek<A: Allocator>(
+    slots: &[Slot<A>],
+    index: &[usize],
+    from: usize,
+    name: &str,
+) -> Result<usize, usize>
+    requires index { IsIndex (names_of slots.now) index.now }
+    requires bound { length index.now ≤ length slots.now }
+    requires from { from ≤ length index.now }
+    requires passed { ArePassed (names_of slots.now) index.now from name.now }
+    ensures { IsSearched (names_of slots.now) index.now name.now result }
+{
+    for at in from..index.len() {
+        match slots[index[at]].name().cmp(name) {
+            Ordering::Less => {}
+            Ordering::Equal => return Ok(at),
+            Ordering::Greater => return Err(at),
+        }
+    }
+    Err(index.len())
+}
+
+/// The slot of a row's name, by an index of all slots. Rows are asked for by rising name: the names of the index before
+/// `at` are smaller than the row's, and so they are afterwards.
 pub(crate) fn slot_of<'a, A: Allocator>(
     slots: &'a [Slot<A>],
     index: &[usize],
+    at: &mut usize,
     row: &DirRow<A>,
 ) -> Option<&'a Slot<A>>
     requires index { IsIndex (names_of slots.now) index.now }
     requires whole { length index.now ≡ length slots.now }
-    ensures { option_copied result ≡ slot_of slots.now row.now }
+    requires bound { at.old ≤ length index.now }
+    requires passed { ArePassed (names_of slots.now) index.now at.old row.now.name }
+    ensures slot { option_copied result ≡ slot_of slots.now row.now }
+    ensures bound { at.new ≤ length index.now }
+    ensures passed { ArePassed (names_of slots.now) index.now at.new row.now.name }
 {
-    match search(slots, index, row.name()) {
-        Ok(place) => Some(&slots[index[place]]),
-        Err(_) => None,
+    match seek(slots, index, *at, row.name()) {
+        Ok(place) => {
+            *at = place;
+            Some(&slots[index[place]])
+        }
+        Err(place) => {
+            *at = place;
+            None
+        }
     }
 }
 

@@ -3,7 +3,7 @@ ghost use Rattle.std.specs.Prelude.{◌≡◌, ◌+◌, ◌<◌, ◌≤◌, ◌+
 ghost use Rattle.std.specs.List.{flat_map};
 ghost use Rattle.scan_table.specs.Slots.{is_pair, roles_of, ended_roles, ids_of};
 ghost use Rattle.scan_table.specs.Scan.{AreRising, has_row, is_dropped, drops, kept, slot_of, room, need_where, needs, is_exhausted, IsCause, lives_from, new_slot, new_slots_where, new_slots, restarts, refused, starts};
-ghost use Rattle.scan_table.specs.Index.{names_of, IsIndex};
+ghost use Rattle.scan_table.specs.Index.{names_of, IsIndex, ArePassed};
 ghost use Rattle.scan_table.specs.Turns.{turn_need, turn_slots, turn_restarts, turn_refused, is_counted, IsPlan};
 
 use crate::fault::ScanFault;
@@ -104,19 +104,24 @@ fn need<A: Allocator>(slot: Option<&Slot<A>>, row: &DirRow<A>, is_refused: bool)
 fn turn<A: Allocator>(
     slots: &[Slot<A>],
     index: &[usize],
+    at: &mut usize,
     row: &DirRow<A>,
     is_refused: bool,
 ) -> (u64, bool)
     requires index { IsIndex (names_of slots.now) index.now }
     requires whole { length index.now ≡ length slots.now }
+    requires at { at.old ≤ length index.now }
+    requires passed { ArePassed (names_of slots.now) index.now at.old row.now.name }
     ensures need { result.0 ≡ turn_need slots.now is_refused row.now }
     ensures new { result.1 ≡ is_counted slots.now row.now }
     ensures bound { result.0 ≤ 3 }
+    ensures at { at.new ≤ length index.now }
+    ensures passed { ArePassed (names_of slots.now) index.now at.new row.now.name }
 {
     if !row.is_eligible() {
         return (0, false);
     }
-    let slot = slot_of(slots, index, row);
+    let slot = slot_of(slots, index, at, row);
     (need(slot, row, is_refused), slot.is_none())
 }
 
@@ -144,8 +149,9 @@ fn is_exhausted<A: Allocator>(
 {
     let mut left = u64::MAX - next;
     let mut made = 0;
+    let mut at = 0;
     for row in rows {
-        let (need, is_new) = turn(slots, index, row, room <= made);
+        let (need, is_new) = turn(slots, index, &mut at, row, room <= made);
         if need > left {
             return true;
         }
@@ -291,11 +297,14 @@ impl<A: Allocator + Clone> Gifts<A> {
         alloc: &A,
         slots: &[Slot<A>],
         index: &[usize],
+        at: &mut usize,
         row: &DirRow<A>,
         room: usize,
     ) -> Result<(), AllocError>
         requires index { IsIndex (names_of slots.now) index.now }
         requires whole { length index.now ≡ length slots.now }
+        requires at { at.old ≤ length index.now }
+        requires passed { ArePassed (names_of slots.now) index.now at.old row.now.name }
         requires fits { self.old.number + turn_need slots.now (nat_le room self.old.made) row.now < 2 ^ 64 }
         requires made { self.old.made + 1 < 2 ^ 64 }
         ensures slots { OnOk result (self.new.slots.items
@@ -307,11 +316,13 @@ impl<A: Allocator + Clone> Gifts<A> {
         ensures number { OnOk result (self.new.number
             ≡ self.old.number + turn_need slots.now (nat_le room self.old.made) row.now) }
         ensures made { OnOk result (self.new.made ≡ self.old.made + (if is_counted slots.now row.now then 1 else 0)) }
+        ensures at { at.new ≤ length index.now }
+        ensures passed { ArePassed (names_of slots.now) index.now at.new row.now.name }
     {
         if !row.is_eligible() {
             return Ok(());
         }
-        match slot_of(slots, index, row) {
+        match slot_of(slots, index, at, row) {
             Some(slot) => self.give_restarts(slot),
             None => self.give_new(alloc, row, room),
         }
@@ -344,8 +355,9 @@ fn give_all<A: Allocator + Clone>(
         number: next,
         made: 0,
     };
+    let mut at = 0;
     for row in rows {
-        gifts.give(alloc, slots, index, row, room)?;
+        gifts.give(alloc, slots, index, &mut at, row, room)?;
     }
     Ok(gifts)
 }

@@ -1,5 +1,8 @@
-use Rattle.std.proofs.Common.{sym}
+use Rattle.std.proofs.Common.{sym, subst, ◌≤◌, arith}
 use Rattle.scan_table.proofs.Turns.{needs-turned, new-turned, one-more, slots-turned, restarts-turned, refused-turned, fits-turn, number-turn}
+use Rattle.scan_table.specs.Slots.{Row}
+use Rattle.scan_table.specs.Index.{names_of, ArePassed}
+use Rattle.scan_table.proofs.Searched.{passed-on}
 use Rattle.scan_table.proofs.plan.give_all.Goals as goal
 
 pub give-requires-clause-fits : goal.give-requires-clause-fits
@@ -11,6 +14,9 @@ give-requires-clause-fits g c =
 
 pub loop-row-preserved : goal.loop-row-preserved
 loop-row-preserved g c = record {
+  at = c.in_ok-give.ensures.at;
+  passed = passed-on (names_of c.args.slots.now) c.args.index.now c.give.new.at c.args.rows.now c.loop-row.row-index c.row-item.result
+      c.requires.rising c.loop-row-test.true c.row-item.is c.in_ok-give.ensures.passed;
   made = new-turned c.args.slots.now c.args.rows.now c.loop-row.row-index c.loop-row.gifts.made c.give.new.self.made c.row-item.result c.row-item.result
       c.loop-row-test.true (sym c.row-item.is) c.loop-row.invariant.made c.in_ok-give.ensures.made;
   bound = one-more c.args.slots.now c.row-item.result c.loop-row.gifts.made c.give.new.self.made c.loop-row.row-index c.loop-row.invariant.bound c.in_ok-give.ensures.made;
@@ -31,3 +37,9 @@ loop-row-preserved g c = record {
       c.loop-row-test.true (sym c.row-item.is) c.loop-row.invariant.made c.requires.room
       c.loop-row.invariant.refused c.in_ok-give.ensures.refused;
 }
+
+pub give-requires-clause-passed : goal.give-requires-clause-passed
+give-requires-clause-passed g c =
+    let next : c.loop-row.row-index ≤ c.loop-row.row-index = omega arith in
+    subst (λ (row : Row). ArePassed (names_of c.args.slots.now) c.args.index.now c.loop-row.at row.name) (sym c.row-item.is)
+    (c.loop-row.invariant.passed c.loop-row.row-index c.row-item.result next c.loop-row-test.true)
