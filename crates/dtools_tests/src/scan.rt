@@ -2,6 +2,7 @@ use crate::memory::leave;
 use bumpalo::Bump;
 use scan_table::{DirRow, MAX_SLOTS, PartId, Role, ScanFault, ScanTable};
 use std::alloc::{AllocError, Allocator, Global};
+use std::ops::Range;
 use std::test::Fail;
 use tai_status::Name;
 
@@ -28,10 +29,10 @@ fn rows<A: Allocator + Clone>(
     Ok(rows)
 }
 
-/// Directories `d0000`, `d0001` and so on, from one to the last.
-fn numbered(alloc: Global, first: usize, last: usize) -> Result<Vec<DirRow>, AllocError> {
+/// Directories of these numbers, as `d0000`.
+fn numbered(alloc: Global, numbers: Range<usize>) -> Result<Vec<DirRow>, AllocError> {
     let mut rows = Vec::new(alloc);
-    for number in first..last + 1 {
+    for number in numbers {
         let name = format!(in alloc; "d{:04}", number)?;
         rows.push(row(alloc, "d", name.as_str())?)?;
     }
@@ -86,7 +87,7 @@ fn refuses_in_order(rt: HostRuntime) -> Result<(), Fail> {
 
 #[test]
 fn keeps_a_thousand_slots(rt: HostRuntime) -> Result<(), Fail> {
-    let found = numbered(rt.alloc(), 0, 1000)?;
+    let found = numbered(rt.alloc(), 0..1001)?;
     let mut table = ScanTable::new(rt.alloc(), 0)?;
     let out = table.scan(found.as_slice())?;
     assert_eq!(rt; out.starts.len(), MAX_SLOTS);
@@ -103,9 +104,9 @@ fn keeps_a_thousand_slots(rt: HostRuntime) -> Result<(), Fail> {
 #[test]
 fn drops_before_it_counts(rt: HostRuntime) -> Result<(), Fail> {
     let mut table = ScanTable::new(rt.alloc(), 0)?;
-    table.scan(numbered(rt.alloc(), 0, 1000)?.as_slice())?;
+    table.scan(numbered(rt.alloc(), 0..1001)?.as_slice())?;
     table.ended(main_of(0, 1));
-    let out = table.scan(numbered(rt.alloc(), 1, 1000)?.as_slice())?;
+    let out = table.scan(numbered(rt.alloc(), 1..1001)?.as_slice())?;
     assert_eq!(rt; out.drops.as_slice(), [0].as_slice());
     assert_eq!(rt; out.starts.as_slice(), [main_of(2000, 2001)].as_slice());
     assert!(rt; out.restarts.is_empty() && out.refused.is_empty());

@@ -1,6 +1,6 @@
 -- What a scan gives: new slots and lives, and their numbers and names.
 use Rattle.std.proofs.Common.{◌≡◌, ◌≢◌, ℕ, ◌+◌, ◌<◌, ◌≤◌, true, false, List, [], ◌∷◌, ◌++◌, length, sym, refl, arith, suc, Option, Some, None, if◌then◌else◌, subst}
-use Rattle.std.specs.List.{AllPairs, All, sum_by}
+use Rattle.std.specs.List.{AllPairs, All, sum_by, flat_map}
 use Rattle.std.specs.Option.{IfSome}
 use Rattle.std.proofs.lemmas.List.Elements.{All-nil, All-cons, All-head, All-tail, All-append, All-weaker}
 use Rattle.std.proofs.lemmas.List.Kept.{AllPairs-cons}
@@ -9,9 +9,10 @@ use Rattle.scan_table.specs.declared.part.PartId.{PartId}
 use Rattle.scan_table.specs.declared.part.Role.{Role}
 use Rattle.scan_table.specs.declared.part.Role.TheVariants.{Main, Log}
 use Rattle.scan_table.specs.declared.slot.Life.{Life}
-use Rattle.scan_table.specs.Slots.{Row, SlotState, is_name, is_pair, roles_of, ended_roles}
-use Rattle.scan_table.specs.Scan.{IsBelow, slot_of, need, is_refused, in_turn, new_slot, new_slots_at, restarts_at, restarts_where, lives_from}
+use Rattle.scan_table.specs.Slots.{Row, SlotState, is_name, is_pair, roles_of, ended_roles, ids_of, eligible}
+use Rattle.scan_table.specs.Scan.{IsBelow, slot_of, need, is_refused, in_turn, new_slot, new_slots_at, restarts_at, restarts_where, lives_from, needs, starts, restarts, new_slots}
 use Rattle.scan_table.specs.Index.{IsBefore, IsNumbered}
+use Rattle.scan_table.specs.Table.{between, AreFresh}
 use Rattle.scan_table.proofs.Orders.{below-differs, same-named}
 
 -- pairs of two lists
@@ -184,3 +185,66 @@ restarts-below next slots rows n (row ∷ rest) le =
     All-append (λ (part : PartId). part.life < next) (restarts_at slots rows n row) (in_turn (need slots rows) (restarts_at slots rows) (n + need slots rows row) rest)
     (restarts-here next slots rows n row (omega (arith, sum)))
     (restarts-below next slots rows (n + need slots rows row) rest (omega (arith, sum)))
+
+-- A new slot's lives are among the numbers that its row needs.
+new-fresh : (low high n : ℕ) (row : Row) → low ≤ n → n + (1 + length (roles_of row)) ≤ high → AreFresh low high (ids_of (new_slot n row))
+new-fresh low high n row from to =
+    elim (is_pair row) as (λ b. n + (1 + length (if b then Main ∷ Log ∷ [] else Main ∷ [])) ≤ high → AreFresh low high (ids_of (record {
+      number = n;
+      name = row.name;
+      main = record { number = n + 1; has_ended = false };
+      log = if b then Some (record { number = n + 2; has_ended = false }) else None;
+    }))) [
+      | true ↦ λ fits.
+          All-cons (between low high) (record { slot = n; role = Main; life = n + 1 }) (record { slot = n; role = Log; life = n + 2 } ∷ []) (omega arith, omega arith)
+          (All-cons (between low high) (record { slot = n; role = Log; life = n + 2 }) [] (omega arith, omega arith) (All-nil (between low high)))
+      | false ↦ λ fits. All-cons (between low high) (record { slot = n; role = Main; life = n + 1 }) [] (omega arith, omega arith) (All-nil (between low high))
+    ] to
+
+all-flat : {X Y : Type 0} (P : Y → Type 0) (f : X → List Y) (xs : List X) → All (λ x. All P (f x)) xs → All P (flat_map f xs)
+all-flat P f [] all = All-nil P
+all-flat P f (x ∷ xs) all = All-append P (f x) (flat_map f xs) (All-head (λ z. All P (f z)) x xs all) (all-flat P f xs (All-tail (λ z. All P (f z)) x xs all))
+
+slots-fresh : (low high : ℕ) (slots : List SlotState) (rows : List Row) (n : ℕ) (rest : List Row) → low ≤ n → n + sum_by (need slots rows) rest ≤ high →
+    All (λ (slot : SlotState). AreFresh low high (ids_of slot)) (slots_from slots rows n rest)
+slots-fresh low high slots rows n [] from to = All-nil (λ (slot : SlotState). AreFresh low high (ids_of slot))
+slots-fresh low high slots rows n (row ∷ rest) from to =
+    let sum = sum_by-cons (need slots rows) row rest in
+    all-slots (λ (slot : SlotState). AreFresh low high (ids_of slot)) slots rows n row rest
+    (λ is needs none. new-fresh low high n row from (omega (arith, sum, needs)))
+    (slots-fresh low high slots rows (n + need slots rows row) rest (omega arith) (omega (arith, sum)))
+
+-- The lives of starts are among the numbers that a scan needs.
+pub starts-fresh : (slots : List SlotState) (next : ℕ) (rows : List Row) → AreFresh next (next + needs slots rows) (starts slots next rows)
+starts-fresh slots next rows =
+    all-flat (between next (next + needs slots rows)) ids_of (new_slots slots next rows)
+    (slots-fresh next (next + needs slots rows) slots rows next (eligible rows) (omega arith) (omega arith))
+
+lives-fresh : (low high n slot : ℕ) (roles : List Role) → low ≤ n → n + length roles ≤ high → AreFresh low high (lives_from n slot roles)
+lives-fresh low high n slot [] from to = All-nil (between low high)
+lives-fresh low high n slot (role ∷ roles) from to =
+    All-cons (between low high) (record { slot = slot; role = role; life = n }) (lives_from (n + 1) slot roles) (from, omega arith)
+    (lives-fresh low high (n + 1) slot roles (omega arith) (omega arith))
+
+restarts-one : (low high : ℕ) (slots : List SlotState) (rows : List Row) (n : ℕ) (row : Row) → low ≤ n → n + need slots rows row ≤ high →
+    AreFresh low high (restarts_at slots rows n row)
+restarts-one low high slots rows n row from to =
+    elim (slot_of slots row) as (λ s. slot_of slots row ≡ s → AreFresh low high (restarts_where n s)) [
+      | None ↦ λ none. All-nil (between low high)
+      | (Some slot) ↦ λ some.
+          let needs : need slots rows row ≡ length (ended_roles slot) = rw some refl in
+          lives-fresh low high n slot.number (ended_roles slot) from (omega (arith, needs))
+    ] refl
+
+restarts-many : (low high : ℕ) (slots : List SlotState) (rows : List Row) (n : ℕ) (rest : List Row) → low ≤ n → n + sum_by (need slots rows) rest ≤ high →
+    AreFresh low high (in_turn (need slots rows) (restarts_at slots rows) n rest)
+restarts-many low high slots rows n [] from to = All-nil (between low high)
+restarts-many low high slots rows n (row ∷ rest) from to =
+    let sum = sum_by-cons (need slots rows) row rest in
+    All-append (between low high) (restarts_at slots rows n row) (in_turn (need slots rows) (restarts_at slots rows) (n + need slots rows row) rest)
+    (restarts-one low high slots rows n row from (omega (arith, sum)))
+    (restarts-many low high slots rows (n + need slots rows row) rest (omega arith) (omega (arith, sum)))
+
+-- The lives of restarts are among the numbers that a scan needs.
+pub restarts-fresh : (slots : List SlotState) (next : ℕ) (rows : List Row) → AreFresh next (next + needs slots rows) (restarts slots next rows)
+restarts-fresh slots next rows = restarts-many next (next + needs slots rows) slots rows next (eligible rows) (omega arith) (omega arith)

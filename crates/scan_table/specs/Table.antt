@@ -1,6 +1,6 @@
 -- A table of slots, and what scans and ends do to it.
-use Rattle.std.specs.Prelude.{ℕ, ◌+◌, ◌==◌, ◌&&◌, ◌||◌, Bool, false, not, List, [], ◌∷◌, ◌++◌, map, if◌then◌else◌, Option, Some, None, is_some}
-use Rattle.std.specs.List.{list_any}
+use Rattle.std.specs.Prelude.{ℕ, ◌+◌, ◌<◌, ◌≤◌, ◌==◌, ◌&&◌, ◌||◌, Bool, false, not, List, [], ◌∷◌, ◌++◌, map, if◌then◌else◌, Option, Some, None, is_some}
+use Rattle.std.specs.List.{list_any, All}
 use Rattle.std.specs.Option.{option_map}
 use Rattle.scan_table.specs.declared.part.Role.{Role}
 use Rattle.scan_table.specs.declared.part.Role.TheVariants.{Main, Log}
@@ -88,3 +88,11 @@ has_log (Some slot) = is_some slot.log
 
 abbrev pub name_of : SlotState → List ℕ
 name_of slot = slot.name
+
+-- a life that was given between two counters
+abbrev pub between : ℕ → ℕ → PartId → Type 0
+between from to part = (from ≤ part.life) × (part.life < to)
+
+-- These lives were given between two counters: no scan before or after gives them.
+abbrev pub AreFresh : ℕ → ℕ → List PartId → Type 0
+AreFresh from to parts = All (between from to) parts

@@ -3,7 +3,7 @@ ghost use Rattle.std.specs.Prelude.{◌≡◌, ◌+◌, ◌<◌, ◌≤◌, ◌^
 ghost use Rattle.std.specs.List.{AllPairs, list_any};
 ghost use Rattle.std.specs.Option.{option_map};
 ghost use Rattle.scan_table.specs.Scan.{AreRising, is_exhausted, starts, restarts, drops, refused, kept, new_slots, IsCause};
-ghost use Rattle.scan_table.specs.Table.{new_table, scanned, after_end, is_running, slot_ended, has_running, renewed, slot_at, has_log, name_of};
+ghost use Rattle.scan_table.specs.Table.{new_table, scanned, after_end, is_running, slot_ended, has_running, renewed, slot_at, has_log, name_of, AreFresh};
 ghost use Rattle.scan_table.specs.Index.{IsBefore, IsTable, AreDistinct, names_of, IsIndex};
 
 use crate::fault::ScanFault;
@@ -195,6 +195,8 @@ impl<A: Allocator + Clone> ScanTable<A> {
         ensures drops { IfOk result (λ out. out.drops ≡ drops self.old.slots rows.now) }
         ensures refused { IfOk result (λ out. out.refused ≡ refused self.old.slots rows.now) }
         ensures table { OnOk result (self.new ≡ scanned self.old rows.now) }
+        ensures fresh_starts { IfOk result (λ out. AreFresh self.old.next self.new.next out.starts) }
+        ensures fresh_restarts { IfOk result (λ out. AreFresh self.old.next self.new.next out.restarts) }
         ensures rising { OnOk result (AreRising rows.now) }
         ensures enough { OnOk result (is_exhausted self.old.slots self.old.next rows.now ≡ false) }
         ensures unchanged { OnErr result (self.new ≡ self.old) }
