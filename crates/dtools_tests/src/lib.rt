@@ -17,6 +17,8 @@ mod memory;
 #[cfg(test)]
 mod patterns;
 #[cfg(test)]
+mod scan;
+#[cfg(test)]
 mod scripts;
 #[cfg(test)]
 mod sim;

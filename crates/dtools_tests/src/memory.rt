@@ -3,7 +3,7 @@ use bumpalo::Bump;
 use std::alloc::{AllocError, Global};
 
 /// Leaves so many bytes in a region, which gets no more.
-fn leave(bump: &Bump, left: usize) -> Result<(), AllocError> {
+pub fn leave(bump: &Bump, left: usize) -> Result<(), AllocError> {
     bump.set_allocation_limit(Some(0));
     let filler = bump.chunk_capacity().saturating_sub(left);
     bump.try_alloc_slice_fill_clone(filler, 0u8)?;

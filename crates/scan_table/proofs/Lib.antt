@@ -1,0 +1,11 @@
+mod Rising
+mod Turns
+mod Worked
+mod Orders
+mod Indexed
+mod Searched
+mod Placed
+mod Given
+mod Dropped
+mod Rows
+mod After

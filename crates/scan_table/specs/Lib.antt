@@ -1,0 +1,5 @@
+pub mod Slots
+pub mod Scan
+pub mod Table
+pub mod Turns
+pub mod Index

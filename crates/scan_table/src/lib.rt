@@ -1,0 +1,20 @@
+//! The table of services that a scan keeps, as svscan does (<https://cr.yp.to/daemontools/svscan.html>).
+//!
+//! [`ScanTable::scan`] is given what the folder holds, and answers which services start, restart, go or are refused.
+//! [`ScanTable::ended`] is told of each part that has ended.
+#![tactic(auto)]
+
+mod fault;
+mod index;
+mod part;
+mod place;
+mod plan;
+mod row;
+mod slot;
+mod table;
+
+pub use fault::ScanFault;
+pub use part::{Numbers, PartId, Parts, Role};
+pub use row::DirRow;
+pub use slot::MAX_SLOTS;
+pub use table::{ScanOut, ScanTable};

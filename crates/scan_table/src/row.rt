@@ -1,0 +1,78 @@
+//! What a scan is given.
+ghost use Rattle.std.specs.Prelude.{◌≡◌, OnOk, IfErr};
+ghost use Rattle.scan_table.specs.Scan.{AreRising, IsFirstAt, IsOrderFault};
+
+use crate::fault::ScanFault;
+use std::alloc::{Allocator, Global};
+use std::cmp::Ordering;
+use std::marker::Model;
+use tai_status::Name;
+
+/// An entry of the folder that is scanned.
+#[derive(Drop)]
+pub struct DirRow<A: Allocator = Global> {
+    /// Its name in the folder.
+    pub name: Name<A>,
+    /// Whether it is a directory.
+    pub is_dir: bool,
+    /// Whether it has a directory `log`.
+    pub has_log: bool,
+    /// Whether it has a file `down`.
+    pub down: bool,
+    /// Whether its `log` has a file `down`.
+    pub log_down: bool,
+}
+
+impl<A: Allocator> Model for DirRow<A> {
+    ghost use Rattle.scan_table.specs.Slots.{Row};
+
+    ghost Value = { Row };
+
+    ghost view = { λ row. record {
+      name = row.name;
+      is_dir = row.is_dir;
+      has_log = row.has_log;
+      down = row.down;
+      log_down = row.log_down;
+    } };
+}
+
+impl<A: Allocator> DirRow<A> {
+    ghost use Rattle.scan_table.specs.Slots.{is_eligible, is_pair};
+
+    /// The name of the entry.
+    pub(crate) fn name(&self) -> &str
+        ensures { result.now ≡ self.now.name }
+    {
+        self.name.as_str()
+    }
+
+    /// Whether the row is of a service: a directory whose name is not empty and does not begin with a dot.
+    pub(crate) fn is_eligible(&self) -> bool
+        ensures { result ≡ is_eligible self.now }
+    {
+        self.is_dir && !matches!(self.name().as_bytes(), [] | [b'.', ..])
+    }
+
+    /// Whether a new slot of the row is a pair.
+    pub(crate) fn is_pair(&self) -> bool
+        ensures { result ≡ is_pair self.now }
+    {
+        self.has_log && self.name().len() <= 255
+    }
+}
+
+/// Tells the first place where the rows do not rise by name.
+pub(crate) fn check_order<A: Allocator>(rows: &[DirRow<A>]) -> Result<(), ScanFault>
+    ensures ok { OnOk result (AreRising rows.now) }
+    ensures err { IfErr result (λ fault. IsOrderFault rows.now fault) }
+{
+    for place in 1..rows.len() {
+        match rows[place - 1].name().cmp(rows[place].name()) {
+            Ordering::Less => {}
+            Ordering::Equal => return Err(ScanFault::Twice(place as u64)),
+            Ordering::Greater => return Err(ScanFault::Unsorted(place as u64)),
+        }
+    }
+    Ok(())
+}

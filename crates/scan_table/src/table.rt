@@ -1,0 +1,229 @@
+//! The table of slots.
+ghost use Rattle.std.specs.Prelude.{◌≡◌, ◌+◌, ◌<◌, ◌≤◌, ◌^◌, ◌++◌, [], false, length, map, vec_len, vec_capacity, option_copied, IfOk, OnOk, OnErr, IfErr, is_some};
+ghost use Rattle.std.specs.List.{AllPairs, list_any};
+ghost use Rattle.std.specs.Option.{option_map};
+ghost use Rattle.scan_table.specs.Scan.{AreRising, is_exhausted, starts, restarts, drops, refused, kept, new_slots, IsCause};
+ghost use Rattle.scan_table.specs.Table.{new_table, scanned, after_end, is_running, slot_ended, has_running, renewed, slot_at, has_log, name_of, AreFresh};
+ghost use Rattle.scan_table.specs.Index.{IsBefore, IsTable, AreDistinct, names_of, IsIndex};
+
+use crate::fault::ScanFault;
+use crate::index::index_all;
+use crate::part::{Numbers, PartId, Parts};
+use crate::place::{end_part, restart_all, slot_at};
+use crate::plan::{Gifts, Plan, keep, plan_scan};
+use crate::row::DirRow;
+use crate::slot::Slot;
+use std::alloc::{AllocError, Allocator, Global};
+use std::marker::Model;
+use tai_status::{Name, Names};
+
+/// What a scan did.
+#[derive(Drop)]
+pub struct ScanOut<A: Allocator = Global> {
+    /// The parts of the new slots, in the order of their rows, each service before its logger.
+    pub starts: Parts<A>,
+    /// The parts that start again, in the order of their rows, each service before its logger.
+    pub restarts: Parts<A>,
+    /// The numbers of the slots that went, rising.
+    pub drops: Numbers<A>,
+    /// The names that get no slot since there are too many, in the order of their rows.
+    pub refused: Names<A>,
+}
+
+/// The slots of all services, and the counter from which slots and lives are numbered. No number is given twice.
+/// Contracts see it as `TableState`.
+#[derive(Drop)]
+pub struct ScanTable<A: Allocator + Clone = Global> {
+    alloc: A,
+    /// By rising number.
+    slots: Vec<Slot<A>, A>,
+    /// The places of the slots, by the byte order of their names.
+    index: Vec<usize, A>,
+    /// The number that is given next.
+    next: u64,
+}
+
+impl<A: Allocator + Clone> Model for ScanTable<A> {
+    ghost use Rattle.scan_table.specs.Table.{TableState};
+    ghost use Rattle.scan_table.specs.Index.{IsTable};
+
+    ghost Value = { TableState };
+
+    ghost view = { λ table. record { slots = table.slots.items; next = table.next } };
+
+    ghost invariant = { λ table. IsTable table.slots.items table.next table.index.items };
+}
+
+/// Takes the room that new slots need.
+fn reserve<A: Allocator>(
+    slots: &mut Vec<Slot<A>, A>,
+    index: &mut Vec<usize, A>,
+    count: usize,
+) -> Result<(), AllocError>
+    ensures slots { slots.new.items ≡ slots.old.items }
+    ensures index { index.new.items ≡ index.old.items }
+    ensures slot_room { OnOk result (vec_len slots.new + count ≤ vec_capacity slots.new) }
+    ensures index_room { OnOk result (vec_len index.new + count ≤ vec_capacity index.new) }
+{
+    slots.reserve(count)?;
+    index.reserve(count)
+}
+
+/// Ends a part: whether it was there and had not ended.
+fn end_in<A: Allocator>(slots: &mut Vec<Slot<A>, A>, part: PartId) -> bool
+    requires { AllPairs IsBefore slots.old.items }
+    ensures slots { slots.new.items ≡ map (slot_ended part) slots.old.items }
+    ensures running { result ≡ list_any (has_running part) slots.old.items }
+{
+    end_part(slots, part)
+}
+
+/// Begins parts of slots in new lives.
+fn restart_in<A: Allocator>(slots: &mut Vec<Slot<A>, A>, parts: &[PartId])
+    requires { AllPairs IsBefore slots.old.items }
+    ensures slots { slots.new.items ≡ map (renewed parts.now) slots.old.items }
+    ensures len { vec_len slots.new ≡ vec_len slots.old }
+    ensures room { vec_capacity slots.new ≡ vec_capacity slots.old }
+{
+    restart_all(slots, parts);
+}
+
+/// Drops the slots that a scan drops, begins the parts that restart, and puts the new slots at the end.
+fn change<A: Allocator>(
+    slots: &mut Vec<Slot<A>, A>,
+    rows: &[DirRow<A>],
+    restarts: &[PartId],
+    new: Vec<Slot<A>, A>,
+)
+    requires rows { AreRising rows.now }
+    requires rising { AllPairs IsBefore slots.old.items }
+    requires room { vec_len slots.old + vec_len new ≤ vec_capacity slots.old }
+    ensures { slots.new.items ≡ map (renewed restarts.now) (kept slots.old.items rows.now) ++ new.items }
+{
+    keep(slots, rows);
+    restart_in(slots, restarts);
+    let mut new = new;
+    let _ = slots.append(&mut new);
+}
+
+/// Takes the room that a scan needs, and then carries it out. Where the room is refused nothing changes.
+fn carry_out<A: Allocator>(
+    slots: &mut Vec<Slot<A>, A>,
+    index: &mut Vec<usize, A>,
+    rows: &[DirRow<A>],
+    restarts: &[PartId],
+    new: Vec<Slot<A>, A>,
+) -> Result<(), AllocError>
+    requires rows { AreRising rows.now }
+    requires rising { AllPairs IsBefore slots.old.items }
+    requires whole { length index.old.items ≡ length slots.old.items }
+    requires distinct { AreDistinct (map (renewed restarts.now) (kept slots.old.items rows.now) ++ new.items) }
+    ensures slots { OnOk result (slots.new.items
+        ≡ map (renewed restarts.now) (kept slots.old.items rows.now) ++ new.items) }
+    ensures index { OnOk result (IsIndex (names_of slots.new.items) index.new.items) }
+    ensures whole { OnOk result (length index.new.items ≡ length slots.new.items) }
+    ensures slots_stay { OnErr result (slots.new.items ≡ slots.old.items) }
+    ensures index_stays { OnErr result (index.new.items ≡ index.old.items) }
+{
+    reserve(slots, index, new.len())?;
+    change(slots, rows, restarts, new);
+    index_all(slots, index);
+    Ok(())
+}
+
+impl<A: Allocator + Clone> ScanTable<A> {
+    /// A table without slots, whose first number is this one.
+    pub fn new(alloc: A, next: u64) -> Result<ScanTable<A>, AllocError>
+        ensures { IfOk result (λ table. table ≡ new_table next) }
+    {
+        Ok(ScanTable {
+            slots: Vec::new(alloc.clone()?),
+            index: Vec::new(alloc.clone()?),
+            alloc,
+            next,
+        })
+    }
+
+    /// How many slots there are.
+    pub fn slots(&self) -> usize
+        ensures { result ≡ length self.now.slots }
+    {
+        self.slots.len()
+    }
+
+    /// The name of the service in the slot of a number.
+    pub fn name(&self, slot: u64) -> Option<&Name<A>>
+        ensures { option_copied result ≡ option_map name_of (slot_at self.now.slots slot) }
+    {
+        match slot_at(&self.slots, slot) {
+            Some(slot) => Some(&slot.name),
+            None => None,
+        }
+    }
+
+    /// Whether there is a slot of this number, and it is a pair.
+    pub fn is_pair(&self, slot: u64) -> bool
+        ensures { result ≡ has_log (slot_at self.now.slots slot) }
+    {
+        match slot_at(&self.slots, slot) {
+            Some(slot) => slot.log.is_some(),
+            None => false,
+        }
+    }
+
+    /// Tells the table that a part has ended: whether it is there and had not ended. No other part changes.
+    pub fn ended(&mut self, part: PartId) -> bool
+        ensures running { result ≡ is_running self.old part }
+        ensures table { self.new ≡ after_end self.old part }
+    {
+        end_in(&mut self.slots, part)
+    }
+
+    /// Takes in what the folder holds, whose rows are to rise by the byte order of their names.
+    ///
+    /// A service without a row goes once its parts have ended. Each eligible row in order then restarts each part of its
+    /// service that has ended, or gets a new slot, where there are fewer than `MAX_SLOTS`; where there are as many, its
+    /// name is refused. A row is eligible where it is a directory whose name is not empty and does not begin with a dot;
+    /// a new slot is a pair, the service and its logger, where the row has a log and its name at most 255 bytes.
+    ///
+    /// `Unsorted` and `Twice` tell the first place where the names do not rise, and come first; then `Exhausted`, where
+    /// there are fewer numbers than the scan needs; `OutOfMemory` only where nothing else is wrong. At a fault the table
+    /// is as it was.
+    pub fn scan(&mut self, rows: &[DirRow<A>]) -> Result<ScanOut<A>, ScanFault>
+        ensures starts { IfOk result (λ out. out.starts ≡ starts self.old.slots self.old.next rows.now) }
+        ensures restarts { IfOk result (λ out. out.restarts ≡ restarts self.old.slots self.old.next rows.now) }
+        ensures drops { IfOk result (λ out. out.drops ≡ drops self.old.slots rows.now) }
+        ensures refused { IfOk result (λ out. out.refused ≡ refused self.old.slots rows.now) }
+        ensures table { OnOk result (self.new ≡ scanned self.old rows.now) }
+        ensures fresh_starts { IfOk result (λ out. AreFresh self.old.next self.new.next out.starts) }
+        ensures fresh_restarts { IfOk result (λ out. AreFresh self.old.next self.new.next out.restarts) }
+        ensures rising { OnOk result (AreRising rows.now) }
+        ensures enough { OnOk result (is_exhausted self.old.slots self.old.next rows.now ≡ false) }
+        ensures unchanged { OnErr result (self.new ≡ self.old) }
+        ensures cause { IfErr result (λ fault. IsCause self.old.slots self.old.next rows.now fault) }
+    {
+        let plan = plan_scan(&self.alloc, &self.slots, &self.index, rows, self.next)?;
+        let Plan {
+            starts,
+            drops,
+            gifts,
+        } = plan;
+        let Gifts {
+            slots,
+            restarts,
+            refused,
+            number,
+            ..
+        } = gifts;
+        let Ok(()) = carry_out(&mut self.slots, &mut self.index, rows, &restarts, slots) else {
+            return Err(ScanFault::OutOfMemory);
+        };
+        self.next = number;
+        Ok(ScanOut {
+            starts: Parts::from_vec(starts),
+            restarts: Parts::from_vec(restarts),
+            drops: Numbers::from_vec(drops),
+            refused: Names::from_vec(refused),
+        })
+    }
+}
