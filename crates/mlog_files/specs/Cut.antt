@@ -4,8 +4,8 @@ use Rattle.std.specs.Prelude.{List, [], ◌∷◌, ◌++◌, length, take}
 use Rattle.std.specs.List.{flat_map}
 use Rattle.tai_status.specs.Lines.{Sent}
 
--- Whether a file of this many bytes is full, which ends in a newline or not (multilog's page): it has the size; or it is
--- at most 2000 bytes below it, and ends with a line.
+-- Whether a file of this many bytes is full, which ends in a newline or not (multilog's page): it has the size; or it
+-- is at most 2000 bytes below it, and ends with a line.
 abbrev pub fills : ℕ → ℕ → Bool → Bool
 fills size count ends = nat_le size count || (nat_le (size - 2000) count && ends)
 

@@ -8,9 +8,23 @@ use Rattle.mlog_files.specs.Going.{Standing, steps_on, standing_on}
 use Rattle.mlog_files.specs.Named.{greatest_label}
 use Rattle.mlog_files.specs.declared.tail.Tail.{Tail}
 
+-- the size that a file of the log has at most
+abbrev pub size_of : Tail → ℕ
+size_of tail = tail.size
+
+-- how many old files the log keeps
+abbrev pub keep_of : Tail → ℕ
+keep_of tail = tail.keep
+
+-- the bytes that wait in memory
+abbrev pub waiting_in : Tail → List ℕ
+waiting_in tail = tail.waiting
+
+-- the greatest label of an old file, and how many there are
 abbrev pub marks_at : Tail → Marks
 marks_at tail = record { last = tail.last; kept = tail.kept }
 
+-- how many bytes the current file has, those that wait among them, and the marks
 abbrev pub standing : Tail → Standing
 standing tail = record { count = tail.count; marks = marks_at tail }
 

@@ -25,12 +25,12 @@ pub enum LogFault {
 /// files there are, and the greatest label of one.
 #[derive(Drop)]
 pub struct Tail {
-    pub size: usize,
-    pub keep: u64,
-    pub count: usize,
-    pub kept: u64,
-    pub last: Option<Label>,
-    pub waiting: Block,
+    size: usize,
+    keep: u64,
+    count: usize,
+    kept: u64,
+    last: Option<Label>,
+    waiting: Block,
     ghost sized: { 2000 ≤ size },
     ghost keeps: { 2 ≤ keep },
 }
@@ -109,7 +109,8 @@ impl Tail {
     ghost use Rattle.mlog_files.specs.Steps.{finish_steps};
     ghost use Rattle.mlog_files.specs.Going.{begun, finish_at, finished_at};
     ghost use Rattle.mlog_files.specs.Store.{Does, DoesFront, Goes};
-    ghost use Rattle.mlog_files.specs.Tails.{marks_at, standing, found, steps_at, after_at};
+    ghost use Rattle.mlog_files.specs.Tails.{size_of, keep_of, waiting_in, marks_at, standing, found};
+    ghost use Rattle.mlog_files.specs.Tails.{steps_at, after_at};
     ghost use Rattle.mlog_files.specs.declared.tail.LogFault.TheVariants as fault;
 
     /// The end of a log as the store holds it.
@@ -117,8 +118,8 @@ impl Tail {
         requires log { log < S.logs store.now }
         requires size { 2000 ≤ size }
         requires keep { 2 ≤ keep }
-        ensures limits { (result.size ≡ size) × (result.keep ≡ keep) }
-        ensures waiting { result.waiting ≡ [] }
+        ensures limits { (size_of result ≡ size) × (keep_of result ≡ keep) }
+        ensures waiting { waiting_in result ≡ [] }
         ensures found { IfSome ((S.told store.now).files log) (λ files. standing result ≡ found files) }
     {
         Tail {
@@ -284,16 +285,16 @@ impl Tail {
     ) -> Result<(), LogFault>
         requires log { log < S.logs store.old }
         ensures done { OnOk result
-            (Goes (S.told store.old) (S.told store.new) log self.old.waiting self.new.waiting
+            (Goes (S.told store.old) (S.told store.new) log (waiting_in self.old) (waiting_in self.new)
             (steps_at self.old reading.now bytes.now)) }
         ensures stands { OnOk result (after_at self.old reading.now bytes.now ≡ Some (standing self.new)) }
-        ensures same { (self.new.size ≡ self.old.size) × (self.new.keep ≡ self.old.keep) }
+        ensures same { (size_of self.new ≡ size_of self.old) × (keep_of self.new ≡ keep_of self.old) }
         ensures stopped { OnErr result (DoesFront (S.told store.old) (S.told store.new) log
-            (append_steps self.old.waiting ++ steps_at self.old reading.now bytes.now)) }
+            (append_steps (waiting_in self.old) ++ steps_at self.old reading.now bytes.now)) }
         ensures spent { IsErrOf result fault.LabelsSpent →
             (after_at self.old reading.now bytes.now ≡ None)
             × Does (S.told store.old) (S.told store.new) log
-            (append_steps self.old.waiting ++ steps_at self.old reading.now bytes.now) }
+            (append_steps (waiting_in self.old) ++ steps_at self.old reading.now bytes.now) }
         ensures store { IsErrOf result fault.Store → Rose (S.failures store.old) (S.failures store.new) }
         ensures steady { S.failures store.old ≤ S.failures store.new }
         ensures counts { (S.logs store.new ≡ S.logs store.old) × (S.status_files store.new ≡ S.status_files store.old) }
@@ -308,12 +309,13 @@ impl Tail {
     /// Appends what waits in memory.
     pub fn flush<S: LogStore>(&mut self, store: &mut S, log: usize) -> Result<(), LogFault>
         requires log { log < S.logs store.old }
-        ensures done { OnOk result (Does (S.told store.old) (S.told store.new) log (append_steps self.old.waiting)) }
-        ensures empty { OnOk result (self.new.waiting ≡ []) }
+        ensures done { OnOk result
+            (Does (S.told store.old) (S.told store.new) log (append_steps (waiting_in self.old))) }
+        ensures empty { OnOk result (waiting_in self.new ≡ []) }
         ensures stands { standing self.new ≡ standing self.old }
-        ensures same { (self.new.size ≡ self.old.size) × (self.new.keep ≡ self.old.keep) }
+        ensures same { (size_of self.new ≡ size_of self.old) × (keep_of self.new ≡ keep_of self.old) }
         ensures stopped { OnErr result
-            (DoesFront (S.told store.old) (S.told store.new) log (append_steps self.old.waiting)) }
+            (DoesFront (S.told store.old) (S.told store.new) log (append_steps (waiting_in self.old))) }
         ensures store { IfErr result (λ why. (why ≡ fault.Store) × Rose (S.failures store.old) (S.failures store.new)) }
         ensures steady { S.failures store.old ≤ S.failures store.new }
         ensures counts { (S.logs store.new ≡ S.logs store.old) × (S.status_files store.new ≡ S.status_files store.old) }
