@@ -11,6 +11,8 @@ mod filters;
 #[cfg(test)]
 mod kept;
 #[cfg(test)]
+mod logs;
+#[cfg(test)]
 mod mail;
 #[cfg(test)]
 mod memory;
