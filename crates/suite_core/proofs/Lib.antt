@@ -1,0 +1,5 @@
+mod Names
+mod Traces
+mod Tied
+mod Runs
+mod Placed
