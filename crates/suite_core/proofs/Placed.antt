@@ -131,11 +131,11 @@ after-at parts id event place d new rising at is =
     map-one (part_after id event) parts place (get_or parts place d) at.within (again parts place d at.within)
     (λ k e b other. let no = other-part (get_or parts k e) id (others parts id place rising (part-place parts id place at) k e b other) in rw no refl)
 
-pub out-at : (parts : List PartState) (id : PartId) (event : Event) (place : ℕ) (part : PartState) → AreRising parts → IsPartAt parts id place → part ≡ get_or parts place part →
-    outs_at part.id event (Some part.trace) ≡ outs_at id event (trace_of parts id)
-out-at parts id event place part rising at read =
+pub out-at : {A : Type 0} → (parts : List PartState) (id : PartId) (event : Event) (place : ℕ) (part : PartState) → AreRising parts → IsPartAt parts id place → part ≡ get_or parts place part →
+    outs_at {A = A} part.id event (Some part.trace) ≡ outs_at id event (trace_of parts id)
+out-at {A = A} parts id event place part rising at read =
     let same : part.id ≡ id = ap (λ (p : PartState). p.id) read ∙ is_part-same (get_or parts place part).id id (at.here part) in
-    ap (λ (a : PartId). outs_at a event (Some part.trace)) same ∙ ap (outs_at id event) (sym (trace-here parts id place part rising at read))
+    ap (λ (a : PartId). outs_at {A = A} a event (Some part.trace)) same ∙ ap (outs_at {A = A} id event) (sym (trace-here parts id place part rising at read))
 
 -- Restarting
 

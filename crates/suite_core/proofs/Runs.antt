@@ -28,7 +28,7 @@ use Rattle.suite_lines.specs.declared.out.StepOut.TheVariants as out
 use Rattle.suite_core.specs.declared.fault.StepFault.{StepFault}
 use Rattle.suite_core.specs.declared.fault.StepFault.TheVariants as fault
 use Rattle.suite_core.specs.Parts.{PartState, is_part, is_place, trace_of, has_ended, part_after, parts_after, restarted_in, is_of}
-use Rattle.suite_core.specs.Suite.{SuiteState, IsSuiteEvent, refusal, Beginning, beginning, beginnings, begun_part, opening, outs_at, outs_of, table_told, changed, parts_scanned, scan_starts, scan_restarts, suite_after}
+use Rattle.suite_core.specs.Suite.{SuiteState, IsSuiteEvent, refusal, Beginning, beginning, beginnings, begun_part, opening, outs_at, outs_of, suite_at, suite_scanned, table_told, changed, parts_scanned, scan_starts, scan_restarts, suite_after}
 use Rattle.suite_core.specs.Run.{suite_along, outs_along, AreAccepted, Ran, own_events, own_between, trace_at, Follows, FollowsIfThere, GoByOwnEvents, ReplyByOwnHistory, is_taken_away, is_named, LeaveOthers}
 use Rattle.suite_core.specs.Places.{AreTied, IsSuite}
 use Rattle.suite_core.proofs.Names.{is_part-same, is_part-later}
@@ -50,12 +50,12 @@ part-there P (part ∷ parts) id kept all at =
 pub life-below : (suite : SuiteState) (id : PartId) (kept : Kept) → IsSuite suite → trace_of suite.parts id ≡ Some kept → id.life < suite.table.next
 life-below suite id kept is at =
     let found = part-there (λ (part : PartState). part.id.life < suite.table.next) suite.parts id kept (parts-below suite.table suite.parts is.numbered is.tied) at in
-    subst (λ (a : PartId). a.life < suite.table.next) found.2.2.1 found.2.1
+    subst (λ (a : PartId). a.life < suite.table.next) found.2 found.1
 
 pub trace-there : (suite : SuiteState) (id : PartId) (kept : Kept) → IsSuite suite → trace_of suite.parts id ≡ Some kept → IsTrace kept
 trace-there suite id kept is at =
     let found = part-there (λ (part : PartState). IsTrace part.trace) suite.parts id kept is.traces at in
-    subst IsTrace found.2.2.2 found.2.1
+    subst IsTrace found.3 found.1
 
 -- A suite after an event is one.
 
@@ -85,7 +85,7 @@ told-numbered table id event (Some kept) numbered =
       | false ↦ numbered
     ]
 
-pub IsSuite-at : (suite : SuiteState) (id : PartId) (event : Event) → IsEvent event → IsSuite suite → IsSuite (suite_after suite (At id event))
+pub IsSuite-at : (suite : SuiteState) (id : PartId) (event : Event) → IsEvent event → IsSuite suite → IsSuite (suite_at suite id event)
 IsSuite-at suite id event condition is = record {
   room = is.room;
   limit = is.limit;
@@ -108,7 +108,7 @@ changed-all P dropped started again parts new news old =
     (all-map P P (restarted_in again) (filter (λ part. not (is_of dropped part)) parts) (λ part is. restarted-one P again part is news)
     (All-filter (λ part. not (is_of dropped part)) P parts old)) new
 
-pub IsSuite-scanned : (suite : SuiteState) (rows : List Row) (label : Tai64n) → IsSuite suite → IsSuite (suite_after suite (Scan rows label))
+pub IsSuite-scanned : (suite : SuiteState) (rows : List Row) (label : Tai64n) → IsSuite suite → IsSuite (suite_scanned suite rows label)
 IsSuite-scanned suite rows label is = record {
   room = is.room;
   limit = is.limit;
@@ -121,11 +121,11 @@ IsSuite-scanned suite rows label is = record {
       (begun-traces suite.capacity label (scan_restarts suite.table rows) is.room is.limit) is.traces;
 }
 
-pub IsSuite-after : (suite : SuiteState) (event : SuiteEvent) → IsSuiteEvent event → IsSuite suite → IsSuite (suite_after suite event)
+pub IsSuite-after : {A : Type 0} → (suite : SuiteState) (event : SuiteEvent A) → IsSuiteEvent event → IsSuite suite → IsSuite (suite_after suite event)
 IsSuite-after suite (At id event) condition is = IsSuite-at suite id event condition is
 IsSuite-after suite (Scan rows label) condition is = IsSuite-scanned suite rows label is
 
-pub IsSuite-along : (suite : SuiteState) (events : List SuiteEvent) → AllByRecursion IsSuiteEvent events → IsSuite suite → IsSuite (suite_along suite events)
+pub IsSuite-along : {A : Type 0} → (suite : SuiteState) (events : List (SuiteEvent A)) → AllByRecursion IsSuiteEvent events → IsSuite suite → IsSuite (suite_along suite events)
 IsSuite-along suite [] conditions is = is
 IsSuite-along suite (event ∷ events) conditions is =
     IsSuite-along (suite_after suite event) events conditions.1 (IsSuite-after suite event conditions.0 is)
@@ -159,95 +159,98 @@ trace_of-scanned suite rows label id below =
 
 -- Runs
 
+abbrev no_trace : Option Kept
+no_trace = None
+
 abbrev IsSameOrNone : Option Kept → Kept → Type 0
 IsSameOrNone None kept = Unit {0}
 IsSameOrNone (Some later) kept = later ≡ kept
 
 -- A part that is gone from the suite stays so: its life is not given again.
-gone-along : (suite : SuiteState) (events : List SuiteEvent) (id : PartId) → id.life < suite.table.next → trace_of suite.parts id ≡ None →
+gone-along : {A : Type 0} → (suite : SuiteState) (events : List (SuiteEvent A)) (id : PartId) → id.life < suite.table.next → trace_of suite.parts id ≡ None →
     trace_of (suite_along suite events).parts id ≡ None
 gone-along suite [] id below none = none
 gone-along suite (At other event ∷ events) id below none =
-    let next_same : (suite_after suite (At other event)).table.next ≡ suite.table.next =
+    let next_same : (suite_at suite other event).table.next ≡ suite.table.next =
       elim (trace_of suite.parts other) as (λ t. (table_told suite.table other event t).next ≡ suite.table.next) [
         | None ↦ refl
         | (Some kept) ↦ elim (has_ended (noted_if_taken kept event)) as (λ b. (if b then after_end suite.table other else suite.table).next ≡ suite.table.next) [ true ↦ refl | false ↦ refl ]
       ] in
-    gone-along (suite_after suite (At other event)) events id (omega (arith, below, next_same))
+    gone-along (suite_at suite other event) events id (omega (arith, below, next_same))
     (trace_of-after suite.parts other id event ∙ ap (option_map (noted_where (is_part other id) event)) none)
 gone-along suite (Scan rows label ∷ events) id below none =
-    gone-along (suite_after suite (Scan rows label)) events id (omega (arith, below))
+    gone-along (suite_scanned suite rows label) events id (omega (arith, below))
     (trace_of-scanned suite rows label id below
     ∙ ap (λ t. if is_taken_away suite rows id then None else t) none
-    ∙ elim (is_taken_away suite rows id) as (λ b. (if b then None else None) ≡ None) [ true ↦ refl | false ↦ refl ])
+    ∙ elim (is_taken_away suite rows id) as (λ b. (if b then None else None) ≡ no_trace) [ true ↦ refl | false ↦ refl ])
 
 -- A part is gone, or its trace has taken its own events.
-own-along : (suite : SuiteState) (events : List SuiteEvent) (id : PartId) (kept : Kept) → IsSuite suite → AllByRecursion IsSuiteEvent events →
+own-along : {A : Type 0} → (suite : SuiteState) (events : List (SuiteEvent A)) (id : PartId) (kept : Kept) → IsSuite suite → AllByRecursion IsSuiteEvent events →
     trace_of suite.parts id ≡ Some kept → IsSameOrNone (trace_of (suite_along suite events).parts id) (noted_along kept (own_events id events))
 own-along suite [] id kept is conditions at = subst (λ (t : Option Kept). IsSameOrNone t kept) (sym at) refl
 own-along suite (At other event ∷ events) id kept is conditions at =
     let grown : trace_of (parts_after other event suite.parts) id ≡ Some (noted_where (is_part other id) event kept) =
       trace_of-after suite.parts other id event ∙ ap (option_map (noted_where (is_part other id) event)) at in
-    let next_is = IsSuite-after suite (At other event) conditions.0 is in
+    let next_is = IsSuite-at suite other event conditions.0 is in
     elim (is_part other id) as (λ b. trace_of (parts_after other event suite.parts) id ≡ Some (noted_where b event kept) →
-    IsSameOrNone (trace_of (suite_along (suite_after suite (At other event)) events).parts id) (noted_along kept (if b then event ∷ own_events id events else own_events id events))) [
-      | true ↦ λ grown. own-along (suite_after suite (At other event)) events id (noted_if_taken kept event) next_is conditions.1 grown
-      | false ↦ λ grown. own-along (suite_after suite (At other event)) events id kept next_is conditions.1 grown
+    IsSameOrNone (trace_of (suite_along (suite_at suite other event) events).parts id) (noted_along kept (if b then event ∷ own_events id events else own_events id events))) [
+      | true ↦ λ grown. own-along (suite_at suite other event) events id (noted_if_taken kept event) next_is conditions.1 grown
+      | false ↦ λ grown. own-along (suite_at suite other event) events id kept next_is conditions.1 grown
     ] grown
 own-along suite (Scan rows label ∷ events) id kept is conditions at =
     let below = life-below suite id kept is at in
-    let next_is = IsSuite-after suite (Scan rows label) conditions.0 is in
+    let next_is = IsSuite-scanned suite rows label is in
     let there = trace_of-scanned suite rows label id below in
     elim (is_taken_away suite rows id) as (λ b. trace_of (parts_scanned suite rows label) id ≡ (if b then None else trace_of suite.parts id) →
-    IsSameOrNone (trace_of (suite_along (suite_after suite (Scan rows label)) events).parts id) (noted_along kept (own_events id events))) [
+    IsSameOrNone (trace_of (suite_along (suite_scanned suite rows label) events).parts id) (noted_along kept (own_events id events))) [
       | true ↦ λ there.
           subst (λ (t : Option Kept). IsSameOrNone t (noted_along kept (own_events id events)))
-          (sym (gone-along (suite_after suite (Scan rows label)) events id (omega (arith, below)) there)) tt
-      | false ↦ λ there. own-along (suite_after suite (Scan rows label)) events id kept next_is conditions.1 (there ∙ at)
+          (sym (gone-along (suite_scanned suite rows label) events id (omega (arith, below)) there)) tt
+      | false ↦ λ there. own-along (suite_scanned suite rows label) events id kept next_is conditions.1 (there ∙ at)
     ] there
 
-suite_along-append : (suite : SuiteState) (xs ys : List SuiteEvent) → suite_along suite (xs ++ ys) ≡ suite_along (suite_along suite xs) ys
+suite_along-append : {A : Type 0} → (suite : SuiteState) (xs ys : List (SuiteEvent A)) → suite_along suite (xs ++ ys) ≡ suite_along (suite_along suite xs) ys
 suite_along-append suite [] ys = refl
 suite_along-append suite (x ∷ xs) ys = suite_along-append (suite_after suite x) xs ys
 
-outs_along-append : (suite : SuiteState) (xs ys : List SuiteEvent) → outs_along suite (xs ++ ys) ≡ outs_along suite xs ++ outs_along (suite_along suite xs) ys
+outs_along-append : {A : Type 0} → (suite : SuiteState) (xs ys : List (SuiteEvent A)) → outs_along suite (xs ++ ys) ≡ outs_along suite xs ++ outs_along (suite_along suite xs) ys
 outs_along-append suite [] ys = refl
 outs_along-append suite (x ∷ xs) ys =
     ap (λ l. outs_of suite x ++ l) (outs_along-append (suite_after suite x) xs ys)
     ∙ sym (append_assoc (outs_of suite x) (outs_along (suite_after suite x) xs) (outs_along (suite_along (suite_after suite x) xs) ys))
 
-accepted-append : (suite : SuiteState) (xs ys : List SuiteEvent) → AreAccepted suite (xs ++ ys) → AreAccepted suite xs × AreAccepted (suite_along suite xs) ys
+accepted-append : {A : Type 0} → (suite : SuiteState) (xs ys : List (SuiteEvent A)) → AreAccepted suite (xs ++ ys) → AreAccepted suite xs × AreAccepted (suite_along suite xs) ys
 accepted-append suite [] ys accepted = (tt, accepted)
 accepted-append suite (x ∷ xs) ys accepted =
     let rest = accepted-append (suite_after suite x) xs ys accepted.1 in
     ((accepted.0, rest.0), rest.1)
 
-accepted-more : (suite : SuiteState) (events : List SuiteEvent) (event : SuiteEvent) → AreAccepted suite events → refusal (suite_along suite events) event ≡ None →
+accepted-more : {A : Type 0} → (suite : SuiteState) (events : List (SuiteEvent A)) (event : SuiteEvent A) → AreAccepted suite events → refusal (suite_along suite events) event ≡ None →
     AreAccepted suite (events ++ event ∷ [])
 accepted-more suite [] event accepted here = (here, tt)
 accepted-more suite (e ∷ events) event accepted here = (accepted.0, accepted-more (suite_after suite e) events event accepted.1 here)
 
 -- An event that is not refused is answered once.
-one-out : (suite : SuiteState) (event : SuiteEvent) → refusal suite event ≡ None → length (outs_of suite event) ≡ 1
-one-out suite (At id event) none =
-    elim (trace_of suite.parts id) as (λ t. (if is_none t then Some fault.NoSuchPart else None) ≡ None → length (outs_at id event t) ≡ 1) [
+one-out : {A : Type 0} → (suite : SuiteState) (event : SuiteEvent A) → refusal suite event ≡ None → length (outs_of suite event) ≡ 1
+one-out {A = A} suite (At id event) none =
+    elim (trace_of suite.parts id) as (λ t. (if is_none t then Some fault.NoSuchPart else None) ≡ None → length (outs_at {A = A} id event t) ≡ 1) [
       | None ↦ λ none. absurd (cc)
       | (Some kept) ↦ λ none. refl
     ] none
 one-out suite (Scan rows label) none = refl
 
 -- As many outputs as events.
-outs-count : (suite : SuiteState) (events : List SuiteEvent) → AreAccepted suite events → length (outs_along suite events) ≡ length events
+outs-count : {A : Type 0} → (suite : SuiteState) (events : List (SuiteEvent A)) → AreAccepted suite events → length (outs_along suite events) ≡ length events
 outs-count suite [] accepted = refl
 outs-count suite (event ∷ events) accepted =
     omega (arith, length-append (outs_of suite event) (outs_along (suite_after suite event) events), one-out suite event accepted.0, outs-count (suite_after suite event) events accepted.1)
 
 -- A run goes on by one event.
-pub ran-more : (suite left after_it : SuiteState) (outs outs_left outs_after : List StepOut) (events : List SuiteEvent) (n : ℕ) (event : SuiteEvent) →
+pub ran-more : {A : Type 0} → (suite left after_it : SuiteState) (outs outs_left outs_after : List (StepOut A)) (events : List (SuiteEvent A)) (n : ℕ) (event : SuiteEvent A) →
     Ran suite left outs outs_left events n → n < length events → event ≡ get_or events n event → refusal left event ≡ None → after_it ≡ suite_after left event →
     outs_after ≡ outs_left ++ outs_of left event → Ran suite after_it outs outs_after events (n + 1)
 ran-more suite left after_it outs outs_left outs_after events n event ran below at here next_state next_outs =
-    let more : take (n + 1) events ≡ take n events ++ event ∷ [] = take_more events n event below ∙ ap (λ (e : SuiteEvent). take n events ++ e ∷ []) (sym at) in
+    let more : take (n + 1) events ≡ take n events ++ event ∷ [] = take_more events n event below ∙ ap (λ e. take n events ++ e ∷ []) (sym at) in
     let count : length (take (n + 1) events) ≡ n + 1 = omega (arith, length-take (n + 1) events) in
     let accepted = subst (AreAccepted suite) (sym more)
         (accepted-more suite (take n events) event ran.accepted (subst (λ (s : SuiteState). refusal s event ≡ None) ran.state here)) in
@@ -266,7 +269,7 @@ ran-more suite left after_it outs outs_left outs_after events n event ran below 
 
 -- The conditions on events
 
-own-conditions : (events : List SuiteEvent) (id : PartId) → AllByRecursion IsSuiteEvent events → AllByRecursion IsEvent (own_events id events)
+own-conditions : {A : Type 0} → (events : List (SuiteEvent A)) (id : PartId) → AllByRecursion IsSuiteEvent events → AllByRecursion IsEvent (own_events id events)
 own-conditions [] id conditions = tt
 own-conditions (At other event ∷ events) id conditions =
     elim (is_part other id) as (λ b. AllByRecursion IsEvent (if b then event ∷ own_events id events else own_events id events)) [
@@ -275,20 +278,20 @@ own-conditions (At other event ∷ events) id conditions =
     ]
 own-conditions (Scan rows label ∷ events) id conditions = own-conditions events id conditions.1
 
-conditions-take : (events : List SuiteEvent) (n : ℕ) → AllByRecursion IsSuiteEvent events → AllByRecursion IsSuiteEvent (take n events)
+conditions-take : {A : Type 0} → (events : List (SuiteEvent A)) (n : ℕ) → AllByRecursion IsSuiteEvent events → AllByRecursion IsSuiteEvent (take n events)
 conditions-take [] zero conditions = tt
 conditions-take [] (suc n) conditions = tt
 conditions-take (event ∷ events) zero conditions = tt
 conditions-take (event ∷ events) (suc n) conditions = (conditions.0, conditions-take events n conditions.1)
 
-conditions-drop : (events : List SuiteEvent) (n : ℕ) → AllByRecursion IsSuiteEvent events → AllByRecursion IsSuiteEvent (drop n events)
+conditions-drop : {A : Type 0} → (events : List (SuiteEvent A)) (n : ℕ) → AllByRecursion IsSuiteEvent events → AllByRecursion IsSuiteEvent (drop n events)
 conditions-drop [] zero conditions = tt
 conditions-drop [] (suc n) conditions = tt
 conditions-drop (event ∷ events) zero conditions = conditions
 conditions-drop (event ∷ events) (suc n) conditions = conditions-drop events n conditions.1
 
 -- A suite at a place of a run is one.
-at-place : (suite : SuiteState) (events : List SuiteEvent) (place : ℕ) → IsSuite suite → AllByRecursion IsSuiteEvent events → IsSuite (suite_along suite (take place events))
+at-place : {A : Type 0} → (suite : SuiteState) (events : List (SuiteEvent A)) (place : ℕ) → IsSuite suite → AllByRecursion IsSuiteEvent events → IsSuite (suite_along suite (take place events))
 at-place suite events place is conditions = IsSuite-along suite (take place events) (conditions-take events place conditions) is
 
 follows : (t : Option Kept) (kept : Kept) (own : List Event) → Follows kept own (noted_along kept own) → IsSameOrNone t (noted_along kept own) → FollowsIfThere kept own t
@@ -296,7 +299,7 @@ follows None kept own told same = tt
 follows (Some later) kept own told same = subst (Follows kept own) (sym same) told
 
 -- Each part goes on by its own events.
-pub by-own-events : (suite : SuiteState) (events : List SuiteEvent) (n : ℕ) → IsSuite suite → All IsSuiteEvent events → GoByOwnEvents suite events n
+pub by-own-events : {A : Type 0} → (suite : SuiteState) (events : List (SuiteEvent A)) (n : ℕ) → IsSuite suite → All IsSuiteEvent events → GoByOwnEvents suite events n
 by-own-events suite events n is conditions id from to kept ordered within at =
     let all = recursion_from_All IsSuiteEvent events conditions in
     let rest = drop from (take to events) in
@@ -316,21 +319,21 @@ by-own-events suite events n is conditions id from to kept ordered within at =
     (follows (trace_of (suite_along here rest).parts id) kept own told later)
 
 -- one event more
-next-place : (suite : SuiteState) (events : List SuiteEvent) (place : ℕ) (event : SuiteEvent) → slice_get events place ≡ Some event →
+next-place : {A : Type 0} → (suite : SuiteState) (events : List (SuiteEvent A)) (place : ℕ) (event : SuiteEvent A) → slice_get events place ≡ Some event →
     take (suc place) events ≡ take place events ++ event ∷ []
 next-place suite [] place event at = absurd (cc)
 next-place suite (first ∷ events) zero event at = let same : first ≡ event = cc in ap (λ e. e ∷ []) same
 next-place suite (first ∷ events) (suc place) event at = ap (λ l. first ∷ l) (next-place suite events place event at)
 
 -- An event leaves the others as they were.
-left-one : (suite : SuiteState) (event : SuiteEvent) (id : PartId) (kept : Kept) → IsSuite suite → is_named suite event id ≡ false → trace_of suite.parts id ≡ Some kept →
+left-one : {A : Type 0} → (suite : SuiteState) (event : SuiteEvent A) (id : PartId) (kept : Kept) → IsSuite suite → is_named suite event id ≡ false → trace_of suite.parts id ≡ Some kept →
     trace_of (suite_after suite event).parts id ≡ Some kept
 left-one suite (At other event) id kept is unnamed at =
     trace_of-after suite.parts other id event ∙ ap (option_map (noted_where (is_part other id) event)) at ∙ ap (λ b. Some (noted_where b event kept)) unnamed
 left-one suite (Scan rows label) id kept is unnamed at =
     trace_of-scanned suite rows label id (life-below suite id kept is at) ∙ ap (λ b. if b then None else trace_of suite.parts id) unnamed ∙ at
 
-pub leaves-others : (suite : SuiteState) (events : List SuiteEvent) (n : ℕ) → IsSuite suite → All IsSuiteEvent events → LeaveOthers suite events n
+pub leaves-others : {A : Type 0} → (suite : SuiteState) (events : List (SuiteEvent A)) (n : ℕ) → IsSuite suite → All IsSuiteEvent events → LeaveOthers suite events n
 leaves-others suite events n is conditions place event id kept within here unnamed at =
     let all = recursion_from_All IsSuiteEvent events conditions in
     let before = suite_along suite (take place events) in
@@ -347,11 +350,11 @@ get-middle (x ∷ xs) ys y zero same = absurd (omega (arith, same))
 get-middle (x ∷ xs) ys y (suc n) same = get-middle xs ys y n (omega (arith, same))
 
 -- the outputs of a part whose trace stands for a history
-out-by : (id : PartId) (event : Event) (t : Option Kept) (kept : Kept) (own : List Event) → (if is_none t then Some fault.NoSuchPart else None) ≡ None → FollowsIfThere kept own t →
+out-by : {A : Type 0} → (id : PartId) (event : Event) (t : Option Kept) (kept : Kept) (own : List Event) → (if is_none t then Some fault.NoSuchPart else None) ≡ None → FollowsIfThere kept own t →
     let past = after (history_of kept) own in
-    outs_at id event t ≡ out.At id (reply_to past event) (phase_of (next past event)) ∷ []
-out-by id event None kept own there told = absurd (cc)
-out-by id event (Some later) kept own there told =
+    outs_at {A = A} id event t ≡ out.At id (reply_to past event) (phase_of (next past event)) ∷ []
+out-by {A = A} id event None kept own there told = absurd (cc)
+out-by {A = A} id event (Some later) kept own there told =
     let past = after (history_of kept) own in
     let one : state_of (history_of later) ≡ state_of past = told.machine in
     let reply : reply_to (history_of later) event ≡ reply_to past event = reply_to-state (history_of later) past event one in
@@ -359,8 +362,8 @@ out-by id event (Some later) kept own there told =
       ap (λ (s : State). s.phase) (replay-noted_if_taken later event ∙ next-state (history_of later) past event one) in
     ap (λ r. out.At id r (replay (noted_if_taken later event)).phase ∷ []) reply ∙ ap (λ p. out.At id (reply_to past event) p ∷ []) phase
 
-pub replies-by-history : (suite : SuiteState) (events : List SuiteEvent) (n : ℕ) → IsSuite suite → All IsSuiteEvent events → AreAccepted suite (take n events) → ReplyByOwnHistory suite events n
-replies-by-history suite events n is conditions accepted id from place kept event ordered within at here =
+pub replies-by-history : {A : Type 0} → (suite : SuiteState) (events : List (SuiteEvent A)) (n : ℕ) → IsSuite suite → All IsSuiteEvent events → AreAccepted suite (take n events) → ReplyByOwnHistory suite events n
+replies-by-history {A = A} suite events n is conditions accepted id from place kept event ordered within at here =
     let before = suite_along suite (take place events) in
     let own = own_between id events from place in
     let past = after (history_of kept) own in
@@ -370,15 +373,15 @@ replies-by-history suite events n is conditions accepted id from place kept even
     let whole : (take place events ++ At id event ∷ []) ++ later ≡ take n events = ap (λ l. l ++ later) (sym first) ∙ take-append-drop (suc place) (take n events) in
     let parted : take place events ++ At id event ∷ later ≡ take n events = sym (append_assoc (take place events) (At id event ∷ []) later) ∙ whole in
     let both = accepted-append suite (take place events) (At id event ∷ later) (subst (AreAccepted suite) (sym parted) accepted) in
-    let one : outs_of before (At id event) ≡ out.At id (reply_to past event) (phase_of (next past event)) ∷ [] =
+    let one : outs_at {A = A} id event (trace_of before.parts id) ≡ out.At id (reply_to past event) (phase_of (next past event)) ∷ [] =
       out-by id event (trace_of before.parts id) kept own both.1.0 followed in
     let inside : place < length events = below-of events place (At id event) here in
     let count : length (outs_along suite (take place events)) ≡ place =
       outs-count suite (take place events) both.0 ∙ (let t = length-take place events in omega (arith, t, inside)) in
     ap (λ l. slice_get (outs_along suite l) place) (sym parted)
     ∙ ap (λ l. slice_get l place) (outs_along-append suite (take place events) (At id event ∷ later)
-      ∙ ap (λ l. outs_along suite (take place events) ++ (l ++ outs_along (suite_after before (At id event)) later)) one)
-    ∙ get-middle (outs_along suite (take place events)) (outs_along (suite_after before (At id event)) later) (out.At id (reply_to past event) (phase_of (next past event))) place count
+      ∙ ap (λ l. outs_along suite (take place events) ++ (l ++ outs_along (suite_at before id event) later)) one)
+    ∙ get-middle (outs_along suite (take place events)) (outs_along (suite_at before id event) later) (out.At id (reply_to past event) (phase_of (next past event))) place count
   where
     below-of : {T : Type 0} (xs : List T) (k : ℕ) (x : T) → slice_get xs k ≡ Some x → k < length xs
     below-of [] k x at = absurd (cc)

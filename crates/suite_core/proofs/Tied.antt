@@ -451,8 +451,8 @@ pub parts-rise : (table : TableState) (parts : List PartState) → AllPairs IsBe
 parts-rise table parts rising tied i j d before within =
     let all : AllPairs Below (map seen parts) = subst (AllPairs Below) (sym tied) (slots-rise table.slots rising) in
     let less : Below (get_or (map seen parts) i (seen d)) (get_or (map seen parts) j (seen d)) = all i j (seen d) before (omega (arith, within, length-map parts seen)) in
-    let one : get_or (map seen parts) i (seen d) ≡ seen (get_or parts i d) = get_or-map seen parts i (seen d) d (omega (arith, before, within)) in
-    let two : get_or (map seen parts) j (seen d) ≡ seen (get_or parts j d) = get_or-map seen parts j (seen d) d within in
+    let one : get_or (map seen parts) i (seen d) ≡ seen (get_or parts i d) = get_or-map seen parts i d (seen d) (omega (arith, before, within)) in
+    let two : get_or (map seen parts) j (seen d) ≡ seen (get_or parts j d) = get_or-map seen parts j d (seen d) within in
     subst (λ (a : Seen). rank a.id < rank (get_or parts j d).id) one (subst (λ (b : Seen). rank (get_or (map seen parts) i (seen d)).id < rank b.id) two less)
 
 -- The lives of parts were given before the next number.
@@ -463,7 +463,7 @@ parts-below table parts numbered tied k d within =
       (all-flat (λ (a : Seen). a.id.life < table.next) seen_in table.slots
       (All-weaker (IsNumbered table.next) (λ (slot : SlotState). All (λ (a : Seen). a.id.life < table.next) (seen_in slot)) (λ slot is. lives slot is) table.slots numbered)) in
     let below : (get_or (map seen parts) k (seen d)).id.life < table.next = all k (seen d) (omega (arith, within, length-map parts seen)) in
-    subst (λ (a : Seen). a.id.life < table.next) (get_or-map seen parts k (seen d) d within) below
+    subst (λ (a : Seen). a.id.life < table.next) (get_or-map seen parts k d (seen d) within) below
   where
     P : Seen → Type 0
     P a = a.id.life < table.next

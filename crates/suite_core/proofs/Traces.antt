@@ -61,6 +61,9 @@ trace_of-others id (part ∷ parts) others =
     let no : is_part part.id id ≡ false = All-head (λ (p : PartState). is_part p.id id ≡ false) part parts others in
     rw no (trace_of-others id parts (All-tail (λ (p : PartState). is_part p.id id ≡ false) part parts others))
 
+abbrev no_trace : Option Kept
+no_trace = None
+
 -- the first of two
 abbrev pub first_of : Option Kept → Option Kept → Option Kept
 first_of None other = other
@@ -84,7 +87,7 @@ is_among slots id = list_any (λ slot. id.slot == slot) slots
 
 trace_of-kept : (dropped : List ℕ) (parts : List PartState) (id : PartId) →
     trace_of (filter (λ part. not (is_of dropped part)) parts) id ≡ (if is_among dropped id then None else trace_of parts id)
-trace_of-kept dropped [] id = elim (is_among dropped id) as (λ b. None ≡ (if b then None else None)) [ true ↦ refl | false ↦ refl ]
+trace_of-kept dropped [] id = elim (is_among dropped id) as (λ b. trace_of [] id ≡ (if b then None else trace_of [] id)) [ true ↦ refl | false ↦ refl ]
 trace_of-kept dropped (part ∷ parts) id =
     let later = trace_of-kept dropped parts id in
     elim (is_of dropped part) as (λ gone. is_of dropped part ≡ gone →
@@ -139,7 +142,7 @@ restarted-same (new ∷ news) part is =
 
 trace_of-restarted : (news parts : List PartState) (id : PartId) → AreOthers id news →
     trace_of (map (restarted_in news) parts) id ≡ (if is_replaced news id then None else trace_of parts id)
-trace_of-restarted news [] id others = elim (is_replaced news id) as (λ b. None ≡ (if b then None else None)) [ true ↦ refl | false ↦ refl ]
+trace_of-restarted news [] id others = elim (is_replaced news id) as (λ b. trace_of [] id ≡ (if b then None else trace_of [] id)) [ true ↦ refl | false ↦ refl ]
 trace_of-restarted news (part ∷ parts) id others =
     let later = trace_of-restarted news parts id others in
     elim (is_replaced news part.id) as (λ b. is_replaced news part.id ≡ b →
@@ -177,6 +180,6 @@ trace_of-changed dropped started restarted parts id no_start no_restart =
     trace_of-restarted restarted stay id no_restart ∙
     ap (λ t. if is_replaced restarted id then None else t) (trace_of-kept dropped parts id) ∙
     elim (is_among dropped id) as (λ a. (if is_replaced restarted id then None else (if a then None else trace_of parts id)) ≡ (if a || is_replaced restarted id then None else trace_of parts id)) [
-      | true ↦ elim (is_replaced restarted id) as (λ b. (if b then None else None) ≡ None) [ true ↦ refl | false ↦ refl ]
+      | true ↦ elim (is_replaced restarted id) as (λ b. (if b then None else None) ≡ no_trace) [ true ↦ refl | false ↦ refl ]
       | false ↦ refl
     ]

@@ -19,22 +19,22 @@ use Rattle.suite_core.specs.Parts.{is_part, is_place, trace_of}
 use Rattle.suite_core.specs.Suite.{SuiteState, Beginning, opening, scan_starts, scan_restarts, outs_of, suite_after, refusal}
 
 -- the suite after these events, one after another
-abbrev pub suite_along : SuiteState → List SuiteEvent → SuiteState
+abbrev pub suite_along : {A : Type 0} → SuiteState → List (SuiteEvent A) → SuiteState
 suite_along suite [] = suite
 suite_along suite (event ∷ events) = suite_along (suite_after suite event) events
 
 -- what they are answered with
-abbrev pub outs_along : SuiteState → List SuiteEvent → List StepOut
+abbrev pub outs_along : {A : Type 0} → SuiteState → List (SuiteEvent A) → List (StepOut A)
 outs_along suite [] = []
 outs_along suite (event ∷ events) = outs_of suite event ++ outs_along (suite_after suite event) events
 
 -- None of these events is refused where it stands.
-abbrev pub AreAccepted : SuiteState → List SuiteEvent → Type 0
+abbrev pub AreAccepted : {A : Type 0} → SuiteState → List (SuiteEvent A) → Type 0
 AreAccepted suite [] = ⊤
 AreAccepted suite (event ∷ events) = (refusal suite event ≡ None) × AreAccepted (suite_after suite event) events
 
 -- The first n of these events are taken, with one output each.
-pub record Ran (suite left : SuiteState) (outs outs_left : List StepOut) (events : List SuiteEvent) (n : ℕ) : Type 0 where
+pub record Ran {A : Type 0} (suite left : SuiteState) (outs outs_left : List (StepOut A)) (events : List (SuiteEvent A)) (n : ℕ) : Type 0 where
   pub within : n ≤ length events
   pub accepted : AreAccepted suite (take n events)
   pub state : left ≡ suite_along suite (take n events)
@@ -42,23 +42,23 @@ pub record Ran (suite left : SuiteState) (outs outs_left : List StepOut) (events
   pub outs_are : outs_left ≡ outs ++ outs_along suite (take n events)
 
 -- how many of a number of events were taken: those before the place of the fault
-abbrev pub done : ℕ → Result (Rattle.std.specs.Prelude.Unit {0}) SuiteFault → ℕ
+abbrev pub done : ℕ → {T : Type 0} → Result T SuiteFault → ℕ
 done count (Ok all) = count
 done count (Err why) = why.place
 
 -- the events at a part, in order
-abbrev pub own_events : PartId → List SuiteEvent → List Event
+abbrev pub own_events : {A : Type 0} → PartId → List (SuiteEvent A) → List Event
 own_events id [] = []
 own_events id (At other event ∷ events) =
     if is_part other id then event ∷ own_events id events else own_events id events
 own_events id (Scan rows label ∷ events) = own_events id events
 
 -- those between two places
-abbrev pub own_between : PartId → List SuiteEvent → (from to : ℕ) → List Event
+abbrev pub own_between : {A : Type 0} → PartId → List (SuiteEvent A) → (from to : ℕ) → List Event
 own_between id events from to = own_events id (drop from (take to events))
 
 -- the trace that a part has at a place of a run: before the event there
-abbrev pub trace_at : SuiteState → List SuiteEvent → ℕ → PartId → Option Kept
+abbrev pub trace_at : {A : Type 0} → SuiteState → List (SuiteEvent A) → ℕ → PartId → Option Kept
 trace_at suite events place id = trace_of (suite_along suite (take place events)).parts id
 
 -- What has become of a part with this trace after events of its own: its machine is the state of the history that the
@@ -73,13 +73,13 @@ FollowsIfThere kept events None = ⊤
 FollowsIfThere kept events (Some later) = Follows kept events later
 
 -- Each part goes on by its own events alone, from any place of a run to any later one.
-abbrev pub GoByOwnEvents : SuiteState → List SuiteEvent → ℕ → Type 0
+abbrev pub GoByOwnEvents : {A : Type 0} → SuiteState → List (SuiteEvent A) → ℕ → Type 0
 GoByOwnEvents suite events n =
     (id : PartId) (from to : ℕ) (kept : Kept) → from ≤ to → to ≤ n → trace_at suite events from id ≡ Some kept
     → FollowsIfThere kept (own_between id events from to) (trace_at suite events to id)
 
 -- Each event at a part is answered as the part's own history says: from any place before on.
-abbrev pub ReplyByOwnHistory : SuiteState → List SuiteEvent → ℕ → Type 0
+abbrev pub ReplyByOwnHistory : {A : Type 0} → SuiteState → List (SuiteEvent A) → ℕ → Type 0
 ReplyByOwnHistory suite events n =
     (id : PartId) (from place : ℕ) (kept : Kept) (event : Event) → from ≤ place → place < n
     → trace_at suite events from id ≡ Some kept → slice_get events place ≡ Some (At id event)
@@ -93,19 +93,19 @@ is_taken_away suite rows id =
     || list_any (λ (new : PartId). is_place new id) (restarts suite.table.slots suite.table.next rows)
 
 -- whether an event is of a part: one at it, or a scan that takes it away
-abbrev pub is_named : SuiteState → SuiteEvent → PartId → Bool
+abbrev pub is_named : {A : Type 0} → SuiteState → SuiteEvent A → PartId → Bool
 is_named suite (At other event) id = is_part other id
 is_named suite (Scan rows label) id = is_taken_away suite rows id
 
 -- An event leaves each part that is not named as it was.
-abbrev pub LeaveOthers : SuiteState → List SuiteEvent → ℕ → Type 0
-LeaveOthers suite events n =
-    (place : ℕ) (event : SuiteEvent) (id : PartId) (kept : Kept) → place < n → slice_get events place ≡ Some event
+abbrev pub LeaveOthers : {A : Type 0} → SuiteState → List (SuiteEvent A) → ℕ → Type 0
+LeaveOthers {A = A} suite events n =
+    (place : ℕ) (event : SuiteEvent A) (id : PartId) (kept : Kept) → place < n → slice_get events place ≡ Some event
     → is_named (suite_along suite (take place events)) event id ≡ false → trace_at suite events place id ≡ Some kept
     → trace_at suite events (suc place) id ≡ Some kept
 
 -- Each part that a scan begins is there after it, and its history opens with the `down` of its row, at the scan's label.
-abbrev pub BeginAsRowsSay : SuiteState → List SuiteEvent → ℕ → Type 0
+abbrev pub BeginAsRowsSay : {A : Type 0} → SuiteState → List (SuiteEvent A) → ℕ → Type 0
 BeginAsRowsSay suite events n =
     (place : ℕ) (rows : List Row) (label : Tai64n) → place < n → slice_get events place ≡ Some (Scan rows label)
     → let before = suite_along suite (take place events) in

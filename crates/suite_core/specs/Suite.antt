@@ -1,5 +1,5 @@
 -- A suite of services, and its steps.
-use Rattle.std.specs.Prelude.{◌≡◌, ℕ, ◌<◌, ◌≤◌, Bool, true, false, not, List, [], ◌∷◌, ◌++◌, map, if◌then◌else◌, Option, Some, None, is_none, ⊥}
+use Rattle.std.specs.Prelude.{◌≡◌, ℕ, ◌<◌, ◌≤◌, Bool, true, false, not, List, [], ◌∷◌, ◌++◌, map, if◌then◌else◌, Option, Some, None, is_none, ⊤}
 use Rattle.std.specs.List.{filter, flat_map, All, AllPairs}
 use Rattle.tai_status.specs.Label.{Tai64n}
 use Rattle.sup_core.specs.declared.event.Event.{Event}
@@ -36,9 +36,9 @@ abbrev pub new_suite : ℕ → ℕ → SuiteState
 new_suite next capacity = record { table = new_table next; parts = []; capacity = capacity }
 
 -- The condition on an event: a process that was started has a number of at least 1.
-abbrev pub IsSuiteEvent : SuiteEvent → Type 0
+abbrev pub IsSuiteEvent : {A : Type 0} → SuiteEvent A → Type 0
 IsSuiteEvent (At id event) = IsEvent event
-IsSuiteEvent (Scan rows label) = Rattle.std.specs.Prelude.⊤
+IsSuiteEvent (Scan rows label) = ⊤
 
 -- Why an event is refused, want of memory aside
 
@@ -46,10 +46,17 @@ abbrev pub told_of_scan : Option ScanFault → Option StepFault
 told_of_scan None = None
 told_of_scan (Some why) = Some (fault.Scan why)
 
--- No event is taken at a part that is not there, and no scan that the table refuses.
-abbrev pub refusal : SuiteState → SuiteEvent → Option StepFault
-refusal suite (At id event) = if is_none (trace_of suite.parts id) then Some fault.NoSuchPart else None
-refusal suite (Scan rows label) = told_of_scan (scan_refusal suite.table rows)
+-- No event is taken at a part that is not there.
+abbrev pub refusal_at : SuiteState → PartId → Option StepFault
+refusal_at suite id = if is_none (trace_of suite.parts id) then Some fault.NoSuchPart else None
+
+-- No scan is taken that the table refuses.
+abbrev pub refusal_of_scan : SuiteState → List Row → Option StepFault
+refusal_of_scan suite rows = told_of_scan (scan_refusal suite.table rows)
+
+abbrev pub refusal : {A : Type 0} → SuiteState → SuiteEvent A → Option StepFault
+refusal suite (At id event) = refusal_at suite id
+refusal suite (Scan rows label) = refusal_of_scan suite rows
 
 -- Memory is missed only where nothing else is wrong.
 abbrev pub IsCause : Option StepFault → StepFault → Type 0
@@ -64,7 +71,7 @@ table_told table id event None = table
 table_told table id event (Some kept) = if has_ended (noted_if_taken kept event) then after_end table id else table
 
 -- what is answered at a part whose trace is this
-abbrev pub outs_at : PartId → Event → Option Kept → List StepOut
+abbrev pub outs_at : {A : Type 0} → PartId → Event → Option Kept → List (StepOut A)
 outs_at id event None = []
 outs_at id event (Some kept) = out.At id (reply_to (history_of kept) event) (replay (noted_if_taken kept event)).phase ∷ []
 
@@ -120,7 +127,7 @@ abbrev pub scan_restarts : TableState → List Row → List Beginning
 scan_restarts table rows = beginnings table rows (restarts table.slots table.next rows)
 
 -- what a scan answers
-abbrev pub scan_out : TableState → List Row → ScanOut
+abbrev pub scan_out : {A : Type 0} → TableState → List Row → ScanOut A
 scan_out table rows =
     record {
       starts = starts table.slots table.next rows;
@@ -146,22 +153,32 @@ parts_scanned suite rows label =
 
 -- Steps
 
--- what an event that is not refused is answered with
-abbrev pub outs_of : SuiteState → SuiteEvent → List StepOut
-outs_of suite (At id event) = outs_at id event (trace_of suite.parts id)
-outs_of suite (Scan rows label) = out.Scanned (scan_out suite.table rows) (scan_begun suite.table rows label) ∷ []
+abbrev pub outs_of_scan : {A : Type 0} → SuiteState → List Row → Tai64n → List (StepOut A)
+outs_of_scan suite rows label = out.Scanned (scan_out suite.table rows) (scan_begun suite.table rows label) ∷ []
 
--- the suite after it
-abbrev pub suite_after : SuiteState → SuiteEvent → SuiteState
-suite_after suite (At id event) =
+-- what an event that is not refused is answered with
+abbrev pub outs_of : {A : Type 0} → SuiteState → SuiteEvent A → List (StepOut A)
+outs_of suite (At id event) = outs_at id event (trace_of suite.parts id)
+outs_of suite (Scan rows label) = outs_of_scan suite rows label
+
+-- the suite after an event at a part
+abbrev pub suite_at : SuiteState → PartId → Event → SuiteState
+suite_at suite id event =
     record {
       table = table_told suite.table id event (trace_of suite.parts id);
       parts = parts_after id event suite.parts;
       capacity = suite.capacity;
     }
-suite_after suite (Scan rows label) =
+
+-- the suite after a scan
+abbrev pub suite_scanned : SuiteState → List Row → Tai64n → SuiteState
+suite_scanned suite rows label =
     record {
       table = scanned suite.table rows;
       parts = parts_scanned suite rows label;
       capacity = suite.capacity;
     }
+
+abbrev pub suite_after : {A : Type 0} → SuiteState → SuiteEvent A → SuiteState
+suite_after suite (At id event) = suite_at suite id event
+suite_after suite (Scan rows label) = suite_scanned suite rows label

@@ -3,6 +3,7 @@ ghost use Rattle.std.specs.Prelude.{◌≡◌, ◌∷◌, [], ◌<◌, ◌≤◌
 ghost use Rattle.sup_core.specs.Rules.{IsEvent};
 ghost use Rattle.sup_trace.specs.Trace.{noted_if_taken, replay};
 ghost use Rattle.suite_core.specs.Parts.{is_part, has_ended};
+ghost use Rattle.scan_table.specs.Slots;
 ghost use Rattle.suite_core.specs.Places.{rank, rank_in};
 ghost use Rattle.suite_core.specs.Suite.{Beginning, begun_part, begun_out, outs_at};
 
@@ -31,7 +32,7 @@ impl<A: Allocator> Model for Part<A> {
 
 /// Whether a role is the service itself, and not its logger.
 fn is_main(role: Role) -> bool
-    ensures { result ≡ Rattle.scan_table.specs.Slots.is_main role }
+    ensures { result ≡ Slots.is_main role }
 {
     match role {
         Role::Main => true,

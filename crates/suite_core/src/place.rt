@@ -46,7 +46,7 @@ fn place_of<A: Allocator>(parts: &[Part<A>], id: PartId) -> Option<usize>
 }
 
 /// The place of a part.
-fn find<A: Allocator>(parts: &[Part<A>], id: PartId) -> Option<usize>
+pub(crate) fn find<A: Allocator>(parts: &[Part<A>], id: PartId) -> Option<usize>
     requires { AreRising parts.now }
     ensures { MatchOption result (trace_of parts.now id ≡ None) (λ place. IsPartAt parts.now id place) }
 {

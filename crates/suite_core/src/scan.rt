@@ -3,6 +3,7 @@ ghost use Rattle.std.specs.Prelude.{◌≡◌, ◌+◌, ◌<◌, ◌≤◌, ◌+
 ghost use Rattle.std.specs.List.{filter};
 ghost use Rattle.scan_table.specs.Scan.{AreRising};
 ghost use Rattle.suite_core.specs.Parts.{is_of, restarted_in};
+ghost use Rattle.suite_core.specs.Places;
 ghost use Rattle.suite_core.specs.Suite.{beginning, begun_part, begun_out, changed, is_down};
 
 use crate::part::Part;
@@ -75,7 +76,7 @@ fn keep<A: Allocator>(parts: &mut Vec<Part<A>, A>, dropped: &[u64])
 
 /// Puts parts that restart into their places.
 fn restart_in<A: Allocator>(parts: &mut Vec<Part<A>, A>, news: Vec<Part<A>, A>)
-    requires { Rattle.suite_core.specs.Places.AreRising parts.old.items }
+    requires { Places.AreRising parts.old.items }
     ensures items { parts.new.items ≡ map (restarted_in news.items) parts.old.items }
     ensures len { vec_len parts.new ≡ vec_len parts.old }
     ensures room { vec_capacity parts.new ≡ vec_capacity parts.old }
@@ -90,7 +91,7 @@ pub(crate) fn change<A: Allocator>(
     started: Vec<Part<A>, A>,
     restarted: Vec<Part<A>, A>,
 )
-    requires rising { Rattle.suite_core.specs.Places.AreRising parts.old.items }
+    requires rising { Places.AreRising parts.old.items }
     requires room { vec_len parts.old + vec_len started ≤ vec_capacity parts.old }
     ensures { parts.new.items ≡ changed dropped.now started.items restarted.items parts.old.items }
 {

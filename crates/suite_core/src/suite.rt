@@ -5,11 +5,12 @@ ghost use Rattle.std.specs.List.{All};
 ghost use Rattle.sup_core.specs.Rules.{IsEvent};
 ghost use Rattle.sup_trace.specs.Trace.{replay, noted_if_taken};
 ghost use Rattle.scan_table.specs.declared.part.PartId.{PartId};
+ghost use Rattle.scan_table.specs.Scan;
 ghost use Rattle.scan_table.specs.Table.{scanned};
 ghost use Rattle.suite_lines.specs.declared.event.SuiteEvent.{SuiteEvent};
 ghost use Rattle.suite_core.specs.Parts.{trace_of, parts_after, has_ended};
 ghost use Rattle.suite_core.specs.Places.{AreRising, IsPartAt};
-ghost use Rattle.suite_core.specs.Suite.{new_suite, IsSuiteEvent, refusal, IsCause, scan_out, scan_starts, scan_restarts, scan_begun, begun_part, outs_at, outs_of, suite_after};
+ghost use Rattle.suite_core.specs.Suite.{new_suite, IsSuiteEvent, refusal, refusal_at, refusal_of_scan, IsCause, scan_out, scan_starts, scan_restarts, scan_begun, begun_part, outs_at, outs_of_scan, outs_of, suite_at, suite_scanned, suite_after};
 ghost use Rattle.suite_core.specs.Run.{Ran, done, GoByOwnEvents, ReplyByOwnHistory, LeaveOthers};
 
 use crate::fault::{StepFault, SuiteFault};
@@ -126,11 +127,11 @@ impl<A: Allocator + Clone> Suite<A> {
         out: &mut Vec<StepOut<A>, A>,
     ) -> Result<(), StepFault>
         requires { IsEvent event }
-        ensures ok { OnOk result (self.new ≡ suite_after self.old (SuiteEvent.At id event)) }
-        ensures outs { OnOk result (out.new.items ≡ out.old.items ++ outs_of self.old (SuiteEvent.At id event)) }
-        ensures taken { OnOk result (refusal self.old (SuiteEvent.At id event) ≡ None) }
+        ensures ok { OnOk result (self.new ≡ suite_at self.old id event) }
+        ensures outs { OnOk result (out.new.items ≡ out.old.items ++ outs_at id event (trace_of self.old.parts id)) }
+        ensures taken { OnOk result (refusal_at self.old id ≡ None) }
         ensures unchanged { OnErr result ((self.new ≡ self.old) × (out.new.items ≡ out.old.items)) }
-        ensures cause { IfErr result (λ why. IsCause (refusal self.old (SuiteEvent.At id event)) why) }
+        ensures cause { IfErr result (λ why. IsCause (refusal_at self.old id) why) }
     {
         let Some(place) = find(&self.parts, id) else {
             return Err(StepFault::NoSuchPart);
@@ -148,7 +149,7 @@ impl<A: Allocator + Clone> Suite<A> {
 
     /// What a scan that is not refused is to do.
     fn plan(&self, rows: &[DirRow<A>], label: Label) -> Result<Planned<A>, AllocError>
-        requires rising { Rattle.scan_table.specs.Scan.AreRising rows.now }
+        requires rising { Scan.AreRising rows.now }
         ensures table { IfOk result (λ plan. plan.table ≡ scanned self.now.table rows.now) }
         ensures scan { IfOk result (λ plan. plan.scan ≡ scan_out self.now.table rows.now) }
         ensures started { IfOk result (λ plan. plan.started.items
@@ -194,11 +195,11 @@ impl<A: Allocator + Clone> Suite<A> {
         label: Label,
         out: &mut Vec<StepOut<A>, A>,
     ) -> Result<(), StepFault>
-        ensures ok { OnOk result (self.new ≡ suite_after self.old (SuiteEvent.Scan rows.now label)) }
-        ensures outs { OnOk result (out.new.items ≡ out.old.items ++ outs_of self.old (SuiteEvent.Scan rows.now label)) }
-        ensures taken { OnOk result (refusal self.old (SuiteEvent.Scan rows.now label) ≡ None) }
+        ensures ok { OnOk result (self.new ≡ suite_scanned self.old rows.now label) }
+        ensures outs { OnOk result (out.new.items ≡ out.old.items ++ outs_of_scan self.old rows.now label) }
+        ensures taken { OnOk result (refusal_of_scan self.old rows.now ≡ None) }
         ensures unchanged { OnErr result ((self.new ≡ self.old) × (out.new.items ≡ out.old.items)) }
-        ensures cause { IfErr result (λ why. IsCause (refusal self.old (SuiteEvent.Scan rows.now label)) why) }
+        ensures cause { IfErr result (λ why. IsCause (refusal_of_scan self.old rows.now) why) }
     {
         if let Err(why) = self.table.check(rows) {
             return Err(StepFault::Scan(why));
@@ -255,7 +256,7 @@ impl<A: Allocator + Clone> Suite<A> {
         requires { All IsSuiteEvent events.now }
         ensures ran { Ran self.old self.new out.old.items out.new.items events.now (done (length events.now) result) }
         ensures place { IfErr result (λ why. why.place < length events.now) }
-        ensures cause { IfErr result (λ why. (d : SuiteEvent) →
+        ensures cause { IfErr result (λ why. (d : SuiteEvent A) →
             IsCause (refusal self.new (slice_index_or events.now why.place d)) why.fault) }
         ensures replies { ReplyByOwnHistory self.old events.now (done (length events.now) result) }
         ensures own { GoByOwnEvents self.old events.now (done (length events.now) result) }
