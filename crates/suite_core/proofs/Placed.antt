@@ -1,5 +1,5 @@
 -- What is done at the place of a part.
-use Rattle.std.proofs.Common.{◌≡◌, ◌≢◌, ℕ, ◌+◌, ◌<◌, ◌≤◌, Bool, true, false, not, ◌&&◌, ◌==◌, List, [], ◌∷◌, length, get_or, set, map, drop, sym, subst, ap, ◌∙◌, refl, arith, zero, suc, inl, inr, Option, Some, None, if◌then◌else◌}
+use Rattle.std.proofs.Common.{◌≡◌, ◌≢◌, ℕ, ◌+◌, ◌<◌, ◌≤◌, Bool, true, false, not, ◌&&◌, ◌==◌, nat_lt, List, [], ◌∷◌, length, get_or, set, map, drop, sym, subst, ap, ◌∙◌, refl, arith, zero, suc, inl, inr, Option, Some, None, if◌then◌else◌}
 use Rattle.std.specs.List.{AllPairs, All}
 use Rattle.std.specs.Option.{IfSome}
 use Rattle.std.proofs.lemmas.Bool.{cases_lt}
@@ -11,7 +11,8 @@ use Rattle.sup_core.specs.declared.event.Event.{Event}
 use Rattle.sup_trace.specs.Trace.{Kept, noted_if_taken}
 use Rattle.scan_table.specs.declared.part.PartId.{PartId}
 use Rattle.scan_table.proofs.Placed.{map-none, map-one}
-use Rattle.suite_core.specs.Parts.{PartState, is_part, is_place, trace_of, part_after, parts_after, restarted_in}
+use Rattle.suite_lines.specs.declared.out.StepOut.{StepOut}
+use Rattle.suite_core.specs.Parts.{PartState, is_part, is_place, trace_of, has_ended, part_after, parts_after, restarted_in}
 use Rattle.suite_core.specs.Suite.{outs_at}
 use Rattle.suite_core.specs.Places.{rank, AreRising, IsEdge, IsPlaceOf, IsPartAt, HasNone}
 use Rattle.suite_core.proofs.Names.{is_part-same, is_place-rank}
@@ -131,11 +132,18 @@ after-at parts id event place d new rising at is =
     map-one (part_after id event) parts place (get_or parts place d) at.within (again parts place d at.within)
     (λ k e b other. let no = other-part (get_or parts k e) id (others parts id place rising (part-place parts id place at) k e b other) in rw no refl)
 
-pub out-at : {A : Type 0} → (parts : List PartState) (id : PartId) (event : Event) (place : ℕ) (part : PartState) → AreRising parts → IsPartAt parts id place → part ≡ get_or parts place part →
-    outs_at {A = A} part.id event (Some part.trace) ≡ outs_at id event (trace_of parts id)
-out-at {A = A} parts id event place part rising at read =
-    let same : part.id ≡ id = ap (λ (p : PartState). p.id) read ∙ is_part-same (get_or parts place part).id id (at.here part) in
-    ap (λ (a : PartId). outs_at {A = A} a event (Some part.trace)) same ∙ ap (outs_at {A = A} id event) (sym (trace-here parts id place part rising at read))
+-- what is read at the place of a part, at whatever default
+trace-read : (parts : List PartState) (id : PartId) (place : ℕ) (d : PartState) → AreRising parts → IsPartAt parts id place → trace_of parts id ≡ Some (get_or parts place d).trace
+trace-read parts id place d rising at = trace-here parts id place (get_or parts place d) rising at (again parts place d at.within)
+
+pub out-at : {A : Type 0} → (parts : List PartState) (id : PartId) (event : Event) (place : ℕ) (d : PartState) (o : List (StepOut A)) → AreRising parts → IsPartAt parts id place →
+    o ≡ outs_at id event (Some (get_or parts place d).trace) → o ≡ outs_at id event (trace_of parts id)
+out-at parts id event place d o rising at is = is ∙ ap (outs_at id event) (sym (trace-read parts id place d rising at))
+
+pub ended-at : (parts : List PartState) (id : PartId) (event : Event) (place : ℕ) (d : PartState) (ended : Bool) → AreRising parts → IsPartAt parts id place →
+    ended ≡ has_ended (noted_if_taken (get_or parts place d).trace event) → IfSome (trace_of parts id) (λ kept. ended ≡ has_ended (noted_if_taken kept event))
+ended-at parts id event place d ended rising at is =
+    subst (λ t. IfSome t (λ kept. ended ≡ has_ended (noted_if_taken kept event))) (sym (trace-read parts id place d rising at)) is
 
 -- Restarting
 
@@ -185,3 +193,41 @@ restarted-next news i d parts parts' whole within is so =
     let next : drop i news ≡ get_or news i d ∷ drop (i + 1) news = drop-cons news i d within ∙ ap (λ n. get_or news i d ∷ drop n news) e in
     ap (map (restarted_in (drop (i + 1) news))) is ∙ restarted-more (get_or news i d) (drop (i + 1) news) parts ∙
     ap (λ ps. map (restarted_in ps) parts) (sym next) ∙ so
+
+-- How a part that was read stands to another, as a comparison tells
+
+pub read-before : (parts : List PartState) (place : ℕ) (part : PartState) (id told : PartId) (result : Bool) → place < length parts → part ≡ get_or parts place part → told ≡ part.id →
+    result ≡ nat_lt (rank told) (rank id) → result ≡ true → (d : PartState) → rank (get_or parts place d).id < rank id
+read-before parts place part id told result within read is compared so d =
+    let same : rank (get_or parts place d).id ≡ rank told = ap (λ (p : PartState). rank p.id) (rank-read parts place part within read d) ∙ ap rank (sym is) in
+    let less : rank told < rank id = grind (arith, nat_tests) in
+    omega (arith, same, less)
+
+pub read-after : (parts : List PartState) (place : ℕ) (part : PartState) (id told : PartId) (result : Bool) → place < length parts → part ≡ get_or parts place part → told ≡ part.id →
+    result ≡ nat_lt (rank told) (rank id) → result ≡ false → (d : PartState) → rank id ≤ rank (get_or parts place d).id
+read-after parts place part id told result within read is compared so d =
+    let same : rank (get_or parts place d).id ≡ rank told = ap (λ (p : PartState). rank p.id) (rank-read parts place part within read d) ∙ ap rank (sym is) in
+    let more : rank id ≤ rank told = grind (arith, nat_tests) in
+    omega (arith, same, more)
+
+pub read-place : (parts : List PartState) (place : ℕ) (part : PartState) (id told : PartId) (result : Bool) → place < length parts → part ≡ get_or parts place part → told ≡ part.id →
+    result ≡ (rank told == rank id) → result ≡ true → IsPlaceOf parts id place
+read-place parts place part id told result within read is compared so = record {
+  within = within;
+  here = λ d.
+      let same : rank (get_or parts place d).id ≡ rank told = ap (λ (p : PartState). rank p.id) (rank-read parts place part within read d) ∙ ap rank (sym is) in
+      let equal : rank told ≡ rank id = grind (arith, nat_tests) in
+      same ∙ equal;
+}
+
+pub read-other : (parts : List PartState) (place : ℕ) (part : PartState) (id told : PartId) (result : Bool) → place < length parts → part ≡ get_or parts place part → told ≡ part.id →
+    result ≡ (rank told == rank id) → result ≡ false → (d : PartState) → rank (get_or parts place d).id ≢ rank id
+read-other parts place part id told result within read is compared so d =
+    let same : rank (get_or parts place d).id ≡ rank told = ap (λ (p : PartState). rank p.id) (rank-read parts place part within read d) ∙ ap rank (sym is) in
+    let apart : rank told ≢ rank id = grind (arith, nat_tests) in
+    λ e. apart (sym same ∙ e)
+
+pub read-other-life : (parts : List PartState) (place : ℕ) (part : PartState) (id told : PartId) (result : Bool) → AreRising parts → IsPlaceOf parts id place → part ≡ get_or parts place part → told ≡ part.id →
+    result ≡ is_part told id → result ≡ false → trace_of parts id ≡ None
+read-other-life parts place part id told result rising at read is compared so =
+    trace-other parts id place part rising at read (ap (λ (a : PartId). is_part a id) (sym is) ∙ sym compared ∙ so)

@@ -18,8 +18,8 @@ use tai_status::Label;
 /// A part and its trace.
 #[derive(Drop)]
 pub(crate) struct Part<A: Allocator = Global> {
-    pub(crate) id: PartId,
-    pub(crate) trace: Trace<A>,
+    id: PartId,
+    trace: Trace<A>,
 }
 
 impl<A: Allocator> Model for Part<A> {
@@ -85,17 +85,32 @@ impl<A: Allocator> Part<A> {
         Ok((Part { id, trace }, begun))
     }
 
-    /// Takes an event, or holds it. Answers what is answered, and whether the part has ended then.
-    pub(crate) fn take(&mut self, event: Event) -> (StepOut<A>, bool)
+    /// The part's name.
+    pub(crate) fn id(&self) -> PartId
+        ensures { result ≡ self.now.id }
+    {
+        self.id
+    }
+
+    /// The part's trace.
+    pub(crate) fn trace(&self) -> &Trace<A>
+        ensures { result.now ≡ self.now.trace }
+    {
+        &self.trace
+    }
+
+    /// Takes an event at the part, whose name this is, or holds it. Answers what is answered, and whether the part has
+    /// ended then.
+    pub(crate) fn take(&mut self, id: PartId, event: Event) -> (StepOut<A>, bool)
         requires { IsEvent event }
         ensures part { self.new ≡ record { id = self.old.id; trace = noted_if_taken self.old.trace event } }
-        ensures out { result.0 ∷ [] ≡ outs_at self.old.id event (Some self.old.trace) }
+        ensures out { result.0 ∷ [] ≡ outs_at id event (Some self.old.trace) }
         ensures ended { result.1 ≡ has_ended (noted_if_taken self.old.trace event) }
     {
         let reply = self.trace.note(event);
         let machine = self.trace.state();
         let out = StepOut::At {
-            part: self.id,
+            part: id,
             reply,
             phase: machine.phase(),
         };

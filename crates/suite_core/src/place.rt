@@ -1,6 +1,5 @@
 //! Where parts stand, and what is done at the place of one.
 ghost use Rattle.std.specs.Prelude.{◌≡◌, ◌<◌, ◌∷◌, [], None, length, map, MatchOption, IfSome, option_copied};
-ghost use Rattle.scan_table.specs.declared.part.PartId.{PartId};
 ghost use Rattle.sup_core.specs.Rules.{IsEvent};
 ghost use Rattle.sup_trace.specs.Trace.{noted_if_taken};
 ghost use Rattle.suite_core.specs.Parts.{trace_of, parts_after, has_ended, restarted_in};
@@ -23,7 +22,7 @@ fn edge<A: Allocator>(parts: &[Part<A>], id: PartId) -> usize
     let mut high = parts.len();
     while low < high {
         let middle = low + (high - low) / 2;
-        if is_before(parts[middle].id, id) {
+        if is_before(parts[middle].id(), id) {
             low = middle + 1;
         } else {
             high = middle;
@@ -38,7 +37,7 @@ fn place_of<A: Allocator>(parts: &[Part<A>], id: PartId) -> Option<usize>
     ensures { MatchOption result (HasNone parts.now id) (λ place. IsPlaceOf parts.now id place) }
 {
     let place = edge(parts, id);
-    if place < parts.len() && is_place(parts[place].id, id) {
+    if place < parts.len() && is_place(parts[place].id(), id) {
         Some(place)
     } else {
         None
@@ -51,7 +50,7 @@ pub(crate) fn find<A: Allocator>(parts: &[Part<A>], id: PartId) -> Option<usize>
     ensures { MatchOption result (trace_of parts.now id ≡ None) (λ place. IsPartAt parts.now id place) }
 {
     match place_of(parts, id) {
-        Some(place) if is_part(parts[place].id, id) => Some(place),
+        Some(place) if is_part(parts[place].id(), id) => Some(place),
         _ => None,
     }
 }
@@ -62,23 +61,26 @@ pub(crate) fn trace_of<A: Allocator>(parts: &[Part<A>], id: PartId) -> Option<&T
     ensures { option_copied result ≡ trace_of parts.now id }
 {
     match find(parts, id) {
-        Some(place) => Some(&parts[place].trace),
+        Some(place) => Some(parts[place].trace()),
         None => None,
     }
 }
 
-/// Takes an event at the part that stands at a place. Answers what is answered, and whether the part has ended then.
-pub(crate) fn take_event<A: Allocator>(parts: &mut [Part<A>], place: usize, event: Event) -> (StepOut<A>, bool)
-    requires within { place < length parts.old }
+/// Takes an event at a part, which stands at this place. Answers what is answered, and whether the part has ended then.
+pub(crate) fn take_event<A: Allocator>(
+    parts: &mut [Part<A>],
+    id: PartId,
+    place: usize,
+    event: Event,
+) -> (StepOut<A>, bool)
+    requires rising { AreRising parts.old }
+    requires at { IsPartAt parts.old id place }
     requires event { IsEvent event }
-    ensures parts { (id : PartId) → AreRising parts.old → IsPartAt parts.old id place
-        → parts.new ≡ parts_after id event parts.old }
-    ensures out { (id : PartId) → AreRising parts.old → IsPartAt parts.old id place
-        → result.0 ∷ [] ≡ outs_at id event (trace_of parts.old id) }
-    ensures ended { (id : PartId) → AreRising parts.old → IsPartAt parts.old id place
-        → IfSome (trace_of parts.old id) (λ kept. result.1 ≡ has_ended (noted_if_taken kept event)) }
+    ensures parts { parts.new ≡ parts_after id event parts.old }
+    ensures out { result.0 ∷ [] ≡ outs_at id event (trace_of parts.old id) }
+    ensures ended { IfSome (trace_of parts.old id) (λ kept. result.1 ≡ has_ended (noted_if_taken kept event)) }
 {
-    parts[place].take(event)
+    parts[place].take(id, event)
 }
 
 /// Puts a part that restarts into its place.
@@ -86,7 +88,7 @@ fn restart<A: Allocator>(parts: &mut [Part<A>], new: Part<A>)
     requires { AreRising parts.old }
     ensures { parts.new ≡ map (restarted_in (new ∷ [])) parts.old }
 {
-    if let Some(place) = place_of(parts, new.id) {
+    if let Some(place) = place_of(parts, new.id()) {
         parts[place] = new;
     }
 }

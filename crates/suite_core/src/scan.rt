@@ -71,7 +71,7 @@ fn keep<A: Allocator>(parts: &mut Vec<Part<A>, A>, dropped: &[u64])
     ensures len { vec_len parts.new ≤ vec_len parts.old }
     ensures room { vec_capacity parts.new ≡ vec_capacity parts.old }
 {
-    parts.retain(|part| !dropped.contains(&part.id.slot));
+    parts.retain(|part| !dropped.contains(&part.id().slot));
 }
 
 /// Puts parts that restart into their places.

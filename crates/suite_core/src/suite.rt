@@ -4,7 +4,6 @@ ghost use Rattle.std.specs.Option.{option_map};
 ghost use Rattle.std.specs.List.{All};
 ghost use Rattle.sup_core.specs.Rules.{IsEvent};
 ghost use Rattle.sup_trace.specs.Trace.{replay, noted_if_taken};
-ghost use Rattle.scan_table.specs.declared.part.PartId.{PartId};
 ghost use Rattle.scan_table.specs.Scan;
 ghost use Rattle.scan_table.specs.Table.{scanned};
 ghost use Rattle.suite_lines.specs.declared.event.SuiteEvent.{SuiteEvent};
@@ -61,18 +60,22 @@ struct Planned<A: Allocator + Clone = Global> {
     begun: Vec<Begun, A>,
 }
 
-/// Takes an event at the part that stands at a place of a vector.
-fn take_event_in<A: Allocator>(parts: &mut Vec<Part<A>, A>, place: usize, event: Event) -> (StepOut<A>, bool)
-    requires within { place < length parts.old.items }
+/// Takes an event at a part, which stands at this place of a vector.
+fn take_event_in<A: Allocator>(
+    parts: &mut Vec<Part<A>, A>,
+    id: PartId,
+    place: usize,
+    event: Event,
+) -> (StepOut<A>, bool)
+    requires rising { AreRising parts.old.items }
+    requires at { IsPartAt parts.old.items id place }
     requires event { IsEvent event }
-    ensures parts { (id : PartId) → AreRising parts.old.items → IsPartAt parts.old.items id place
-        → parts.new.items ≡ parts_after id event parts.old.items }
-    ensures out { (id : PartId) → AreRising parts.old.items → IsPartAt parts.old.items id place
-        → result.0 ∷ [] ≡ outs_at id event (trace_of parts.old.items id) }
-    ensures ended { (id : PartId) → AreRising parts.old.items → IsPartAt parts.old.items id place
-        → IfSome (trace_of parts.old.items id) (λ kept. result.1 ≡ has_ended (noted_if_taken kept event)) }
+    ensures parts { parts.new.items ≡ parts_after id event parts.old.items }
+    ensures out { result.0 ∷ [] ≡ outs_at id event (trace_of parts.old.items id) }
+    ensures ended { IfSome (trace_of parts.old.items id)
+        (λ kept. result.1 ≡ has_ended (noted_if_taken kept event)) }
 {
-    take_event(parts, place, event)
+    take_event(parts, id, place, event)
 }
 
 /// Scans, where the scan is not refused but for want of memory.
@@ -139,7 +142,7 @@ impl<A: Allocator + Clone> Suite<A> {
         if out.reserve(1).is_err() {
             return Err(StepFault::OutOfMemory);
         }
-        let (answer, ended) = take_event_in(&mut self.parts, place, event);
+        let (answer, ended) = take_event_in(&mut self.parts, id, place, event);
         if ended {
             self.table.ended(id);
         }
