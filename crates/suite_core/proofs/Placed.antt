@@ -186,13 +186,15 @@ restarted-rising new parts rising i j d before within =
         ] refl
 
 -- one part more
-pub restarted-next : (news : List PartState) (i : ℕ) (d : PartState) (parts parts' whole : List PartState) → i < length news →
-    parts' ≡ map (restarted_in (get_or news i d ∷ [])) parts → map (restarted_in (drop i news)) parts ≡ whole → map (restarted_in (drop (i + 1) news)) parts' ≡ whole
-restarted-next news i d parts parts' whole within is so =
-    let e : suc i ≡ i + 1 = omega arith in
-    let next : drop i news ≡ get_or news i d ∷ drop (i + 1) news = drop-cons news i d within ∙ ap (λ n. get_or news i d ∷ drop n news) e in
-    ap (map (restarted_in (drop (i + 1) news))) is ∙ restarted-more (get_or news i d) (drop (i + 1) news) parts ∙
-    ap (λ ps. map (restarted_in ps) parts) (sym next) ∙ so
+pub restarted-step : (items rest : List PartState) (new : PartState) (parts parts' whole : List PartState) → items ≡ new ∷ rest → parts' ≡ map (restarted_in (new ∷ [])) parts →
+    map (restarted_in items) parts ≡ whole → map (restarted_in rest) parts' ≡ whole
+restarted-step items rest new parts parts' whole cut is so =
+    ap (map (restarted_in rest)) is ∙ restarted-more new rest parts ∙ ap (λ news. map (restarted_in news) parts) (sym cut) ∙ so
+
+-- no part more
+pub restarted-end : (items parts whole : List PartState) → length items ≡ 0 → map (restarted_in items) parts ≡ whole → parts ≡ whole
+restarted-end [] parts whole none so = sym (map-none (restarted_in []) parts (λ k d b. refl)) ∙ so
+restarted-end (item ∷ items) parts whole none so = absurd (omega (arith, none))
 
 -- How a part that was read stands to another, as a comparison tells
 
