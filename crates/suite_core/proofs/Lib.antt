@@ -3,3 +3,4 @@ mod Traces
 mod Tied
 mod Runs
 mod Placed
+mod Begun

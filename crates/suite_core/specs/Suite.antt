@@ -11,9 +11,9 @@ use Rattle.scan_table.specs.declared.part.Role.{Role}
 use Rattle.scan_table.specs.declared.part.Role.TheVariants.{Main, Log}
 use Rattle.scan_table.specs.declared.fault.ScanFault.{ScanFault}
 use Rattle.scan_table.specs.declared.table.ScanOut.{ScanOut}
-use Rattle.scan_table.specs.Slots.{Row, SlotState, is_name}
+use Rattle.scan_table.specs.Slots.{Row, SlotState}
 use Rattle.scan_table.specs.Scan.{starts, restarts, drops, refused}
-use Rattle.scan_table.specs.Order.{scan_refusal}
+use Rattle.scan_table.specs.Order.{scan_refusal, row_of}
 use Rattle.scan_table.specs.Table.{TableState, new_table, scanned, after_end, slot_at}
 use Rattle.suite_lines.specs.declared.event.SuiteEvent.{SuiteEvent}
 use Rattle.suite_lines.specs.declared.event.SuiteEvent.TheVariants.{Scan, At}
@@ -86,14 +86,14 @@ abbrev pub is_down : Role → Row → Bool
 is_down Main row = row.down
 is_down Log row = row.log_down
 
--- what the row of a name says
-abbrev pub down_in : List Row → Role → List ℕ → Bool
-down_in [] role name = false
-down_in (row ∷ rows) role name = if is_name row.name name then is_down role row else down_in rows role name
+abbrev pub says_down : Role → Option Row → Bool
+says_down role None = false
+says_down role (Some row) = is_down role row
 
+-- what the row of a slot's name says
 abbrev pub down_where : List Row → Role → Option SlotState → Bool
 down_where rows role None = false
-down_where rows role (Some slot) = down_in rows role slot.name
+down_where rows role (Some slot) = says_down role (row_of rows slot.name)
 
 -- a part with what the row of its service says
 abbrev pub beginning : List SlotState → List Row → PartId → Beginning

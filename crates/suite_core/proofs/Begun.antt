@@ -1,0 +1,34 @@
+-- What a scan begins.
+use Rattle.std.proofs.Common.{◌≡◌, ℕ, ◌+◌, ◌<◌, ◌≤◌, Bool, false, List, [], ◌∷◌, ◌++◌, length, get_or, map, drop, sym, ap, ◌∙◌, refl, arith, suc, Option, Some, None, append_assoc, add-one}
+use Rattle.std.proofs.Math.Seq.{drop-cons}
+use Rattle.std.proofs.Math.ListN.{drop_of_length-le}
+use Rattle.std.proofs.lemmas.List.{append-nil}
+use Rattle.tai_status.specs.Label.{Tai64n}
+use Rattle.scan_table.specs.declared.part.PartId.{PartId}
+use Rattle.scan_table.specs.Slots.{Row, SlotState}
+use Rattle.suite_lines.specs.declared.out.Begun.{Begun}
+use Rattle.suite_core.specs.Parts.{PartState}
+use Rattle.suite_core.specs.Suite.{beginning, begun_part, begun_out}
+
+-- A part that begins as this flag says begins as its row says, where the flag is the row's.
+pub begun-as : (capacity : ℕ) (label : Tai64n) (slots : List SlotState) (rows : List Row) (id : PartId) (down : Bool) (part : PartState) →
+    part ≡ begun_part capacity label (record { part = id; down = down }) → down ≡ (beginning slots rows id).down → part ≡ begun_part capacity label (beginning slots rows id)
+begun-as capacity label slots rows id down part is same = is ∙ ap (λ d. begun_part capacity label (record { part = id; down = d })) same
+
+pub said-as : (label : Tai64n) (slots : List SlotState) (rows : List Row) (id : PartId) (down : Bool) (said : Begun) →
+    said ≡ begun_out label (record { part = id; down = down }) → down ≡ (beginning slots rows id).down → said ≡ begun_out label (beginning slots rows id)
+said-as label slots rows id down said is same = is ∙ ap (λ d. begun_out label (record { part = id; down = d })) same
+
+-- one element more
+pub pushed : {T : Type 0} (made more : List T) (item whole : T) → more ≡ made ++ item ∷ [] → item ≡ whole → more ≡ made ++ whole ∷ []
+pushed made more item whole is same = is ∙ ap (λ x. made ++ x ∷ []) same
+
+-- One element more of a list that is mapped twice: what is made goes on to what is left.
+pub map-more : {X Y Z : Type 0} (f : Y → Z) (h : X → Y) (xs : List X) (i : ℕ) (d : X) (made more whole : List Z) → i < length xs →
+    made ++ map f (map h (drop i xs)) ≡ whole → more ≡ made ++ f (h (get_or xs i d)) ∷ [] → more ++ map f (map h (drop (i + 1) xs)) ≡ whole
+map-more f h xs i d made more whole within so here =
+    let e : suc i ≡ i + 1 = omega arith in
+    let cut : drop i xs ≡ get_or xs i d ∷ drop (i + 1) xs = drop-cons xs i d within ∙ ap (λ n. get_or xs i d ∷ drop n xs) e in
+    ap (λ l. l ++ map f (map h (drop (i + 1) xs))) here
+    ∙ append_assoc made (f (h (get_or xs i d)) ∷ []) (map f (map h (drop (i + 1) xs)))
+    ∙ ap (λ l. made ++ map f (map h l)) (sym cut) ∙ so
