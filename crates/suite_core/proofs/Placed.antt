@@ -1,5 +1,5 @@
 -- What is done at the place of a part.
-use Rattle.std.proofs.Common.{◌≡◌, ◌≢◌, ℕ, ◌+◌, ◌<◌, ◌≤◌, Bool, true, false, not, ◌&&◌, ◌==◌, nat_lt, List, [], ◌∷◌, length, get_or, set, map, drop, sym, subst, ap, ◌∙◌, refl, arith, zero, suc, inl, inr, Option, Some, None, if◌then◌else◌}
+use Rattle.std.proofs.Common.{◌≡◌, ◌≢◌, ℕ, ◌+◌, ◌<◌, ◌≤◌, Bool, true, false, not, ◌&&◌, ◌==◌, nat_lt, List, [], ◌∷◌, length, get_or, set, map, drop, sym, subst, ap, ◌∙◌, refl, arith, zero, suc, inl, inr, Option, Some, None, is_none, if◌then◌else◌}
 use Rattle.std.specs.List.{AllPairs, All}
 use Rattle.std.specs.Option.{IfSome}
 use Rattle.std.proofs.lemmas.Bool.{cases_lt}
@@ -13,7 +13,9 @@ use Rattle.scan_table.specs.declared.part.PartId.{PartId}
 use Rattle.scan_table.proofs.Placed.{map-none, map-one}
 use Rattle.suite_lines.specs.declared.out.StepOut.{StepOut}
 use Rattle.suite_core.specs.Parts.{PartState, is_part, is_place, trace_of, has_ended, part_after, parts_after, restarted_in}
-use Rattle.suite_core.specs.Suite.{outs_at}
+use Rattle.scan_table.specs.Table.{TableState, after_end}
+use Rattle.suite_core.specs.declared.fault.StepFault.TheVariants as fault
+use Rattle.suite_core.specs.Suite.{SuiteState, outs_at, table_told, suite_at, refusal_at}
 use Rattle.suite_core.specs.Places.{rank, AreRising, IsEdge, IsPlaceOf, IsPartAt, HasNone}
 use Rattle.suite_core.proofs.Names.{is_part-same, is_place-rank}
 
@@ -144,6 +146,37 @@ pub ended-at : (parts : List PartState) (id : PartId) (event : Event) (place : �
     ended ≡ has_ended (noted_if_taken (get_or parts place d).trace event) → IfSome (trace_of parts id) (λ kept. ended ≡ has_ended (noted_if_taken kept event))
 ended-at parts id event place d ended rising at is =
     subst (λ t. IfSome t (λ kept. ended ≡ has_ended (noted_if_taken kept event))) (sym (trace-read parts id place d rising at)) is
+
+-- A part that stands somewhere is there.
+pub part-stands : (parts : List PartState) (id : PartId) (place : ℕ) → AreRising parts → IsPartAt parts id place → is_none (trace_of parts id) ≡ false
+part-stands [] id place rising at = absurd (omega (arith, at.within))
+part-stands (part ∷ parts) id place rising at = ap is_none (trace-read (part ∷ parts) id place part rising at)
+
+-- The table is told what the trace tells.
+pub told-as : (table : TableState) (id : PartId) (event : Event) (t : Option Kept) (ended : Bool) → is_none t ≡ false →
+    IfSome t (λ kept. ended ≡ has_ended (noted_if_taken kept event)) → (if ended then after_end table id else table) ≡ table_told table id event t
+told-as table id event None ended there told = absurd (cc)
+told-as table id event (Some kept) ended there told = ap (λ b. if b then after_end table id else table) told
+
+-- the suite after an event at a part that stands somewhere
+pub suite-at : (suite : SuiteState) (id : PartId) (event : Event) (place : ℕ) (seen parts : List PartState) (table : TableState) (ended : Bool) → AreRising suite.parts → seen ≡ suite.parts →
+    IsPartAt seen id place → parts ≡ parts_after id event suite.parts → IfSome (trace_of suite.parts id) (λ kept. ended ≡ has_ended (noted_if_taken kept event)) →
+    table ≡ (if ended then after_end suite.table id else suite.table) → record { table = table; parts = parts; capacity = suite.capacity } ≡ suite_at suite id event
+suite-at suite id event place seen parts table ended rising same at is told after =
+    let there = part-stands suite.parts id place rising (subst (λ ps. IsPartAt ps id place) same at) in
+    let tables : table ≡ table_told suite.table id event (trace_of suite.parts id) = after ∙ told-as suite.table id event (trace_of suite.parts id) ended there told in
+    rw (tables, is) refl
+
+-- No event is refused at a part that stands somewhere.
+pub not-refused : (suite : SuiteState) (id : PartId) (place : ℕ) (seen : List PartState) → AreRising suite.parts → seen ≡ suite.parts → IsPartAt seen id place → refusal_at suite id ≡ None
+not-refused suite id place seen rising same at =
+    let there = part-stands suite.parts id place rising (subst (λ ps. IsPartAt ps id place) same at) in
+    rw there refl
+
+pub refused : (suite : SuiteState) (id : PartId) (seen : List PartState) → seen ≡ suite.parts → trace_of seen id ≡ None → refusal_at suite id ≡ Some fault.NoSuchPart
+refused suite id seen same none =
+    let none' : trace_of suite.parts id ≡ None = ap (λ ps. trace_of ps id) (sym same) ∙ none in
+    rw none' refl
 
 -- Restarting
 

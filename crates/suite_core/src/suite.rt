@@ -1,11 +1,11 @@
 //! A suite of services.
-ghost use Rattle.std.specs.Prelude.{◌≡◌, ◌<◌, ◌≤◌, ◌∷◌, ◌++◌, [], None, length, map, slice_index_or, option_copied, IfSome, IfOk, OnOk, OnErr, IfErr};
+ghost use Rattle.std.specs.Prelude.{◌≡◌, if◌then◌else◌, ◌<◌, ◌≤◌, ◌∷◌, ◌++◌, [], None, length, map, slice_index_or, vec_len, vec_capacity, option_copied, IfSome, IfOk, OnOk, OnErr, IfErr};
 ghost use Rattle.std.specs.Option.{option_map};
 ghost use Rattle.std.specs.List.{All};
 ghost use Rattle.sup_core.specs.Rules.{IsEvent};
 ghost use Rattle.sup_trace.specs.Trace.{replay, noted_if_taken};
 ghost use Rattle.scan_table.specs.Scan;
-ghost use Rattle.scan_table.specs.Table.{scanned};
+ghost use Rattle.scan_table.specs.Table.{scanned, after_end};
 ghost use Rattle.suite_lines.specs.declared.event.SuiteEvent.{SuiteEvent};
 ghost use Rattle.suite_core.specs.Parts.{trace_of, parts_after, has_ended};
 ghost use Rattle.suite_core.specs.Places.{AreRising, IsPartAt};
@@ -78,6 +78,23 @@ fn take_event_in<A: Allocator>(
     take_event(parts, id, place, event)
 }
 
+/// Puts an output behind others, for which there is room.
+fn put<A: Allocator>(out: &mut Vec<StepOut<A>, A>, answer: StepOut<A>)
+    requires { vec_len out.old < vec_capacity out.old }
+    ensures { out.new.items ≡ out.old.items ++ answer ∷ [] }
+{
+    let _ = out.push(answer);
+}
+
+/// Tells a table of a part's end, where it has ended.
+fn tell_end<A: Allocator + Clone>(table: &mut ScanTable<A>, id: PartId, ended: bool)
+    ensures { table.new ≡ (if ended then after_end table.old id else table.old) }
+{
+    if ended {
+        table.ended(id);
+    }
+}
+
 /// Scans, where the scan is not refused but for want of memory.
 fn scan<A: Allocator + Clone>(table: &mut ScanTable<A>, rows: &[DirRow<A>]) -> Result<ScanOut<A>, AllocError>
     ensures table { OnOk result (table.new ≡ scanned table.old rows.now) }
@@ -143,10 +160,8 @@ impl<A: Allocator + Clone> Suite<A> {
             return Err(StepFault::OutOfMemory);
         }
         let (answer, ended) = take_event_in(&mut self.parts, id, place, event);
-        if ended {
-            self.table.ended(id);
-        }
-        let _ = out.push(answer);
+        tell_end(&mut self.table, id, ended);
+        put(out, answer);
         Ok(())
     }
 
@@ -222,10 +237,13 @@ impl<A: Allocator + Clone> Suite<A> {
         } = plan;
         change(&mut self.parts, scan.drops.as_slice(), started, restarted);
         self.table = table;
-        let _ = out.push(StepOut::Scanned {
-            out: scan,
-            begun: Begins::from_vec(begun),
-        });
+        put(
+            out,
+            StepOut::Scanned {
+                out: scan,
+                begun: Begins::from_vec(begun),
+            },
+        );
         Ok(())
     }
 
