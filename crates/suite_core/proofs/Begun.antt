@@ -8,7 +8,8 @@ use Rattle.scan_table.specs.declared.part.PartId.{PartId}
 use Rattle.scan_table.specs.Slots.{Row, SlotState}
 use Rattle.suite_lines.specs.declared.out.Begun.{Begun}
 use Rattle.suite_core.specs.Parts.{PartState}
-use Rattle.suite_core.specs.Suite.{beginning, begun_part, begun_out}
+use Rattle.scan_table.specs.Table.{TableState, scanned}
+use Rattle.suite_core.specs.Suite.{Beginning, beginning, beginnings, begun_part, begun_out}
 
 -- A part that begins as this flag says begins as its row says, where the flag is the row's.
 pub begun-as : (capacity : ℕ) (label : Tai64n) (slots : List SlotState) (rows : List Row) (id : PartId) (down : Bool) (part : PartState) →
@@ -32,3 +33,27 @@ map-more f h xs i d made more whole within so here =
     ap (λ l. l ++ map f (map h (drop (i + 1) xs))) here
     ∙ append_assoc made (f (h (get_or xs i d)) ∷ []) (map f (map h (drop (i + 1) xs)))
     ∙ ap (λ l. made ++ map f (map h l)) (sym cut) ∙ so
+
+-- A scan's beginnings, as the table after it and the parts of its answer say
+
+pub parts-as : (table after : TableState) (rows : List Row) (capacity : ℕ) (label : Tai64n) (seen ids : List PartId) (parts : List PartState) → after ≡ scanned table rows → seen ≡ ids →
+    parts ≡ map (begun_part capacity label) (map (beginning after.slots rows) seen) → parts ≡ map (begun_part capacity label) (beginnings table rows ids)
+parts-as table after rows capacity label seen ids parts scan same is =
+    is ∙ ap (λ (t : TableState). map (begun_part capacity label) (map (beginning t.slots rows) seen)) scan
+    ∙ ap (λ l. map (begun_part capacity label) (beginnings table rows l)) same
+
+out-append : (label : Tai64n) (xs ys : List Beginning) → map (begun_out label) xs ++ map (begun_out label) ys ≡ map (begun_out label) (xs ++ ys)
+out-append label [] ys = refl
+out-append label (x ∷ xs) ys = ap (λ l. begun_out label x ∷ l) (out-append label xs ys)
+
+pub begun-all : (table after : TableState) (rows : List Row) (label : Tai64n) (first second begins restarts : List PartId) (none begun more : List Begun) → after ≡ scanned table rows →
+    first ≡ begins → second ≡ restarts → none ≡ [] → begun ≡ none ++ map (begun_out label) (map (beginning after.slots rows) first) →
+    more ≡ begun ++ map (begun_out label) (map (beginning after.slots rows) second) →
+    more ≡ map (begun_out label) (beginnings table rows begins ++ beginnings table rows restarts)
+begun-all table after rows label first second begins restarts none begun more scan one two empty is then_is =
+    then_is
+    ∙ ap (λ l. l ++ map (begun_out label) (map (beginning after.slots rows) second)) (is ∙ ap (λ l. l ++ map (begun_out label) (map (beginning after.slots rows) first)) empty)
+    ∙ ap (λ (t : TableState). map (begun_out label) (map (beginning t.slots rows) first) ++ map (begun_out label) (map (beginning t.slots rows) second)) scan
+    ∙ ap (λ l. map (begun_out label) (beginnings table rows l) ++ map (begun_out label) (beginnings table rows second)) one
+    ∙ ap (λ l. map (begun_out label) (beginnings table rows begins) ++ map (begun_out label) (beginnings table rows l)) two
+    ∙ out-append label (beginnings table rows begins) (beginnings table rows restarts)
