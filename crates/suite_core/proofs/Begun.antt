@@ -9,7 +9,8 @@ use Rattle.scan_table.specs.Slots.{Row, SlotState}
 use Rattle.suite_lines.specs.declared.out.Begun.{Begun}
 use Rattle.suite_core.specs.Parts.{PartState}
 use Rattle.scan_table.specs.Table.{TableState, scanned}
-use Rattle.suite_core.specs.Suite.{Beginning, beginning, beginnings, begun_part, begun_out}
+use Rattle.scan_table.specs.Scan.{drops}
+use Rattle.suite_core.specs.Suite.{SuiteState, Beginning, beginning, beginnings, begun_part, begun_out, scan_starts, scan_restarts, changed, parts_scanned, suite_scanned}
 
 -- A part that begins as this flag says begins as its row says, where the flag is the row's.
 pub begun-as : (capacity : ℕ) (label : Tai64n) (slots : List SlotState) (rows : List Row) (id : PartId) (down : Bool) (part : PartState) →
@@ -57,3 +58,15 @@ begun-all table after rows label first second begins restarts none begun more sc
     ∙ ap (λ l. map (begun_out label) (beginnings table rows l) ++ map (begun_out label) (beginnings table rows second)) one
     ∙ ap (λ l. map (begun_out label) (beginnings table rows begins) ++ map (begun_out label) (beginnings table rows l)) two
     ∙ out-append label (beginnings table rows begins) (beginnings table rows restarts)
+
+-- the suite after a scan
+pub suite-scanned : (suite : SuiteState) (rows : List Row) (label : Tai64n) (capacity : ℕ) (table : TableState) (dropped : List ℕ) (started restarted seen parts : List PartState) →
+    capacity ≡ suite.capacity → table ≡ scanned suite.table rows → dropped ≡ drops suite.table.slots rows → started ≡ map (begun_part suite.capacity label) (scan_starts suite.table rows) →
+    restarted ≡ map (begun_part suite.capacity label) (scan_restarts suite.table rows) → seen ≡ suite.parts → parts ≡ changed dropped started restarted seen →
+    record { table = table; parts = parts; capacity = capacity } ≡ suite_scanned suite rows label
+suite-scanned suite rows label capacity table dropped started restarted seen parts room scan drop start restart same is =
+    let all : parts ≡ parts_scanned suite rows label =
+      is ∙ ap (λ d. changed d started restarted seen) drop ∙ ap (λ l. changed (drops suite.table.slots rows) l restarted seen) start
+      ∙ ap (λ l. changed (drops suite.table.slots rows) (map (begun_part suite.capacity label) (scan_starts suite.table rows)) l seen) restart
+      ∙ ap (changed (drops suite.table.slots rows) (map (begun_part suite.capacity label) (scan_starts suite.table rows)) (map (begun_part suite.capacity label) (scan_restarts suite.table rows))) same in
+    rw (room, scan, all) refl

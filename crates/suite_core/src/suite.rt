@@ -1,5 +1,5 @@
 //! A suite of services.
-ghost use Rattle.std.specs.Prelude.{◌≡◌, if◌then◌else◌, ◌<◌, ◌≤◌, ◌∷◌, ◌++◌, [], None, length, map, slice_index_or, vec_len, vec_capacity, option_copied, IfSome, IfOk, OnOk, OnErr, IfErr};
+ghost use Rattle.std.specs.Prelude.{◌≡◌, if◌then◌else◌, ◌+◌, ◌<◌, ◌≤◌, ◌∷◌, ◌++◌, [], None, length, map, slice_index_or, vec_len, vec_capacity, option_copied, IfSome, IfOk, OnOk, OnErr, IfErr};
 ghost use Rattle.std.specs.Option.{option_map};
 ghost use Rattle.std.specs.List.{All};
 ghost use Rattle.sup_core.specs.Rules.{IsEvent};
@@ -76,6 +76,21 @@ fn take_event_in<A: Allocator>(
         (λ kept. result.1 ≡ has_ended (noted_if_taken kept event)) }
 {
     take_event(parts, id, place, event)
+}
+
+/// Takes the room for one output and these parts.
+fn reserve<A: Allocator>(
+    out: &mut Vec<StepOut<A>, A>,
+    parts: &mut Vec<Part<A>, A>,
+    count: usize,
+) -> Result<(), AllocError>
+    ensures out { out.new.items ≡ out.old.items }
+    ensures parts { parts.new.items ≡ parts.old.items }
+    ensures out_room { OnOk result (vec_len out.new < vec_capacity out.new) }
+    ensures parts_room { OnOk result (vec_len parts.new + count ≤ vec_capacity parts.new) }
+{
+    out.reserve(1)?;
+    parts.reserve(count)
 }
 
 /// Puts an output behind others, for which there is room.
@@ -225,9 +240,9 @@ impl<A: Allocator + Clone> Suite<A> {
         let Ok(plan) = self.plan(rows, label) else {
             return Err(StepFault::OutOfMemory);
         };
-        if out.reserve(1).is_err() || self.parts.reserve(plan.started.len()).is_err() {
+        let Ok(()) = reserve(out, &mut self.parts, plan.started.len()) else {
             return Err(StepFault::OutOfMemory);
-        }
+        };
         let Planned {
             table,
             scan,
