@@ -4,3 +4,4 @@ mod Tied
 mod Runs
 mod Placed
 mod Begun
+mod Begins

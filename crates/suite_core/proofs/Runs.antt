@@ -209,7 +209,7 @@ own-along suite (Scan rows label ∷ events) id kept is conditions at =
       | false ↦ λ there. own-along (suite_scanned suite rows label) events id kept next_is conditions.1 (there ∙ at)
     ] there
 
-suite_along-append : {A : Type 0} → (suite : SuiteState) (xs ys : List (SuiteEvent A)) → suite_along suite (xs ++ ys) ≡ suite_along (suite_along suite xs) ys
+pub suite_along-append : {A : Type 0} → (suite : SuiteState) (xs ys : List (SuiteEvent A)) → suite_along suite (xs ++ ys) ≡ suite_along (suite_along suite xs) ys
 suite_along-append suite [] ys = refl
 suite_along-append suite (x ∷ xs) ys = suite_along-append (suite_after suite x) xs ys
 
@@ -219,7 +219,7 @@ outs_along-append suite (x ∷ xs) ys =
     ap (λ l. outs_of suite x ++ l) (outs_along-append (suite_after suite x) xs ys)
     ∙ sym (append_assoc (outs_of suite x) (outs_along (suite_after suite x) xs) (outs_along (suite_along (suite_after suite x) xs) ys))
 
-accepted-append : {A : Type 0} → (suite : SuiteState) (xs ys : List (SuiteEvent A)) → AreAccepted suite (xs ++ ys) → AreAccepted suite xs × AreAccepted (suite_along suite xs) ys
+pub accepted-append : {A : Type 0} → (suite : SuiteState) (xs ys : List (SuiteEvent A)) → AreAccepted suite (xs ++ ys) → AreAccepted suite xs × AreAccepted (suite_along suite xs) ys
 accepted-append suite [] ys accepted = (tt, accepted)
 accepted-append suite (x ∷ xs) ys accepted =
     let rest = accepted-append (suite_after suite x) xs ys accepted.1 in
@@ -291,7 +291,7 @@ conditions-drop (event ∷ events) zero conditions = conditions
 conditions-drop (event ∷ events) (suc n) conditions = conditions-drop events n conditions.1
 
 -- A suite at a place of a run is one.
-at-place : {A : Type 0} → (suite : SuiteState) (events : List (SuiteEvent A)) (place : ℕ) → IsSuite suite → AllByRecursion IsSuiteEvent events → IsSuite (suite_along suite (take place events))
+pub at-place : {A : Type 0} → (suite : SuiteState) (events : List (SuiteEvent A)) (place : ℕ) → IsSuite suite → AllByRecursion IsSuiteEvent events → IsSuite (suite_along suite (take place events))
 at-place suite events place is conditions = IsSuite-along suite (take place events) (conditions-take events place conditions) is
 
 follows : (t : Option Kept) (kept : Kept) (own : List Event) → Follows kept own (noted_along kept own) → IsSameOrNone t (noted_along kept own) → FollowsIfThere kept own t
@@ -319,7 +319,7 @@ by-own-events suite events n is conditions id from to kept ordered within at =
     (follows (trace_of (suite_along here rest).parts id) kept own told later)
 
 -- one event more
-next-place : {A : Type 0} → (suite : SuiteState) (events : List (SuiteEvent A)) (place : ℕ) (event : SuiteEvent A) → slice_get events place ≡ Some event →
+pub next-place : {A : Type 0} → (suite : SuiteState) (events : List (SuiteEvent A)) (place : ℕ) (event : SuiteEvent A) → slice_get events place ≡ Some event →
     take (suc place) events ≡ take place events ++ event ∷ []
 next-place suite [] place event at = absurd (cc)
 next-place suite (first ∷ events) zero event at = let same : first ≡ event = cc in ap (λ e. e ∷ []) same
@@ -387,3 +387,13 @@ replies-by-history {A = A} suite events n is conditions accepted id from place k
     below-of [] k x at = absurd (cc)
     below-of (y ∷ xs) zero x at = omega arith
     below-of (y ∷ xs) (suc k) x at = let b = below-of xs k x at in omega (arith, b)
+
+-- An event of an accepted run is not refused where it stands.
+pub accepted-at : {A : Type 0} → (suite : SuiteState) (events : List (SuiteEvent A)) (n place : ℕ) (event : SuiteEvent A) → place < n → slice_get events place ≡ Some event → AreAccepted suite (take n events) →
+    refusal (suite_along suite (take place events)) event ≡ None
+accepted-at suite events n place event within here accepted =
+    let first : take (suc place) (take n events) ≡ take place events ++ event ∷ [] = take-take (suc place) n events (omega arith) ∙ next-place suite events place event here in
+    let later = drop (suc place) (take n events) in
+    let whole : (take place events ++ event ∷ []) ++ later ≡ take n events = ap (λ l. l ++ later) (sym first) ∙ take-append-drop (suc place) (take n events) in
+    let parted : take place events ++ event ∷ later ≡ take n events = sym (append_assoc (take place events) (event ∷ []) later) ∙ whole in
+    (accepted-append suite (take place events) (event ∷ later) (subst (AreAccepted suite) (sym parted) accepted)).1.0

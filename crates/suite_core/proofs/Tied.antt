@@ -382,6 +382,12 @@ new-flat (slot ∷ slots) all =
     ap (λ l. l ++ flat_map seen_in slots) (All-head IsNew slot slots all) ∙ ap (λ l. map seen_start (ids_of slot) ++ l) (new-flat slots (All-tail IsNew slot slots all))
     ∙ sym (map-append seen_start (ids_of slot) (flat_map ids_of slots))
 
+-- The parts that a scan does not drop are those of the slots that it keeps.
+pub parts-stay : (table : TableState) (parts : List PartState) (rows : List Row) → AllPairs IsBefore table.slots → AreTied table parts →
+    map seen (filter (λ part. not (is_of (drops table.slots rows) part)) parts) ≡ flat_map seen_in (kept table.slots rows)
+parts-stay table parts rows rising tied =
+    seen-filter (drops table.slots rows) parts ∙ ap (filter (stays_seen (drops table.slots rows))) tied ∙ kept-flat (drops table.slots rows) rows table.slots (dropped-told table.slots rows rising)
+
 -- A scan keeps parts and table tied.
 pub tied-scan : (suite : SuiteState) (rows : List Row) (label : Tai64n) → AllPairs IsBefore suite.table.slots → AreTied suite.table suite.parts →
     AreTied (scanned suite.table rows) (parts_scanned suite rows label)
@@ -395,7 +401,7 @@ tied-scan suite rows label rising tied =
     let restarted_parts = map (begun_part suite.capacity label) (map (beginning after rows) again) in
     let started_parts = map (begun_part suite.capacity label) (map (beginning after rows) (starts slots next rows)) in
     let stayed : map seen stay ≡ flat_map seen_in (kept slots rows) =
-      seen-filter dropped suite.parts ∙ ap (filter (stays_seen dropped)) tied ∙ kept-flat dropped rows slots (dropped-told slots rows rising) in
+      parts-stay suite.table suite.parts rows rising tied in
     let restarts_seen : map seen (map (restarted_in restarted_parts) stay) ≡ flat_map seen_in (map (renewed again) (kept slots rows)) =
       seen-restarted suite.capacity label after rows again stay ∙ ap (map (seen_restart again)) stayed
       ∙ sym (flat-map (renewed again) (seen_restart again) (kept slots rows) (restart-slot again)) in
@@ -431,7 +437,7 @@ all-in P slot each =
           (All-cons P (seen_life slot.number (record { role = Log; life = life })) [] (each (record { role = Log; life = life })) (All-nil P))
     ]
 
-rank-bound : (role : Role) → rank_in role < 2
+pub rank-bound : (role : Role) → rank_in role < 2
 rank-bound Main = omega arith
 rank-bound Log = omega arith
 

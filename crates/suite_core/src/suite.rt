@@ -10,7 +10,7 @@ ghost use Rattle.suite_lines.specs.declared.event.SuiteEvent.{SuiteEvent};
 ghost use Rattle.suite_core.specs.Parts.{trace_of, parts_after, has_ended};
 ghost use Rattle.suite_core.specs.Places.{AreRising, IsPartAt};
 ghost use Rattle.suite_core.specs.Suite.{new_suite, IsSuiteEvent, refusal, refusal_at, refusal_of_scan, IsCause, scan_out, scan_starts, scan_restarts, scan_begun, begun_part, outs_at, outs_of_scan, outs_of, suite_at, suite_scanned, suite_after};
-ghost use Rattle.suite_core.specs.Run.{Ran, done, GoByOwnEvents, ReplyByOwnHistory, LeaveOthers};
+ghost use Rattle.suite_core.specs.Run.{Ran, done, GoByOwnEvents, ReplyByOwnHistory, LeaveOthers, BeginAsRowsSay};
 
 use crate::fault::{StepFault, SuiteFault};
 use crate::part::Part;
@@ -297,6 +297,7 @@ impl<A: Allocator + Clone> Suite<A> {
         ensures replies { ReplyByOwnHistory self.old events.now (done (length events.now) result) }
         ensures own { GoByOwnEvents self.old events.now (done (length events.now) result) }
         ensures others { LeaveOthers self.old events.now (done (length events.now) result) }
+        ensures begins { BeginAsRowsSay self.old events.now (done (length events.now) result) }
     {
         let _ = &self.parts;
         for (place, event) in events.iter().enumerate() {

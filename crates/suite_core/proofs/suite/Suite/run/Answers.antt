@@ -2,6 +2,7 @@ use Rattle.std.proofs.Common.{◌≡◌, ℕ, length, take, sym, subst, ap, ◌�
 use Rattle.suite_core.specs.Run.{AreAccepted}
 use Rattle.suite_core.specs.Places.{IsSuite}
 use Rattle.suite_core.proofs.Runs.{ran-more, by-own-events, leaves-others, replies-by-history}
+use Rattle.suite_core.proofs.Begins.{begins-as-rows-say}
 use Rattle.suite_core.proofs.suite.Suite.run.Goals as goal
 
 pub loop-place-preserved : goal.loop-place-preserved
@@ -30,3 +31,13 @@ returns-clause-own g c = by-own-events c.args.self.now c.args.events.now (length
 
 pub returns-clause-others : goal.returns-clause-others
 returns-clause-others g c = leaves-others c.args.self.now c.args.events.now (length c.args.events.now) (subst IsSuite c.self.view_is c.self.invariant) c.requires
+
+pub returns-in-Err-clause-begins : goal.returns-in-Err-clause-begins
+returns-in-Err-clause-begins g c =
+    begins-as-rows-say c.args.self.now c.args.events.now c.loop-place.place (subst IsSuite c.self.view_is c.self.invariant) c.requires c.loop-place.invariant.accepted
+
+pub returns-clause-begins : goal.returns-clause-begins
+returns-clause-begins g c =
+    let all : c.loop-place.place ≡ length c.args.events.now = omega (arith, c.loop-place.invariant.within) in
+    begins-as-rows-say c.args.self.now c.args.events.now (length c.args.events.now) (subst IsSuite c.self.view_is c.self.invariant) c.requires
+    (subst (λ n. AreAccepted c.args.self.now (take n c.args.events.now)) all c.loop-place.invariant.accepted)
