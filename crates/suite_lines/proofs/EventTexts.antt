@@ -196,17 +196,17 @@ pub IsRead-unread : {A : Type 0} (parts texts : List (List ℕ)) (text : List �
 IsRead-unread {A} parts texts text label answer is read right missed =
     rw (is, read) (scan_unread label (rows_of_texts texts) answer right missed)
 
-answer_told : {A : Type 0} (told : Result (SuiteEvent A) EventFault) (answer : Result (SuiteEvent A) SuiteLineFault) (event : SuiteEvent A)
+pub read_told : {A : Type 0} (told : Result (SuiteEvent A) EventFault) (answer : Result (SuiteEvent A) SuiteLineFault) (event : SuiteEvent A)
     → IsRead told answer → answer ≡ Ok event → told ≡ Ok event
-answer_told (Ok (Scan rows label)) (Ok read) event h is = let same : read ≡ event = cc is in cc (h, same)
-answer_told (Ok (Scan rows label)) (Err why) event h is = cc is
-answer_told (Ok (At part at)) answer event h is = let same : Ok (At part at) ≡ Ok event = sym h ∙ is in cc same
-answer_told (Err why) answer event h is = let none : Err (line_fault why) ≡ Ok event = sym h ∙ is in cc none
+read_told (Ok (Scan rows label)) (Ok read) event h is = let same : read ≡ event = cc is in cc (h, same)
+read_told (Ok (Scan rows label)) (Err why) event h is = cc is
+read_told (Ok (At part at)) answer event h is = let same : Ok (At part at) ≡ Ok event = sym h ∙ is in cc same
+read_told (Err why) answer event h is = let none : Err (line_fault why) ≡ Ok event = sym h ∙ is in cc none
 
 pub read-found : {A : Type 0} (line : List ℕ) (answer : Result (SuiteEvent A) SuiteLineFault) → IsRead (suite_event_from (fields line)) answer
     → IfOk answer (λ event. IsSpellable event × (line ≡ suite_event_text event))
 read-found line (Ok event) h =
-    suite_event_text-suite_event_from line event (answer_told (suite_event_from (fields line)) (Ok event) event h refl)
+    suite_event_text-suite_event_from line event (read_told (suite_event_from (fields line)) (Ok event) event h refl)
 read-found line (Err why) h = tt
 
 read_only : {A : Type 0} (event : SuiteEvent A) (answer : Result (SuiteEvent A) SuiteLineFault) → IsRead (Ok event) answer
