@@ -64,11 +64,17 @@ names-map f [] keeps = refl
 names-map f (slot ∷ slots) keeps =
     ap (λ name. name ∷ names_of (map f slots)) (keeps slot) ∙ ap (λ names. slot.name ∷ names) (names-map f slots keeps)
 
+pub ended-rising : (part : PartId) (slots : List SlotState) → AllPairs IsBefore slots → AllPairs IsBefore (map (slot_ended part) slots)
+ended-rising part slots rising = pairs-map IsBefore (slot_ended part) slots (λ a b before. omega (arith, before, ended-number part a, ended-number part b)) rising
+
+pub ended-below : (next : ℕ) (part : PartId) (slots : List SlotState) → All (IsNumbered next) slots → All (IsNumbered next) (map (slot_ended part) slots)
+ended-below next part slots numbered = all-map (IsNumbered next) (IsNumbered next) (slot_ended part) slots (ended-numbered next part) numbered
+
 pub table-ended : (slots : List SlotState) (next : ℕ) (index : List ℕ) (part : PartId) → IsTable slots next index → IsTable (map (slot_ended part) slots) next index
 table-ended slots next index part is =
     record {
-      rising = pairs-map IsBefore (slot_ended part) slots (λ a b before. omega (arith, before, ended-number part a, ended-number part b)) is.rising;
-      numbered = all-map (IsNumbered next) (IsNumbered next) (slot_ended part) slots (ended-numbered next part) is.numbered;
+      rising = ended-rising part slots is.rising;
+      numbered = ended-below next part slots is.numbered;
       indexed = subst (λ names. IsIndex names index) (sym (names-map (slot_ended part) slots (ended-name part))) is.indexed;
       whole = is.whole ∙ sym (length-map slots (slot_ended part));
     }

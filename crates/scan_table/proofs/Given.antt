@@ -50,7 +50,7 @@ abbrev slots_from : List SlotState → List Row → ℕ → List Row → List Sl
 slots_from slots rows n rest = in_turn (need slots rows) (new_slots_at slots rows) n rest
 
 -- What holds of each row's new slot holds of all.
-all-slots : (P : SlotState → Type 0) (slots : List SlotState) (rows : List Row) (n : ℕ) (row : Row) (rest : List Row) →
+pub all-slots : (P : SlotState → Type 0) (slots : List SlotState) (rows : List Row) (n : ℕ) (row : Row) (rest : List Row) →
     (new_slots_at slots rows n row ≡ new_slot n row ∷ [] → need slots rows row ≡ 1 + length (roles_of row) → slot_of slots row ≡ None → P (new_slot n row)) →
     All P (slots_from slots rows (n + need slots rows row) rest) → All P (slots_from slots rows n (row ∷ rest))
 all-slots P slots rows n row rest here later =
@@ -201,7 +201,7 @@ new-fresh low high n row from to =
       | false ↦ λ fits. All-cons (between low high) (record { slot = n; role = Main; life = n + 1 }) [] (omega arith, omega arith) (All-nil (between low high))
     ] to
 
-all-flat : {X Y : Type 0} (P : Y → Type 0) (f : X → List Y) (xs : List X) → All (λ x. All P (f x)) xs → All P (flat_map f xs)
+pub all-flat : {X Y : Type 0} (P : Y → Type 0) (f : X → List Y) (xs : List X) → All (λ x. All P (f x)) xs → All P (flat_map f xs)
 all-flat P f [] all = All-nil P
 all-flat P f (x ∷ xs) all = All-append P (f x) (flat_map f xs) (All-head (λ z. All P (f z)) x xs all) (all-flat P f xs (All-tail (λ z. All P (f z)) x xs all))
 

@@ -1,11 +1,11 @@
-mod Rising
+pub mod Rising
 mod Turns
 mod Worked
-mod Orders
+pub mod Orders
 mod Indexed
-mod Searched
-mod Placed
-mod Given
+pub mod Searched
+pub mod Placed
+pub mod Given
 mod Dropped
 mod Rows
-mod After
+pub mod After

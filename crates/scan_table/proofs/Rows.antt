@@ -1,15 +1,18 @@
 -- What a search by halves finds among rows.
-use Rattle.std.proofs.Common.{◌≡◌, ◌≢◌, ℕ, ◌+◌, ◌<◌, ◌≤◌, Bool, true, false, ◌&&◌, ◌||◌, List, [], ◌∷◌, length, get_or, sym, ap, ◌∙◌, refl, arith, inl, inr, if◌then◌else◌}
-use Rattle.std.specs.List.{list_any, filter}
+use Rattle.std.proofs.Common.{◌≡◌, ◌≢◌, ℕ, ◌+◌, ◌<◌, ◌≤◌, Bool, true, false, ◌&&◌, ◌||◌, List, [], ◌∷◌, length, get_or, drop, sym, ap, ◌∙◌, refl, arith, inl, inr, if◌then◌else◌, Option, Some, None, zero, suc, ◌-◌}
+use Rattle.std.specs.List.{list_any, filter, AllPairs, AllAdjacentBelow}
 use Rattle.std.specs.Ordering.{ordering_reverse}
 use Rattle.std.specs.declared.cmp.Ordering.{Ordering}
 use Rattle.std.specs.declared.cmp.Ordering.TheVariants.{Less, Equal, Greater}
 use Rattle.std.proofs.lemmas.Bool.{cases_lt}
+use Rattle.std.proofs.Math.Seq.{drop-cons}
+use Rattle.std.proofs.Math.ListN.{drop_of_length-le}
 use Rattle.std.proofs.lemmas.Cmp.{nat_list_cmp_total}
 use Rattle.std.proofs.lemmas.List.{get_or_default}
 use Rattle.std.proofs.lemmas.List.Folds.{list_any_none}
 use Rattle.scan_table.specs.Slots.{Row, SlotState, name_order, is_name, is_eligible}
-use Rattle.scan_table.specs.Scan.{AreRising, has_row}
+use Rattle.scan_table.specs.Scan.{AreRising, IsBelow, has_row}
+use Rattle.scan_table.specs.Order.{row_of, IsRowAt, HasNoRow, order_fault, order_fault_after, fault_at}
 use Rattle.scan_table.proofs.Rising.{rising-pairs}
 use Rattle.scan_table.proofs.Orders.{above-below, equal-same, same-named, differs-named, below-differs}
 use Rattle.scan_table.proofs.Placed.{any-one}
@@ -83,14 +86,98 @@ row-found rows middle row slot result rising within read equal is =
     ])) ∙
     sym (any-filter (λ (r : Row). is_name r.name slot.name) is_eligible rows)
 
+-- no row of a name
+pub row-nowhere : (rows : List Row) (name : List ℕ) (low high : ℕ) → high ≤ low →
+    ((k : ℕ) (d : Row) → k < low → name_order (get_or rows k d).name name ≡ Less) →
+    ((k : ℕ) (d : Row) → high ≤ k → k < length rows → name_order (get_or rows k d).name name ≡ Greater) → HasNoRow rows name
+row-nowhere rows name low high met below above k d b =
+    elim (cases_lt k low) [
+      | (inl less) ↦ below-differs (get_or rows k d).name name (below k d less)
+      | (inr more) ↦ λ e. below-differs name (get_or rows k d).name (above-below (get_or rows k d).name name (above k d (omega arith) b)) (sym e)
+    ]
+
 -- no row of a slot's name
-pub row-missing : (rows : List Row) (slot : SlotState) (low high : ℕ) → high ≤ low →
-    ((k : ℕ) (d : Row) → k < low → name_order (get_or rows k d).name slot.name ≡ Less) →
-    ((k : ℕ) (d : Row) → high ≤ k → k < length rows → name_order (get_or rows k d).name slot.name ≡ Greater) → false ≡ has_row rows slot
-row-missing rows slot low high met below above =
+pub row-missing : (rows : List Row) (slot : SlotState) → HasNoRow rows slot.name → false ≡ has_row rows slot
+row-missing rows slot none =
     sym (any-filter (λ (r : Row). is_name r.name slot.name) is_eligible rows ∙
-    list_any_none (serves slot) rows (λ k d b. other-serves slot (get_or rows k d)
-    (elim (cases_lt k low) [
-      | (inl less) ↦ below-differs (get_or rows k d).name slot.name (below k d less)
-      | (inr more) ↦ λ e. below-differs slot.name (get_or rows k d).name (above-below (get_or rows k d).name slot.name (above k d (omega arith) b)) (sym e)
-    ])))
+    list_any_none (serves slot) rows (λ k d b. other-serves slot (get_or rows k d) (none k d b)))
+
+-- The row at the place of a name is the one that the name has.
+pub row-here : (rows : List Row) (name : List ℕ) (place : ℕ) (row : Row) → AllPairs IsBelow rows → IsRowAt rows name place → row ≡ get_or rows place row →
+    Some row ≡ row_of rows name
+row-here [] name place row rising at read = absurd (omega (arith, at.within))
+row-here (first ∷ rows) name zero row rising at read =
+    let is : is_name first.name name ≡ true = same-named first.name name (equal-same first.name name (at.here first)) in
+    ap (λ (r : Row). Some r) read ∙ rw is refl
+row-here (first ∷ rows) name (suc place) row rising at read =
+    let same : (get_or rows place first).name ≡ name = equal-same (get_or rows place first).name name (at.here first) in
+    let less : name_order first.name (get_or rows place first).name ≡ Less = rising 0 (suc place) first (omega arith) at.within in
+    let no : is_name first.name name ≡ false = differs-named first.name name (λ e. below-differs first.name (get_or rows place first).name less (e ∙ sym same)) in
+    row-here rows name place row (λ i j d b w. rising (suc i) (suc j) d (omega arith) (omega arith))
+    (record { within = omega (arith, at.within); here = λ d. at.here d }) read ∙ rw no refl
+
+pub row-not-here : (rows : List Row) (name : List ℕ) → HasNoRow rows name → None ≡ row_of rows name
+row-not-here [] name none = refl
+row-not-here (first ∷ rows) name none =
+    let no : is_name first.name name ≡ false = differs-named first.name name (none 0 first (omega arith)) in
+    row-not-here rows name (λ k d b. none (suc k) d (omega arith)) ∙ rw no refl
+
+-- The fault of the rows from a place on, by the order of the names there.
+pub order-next : (rows : List Row) (place : ℕ) (d before here : Row) → place < length rows → here ≡ get_or rows place d →
+    order_fault_after place before.name (drop place rows) ≡ fault_at place (name_order before.name here.name) (order_fault_after (place + 1) here.name (drop (place + 1) rows))
+order-next rows place d before here within is-here =
+    let e : suc place ≡ place + 1 = omega arith in
+    ap (order_fault_after place before.name) (drop-cons rows place d within ∙ ap (λ x. x ∷ drop (suc place) rows) (sym is-here) ∙ ap (λ n. here ∷ drop n rows) e)
+
+-- none are left
+pub order-last : (rows : List Row) (place : ℕ) (name : List ℕ) → length rows ≤ place → order_fault_after place name (drop place rows) ≡ None
+order-last rows place name end = ap (order_fault_after place name) (drop_of_length-le rows end)
+
+-- The faults from a place on are those that the order of the names there tells, and those after it.
+pub order-told : (rows : List Row) (place : ℕ) (before here : Row) (one two : List ℕ) (told order : Ordering) → 0 < place → place < length rows →
+    before ≡ get_or rows (place - 1) before → here ≡ get_or rows place here → one ≡ before.name → two ≡ here.name → told ≡ name_order one two → told ≡ order →
+    ((d : Row) → 0 < length rows → order_fault rows ≡ order_fault_after place (get_or rows (place - 1) d).name (drop place rows)) →
+    order_fault rows ≡ fault_at place order (order_fault_after (place + 1) here.name (drop (place + 1) rows))
+order-told rows place before here one two told order after within is-before is-here is-one is-two cmp so left =
+    left before (omega (arith, within)) ∙
+    ap (λ (r : Row). order_fault_after place r.name (drop place rows)) (sym is-before) ∙
+    order-next rows place here before here within is-here ∙
+    ap (λ o. fault_at place o (order_fault_after (place + 1) here.name (drop (place + 1) rows)))
+    (ap (λ x. name_order x here.name) (sym is-one) ∙ ap (λ x. name_order one x) (sym is-two) ∙ sym cmp ∙ so)
+
+-- one name more that is greater
+pub order-more : (rows : List Row) (place : ℕ) (here : Row) → place < length rows → here ≡ get_or rows place here →
+    order_fault rows ≡ order_fault_after (place + 1) here.name (drop (place + 1) rows) →
+    (d : Row) → 0 < length rows → order_fault rows ≡ order_fault_after (place + 1) (get_or rows (place + 1 - 1) d).name (drop (place + 1) rows)
+order-more rows place here within is-here so d some =
+    let e : place ≡ place + 1 - 1 = omega arith in
+    so ∙ ap (λ (r : Row). order_fault_after (place + 1) r.name (drop (place + 1) rows)) (is-here ∙ get_or_default rows place here d within)
+    ∙ ap (λ n. order_fault_after (place + 1) (get_or rows n d).name (drop (place + 1) rows)) e
+
+-- no fault where no rows are left
+pub order-none : (rows : List Row) (place : ℕ) → length rows ≤ place →
+    ((d : Row) → 0 < length rows → order_fault rows ≡ order_fault_after place (get_or rows (place - 1) d).name (drop place rows)) → None ≡ order_fault rows
+order-none [] place end left = refl
+order-none (row ∷ rows) place end left =
+    sym (left row (omega arith) ∙ order-last (row ∷ rows) place (get_or (row ∷ rows) (place - 1) row).name end)
+
+-- at the first place
+pub order-begins : (rows : List Row) (d : Row) → 0 < length rows → order_fault rows ≡ order_fault_after 1 (get_or rows (1 - 1) d).name (drop 1 rows)
+order-begins [] d some = absurd (omega arith)
+order-begins (row ∷ rows) d some = refl
+
+-- one place more where the names rise
+pub rising-more : (rows : List Row) (place : ℕ) (before here : Row) (one two : List ℕ) (told : Ordering) → 0 < place → place < length rows →
+    before ≡ get_or rows (place - 1) before → here ≡ get_or rows place here → one ≡ before.name → two ≡ here.name → told ≡ name_order one two → told ≡ Less →
+    AllAdjacentBelow IsBelow rows place → AllAdjacentBelow IsBelow rows (place + 1)
+rising-more rows place before here one two told after within is-before is-here is-one is-two cmp so rising k d b =
+    elim (cases_lt (k + 1) place) [
+      | (inl earlier) ↦ rising k d earlier
+      | (inr last) ↦
+          let e : place - 1 ≡ k = omega arith in
+          let f : place ≡ k + 1 = omega arith in
+          let x : get_or rows k d ≡ before = get_or_default rows k d before (omega (arith, within)) ∙ ap (λ n. get_or rows n before) (sym e) ∙ sym is-before in
+          let y : get_or rows (k + 1) d ≡ here = get_or_default rows (k + 1) d here (omega (arith, within)) ∙ ap (λ n. get_or rows n here) (sym f) ∙ sym is-here in
+          ap (λ (r : Row). name_order r.name (get_or rows (k + 1) d).name) x ∙ ap (λ (r : Row). name_order before.name r.name) y ∙
+          ap (λ w. name_order w here.name) (sym is-one) ∙ ap (λ w. name_order one w) (sym is-two) ∙ sym cmp ∙ so
+    ]

@@ -3,3 +3,4 @@ pub mod Scan
 pub mod Table
 pub mod Turns
 pub mod Index
+pub mod Order

@@ -15,6 +15,6 @@ mod table;
 
 pub use fault::ScanFault;
 pub use part::{Numbers, PartId, Parts, Role};
-pub use row::DirRow;
+pub use row::{DirRow, find_row};
 pub use slot::MAX_SLOTS;
 pub use table::{ScanOut, ScanTable};

@@ -4,15 +4,15 @@ ghost use Rattle.std.specs.List.{flat_map};
 ghost use Rattle.scan_table.specs.Slots.{is_pair, roles_of, ended_roles, ids_of};
 ghost use Rattle.scan_table.specs.Scan.{AreRising, has_row, is_dropped, drops, kept, slot_of, room, need_where, needs, is_exhausted, IsCause, lives_from, new_slot, new_slots_where, new_slots, restarts, refused, starts};
 ghost use Rattle.scan_table.specs.Index.{names_of, IsIndex, ArePassed};
+ghost use Rattle.scan_table.specs.Order.{fault_of, scan_refusal};
 ghost use Rattle.scan_table.specs.Turns.{turn_need, turn_slots, turn_restarts, turn_refused, is_counted, IsPlan};
 
 use crate::fault::ScanFault;
 use crate::index::slot_of;
 use crate::part::{PartId, Role};
-use crate::row::{DirRow, check_order};
-use crate::slot::{Life, MAX_SLOTS, Slot};
+use crate::row::{DirRow, check_order, place_of_row};
+use crate::slot::{Life, MAX_SLOTS, Slot, copy_name};
 use std::alloc::{AllocError, Allocator, Global};
-use std::cmp::Ordering;
 use tai_status::Name;
 
 /// Whether a slot has an eligible row.
@@ -20,17 +20,10 @@ fn has_row<A: Allocator>(rows: &[DirRow<A>], slot: &Slot<A>) -> bool
     requires { AreRising rows.now }
     ensures { result ≡ has_row rows.now slot.now }
 {
-    let mut low = 0;
-    let mut high = rows.len();
-    while low < high {
-        let middle = low + (high - low) / 2;
-        match rows[middle].name().cmp(slot.name()) {
-            Ordering::Less => low = middle + 1,
-            Ordering::Equal => return rows[middle].is_eligible(),
-            Ordering::Greater => high = middle,
-        }
+    match place_of_row(rows, slot.name()) {
+        Some(place) => rows[place].is_eligible(),
+        None => false,
     }
-    false
 }
 
 /// Whether a scan of these rows drops a slot.
@@ -202,13 +195,6 @@ fn push_restarts<A: Allocator>(
         }
     }
     Ok(())
-}
-
-/// A name of its own.
-fn copy_name<A: Allocator>(alloc: A, name: &str) -> Result<Name<A>, AllocError>
-    ensures { IfOk result (λ copy. copy ≡ name.now) }
-{
-    Ok(Name::new(String::from_str(alloc, name)?))
 }
 
 /// A new slot of a row. Its parts run in the lives after its number.
@@ -433,6 +419,26 @@ fn room<A: Allocator>(slots: &[Slot<A>], rows: &[DirRow<A>]) -> usize
     ensures { result ≡ Rattle.scan_table.specs.Scan.room slots.now rows.now }
 {
     MAX_SLOTS.saturating_sub(kept_count(slots, rows))
+}
+
+/// Whether a scan would be refused, want of memory aside.
+pub(crate) fn check_scan<A: Allocator>(
+    slots: &[Slot<A>],
+    index: &[usize],
+    rows: &[DirRow<A>],
+    next: u64,
+) -> Result<(), ScanFault>
+    requires index { IsIndex (names_of slots.now) index.now }
+    requires whole { length index.now ≡ length slots.now }
+    ensures exact { fault_of result ≡ scan_refusal (record { slots = slots.now; next = next }) rows.now }
+    ensures rising { OnOk result (AreRising rows.now) }
+{
+    check_order(rows)?;
+    let room = room(slots, rows);
+    if is_exhausted(slots, index, rows, room, next) {
+        return Err(ScanFault::Exhausted);
+    }
+    Ok(())
 }
 
 /// What a scan does.

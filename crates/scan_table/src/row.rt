@@ -1,6 +1,7 @@
 //! What a scan is given.
-ghost use Rattle.std.specs.Prelude.{◌≡◌, OnOk, IfErr};
+ghost use Rattle.std.specs.Prelude.{◌≡◌, OnOk, IfErr, MatchOption, option_copied};
 ghost use Rattle.scan_table.specs.Scan.{AreRising, IsFirstAt, IsOrderFault};
+ghost use Rattle.scan_table.specs.Order.{order_fault, fault_of, row_of, IsRowAt, HasNoRow};
 
 use crate::fault::ScanFault;
 use std::alloc::{Allocator, Global};
@@ -66,6 +67,7 @@ impl<A: Allocator> DirRow<A> {
 pub(crate) fn check_order<A: Allocator>(rows: &[DirRow<A>]) -> Result<(), ScanFault>
     ensures ok { OnOk result (AreRising rows.now) }
     ensures err { IfErr result (λ fault. IsOrderFault rows.now fault) }
+    ensures exact { fault_of result ≡ order_fault rows.now }
 {
     for place in 1..rows.len() {
         match rows[place - 1].name().cmp(rows[place].name()) {
@@ -75,4 +77,33 @@ pub(crate) fn check_order<A: Allocator>(rows: &[DirRow<A>]) -> Result<(), ScanFa
         }
     }
     Ok(())
+}
+
+/// The place of the row of a name.
+pub(crate) fn place_of_row<A: Allocator>(rows: &[DirRow<A>], name: &str) -> Option<usize>
+    requires { AreRising rows.now }
+    ensures { MatchOption result (HasNoRow rows.now name.now) (λ place. IsRowAt rows.now name.now place) }
+{
+    let mut low = 0;
+    let mut high = rows.len();
+    while low < high {
+        let middle = low + (high - low) / 2;
+        match rows[middle].name().cmp(name) {
+            Ordering::Less => low = middle + 1,
+            Ordering::Equal => return Some(middle),
+            Ordering::Greater => high = middle,
+        }
+    }
+    None
+}
+
+/// The row of a name, among rows that rise by the byte order of their names.
+pub fn find_row<'a, A: Allocator>(rows: &'a [DirRow<A>], name: &str) -> Option<&'a DirRow<A>>
+    requires { AreRising rows.now }
+    ensures { option_copied result ≡ row_of rows.now name.now }
+{
+    match place_of_row(rows, name) {
+        Some(place) => Some(&rows[place]),
+        None => None,
+    }
 }

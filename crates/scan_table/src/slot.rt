@@ -1,8 +1,8 @@
 //! A slot, which keeps one service, and what stands in it.
-ghost use Rattle.std.specs.Prelude.{◌≡◌, ◌≤◌, ◌∷◌, [], length};
+ghost use Rattle.std.specs.Prelude.{◌≡◌, ◌≤◌, ◌∷◌, [], length, IfOk};
 
 use crate::part::{PartId, Role};
-use std::alloc::{Allocator, Global};
+use std::alloc::{AllocError, Allocator, Global};
 use std::marker::Model;
 use tai_status::Name;
 
@@ -125,4 +125,37 @@ impl<A: Allocator> Slot<A> {
             },
         }
     }
+}
+
+/// A copy of a name.
+pub(crate) fn copy_name<A: Allocator>(alloc: A, name: &str) -> Result<Name<A>, AllocError>
+    ensures { IfOk result (λ copy. copy ≡ name.now) }
+{
+    Ok(Name::new(String::from_str(alloc, name)?))
+}
+
+/// A copy of a slot.
+fn copy_slot<A: Allocator>(alloc: A, slot: &Slot<A>) -> Result<Slot<A>, AllocError>
+    ensures { IfOk result (λ copy. copy ≡ slot.now) }
+{
+    Ok(Slot {
+        number: slot.number,
+        name: copy_name(alloc, slot.name())?,
+        main: slot.main,
+        log: slot.log,
+    })
+}
+
+/// A copy of slots.
+pub(crate) fn copy_slots<A: Allocator + Clone>(
+    alloc: &A,
+    slots: &[Slot<A>],
+) -> Result<Vec<Slot<A>, A>, AllocError>
+    ensures { IfOk result (λ copies. copies.items ≡ slots.now) }
+{
+    let mut copies = Vec::with_capacity(alloc.clone()?, slots.len())?;
+    for slot in slots {
+        copies.push(copy_slot(alloc.clone()?, slot)?)?;
+    }
+    Ok(copies)
 }

@@ -4,15 +4,16 @@ ghost use Rattle.std.specs.List.{AllPairs, list_any};
 ghost use Rattle.std.specs.Option.{option_map};
 ghost use Rattle.scan_table.specs.Scan.{AreRising, is_exhausted, starts, restarts, drops, refused, kept, new_slots, IsCause};
 ghost use Rattle.scan_table.specs.Table.{new_table, scanned, after_end, is_running, slot_ended, has_running, renewed, slot_at, has_log, name_of, AreFresh};
+ghost use Rattle.scan_table.specs.Order.{fault_of, scan_refusal};
 ghost use Rattle.scan_table.specs.Index.{IsBefore, IsTable, AreDistinct, names_of, IsIndex};
 
 use crate::fault::ScanFault;
 use crate::index::index_all;
 use crate::part::{Numbers, PartId, Parts};
 use crate::place::{end_part, restart_all, slot_at};
-use crate::plan::{Gifts, Plan, keep, plan_scan};
+use crate::plan::{Gifts, Plan, check_scan, keep, plan_scan};
 use crate::row::DirRow;
-use crate::slot::Slot;
+use crate::slot::{Slot, copy_slots};
 use std::alloc::{AllocError, Allocator, Global};
 use std::marker::Model;
 use tai_status::{Name, Names};
@@ -177,6 +178,26 @@ impl<A: Allocator + Clone> ScanTable<A> {
         ensures table { self.new ≡ after_end self.old part }
     {
         end_in(&mut self.slots, part)
+    }
+
+    /// A copy of the table.
+    pub fn copy(&self) -> Result<ScanTable<A>, AllocError>
+        ensures { IfOk result (λ copy. copy ≡ self.now) }
+    {
+        Ok(ScanTable {
+            alloc: self.alloc.clone()?,
+            slots: copy_slots(&self.alloc, &self.slots)?,
+            index: self.index.to_vec(self.alloc.clone()?)?,
+            next: self.next,
+        })
+    }
+
+    /// Why a scan of these rows would be refused, want of memory aside. It takes no memory.
+    pub fn check(&self, rows: &[DirRow<A>]) -> Result<(), ScanFault>
+        ensures exact { fault_of result ≡ scan_refusal self.now rows.now }
+        ensures rising { OnOk result (AreRising rows.now) }
+    {
+        check_scan(&self.slots, &self.index, rows, self.next)
     }
 
     /// Takes in what the folder holds, whose rows are to rise by the byte order of their names.

@@ -1,43 +1,13 @@
-use Rattle.std.proofs.Common.{◌+◌, ◌-◌, ◌/◌, ◌<◌, length, arith}
-use Rattle.std.specs.declared.cmp.Ordering.TheVariants.{Less, Equal, Greater}
-use Rattle.scan_table.proofs.Rows.{row-read, rows-below, rows-above, row-found, row-missing}
+use Rattle.std.proofs.Common.{subst}
+use Rattle.scan_table.specs.Order.{IsRowAt, HasNoRow}
+use Rattle.scan_table.proofs.Rows.{row-found, row-missing}
 use Rattle.scan_table.proofs.plan.has_row.Goals as goal
 
-pub loop-low-preserved-in-Less : goal.loop-low-preserved-in-Less
-loop-low-preserved-in-Less g c =
-    let middle = c.loop-low.low + (c.loop-low.high - c.loop-low.low) / 2 in
-    let within : middle < length c.args.rows.now = omega arith in
-    record {
-      order = omega arith;
-      bound = c.loop-low.invariant.bound;
-      below = rows-below c.args.rows.now middle c.args.slot.now.name c.requires within
-          (row-read c.args.rows.now middle c.index-rows-middle.result c.name.result.now c.args.slot.now.name c.name-in-loop-low.result.now c.cmp.result Less
-          within c.index-rows-middle.is c.name.ensures c.name-in-loop-low.ensures c.cmp.ensures c.in-Less.is);
-      above = c.loop-low.invariant.above;
-    }
+pub returns-in-Some : goal.returns-in-Some
+returns-in-Some g c =
+    let at = subst (λ name. IsRowAt c.args.rows.now name c.in-Some.place) c.name.ensures c.in-Some.ensures in
+    row-found c.args.rows.now c.in-Some.place c.index-rows-place.result c.args.slot.now c.is_eligible.result c.requires at.within c.index-rows-place.is at.here c.is_eligible.ensures
 
-pub returns-in-Equal : goal.returns-in-Equal
-returns-in-Equal g c =
-    let middle = c.loop-low.low + (c.loop-low.high - c.loop-low.low) / 2 in
-    let within : middle < length c.args.rows.now = omega arith in
-    row-found c.args.rows.now middle c.index-rows-middle-in-Equal.result c.args.slot.now c.is_eligible.result c.requires within c.index-rows-middle-in-Equal.is
-    (row-read c.args.rows.now middle c.index-rows-middle.result c.name.result.now c.args.slot.now.name c.name-in-loop-low.result.now c.cmp.result Equal
-    within c.index-rows-middle.is c.name.ensures c.name-in-loop-low.ensures c.cmp.ensures c.in-Equal.is)
-    c.is_eligible.ensures
-
-pub loop-low-preserved : goal.loop-low-preserved
-loop-low-preserved g c =
-    let middle = c.loop-low.low + (c.loop-low.high - c.loop-low.low) / 2 in
-    let within : middle < length c.args.rows.now = omega arith in
-    record {
-      order = omega arith;
-      bound = omega arith;
-      below = c.loop-low.invariant.below;
-      above = rows-above c.args.rows.now middle c.args.slot.now.name c.requires
-          (row-read c.args.rows.now middle c.index-rows-middle.result c.name.result.now c.args.slot.now.name c.name-in-loop-low.result.now c.cmp.result Greater
-          within c.index-rows-middle.is c.name.ensures c.name-in-loop-low.ensures c.cmp.ensures c.in-Greater.is);
-    }
-
-pub returns : goal.returns
-returns g c =
-    row-missing c.args.rows.now c.args.slot.now c.loop-low.low c.loop-low.high c.loop-low-test.false c.loop-low.invariant.below c.loop-low.invariant.above
+pub returns-in-None : goal.returns-in-None
+returns-in-None g c =
+    row-missing c.args.rows.now c.args.slot.now (subst (λ name. HasNoRow c.args.rows.now name) c.name.ensures c.in-None.ensures)

@@ -1,0 +1,6 @@
+mod Names
+mod Traces
+mod Tied
+mod Runs
+mod Placed
+mod Begun

@@ -1,0 +1,4 @@
+pub mod Parts
+pub mod Suite
+pub mod Run
+pub mod Places

@@ -1,0 +1,104 @@
+//! Where parts stand, and what is done at the place of one.
+ghost use Rattle.std.specs.Prelude.{◌≡◌, ◌<◌, ◌∷◌, [], None, length, map, MatchOption, IfSome, option_copied};
+ghost use Rattle.sup_core.specs.Rules.{IsEvent};
+ghost use Rattle.sup_trace.specs.Trace.{noted_if_taken};
+ghost use Rattle.suite_core.specs.Parts.{trace_of, parts_after, has_ended, restarted_in};
+ghost use Rattle.suite_core.specs.Places.{AreRising, IsEdge, IsPlaceOf, IsPartAt, HasNone};
+ghost use Rattle.suite_core.specs.Suite.{outs_at};
+
+use crate::part::{Part, is_before, is_part, is_place};
+use scan_table::PartId;
+use std::alloc::Allocator;
+use suite_lines::StepOut;
+use sup_core::Event;
+use sup_trace::Trace;
+
+/// The place of the first part that does not come before this one.
+fn edge<A: Allocator>(parts: &[Part<A>], id: PartId) -> usize
+    requires { AreRising parts.now }
+    ensures { IsEdge parts.now id result }
+{
+    let mut low = 0;
+    let mut high = parts.len();
+    while low < high {
+        let middle = low + (high - low) / 2;
+        if is_before(parts[middle].id(), id) {
+            low = middle + 1;
+        } else {
+            high = middle;
+        }
+    }
+    low
+}
+
+/// The place of the part of a slot and role, in whatever life.
+fn place_of<A: Allocator>(parts: &[Part<A>], id: PartId) -> Option<usize>
+    requires { AreRising parts.now }
+    ensures { MatchOption result (HasNone parts.now id) (λ place. IsPlaceOf parts.now id place) }
+{
+    let place = edge(parts, id);
+    if place < parts.len() && is_place(parts[place].id(), id) {
+        Some(place)
+    } else {
+        None
+    }
+}
+
+/// The place of a part.
+pub(crate) fn find<A: Allocator>(parts: &[Part<A>], id: PartId) -> Option<usize>
+    requires { AreRising parts.now }
+    ensures { MatchOption result (trace_of parts.now id ≡ None) (λ place. IsPartAt parts.now id place) }
+{
+    match place_of(parts, id) {
+        Some(place) if is_part(parts[place].id(), id) => Some(place),
+        _ => None,
+    }
+}
+
+/// The trace of a part.
+pub(crate) fn trace_of<A: Allocator>(parts: &[Part<A>], id: PartId) -> Option<&Trace<A>>
+    requires { AreRising parts.now }
+    ensures { option_copied result ≡ trace_of parts.now id }
+{
+    match find(parts, id) {
+        Some(place) => Some(parts[place].trace()),
+        None => None,
+    }
+}
+
+/// Takes an event at a part, which stands at this place. Answers what is answered, and whether the part has ended then.
+pub(crate) fn take_event<A: Allocator>(
+    parts: &mut [Part<A>],
+    id: PartId,
+    place: usize,
+    event: Event,
+) -> (StepOut<A>, bool)
+    requires rising { AreRising parts.old }
+    requires at { IsPartAt parts.old id place }
+    requires event { IsEvent event }
+    ensures parts { parts.new ≡ parts_after id event parts.old }
+    ensures out { result.0 ∷ [] ≡ outs_at id event (trace_of parts.old id) }
+    ensures ended { IfSome (trace_of parts.old id) (λ kept. result.1 ≡ has_ended (noted_if_taken kept event)) }
+{
+    parts[place].take(id, event)
+}
+
+/// Puts a part that restarts into its place.
+fn restart<A: Allocator>(parts: &mut [Part<A>], new: Part<A>)
+    requires { AreRising parts.old }
+    ensures { parts.new ≡ map (restarted_in (new ∷ [])) parts.old }
+{
+    if let Some(place) = place_of(parts, new.id()) {
+        parts[place] = new;
+    }
+}
+
+/// Puts parts that restart into their places.
+pub(crate) fn restart_all<A: Allocator>(parts: &mut [Part<A>], news: Vec<Part<A>, A>)
+    requires { AreRising parts.old }
+    ensures { parts.new ≡ map (restarted_in news.items) parts.old }
+{
+    for new in news {
+        restart(parts, new);
+    }
+}
