@@ -1,29 +1,23 @@
 -- Line by line through an input.
-use Rattle.std.proofs.Common.{◌≡◌, ◌↔◌, ℕ, ◌+◌, ◌-◌, ◌≤◌, ◌<◌, Bool, true, false, ◌==◌, List, [], ◌∷◌, ◌++◌, length, length-append, take, Option, Some, None, Result, Ok, Err, refl, sym, subst, ap, ◌∙◌, arith, append_assoc, append-nil}
+use Rattle.std.proofs.Common.{◌≡◌, ◌↔◌, ℕ, ◌+◌, ◌-◌, ◌≤◌, ◌<◌, Bool, true, false, ◌==◌, List, [], ◌∷◌, ◌++◌, length, length-append, take, drop, map, Option, Some, None, Result, Ok, Err, refl, sym, subst, ap, ◌∙◌, arith, append_assoc, append-nil}
 use Rattle.std.proofs.lemmas.Grind.{flat_map-append}
-use Rattle.tai_status.specs.Label.{Tai64n}
-use Rattle.sup_core.specs.declared.asks.Reply.{Reply}
-use Rattle.sup_core.specs.declared.asks.Reply.TheVariants.{Took}
-use Rattle.sup_core.specs.declared.event.Event.{Event}
-use Rattle.sup_core.specs.declared.machine.Phase.{Phase}
-use Rattle.sup_core.specs.declared.reading.EventFault.{EventFault}
-use Rattle.sup_core.specs.State.{State}
-use Rattle.sup_core.specs.History.{History, Begin, state_of, phase_of}
-use Rattle.sup_core.specs.Rules.{next, reply_to, asks_of_begin}
-use Rattle.sup_core.specs.Reading.{fields, event_from, begin_from}
-use Rattle.sup_core.specs.Text.{answer_text, table_text}
+use Rattle.sup_core.specs.Text.{table_text}
+use Rattle.cmd_sim.specs.declared.answering.Told.{Told}
+use Rattle.cmd_sim.specs.declared.answering.Told.TheVariants as code
+use Rattle.cmd_sim.specs.declared.fault.Why.{Why}
+use Rattle.cmd_sim.specs.declared.fault.Why.TheVariants as why
 use Rattle.std.specs.Prelude.{flat_map}
 use Rattle.std.proofs.Common.{get_or, add-one, inl, inr}
 use Rattle.std.proofs.Math.Seq.{take-suc, take-length}
-use Rattle.std.proofs.lemmas.List.{take-append-le}
+use Rattle.std.proofs.lemmas.List.{take-append-le, take_more, map_push, map-append, take-append-drop}
 use Rattle.cmd_sim.specs.declared.fault.SimFault.{SimFault}
 use Rattle.cmd_sim.specs.declared.fault.SimFault.TheVariants as sim
 use Rattle.tai_status.specs.Counted.{Device, Works, Tells}
 use Rattle.cmd_base.specs.Console.{Console}
 use Rattle.cmd_base.specs.Printed.{printed}
 use Rattle.cmd_sim.specs.Ends.{status_of, told_of, AnswersByStatus, SimCause}
-use Rattle.cmd_sim.specs.Sim.{Said, said, said_by, beginning, going_on, answers, first_refused, Refusal, both_sides, printed_for, refused_in, ReadsNear, AnswersUpTo, AnswersWhole, AnswersBefore, AnswersPart}
-use Rattle.cmd_sim.specs.Progress.{Stands, Says, Answered, SoFar, text_said}
+use Rattle.cmd_sim.specs.Sim.{begins_suite, IsOfSuite, Past, Nothing, Service, OfSuite, Said, said, said_by, answers, first_refused, Refusal, both_sides, printed_for, refused_in, ReadsNear, AnswersUpTo, AnswersWhole, AnswersBefore, AnswersPart}
+use Rattle.cmd_sim.specs.Progress.{Answered, SoFar, text_said, is_suite_line}
 use Rattle.std.specs.Io.KnownBytes.{Appends, Consumes, Keeps, IsAtEnd}
 use Rattle.tai_status.specs.Counted.{AppendsFront}
 use Rattle.tai_status.specs.Block.{Emits}
@@ -31,8 +25,8 @@ use Rattle.tai_status.specs.Lines.{texts_of}
 use Rattle.std.specs.Prelude.{IsErrOf, OnOk, OnErr}
 use Rattle.tai_status.specs.LineReader.{Given, IsPlain, TakesLine, Fills}
 use Rattle.std.specs.List.{onto_first}
-use Rattle.sup_core.specs.declared.reading.EventFault.TheVariants as fault
-use Rattle.tai_status.proofs.Known.{Keeps-same, Appends-nothing, Emits-none, Emits-then, Emits-front, AppendsFront-more}
+use Rattle.cmd_sim.proofs.Answered.{is_suite_line-said}
+use Rattle.tai_status.proofs.Known.{Keeps-same, Appends-nothing, Emits-none, Emits-then, Emits-front, AppendsFront-more, AppendsFront-first}
 use Rattle.tai_status.proofs.Texts.{texts_of-line, texts_of-last}
 
 -- Texts
@@ -48,73 +42,32 @@ Consumes-nothing : (a : Option (List ℕ)) → Consumes a a []
 Consumes-nothing None = tt
 Consumes-nothing (Some xs) = refl
 
--- One line
-
-pub said-short : (past : Option History) (line : List ℕ) → length line ≤ 65536 → said past line ≡ said_by past line
-said-short past line short = grind (arith, short)
-
-pub Says-event : (past : Option History) (machine after : State) (line text : List ℕ) (event : Event) (reply : Reply) (phase : Phase)
-    → Stands past (Some machine) → length line ≤ 65536 → event_from (fields line) ≡ Ok event
-    → ((h : History) → state_of h ≡ machine → reply ≡ reply_to h event)
-    → ((h : History) → state_of h ≡ machine → after ≡ state_of (next h event))
-    → phase ≡ after.phase → text ≡ answer_text reply phase
-    → Says past line text (Some after)
-Says-event None machine after line text event reply phase stands short read replies goes phase_is text_is = absurd stands
-Says-event (Some h) machine after line text event reply phase stands short read replies goes phase_is text_is =
-    let end : after ≡ state_of (next h event) = goes h stands in
-    let last : phase ≡ phase_of (next h event) = phase_is ∙ ap (λ (s : State). s.phase) end in
-    record {
-      answer = record { text = answer_text (reply_to h event) (phase_of (next h event)); history = next h event };
-      is = said-short (Some h) line short ∙ ap (going_on h) read;
-      text_is = text_is ∙ ap (λ (r : Reply). answer_text r phase) (replies h stands) ∙ ap (answer_text (reply_to h event)) last;
-      stands = sym end;
-    }
-
-pub refused-event : (past : Option History) (machine : State) (line : List ℕ) (why : EventFault)
-    → Stands past (Some machine) → length line ≤ 65536 → event_from (fields line) ≡ Err why → said past line ≡ Err why
-refused-event None machine line why stands short read = absurd stands
-refused-event (Some h) machine line why stands short read = said-short (Some h) line short ∙ ap (going_on h) read
-
-pub Says-begin : (line text : List ℕ) (opening : Bool × Tai64n) (machine : State)
-    → length line ≤ 65536 → begin_from (fields line) ≡ Ok opening → machine ≡ state_of (Begin opening.0 opening.1)
-    → text ≡ answer_text (Took (asks_of_begin (Begin opening.0 opening.1))) (phase_of (Begin opening.0 opening.1))
-    → Says None line text (Some machine)
-Says-begin line text opening machine short read stands text_is = record {
-  answer = record {
-    text = answer_text (Took (asks_of_begin (Begin opening.0 opening.1))) (phase_of (Begin opening.0 opening.1));
-    history = Begin opening.0 opening.1;
-  };
-  is = said-short None line short ∙ ap beginning read;
-  text_is = text_is;
-  stands = sym stands;
-}
-
 -- Answers, line by line
 
-answers-said : (past : Option History) (line : List ℕ) (later : List (List ℕ)) (answer : Said) → said past line ≡ Ok answer
-    → answers past (line ∷ later) ≡ answer.text ∷ answers (Some answer.history) later
+answers-said : (past : Past) (line : List ℕ) (later : List (List ℕ)) (answer : Said) → said past line ≡ Ok answer
+    → answers past (line ∷ later) ≡ answer.texts ++ answers answer.past later
 answers-said past line later answer e = rw (e, answers) refl
 
-answers-refused : (past : Option History) (line : List ℕ) (later : List (List ℕ)) (why : EventFault) → said past line ≡ Err why
+answers-refused : (past : Past) (line : List ℕ) (later : List (List ℕ)) (why : Why) → said past line ≡ Err why
     → answers past (line ∷ later) ≡ []
 answers-refused past line later why e = rw (e, answers) refl
 
-first_refused-said : (n : ℕ) (past : Option History) (line : List ℕ) (later : List (List ℕ)) (answer : Said) → said past line ≡ Ok answer
-    → first_refused n past (line ∷ later) ≡ first_refused (n + 1) (Some answer.history) later
+first_refused-said : (n : ℕ) (past : Past) (line : List ℕ) (later : List (List ℕ)) (answer : Said) → said past line ≡ Ok answer
+    → first_refused n past (line ∷ later) ≡ first_refused (n + 1) answer.past later
 first_refused-said n past line later answer e = rw (e, first_refused) refl
 
-first_refused-refused : (n : ℕ) (past : Option History) (line : List ℕ) (later : List (List ℕ)) (why : EventFault) → said past line ≡ Err why
+first_refused-refused : (n : ℕ) (past : Past) (line : List ℕ) (later : List (List ℕ)) (why : Why) → said past line ≡ Err why
     → first_refused n past (line ∷ later) ≡ Some (record { line = n; why = why })
 first_refused-refused n past line later why e = rw (e, first_refused) refl
 
 -- Progress
 
-pub SoFar-none : (before held : Option (List ℕ)) → SoFar before before held held [] [] None 0
+pub SoFar-none : {B : Type 0} (before held : Option (List ℕ)) → SoFar {A = B} before before held held [] [] code.Nothing 0
 SoFar-none before held = record {
   done = [];
   lines = [];
   texts = [];
-  past = None;
+  past = Nothing;
   read = Consumes-nothing before;
   whole = refl;
   counted = refl;
@@ -123,21 +76,22 @@ SoFar-none before held = record {
   refuses = λ later. refl;
   text = Emits-none held held [] (Keeps-same held);
   stands = tt;
+  suite = λ line later is. is;
 }
 
 -- A line further.
-pub SoFar-line : {before now held holds holds2 : Option (List ℕ)} {pending waiting waiting2 : List ℕ} {machine machine2 : Option State} {count : ℕ}
-    (s : SoFar before now held holds pending waiting machine count) (line rest : List ℕ) → pending ≡ line ++ 10 ∷ rest → IsPlain line
-    → Answered s.past line machine2 holds holds2 waiting waiting2
-    → SoFar before now held holds2 rest waiting2 machine2 (count + 1)
+pub SoFar-line : {before now held holds holds2 : Option (List ℕ)} {pending waiting waiting2 : List ℕ} {B : Type 0} {told told2 : Told B} {count : ℕ}
+    (s : SoFar before now held holds pending waiting told count) (line rest : List ℕ) → pending ≡ line ++ 10 ∷ rest → IsPlain line
+    → Answered s.past line told2 holds holds2 waiting waiting2
+    → SoFar before now held holds2 rest waiting2 told2 (count + 1)
 SoFar-line {before} {now} {held} {holds2 = holds2} {waiting2 = waiting2} {count = count} s line rest whole plain a =
     let joined : (more : List ℕ) → (s.done ++ (line ++ 10 ∷ [])) ++ more ≡ s.done ++ (line ++ 10 ∷ more) =
     λ more. append_assoc s.done (line ++ 10 ∷ []) more ∙ ap (λ (t : List ℕ). s.done ++ t) (append_assoc line (10 ∷ []) more) in
     record {
       done = s.done ++ (line ++ 10 ∷ []);
       lines = s.lines ++ line ∷ [];
-      texts = s.texts ++ a.answer.text ∷ [];
-      past = Some a.answer.history;
+      texts = s.texts ++ a.answer.texts;
+      past = a.answer.past;
       read = subst (λ (t : List ℕ). Consumes before now t) (ap (λ (t : List ℕ). s.done ++ t) whole ∙ sym (joined rest)) s.read;
       whole = ap (λ (t : List ℕ). t ++ (line ++ 10 ∷ [])) s.whole ∙ sym (printed-then s.lines line);
       counted = let n = s.counted in let m = length-append s.lines (line ∷ []) in omega (arith, n, m);
@@ -145,29 +99,32 @@ SoFar-line {before} {now} {held} {holds2 = holds2} {waiting2 = waiting2} {count 
           ap texts_of (joined more) ∙ s.cut (line ++ 10 ∷ more)
           ∙ ap (λ (t : List (List ℕ)). s.lines ++ t) (texts_of-line line more plain) ∙ sym (append_assoc s.lines (line ∷ []) (texts_of more));
       says = λ later.
-          ap (answers None) (append_assoc s.lines (line ∷ []) later) ∙ s.says (line ∷ later)
+          ap (answers Nothing) (append_assoc s.lines (line ∷ []) later) ∙ s.says (line ∷ later)
           ∙ ap (λ (t : List (List ℕ)). s.texts ++ t) (answers-said s.past line later a.answer a.is)
-          ∙ sym (append_assoc s.texts (a.answer.text ∷ []) (answers (Some a.answer.history) later));
+          ∙ sym (append_assoc s.texts a.answer.texts (answers a.answer.past later));
       refuses = λ later.
-          ap (first_refused 1 None) (append_assoc s.lines (line ∷ []) later) ∙ s.refuses (line ∷ later)
+          ap (first_refused 1 Nothing) (append_assoc s.lines (line ∷ []) later) ∙ s.refuses (line ∷ later)
           ∙ first_refused-said (count + 1) s.past line later a.answer a.is;
-      text = subst (λ (t : List ℕ). Emits held holds2 [] waiting2 t) (sym (printed-then s.texts a.answer.text)) (Emits-then s.text a.text);
+      text = subst (λ (t : List ℕ). Emits held holds2 [] waiting2 t) (sym (printed-append s.texts a.answer.texts)) (Emits-then s.text a.text);
       stands = a.stands;
+      suite = λ next later is.
+          ap begins_suite (append_assoc s.lines (line ∷ []) (next ∷ later))
+          ∙ s.suite line (next ∷ later) (sym (is_suite_line-said s.past line next a.answer a.is) ∙ is);
     }
 
 -- What comes after the lines so far
 
-SoFar-printed : {before now held holds : Option (List ℕ)} {pending waiting : List ℕ} {machine : Option State} {count : ℕ}
-    (s : SoFar before now held holds pending waiting machine count) (more : List ℕ)
+SoFar-printed : {before now held holds : Option (List ℕ)} {pending waiting : List ℕ} {B : Type 0} {told : Told B} {count : ℕ}
+    (s : SoFar before now held holds pending waiting told count) (more : List ℕ)
     → printed_for (s.done ++ more) ≡ printed s.texts ++ printed (answers s.past (texts_of more))
 SoFar-printed s more =
-    ap (λ (t : List (List ℕ)). printed (answers None t)) (s.cut more)
+    ap (λ (t : List (List ℕ)). printed (answers Nothing t)) (s.cut more)
     ∙ ap printed (s.says (texts_of more)) ∙ printed-append s.texts (answers s.past (texts_of more))
 
-SoFar-refused_in : {before now held holds : Option (List ℕ)} {pending waiting : List ℕ} {machine : Option State} {count : ℕ}
-    (s : SoFar before now held holds pending waiting machine count) (more : List ℕ)
+SoFar-refused_in : {before now held holds : Option (List ℕ)} {pending waiting : List ℕ} {B : Type 0} {told : Told B} {count : ℕ}
+    (s : SoFar before now held holds pending waiting told count) (more : List ℕ)
     → refused_in (s.done ++ more) ≡ first_refused (count + 1) s.past (texts_of more)
-SoFar-refused_in s more = ap (first_refused 1 None) (s.cut more) ∙ s.refuses (texts_of more)
+SoFar-refused_in s more = ap (first_refused 1 Nothing) (s.cut more) ∙ s.refuses (texts_of more)
 
 -- Writes
 
@@ -180,8 +137,8 @@ Appends-emitted : {a b : Option (List ℕ)} {xs : List ℕ} → Emits a b [] [] 
 Appends-emitted {a} {b} {xs} e = subst (λ (t : List ℕ). Appends a b t) (sym (append-nil e.written) ∙ e.whole) e.wrote
 
 -- The answers that waited were written.
-pub SoFar-flush : {before now held holds holds2 : Option (List ℕ)} {pending waiting : List ℕ} {machine : Option State} {count : ℕ}
-    → SoFar before now held holds pending waiting machine count → Appends holds holds2 waiting → SoFar before now held holds2 pending [] machine count
+pub SoFar-flush : {before now held holds holds2 : Option (List ℕ)} {pending waiting : List ℕ} {B : Type 0} {told : Told B} {count : ℕ}
+    → SoFar before now held holds pending waiting told count → Appends holds holds2 waiting → SoFar before now held holds2 pending [] told count
 SoFar-flush s w = record {
   done = s.done;
   lines = s.lines;
@@ -195,11 +152,12 @@ SoFar-flush s w = record {
   refuses = s.refuses;
   text = Emits-written s.text w;
   stands = s.stands;
+  suite = s.suite;
 }
 
 -- A write failed, after a front of the answers that wait and of those that come next.
-front_of : {before now held holds holds2 : Option (List ℕ)} {pending waiting : List ℕ} {machine : Option State} {count : ℕ}
-    (s : SoFar before now held holds pending waiting machine count) (next rest : List ℕ) → AppendsFront holds holds2 (waiting ++ next)
+front_of : {before now held holds holds2 : Option (List ℕ)} {pending waiting : List ℕ} {B : Type 0} {told : Told B} {count : ℕ}
+    (s : SoFar before now held holds pending waiting told count) (next rest : List ℕ) → AppendsFront holds holds2 (waiting ++ next)
     → printed (answers s.past (texts_of pending)) ≡ next ++ rest → AnswersPart before now held holds2
 front_of {held = held} {holds2 = holds2} {pending = pending} s next rest f is = record {
   bytes = s.done ++ pending;
@@ -209,32 +167,35 @@ front_of {held = held} {holds2 = holds2} {pending = pending} s next rest f is = 
       (AppendsFront-more rest (Emits-front next s.text f));
 }
 
-pub SoFar-unflushed : {before now held holds holds2 : Option (List ℕ)} {pending waiting : List ℕ} {machine : Option State} {count : ℕ}
-    → SoFar before now held holds pending waiting machine count → AppendsFront holds holds2 waiting → AnswersPart before now held holds2
+pub SoFar-unflushed : {before now held holds holds2 : Option (List ℕ)} {pending waiting : List ℕ} {B : Type 0} {told : Told B} {count : ℕ}
+    → SoFar before now held holds pending waiting told count → AppendsFront holds holds2 waiting → AnswersPart before now held holds2
 SoFar-unflushed {holds = holds} {holds2 = holds2} {pending = pending} {waiting = waiting} s f =
     front_of s [] (printed (answers s.past (texts_of pending)))
     (subst (λ (t : List ℕ). AppendsFront holds holds2 t) (sym (append-nil waiting)) f) refl
 
-printed_by : (past : Option History) (line : List ℕ) (later : List (List ℕ)) (told : Result Said EventFault) → said past line ≡ told
+printed_by : (past : Past) (line : List ℕ) (later : List (List ℕ)) (told : Result Said Why) → said past line ≡ told
     → (rest : List ℕ) × (printed (answers past (line ∷ later)) ≡ text_said told ++ rest)
-printed_by past line later (Ok answer) e = (printed (answers (Some answer.history) later), ap printed (answers-said past line later answer e))
+printed_by past line later (Ok answer) e = (
+  printed (answers answer.past later),
+  ap printed (answers-said past line later answer e) ∙ printed-append answer.texts (answers answer.past later),
+)
 printed_by past line later (Err why) e = ([], ap printed (answers-refused past line later why e))
 
 -- A line was not written, or the answers before it were not.
-unwritten : {before now held holds holds2 : Option (List ℕ)} {pending waiting : List ℕ} {machine : Option State} {count : ℕ}
-    (s : SoFar before now held holds pending waiting machine count) (line : List ℕ) (later : List (List ℕ)) → texts_of pending ≡ line ∷ later
+unwritten : {before now held holds holds2 : Option (List ℕ)} {pending waiting : List ℕ} {B : Type 0} {told : Told B} {count : ℕ}
+    (s : SoFar before now held holds pending waiting told count) (line : List ℕ) (later : List (List ℕ)) → texts_of pending ≡ line ∷ later
     → AppendsFront holds holds2 (waiting ++ text_said (said s.past line)) → AnswersPart before now held holds2
 unwritten s line later cut f =
     let all = printed_by s.past line later (said s.past line) refl in
     front_of s (text_said (said s.past line)) all.0 f (ap (λ (t : List (List ℕ)). printed (answers s.past t)) cut ∙ all.1)
 
-pub SoFar-unwritten : {before now held holds holds2 : Option (List ℕ)} {pending waiting : List ℕ} {machine : Option State} {count : ℕ}
-    (s : SoFar before now held holds pending waiting machine count) (line rest : List ℕ) → pending ≡ line ++ 10 ∷ rest → IsPlain line
+pub SoFar-unwritten : {before now held holds holds2 : Option (List ℕ)} {pending waiting : List ℕ} {B : Type 0} {told : Told B} {count : ℕ}
+    (s : SoFar before now held holds pending waiting told count) (line rest : List ℕ) → pending ≡ line ++ 10 ∷ rest → IsPlain line
     → AppendsFront holds holds2 (waiting ++ text_said (said s.past line)) → AnswersPart before now held holds2
 SoFar-unwritten s line rest whole plain f = unwritten s line (texts_of rest) (ap texts_of whole ∙ texts_of-line line rest plain) f
 
-pub SoFar-rest_unwritten : {before now held holds holds2 : Option (List ℕ)} {pending waiting : List ℕ} {machine : Option State} {count : ℕ}
-    (s : SoFar before now held holds pending waiting machine count) → 0 < length pending → IsPlain pending
+pub SoFar-rest_unwritten : {before now held holds holds2 : Option (List ℕ)} {pending waiting : List ℕ} {B : Type 0} {told : Told B} {count : ℕ}
+    (s : SoFar before now held holds pending waiting told count) → 0 < length pending → IsPlain pending
     → AppendsFront holds holds2 (waiting ++ text_said (said s.past pending)) → AnswersPart before now held holds2
 SoFar-rest_unwritten {pending = pending} s some plain f = unwritten s pending [] (texts_of-last pending some plain) f
 
@@ -253,8 +214,8 @@ Consumes-kept (Some xs) (Some ys) None bs k l = absurd l
 Consumes-kept (Some xs) (Some ys) (Some zs) bs k l = k ∙ ap (λ (t : List ℕ). bs ++ t) (sym l)
 
 -- More bytes are pending.
-pub SoFar-filled : {before held holds : Option (List ℕ)} {now after : Device} {waiting : List ℕ} {machine : Option State} {count : ℕ} {old new : Given}
-    → SoFar before now.bytes held holds old.pending waiting machine count → Fills now after old new → SoFar before after.bytes held holds new.pending waiting machine count
+pub SoFar-filled : {before held holds : Option (List ℕ)} {now after : Device} {waiting : List ℕ} {B : Type 0} {told : Told B} {count : ℕ} {old new : Given}
+    → SoFar before now.bytes held holds old.pending waiting told count → Fills now after old new → SoFar before after.bytes held holds new.pending waiting told count
 SoFar-filled {before} {now = now} {after = after} {old = old} {new = new} s f = record {
   done = s.done;
   lines = s.lines;
@@ -269,14 +230,15 @@ SoFar-filled {before} {now = now} {after = after} {old = old} {new = new} s f = 
   refuses = s.refuses;
   text = s.text;
   stands = s.stands;
+  suite = s.suite;
 }
 
 take-length_append : (xs ys : List (List ℕ)) (n : ℕ) → n ≡ length xs → take n (xs ++ ys) ≡ xs
 take-length_append xs ys n e = rw e (take-append-le (length xs) xs ys (omega arith) ∙ take-length xs)
 
 -- What was read is the lines so far and what is pending.
-pub SoFar-near : {before now held holds : Option (List ℕ)} {pending waiting : List ℕ} {machine : Option State} {count : ℕ} (number : ℕ)
-    → SoFar before now held holds pending waiting machine count → length pending ≤ 98304 → number ≡ count + 1 → ReadsNear before now number
+pub SoFar-near : {before now held holds : Option (List ℕ)} {pending waiting : List ℕ} {B : Type 0} {told : Told B} {count : ℕ} (number : ℕ)
+    → SoFar before now held holds pending waiting told count → length pending ≤ 98304 → number ≡ count + 1 → ReadsNear before now number
 SoFar-near {pending = pending} {count = count} number s small is =
     let lines : take (number - 1) (texts_of (s.done ++ pending)) ≡ s.lines =
     ap (take (number - 1)) (s.cut pending) ∙ take-length_append s.lines (texts_of pending) (number - 1) (let n = s.counted in omega (arith, n, is)) in
@@ -286,8 +248,8 @@ SoFar-near {pending = pending} {count = count} number s small is =
     record { bytes = s.done ++ pending; read = s.read; near = omega (arith, all, front, small) }
 
 -- A read gave nothing.
-pub SoFar-kept : {before now after held holds : Option (List ℕ)} {pending waiting : List ℕ} {machine : Option State} {count : ℕ}
-    → SoFar before now held holds pending waiting machine count → Keeps now after → SoFar before after held holds pending waiting machine count
+pub SoFar-kept : {before now after held holds : Option (List ℕ)} {pending waiting : List ℕ} {B : Type 0} {told : Told B} {count : ℕ}
+    → SoFar before now held holds pending waiting told count → Keeps now after → SoFar before after held holds pending waiting told count
 SoFar-kept {before} {now} {after} {pending = pending} s k = record {
   done = s.done;
   lines = s.lines;
@@ -301,11 +263,12 @@ SoFar-kept {before} {now} {after} {pending = pending} s k = record {
   refuses = s.refuses;
   text = s.text;
   stands = s.stands;
+  suite = s.suite;
 }
 
 -- A read failed.
-pub SoFar-unread : {before now after held holds : Option (List ℕ)} {pending : List ℕ} {machine : Option State} {count : ℕ}
-    → SoFar before now held holds pending [] machine count → Keeps now after → AnswersPart before after held holds
+pub SoFar-unread : {before now after held holds : Option (List ℕ)} {pending : List ℕ} {B : Type 0} {told : Told B} {count : ℕ}
+    → SoFar before now held holds pending [] told count → Keeps now after → AnswersPart before after held holds
 SoFar-unread {before} {now} {after} {holds = holds} {pending = pending} s k =
     let front = SoFar-unflushed s (record { count = 0; front = Appends-nothing holds holds (Keeps-same holds) }) in
     record { bytes = front.bytes; read = Consumes-kept before now after front.bytes front.read k; text = front.text }
@@ -326,8 +289,8 @@ more_input (Some xs) None bytes input c e = absurd c
 more_input (Some xs) (Some ys) bytes input c e = let same : input ≡ xs = cc e in (ys, same ∙ c)
 
 -- All was answered and written.
-pub SoFar-end : {before now held holds : Option (List ℕ)} {pending : List ℕ} {machine : Option State} {count : ℕ}
-    → SoFar before now held holds pending [] machine count → pending ≡ [] → IsAtEnd now → AnswersWhole before held holds
+pub SoFar-end : {before now held holds : Option (List ℕ)} {pending : List ℕ} {B : Type 0} {told : Told B} {count : ℕ}
+    → SoFar before now held holds pending [] told count → pending ≡ [] → IsAtEnd now → AnswersWhole before held holds
 SoFar-end {before} {now} {held} {holds} {pending} s none end = λ input is.
     let whole : input ≡ s.done ++ [] = whole_input before now (s.done ++ pending) input s.read end is ∙ ap (λ (t : List ℕ). s.done ++ t) none in (
       ap refused_in whole ∙ SoFar-refused_in s [],
@@ -335,17 +298,17 @@ SoFar-end {before} {now} {held} {holds} {pending} s none end = λ input is.
     )
 
 -- The last line, which has no newline, was answered and written.
-pub SoFar-last : {before now held holds holds2 : Option (List ℕ)} {pending waiting waiting2 : List ℕ} {machine machine2 : Option State} {count : ℕ}
-    (holds3 : Option (List ℕ)) (s : SoFar before now held holds pending waiting machine count) → 0 < length pending → IsPlain pending → IsAtEnd now
-    → Answered s.past pending machine2 holds holds2 waiting waiting2 → Appends holds2 holds3 waiting2 → AnswersWhole before held holds3
+pub SoFar-last : {before now held holds holds2 : Option (List ℕ)} {pending waiting waiting2 : List ℕ} {B : Type 0} {told told2 : Told B} {count : ℕ}
+    (holds3 : Option (List ℕ)) (s : SoFar before now held holds pending waiting told count) → 0 < length pending → IsPlain pending → IsAtEnd now
+    → Answered s.past pending told2 holds holds2 waiting waiting2 → Appends holds2 holds3 waiting2 → AnswersWhole before held holds3
 SoFar-last {before} {now} {held} {pending = pending} {count = count} holds3 s some plain end a w = λ input is.
     let whole : input ≡ s.done ++ pending = whole_input before now (s.done ++ pending) input s.read end is in
     let cut = texts_of-last pending some plain in
-    let texts : printed_for input ≡ printed s.texts ++ (a.answer.text ++ 10 ∷ []) =
+    let texts : printed_for input ≡ printed s.texts ++ (printed a.answer.texts) =
     ap printed_for whole ∙ SoFar-printed s pending
     ∙ ap (λ (t : List (List ℕ)). printed s.texts ++ printed (answers s.past t)) cut
     ∙ ap (λ (t : List (List ℕ)). printed s.texts ++ printed t) (answers-said s.past pending [] a.answer a.is)
-    ∙ ap (λ (t : List ℕ). printed s.texts ++ t) (append-nil (a.answer.text ++ 10 ∷ [])) in (
+    ∙ ap (λ (t : List (List ℕ)). printed s.texts ++ printed t) (append-nil a.answer.texts) in (
       ap refused_in whole ∙ SoFar-refused_in s pending ∙ ap (first_refused (count + 1) s.past) cut
           ∙ first_refused-said (count + 1) s.past pending [] a.answer a.is,
       subst (λ (t : List ℕ). Appends held holds3 t) (sym texts) (Appends-emitted (Emits-written (Emits-then s.text a.text) w)),
@@ -353,8 +316,8 @@ SoFar-last {before} {now} {held} {pending = pending} {count = count} holds3 s so
 
 -- Lines that are refused
 
-refused_at : {before now held holds : Option (List ℕ)} {pending waiting : List ℕ} {machine : Option State} {count : ℕ}
-    (holds2 : Option (List ℕ)) (s : SoFar before now held holds pending waiting machine count) (input more line : List ℕ) (later : List (List ℕ)) (why : EventFault)
+refused_at : {before now held holds : Option (List ℕ)} {pending waiting : List ℕ} {B : Type 0} {told : Told B} {count : ℕ}
+    (holds2 : Option (List ℕ)) (s : SoFar before now held holds pending waiting told count) (input more line : List ℕ) (later : List (List ℕ)) (why : Why)
     → input ≡ s.done ++ more → texts_of more ≡ line ∷ later → said s.past line ≡ Err why → Appends holds holds2 waiting
     → (refused_in input ≡ Some (record { line = count + 1; why = why })) × Appends held holds2 (printed_for input)
 refused_at {held = held} {count = count} holds2 s input more line later why is cut refused w =
@@ -367,8 +330,8 @@ refused_at {held = held} {count = count} holds2 s input more line later why is c
       subst (λ (t : List ℕ). Appends held holds2 t) (sym nothing) (Appends-emitted (Emits-written s.text w)),
     )
 
-pub SoFar-refused : {before now held holds : Option (List ℕ)} {pending waiting : List ℕ} {machine : Option State} {count : ℕ}
-    (holds2 : Option (List ℕ)) (s : SoFar before now held holds pending waiting machine count) (line rest : List ℕ) (why : EventFault) → pending ≡ line ++ 10 ∷ rest → IsPlain line
+pub SoFar-refused : {before now held holds : Option (List ℕ)} {pending waiting : List ℕ} {B : Type 0} {told : Told B} {count : ℕ}
+    (holds2 : Option (List ℕ)) (s : SoFar before now held holds pending waiting told count) (line rest : List ℕ) (why : Why) → pending ≡ line ++ 10 ∷ rest → IsPlain line
     → said s.past line ≡ Err why → Appends holds holds2 waiting → AnswersBefore before held holds2 (record { line = count + 1; why = why })
 SoFar-refused {before} {now} {pending = pending} holds2 s line rest why whole plain refused w = λ input is.
     let more = more_input before now (s.done ++ pending) input s.read is in
@@ -378,8 +341,8 @@ SoFar-refused {before} {now} {pending = pending} holds2 s line rest why whole pl
     ∙ ap (λ (t : List ℕ). s.done ++ t) (append_assoc line (10 ∷ rest) more.0) in
     refused_at holds2 s input (line ++ 10 ∷ (rest ++ more.0)) line (texts_of (rest ++ more.0)) why from (texts_of-line line (rest ++ more.0) plain) refused w
 
-pub SoFar-rest_refused : {before now held holds : Option (List ℕ)} {pending waiting : List ℕ} {machine : Option State} {count : ℕ}
-    (holds2 : Option (List ℕ)) (s : SoFar before now held holds pending waiting machine count) (why : EventFault) → 0 < length pending → IsPlain pending → IsAtEnd now
+pub SoFar-rest_refused : {before now held holds : Option (List ℕ)} {pending waiting : List ℕ} {B : Type 0} {told : Told B} {count : ℕ}
+    (holds2 : Option (List ℕ)) (s : SoFar before now held holds pending waiting told count) (why : Why) → 0 < length pending → IsPlain pending → IsAtEnd now
     → said s.past pending ≡ Err why → Appends holds holds2 waiting → AnswersBefore before held holds2 (record { line = count + 1; why = why })
 SoFar-rest_refused {before} {now} {pending = pending} holds2 s why some plain end refused w = λ input is.
     refused_at holds2 s input pending pending [] why (whole_input before now (s.done ++ pending) input s.read end is) (texts_of-last pending some plain) refused w
@@ -404,18 +367,57 @@ long_line (x ∷ y ∷ ys) more some plain =
     let found = long_line (y ∷ ys) more (omega arith) plain2 in
     (found.0, (found.1.0, on ∙ ap (onto_first x) found.1.1))
 
-too_long : (past : Option History) (front rest : List ℕ) → 65536 < length front → said past (front ++ rest) ≡ Err fault.Line
+too_long : (past : Past) (front rest : List ℕ) → 65536 < length front → said past (front ++ rest) ≡ Err why.Line
 too_long past front rest long =
     let l : 65536 < length (front ++ rest) = simp length-append (omega arith) in grind (arith, l)
 
-pub SoFar-too_long : {before now held holds : Option (List ℕ)} {pending : List ℕ} {machine : Option State} {count : ℕ}
-    (s : SoFar before now held holds pending [] machine count) → 65536 < length pending → IsPlain pending
-    → AnswersBefore before held holds (record { line = count + 1; why = fault.Line })
+pub SoFar-too_long : {before now held holds : Option (List ℕ)} {pending : List ℕ} {B : Type 0} {told : Told B} {count : ℕ}
+    (s : SoFar before now held holds pending [] told count) → 65536 < length pending → IsPlain pending
+    → AnswersBefore before held holds (record { line = count + 1; why = why.Line })
 SoFar-too_long {before} {now} {holds = holds} {pending = pending} s long plain = λ input is.
     let more = more_input before now (s.done ++ pending) input s.read is in
     let from : input ≡ s.done ++ (pending ++ more.0) = more.1 ∙ append_assoc s.done pending more.0 in
     let found = long_line pending more.0 (omega (arith, long)) plain in
-    refused_at holds s input (pending ++ more.0) (pending ++ found.0) found.1.0 fault.Line from found.1.1 (too_long s.past pending found.0 long) (Appends-nothing holds holds (Keeps-same holds))
+    refused_at holds s input (pending ++ more.0) (pending ++ found.0) found.1.0 why.Line from found.1.1 (too_long s.past pending found.0 long) (Appends-nothing holds holds (Keeps-same holds))
+
+-- Want of memory at a suite's line
+
+missed_at : {before now held holds : Option (List ℕ)} {pending waiting : List ℕ} {B : Type 0} {told : Told B} {count : ℕ}
+    (s : SoFar before now held holds pending waiting told count) (input more line : List ℕ) (later : List (List ℕ))
+    → input ≡ s.done ++ more → texts_of more ≡ line ∷ later → is_suite_line s.past line ≡ true → begins_suite (texts_of input) ≡ true
+missed_at s input more line later is cut suite =
+    ap (λ (t : List ℕ). begins_suite (texts_of t)) is
+    ∙ ap begins_suite (s.cut more ∙ ap (λ (t : List (List ℕ)). s.lines ++ t) cut) ∙ s.suite line later suite
+
+SoFar-written : {before now held holds holds2 : Option (List ℕ)} {pending waiting : List ℕ} {B : Type 0} {told : Told B} {count : ℕ}
+    → SoFar before now held holds pending waiting told count → Appends holds holds2 waiting → AnswersPart before now held holds2
+SoFar-written {holds2 = holds2} s w =
+    SoFar-unflushed (SoFar-flush s w) (record { count = 0; front = Appends-nothing holds2 holds2 (Keeps-same holds2) })
+
+pub SoFar-line_missed : {before now held holds : Option (List ℕ)} {waiting : List ℕ} {B : Type 0} {told : Told B} {count : ℕ} {old new : Given} {text : List ℕ}
+    (holds2 : Option (List ℕ)) (s : SoFar before now held holds old.pending waiting told count) → TakesLine old new → text ≡ new.line
+    → is_suite_line s.past text ≡ true → Appends holds holds2 waiting → IsOfSuite before × AnswersPart before now held holds2
+SoFar-line_missed {before} {now} {old = old} {new = new} holds2 s took same suite w = (
+  λ input is.
+      let more = more_input before now (s.done ++ old.pending) input s.read is in
+      let from : input ≡ s.done ++ (new.line ++ 10 ∷ (new.pending ++ more.0)) =
+      more.1 ∙ append_assoc s.done old.pending more.0
+      ∙ ap (λ (t : List ℕ). s.done ++ (t ++ more.0)) took.whole
+      ∙ ap (λ (t : List ℕ). s.done ++ t) (append_assoc new.line (10 ∷ new.pending) more.0) in
+      missed_at s input (new.line ++ 10 ∷ (new.pending ++ more.0)) new.line (texts_of (new.pending ++ more.0)) from
+      (texts_of-line new.line (new.pending ++ more.0) took.plain) (ap (is_suite_line s.past) (sym same) ∙ suite),
+  SoFar-written s w,
+)
+
+pub rest_missed : {before now held holds : Option (List ℕ)} {pending waiting text : List ℕ} {B : Type 0} {told : Told B} {count : ℕ}
+    (holds2 : Option (List ℕ)) (s : SoFar before now held holds pending waiting told count) → 0 < length pending → IsPlain pending → IsAtEnd now
+    → text ≡ pending → is_suite_line s.past text ≡ true → Appends holds holds2 waiting → IsOfSuite before × AnswersPart before now held holds2
+rest_missed {before} {now} {pending = pending} holds2 s some plain end same suite w = (
+  λ input is.
+      missed_at s input pending pending [] (whole_input before now (s.done ++ pending) input s.read end is) (texts_of-last pending some plain)
+      (ap (is_suite_line s.past) (sym same) ∙ suite),
+  SoFar-written s w,
+)
 
 -- As the code goes
 
@@ -423,54 +425,54 @@ pub on_err_of : {A E P : Type 0} (r : Result A E) (x : E) → IsErrOf r x → On
 on_err_of (Ok a) x is p = absurd (cc is)
 on_err_of (Err e) x is p = p
 
-pub SoFar-begin : (before held : Option (List ℕ)) {pending waiting : List ℕ} {machine : Option State} {count : ℕ}
-    → pending ≡ [] → waiting ≡ [] → machine ≡ None → count ≡ 0 → SoFar before before held held pending waiting machine count
+pub SoFar-begin : (before held : Option (List ℕ)) {pending waiting : List ℕ} {B : Type 0} {told : Told B} {count : ℕ}
+    → pending ≡ [] → waiting ≡ [] → told ≡ code.Nothing → count ≡ 0 → SoFar before before held held pending waiting told count
 SoFar-begin before held p w m c = rw (p, w, m, c) (SoFar-none before held)
 
-pub SoFar-further : {before now held holds holds2 : Option (List ℕ)} {waiting waiting2 : List ℕ} {machine machine2 : Option State} {count count2 : ℕ} {old new : Given} {text : List ℕ}
-    (s : SoFar before now held holds old.pending waiting machine count) → TakesLine old new → text ≡ new.line
-    → Answered s.past text machine2 holds holds2 waiting waiting2 → count2 ≡ count + 1
-    → SoFar before now held holds2 new.pending waiting2 machine2 count2
-SoFar-further {holds = holds} {holds2 = holds2} {waiting = waiting} {waiting2 = waiting2} {machine2 = machine2} {new = new} s took same a counted =
-    let line = subst (λ (t : List ℕ). Answered s.past t machine2 holds holds2 waiting waiting2) same a in
+pub SoFar-further : {before now held holds holds2 : Option (List ℕ)} {waiting waiting2 : List ℕ} {B : Type 0} {told told2 : Told B} {count count2 : ℕ} {old new : Given} {text : List ℕ}
+    (s : SoFar before now held holds old.pending waiting told count) → TakesLine old new → text ≡ new.line
+    → Answered s.past text told2 holds holds2 waiting waiting2 → count2 ≡ count + 1
+    → SoFar before now held holds2 new.pending waiting2 told2 count2
+SoFar-further {holds = holds} {holds2 = holds2} {waiting = waiting} {waiting2 = waiting2} {told2 = told2} {new = new} s took same a counted =
+    let line = subst (λ (t : List ℕ). Answered s.past t told2 holds holds2 waiting waiting2) same a in
     rw counted (SoFar-line s new.line new.pending took.whole took.plain line)
 
-pub SoFar-line_refused : {before now held holds : Option (List ℕ)} {waiting : List ℕ} {machine : Option State} {count number : ℕ} {old new : Given} {text : List ℕ}
-    (holds2 : Option (List ℕ)) (s : SoFar before now held holds old.pending waiting machine count) (why : EventFault) → TakesLine old new → text ≡ new.line
+pub SoFar-line_refused : {before now held holds : Option (List ℕ)} {waiting : List ℕ} {B : Type 0} {told : Told B} {count number : ℕ} {old new : Given} {text : List ℕ}
+    (holds2 : Option (List ℕ)) (s : SoFar before now held holds old.pending waiting told count) (why : Why) → TakesLine old new → text ≡ new.line
     → number ≡ count + 1 → said s.past text ≡ Err why → Appends holds holds2 waiting
     → AnswersBefore before held holds2 (record { line = number; why = why })
 SoFar-line_refused {new = new} holds2 s why took same counted refused w =
     rw counted (SoFar-refused holds2 s new.line new.pending why took.whole took.plain (ap (said s.past) (sym same) ∙ refused) w)
 
-pub SoFar-line_unwritten : {before now held holds holds2 : Option (List ℕ)} {waiting : List ℕ} {machine : Option State} {count : ℕ} {old new : Given} {text : List ℕ}
-    (s : SoFar before now held holds old.pending waiting machine count) → TakesLine old new → text ≡ new.line
+pub SoFar-line_unwritten : {before now held holds holds2 : Option (List ℕ)} {waiting : List ℕ} {B : Type 0} {told : Told B} {count : ℕ} {old new : Given} {text : List ℕ}
+    (s : SoFar before now held holds old.pending waiting told count) → TakesLine old new → text ≡ new.line
     → AppendsFront holds holds2 (waiting ++ text_said (said s.past text)) → AnswersPart before now held holds2
 SoFar-line_unwritten {holds = holds} {holds2 = holds2} {waiting = waiting} {new = new} s took same f =
     SoFar-unwritten s new.line new.pending took.whole took.plain
     (subst (λ (t : List ℕ). AppendsFront holds holds2 (waiting ++ text_said (said s.past t))) same f)
 
-pub SoFar-flushed : {before now held holds : Option (List ℕ)} {waiting waiting2 : List ℕ} {machine machine2 : Option State} {count count2 : ℕ} {old new : Given}
-    (holds2 : Option (List ℕ)) (s : SoFar before now held holds old.pending waiting machine count) → new ≡ old → Appends holds holds2 waiting
-    → waiting2 ≡ [] → machine2 ≡ machine → count2 ≡ count → SoFar before now held holds2 new.pending waiting2 machine2 count2
+pub SoFar-flushed : {before now held holds : Option (List ℕ)} {waiting waiting2 : List ℕ} {B : Type 0} {told told2 : Told B} {count count2 : ℕ} {old new : Given}
+    (holds2 : Option (List ℕ)) (s : SoFar before now held holds old.pending waiting told count) → new ≡ old → Appends holds holds2 waiting
+    → waiting2 ≡ [] → told2 ≡ told → count2 ≡ count → SoFar before now held holds2 new.pending waiting2 told2 count2
 SoFar-flushed holds2 s same w none m c = rw (ap (λ (v : Given). v.pending) same, none, m, c) (SoFar-flush s w)
 
-pub flush_failed : {A E : Type 0} {before now held holds holds2 : Option (List ℕ)} {pending waiting : List ℕ} {machine : Option State} {count : ℕ}
-    (r : Result A E) (x : E) → IsErrOf r x → SoFar before now held holds pending waiting machine count → OnErr r (AppendsFront holds holds2 waiting)
+pub flush_failed : {A E : Type 0} {before now held holds holds2 : Option (List ℕ)} {pending waiting : List ℕ} {B : Type 0} {told : Told B} {count : ℕ}
+    (r : Result A E) (x : E) → IsErrOf r x → SoFar before now held holds pending waiting told count → OnErr r (AppendsFront holds holds2 waiting)
     → AnswersPart before now held holds2
 flush_failed r x is s f = SoFar-unflushed s (on_err_of r x is f)
 
-SoFar-empty : {before now held holds : Option (List ℕ)} {pending waiting : List ℕ} {machine : Option State} {count : ℕ}
-    → SoFar before now held holds pending waiting machine count → waiting ≡ [] → SoFar before now held holds pending [] machine count
-SoFar-empty {before} {now} {held} {holds} {pending} {machine = machine} {count = count} s none =
-    subst (λ (t : List ℕ). SoFar before now held holds pending t machine count) none s
+SoFar-empty : {before now held holds : Option (List ℕ)} {pending waiting : List ℕ} {B : Type 0} {told : Told B} {count : ℕ}
+    → SoFar before now held holds pending waiting told count → waiting ≡ [] → SoFar before now held holds pending [] told count
+SoFar-empty {before} {now} {held} {holds} {pending} {told = told} {count = count} s none =
+    subst (λ (t : List ℕ). SoFar before now held holds pending t told count) none s
 
-pub long_refused : {before now held holds : Option (List ℕ)} {waiting : List ℕ} {machine : Option State} {count : ℕ} (given : Given)
-    → SoFar before now held holds given.pending waiting machine count → waiting ≡ [] → given.bound ≡ 65536 → given.bound < length given.pending
-    → IsPlain given.pending → AnswersBefore before held holds (record { line = count + 1; why = fault.Line })
+pub long_refused : {before now held holds : Option (List ℕ)} {waiting : List ℕ} {B : Type 0} {told : Told B} {count : ℕ} (given : Given)
+    → SoFar before now held holds given.pending waiting told count → waiting ≡ [] → given.bound ≡ 65536 → given.bound < length given.pending
+    → IsPlain given.pending → AnswersBefore before held holds (record { line = count + 1; why = why.Line })
 long_refused given s none bound long plain = SoFar-too_long (SoFar-empty s none) (omega (arith, bound, long)) plain
 
-pub read_failed : {before now after held holds : Option (List ℕ)} {pending waiting : List ℕ} {machine : Option State} {count : ℕ}
-    → SoFar before now held holds pending waiting machine count → waiting ≡ [] → Keeps now after → AnswersPart before after held holds
+pub read_failed : {before now after held holds : Option (List ℕ)} {pending waiting : List ℕ} {B : Type 0} {told : Told B} {count : ℕ}
+    → SoFar before now held holds pending waiting told count → waiting ≡ [] → Keeps now after → AnswersPart before after held holds
 read_failed s none k = SoFar-unread (SoFar-empty s none) k
 
 -- The last line
@@ -482,38 +484,38 @@ some_bytes (x ∷ xs) none = omega arith
 pub not_nothing : {b : Bool} (xs : List ℕ) → b ≡ true → (b ≡ false) ↔ (xs ≡ []) → 0 < length xs
 not_nothing {b} xs is none = some_bytes xs (λ e. let off : true ≡ false = sym is ∙ none.1 e in cc off)
 
-pub end_of_nothing : {before now held holds : Option (List ℕ)} {pending waiting : List ℕ} {machine : Option State} {count : ℕ}
-    → SoFar before now held holds pending waiting machine count → waiting ≡ [] → pending ≡ [] → IsAtEnd now → AnswersWhole before held holds
+pub end_of_nothing : {before now held holds : Option (List ℕ)} {pending waiting : List ℕ} {B : Type 0} {told : Told B} {count : ℕ}
+    → SoFar before now held holds pending waiting told count → waiting ≡ [] → pending ≡ [] → IsAtEnd now → AnswersWhole before held holds
 end_of_nothing s none nothing end = SoFar-end (SoFar-empty s none) nothing end
 
-pub rest_refused : {before now held holds : Option (List ℕ)} {pending waiting text : List ℕ} {machine : Option State} {count number : ℕ}
-    (holds2 : Option (List ℕ)) (s : SoFar before now held holds pending waiting machine count) (why : EventFault) → 0 < length pending → IsPlain pending → IsAtEnd now
+pub rest_refused : {before now held holds : Option (List ℕ)} {pending waiting text : List ℕ} {B : Type 0} {told : Told B} {count number : ℕ}
+    (holds2 : Option (List ℕ)) (s : SoFar before now held holds pending waiting told count) (why : Why) → 0 < length pending → IsPlain pending → IsAtEnd now
     → text ≡ pending → number ≡ count + 1 → said s.past text ≡ Err why → Appends holds holds2 waiting
     → AnswersBefore before held holds2 (record { line = number; why = why })
 rest_refused holds2 s why some plain end same counted refused w =
     rw counted (SoFar-rest_refused holds2 s why some plain end (ap (said s.past) (sym same) ∙ refused) w)
 
-pub rest_unwritten : {before now held holds holds2 : Option (List ℕ)} {pending waiting text : List ℕ} {machine : Option State} {count : ℕ}
-    (s : SoFar before now held holds pending waiting machine count) → 0 < length pending → IsPlain pending → text ≡ pending
+pub rest_unwritten : {before now held holds holds2 : Option (List ℕ)} {pending waiting text : List ℕ} {B : Type 0} {told : Told B} {count : ℕ}
+    (s : SoFar before now held holds pending waiting told count) → 0 < length pending → IsPlain pending → text ≡ pending
     → AppendsFront holds holds2 (waiting ++ text_said (said s.past text)) → AnswersPart before now held holds2
 rest_unwritten {holds = holds} {holds2 = holds2} {waiting = waiting} s some plain same f =
     SoFar-rest_unwritten s some plain (subst (λ (t : List ℕ). AppendsFront holds holds2 (waiting ++ text_said (said s.past t))) same f)
 
-pub rest_answered : {before now held holds holds2 : Option (List ℕ)} {pending waiting waiting2 text : List ℕ} {machine machine2 : Option State} {count : ℕ}
-    (holds3 : Option (List ℕ)) (s : SoFar before now held holds pending waiting machine count) → 0 < length pending → IsPlain pending → IsAtEnd now → text ≡ pending
-    → Answered s.past text machine2 holds holds2 waiting waiting2 → Appends holds2 holds3 waiting2 → AnswersWhole before held holds3
-rest_answered {holds = holds} {holds2 = holds2} {waiting = waiting} {waiting2 = waiting2} {machine2 = machine2} holds3 s some plain end same a w =
-    SoFar-last holds3 s some plain end (subst (λ (t : List ℕ). Answered s.past t machine2 holds holds2 waiting waiting2) same a) w
+pub rest_answered : {before now held holds holds2 : Option (List ℕ)} {pending waiting waiting2 text : List ℕ} {B : Type 0} {told told2 : Told B} {count : ℕ}
+    (holds3 : Option (List ℕ)) (s : SoFar before now held holds pending waiting told count) → 0 < length pending → IsPlain pending → IsAtEnd now → text ≡ pending
+    → Answered s.past text told2 holds holds2 waiting waiting2 → Appends holds2 holds3 waiting2 → AnswersWhole before held holds3
+rest_answered {holds = holds} {holds2 = holds2} {waiting = waiting} {waiting2 = waiting2} {told2 = told2} holds3 s some plain end same a w =
+    SoFar-last holds3 s some plain end (subst (λ (t : List ℕ). Answered s.past t told2 holds holds2 waiting waiting2) same a) w
 
 -- The last line was answered, and its answer was not written.
-pub rest_unflushed : {before now held holds holds2 holds3 : Option (List ℕ)} {pending waiting waiting2 text : List ℕ} {machine machine2 : Option State} {count : ℕ}
-    (s : SoFar before now held holds pending waiting machine count) → 0 < length pending → IsPlain pending → text ≡ pending
-    → Answered s.past text machine2 holds holds2 waiting waiting2 → AppendsFront holds2 holds3 waiting2 → AnswersPart before now held holds3
+pub rest_unflushed : {before now held holds holds2 holds3 : Option (List ℕ)} {pending waiting waiting2 text : List ℕ} {B : Type 0} {told told2 : Told B} {count : ℕ}
+    (s : SoFar before now held holds pending waiting told count) → 0 < length pending → IsPlain pending → text ≡ pending
+    → Answered s.past text told2 holds holds2 waiting waiting2 → AppendsFront holds2 holds3 waiting2 → AnswersPart before now held holds3
 rest_unflushed {holds = holds} {holds2 = holds2} {holds3 = holds3} {pending = pending} {waiting = waiting} {waiting2 = waiting2} s some plain same a f =
     let whole = Emits-front [] a.text (subst (λ (t : List ℕ). AppendsFront holds2 holds3 t) (sym (append-nil waiting2)) f) in
-    let said_so : text_said (said s.past pending) ≡ a.answer.text ++ 10 ∷ [] = ap (λ (t : List ℕ). text_said (said s.past t)) (sym same) ∙ ap text_said a.is in
+    let said_so : text_said (said s.past pending) ≡ printed a.answer.texts = ap (λ (t : List ℕ). text_said (said s.past t)) (sym same) ∙ ap text_said a.is in
     SoFar-rest_unwritten s some plain
-    (subst (λ (t : List ℕ). AppendsFront holds holds3 (waiting ++ t)) (append-nil (a.answer.text ++ 10 ∷ []) ∙ sym said_so) whole)
+    (subst (λ (t : List ℕ). AppendsFront holds holds3 (waiting ++ t)) (append-nil (printed a.answer.texts) ∙ sym said_so) whole)
 
 pub room_after : {old new : Given} (n m : ℕ) → TakesLine old new → m ≡ n + 1 → m + length new.pending ≤ n + length old.pending
 room_after {old} {new} n m took counted =
@@ -527,12 +529,41 @@ on_ok_both (Ok a) f p q = f p q
 on_ok_both (Err e) f p q = tt
 
 -- The same line, under equal names.
-pub told_as : (before held holds : Option (List ℕ)) {n m : ℕ} {why told : EventFault} → n ≡ m → why ≡ told
+pub told_as : (before held holds : Option (List ℕ)) {n m : ℕ} {why told : Why} → n ≡ m → why ≡ told
     → AnswersBefore before held holds (record { line = n; why = why }) → AnswersBefore before held holds (record { line = m; why = told })
 told_as before held holds {n} {m} {why} {told} e f all =
-    subst (λ (r : Refusal). AnswersBefore before held holds r) (ap (λ (k : ℕ). record { line = k; why = why }) e ∙ ap (λ (w : EventFault). record { line = m; why = w }) f) all
+    subst (λ (r : Refusal). AnswersBefore before held holds r) (ap (λ (k : ℕ). record { line = k; why = why }) e ∙ ap (λ (w : Why). record { line = m; why = w }) f) all
 
 -- Ends
+
+-- One line more of an answer.
+
+line_more : {S : Type 0} (bytes : S → List ℕ) (lines : List S) (i : ℕ) (line : S) → i < length lines → line ≡ get_or lines i line
+    → printed (map bytes (take (i + 1) lines)) ≡ printed (map bytes (take i lines)) ++ (bytes line ++ 10 ∷ [])
+line_more bytes lines i line within at =
+    ap (λ t. printed (map bytes t)) (take_more lines i line within)
+    ∙ ap printed (map_push bytes (take i lines) (get_or lines i line))
+    ∙ printed-then (map bytes (take i lines)) (bytes (get_or lines i line))
+    ∙ ap (λ l. printed (map bytes (take i lines)) ++ (bytes l ++ 10 ∷ [])) (sym at)
+
+pub puts_more : {S : Type 0} {a b c : Option (List ℕ)} {p q r : List ℕ} (bytes : S → List ℕ) (lines : List S) (i : ℕ) (line : S)
+    → i < length lines → line ≡ get_or lines i line → Emits a b p q (printed (map bytes (take i lines)))
+    → Emits b c q r (bytes line ++ 10 ∷ []) → Emits a c p r (printed (map bytes (take (i + 1) lines)))
+puts_more {a = a} {c = c} {p = p} {r = r} bytes lines i line within at so_far put =
+    subst (λ (t : List ℕ). Emits a c p r t) (sym (line_more bytes lines i line within at)) (Emits-then so_far put)
+
+pub puts_failed : {S : Type 0} {a b c : Option (List ℕ)} {p q : List ℕ} (bytes : S → List ℕ) (lines : List S) (i : ℕ) (line : S)
+    → i < length lines → line ≡ get_or lines i line → Emits a b p q (printed (map bytes (take i lines)))
+    → AppendsFront b c (q ++ (bytes line ++ 10 ∷ [])) → AppendsFront a c (p ++ printed (map bytes lines))
+puts_failed {a = a} {c = c} {p = p} bytes lines i line within at so_far f =
+    let rest = printed (map bytes (drop (i + 1) lines)) in
+    let whole : printed (map bytes (take i lines)) ++ (bytes line ++ 10 ∷ []) ++ rest ≡ printed (map bytes lines) =
+    ap (λ (t : List ℕ). t ++ rest) (sym (line_more bytes lines i line within at))
+    ∙ sym (printed-append (map bytes (take (i + 1) lines)) (map bytes (drop (i + 1) lines)))
+    ∙ ap printed (sym (map-append bytes (take (i + 1) lines) (drop (i + 1) lines)))
+    ∙ ap (λ t. printed (map bytes t)) (take-append-drop (i + 1) lines) in
+    subst (λ (t : List ℕ). AppendsFront a c (p ++ t)) whole
+    (AppendsFront-first p (printed (map bytes (take i lines)) ++ (bytes line ++ 10 ∷ [])) rest (Emits-front (bytes line ++ 10 ∷ []) so_far f))
 
 -- A row further down the table.
 pub rows_further : (bytes : List ℕ) (i : ℕ) → i < length bytes
@@ -548,7 +579,7 @@ rows_further bytes i within =
 
 -- By the fault that ended it.
 pub ends_by : (status : ℕ) (old new : Console) (told : SimFault) → status ≡ status_of told → Tells old.faults new.faults (told_of told)
-    → ((line : ℕ) (why : EventFault) → told ≡ sim.Refused line why
+    → ((line : ℕ) (why : Why) → told ≡ sim.Refused line why
     → AnswersUpTo old.reader new.reader old.writer new.writer (record { line = line; why = why }) × (Works old.reader new.reader × Works old.writer new.writer))
     → (told ≡ sim.OutOfMemory → SimCause sim.OutOfMemory old new) → (told ≡ sim.Read → SimCause sim.Read old new)
     → (told ≡ sim.Write → SimCause sim.Write old new) → AnswersByStatus status old new

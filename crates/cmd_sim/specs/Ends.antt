@@ -1,17 +1,29 @@
 -- What `sim` tells of its faults, and how it ends.
 use Rattle.std.specs.Prelude.{◌≡◌, ℕ, ◌⊎◌, List, [], ◌∷◌, ◌++◌, bytes_eq, codes, decimal, MatchBool}
 use Rattle.tai_status.specs.Counted.{Device, Fails, Works, Wrote, WroteFront, IsRead, Tells}
-use Rattle.sup_core.specs.Text.{fault_name}
 use Rattle.cmd_base.specs.Console.{Console, EndsWell}
 use Rattle.cmd_base.specs.Told.{RefusesWords}
-use Rattle.cmd_sim.specs.Sim.{Refusal, AnswersAll, AnswersUpTo, AnswersFront, printed_table}
+use Rattle.cmd_sim.specs.Sim.{Refusal, IsOfSuite, AnswersAll, AnswersUpTo, AnswersFront, printed_table}
+use Rattle.cmd_sim.specs.declared.fault.Why.{Why}
+use Rattle.cmd_sim.specs.declared.fault.Why.TheVariants as why
 use Rattle.cmd_sim.specs.declared.fault.SimFault.{SimFault}
 use Rattle.cmd_sim.specs.declared.fault.SimFault.TheVariants as fault
 
 -- Faults
 
+-- why a line is refused
+abbrev pub why_name : Why → List ℕ
+why_name why.UnknownEvent = codes "UnknownEvent"
+why_name why.Line = codes "Line"
+why_name why.Number = codes "Number"
+why_name why.Label = codes "Label"
+why_name why.NoSuchPart = codes "NoSuchPart"
+why_name why.Unsorted = codes "Unsorted"
+why_name why.Twice = codes "Twice"
+why_name why.Exhausted = codes "Exhausted"
+
 abbrev pub words_of : SimFault → List ℕ
-words_of (fault.Refused line why) = codes "line " ++ decimal line ++ codes ": " ++ fault_name why
+words_of (fault.Refused line why) = codes "line " ++ decimal line ++ codes ": " ++ why_name why
 words_of fault.OutOfMemory = codes "OutOfMemory"
 words_of fault.Read = codes "read fault"
 words_of fault.Write = codes "write fault"
@@ -41,11 +53,17 @@ pub record RefusesLine (old new : Console) : Type 0 where
   pub writes : Works old.writer new.writer
   pub told : Tells old.faults new.faults (told_of (fault.Refused refusal.line refusal.why))
 
--- What a fault comes from: there was no memory, and nothing was read or written; or a device failed, after a front of
--- the answers to what was read.
+-- There was no memory, and nothing was read or written; or there was none for a suite, after a front of the answers to
+-- what was read.
+abbrev pub MissesMemory : (old new : Console) → Type 0
+MissesMemory old new =
+    ((new.reader ≡ old.reader) × (new.writer ≡ old.writer))
+    ⊎ (IsOfSuite old.reader.bytes × AnswersFront old.reader new.reader old.writer new.writer)
+
+-- What a fault comes from: want of memory; or a device failed, after a front of the answers to what was read.
 abbrev pub SimCause : SimFault → (old new : Console) → Type 0
 SimCause (fault.Refused line why) old new = ⊥
-SimCause fault.OutOfMemory old new = (new.reader ≡ old.reader) × (new.writer ≡ old.writer)
+SimCause fault.OutOfMemory old new = MissesMemory old new
 SimCause fault.Read old new = Fails old.reader new.reader × AnswersFront old.reader new.reader old.writer new.writer
 SimCause fault.Write old new = Fails old.writer new.writer × AnswersFront old.reader new.reader old.writer new.writer
 

@@ -1,53 +1,102 @@
 -- How far `sim` has come. No public contract speaks of it.
-use Rattle.std.specs.Prelude.{◌≡◌, ℕ, ◌+◌, List, [], ◌∷◌, ◌++◌, length, Option, Some, None, Result, Ok, Err, ⊤}
+use Rattle.std.specs.Prelude.{◌≡◌, ℕ, ◌+◌, Bool, true, false, List, [], ◌∷◌, ◌++◌, length, Option, Some, None, Result, Ok, Err, ⊤}
 use Rattle.std.specs.Io.KnownBytes.{Consumes}
 use Rattle.tai_status.specs.Block.{Emits}
 use Rattle.tai_status.specs.Lines.{texts_of}
 use Rattle.cmd_base.specs.Printed.{printed}
 use Rattle.sup_core.specs.State.{State}
 use Rattle.sup_core.specs.History.{History, state_of}
-use Rattle.sup_core.specs.declared.reading.EventFault.{EventFault}
-use Rattle.cmd_sim.specs.Sim.{Said, said, answers, first_refused}
+use Rattle.sup_core.specs.Reading.{fields}
+use Rattle.suite_core.specs.declared.fault.StepFault.{StepFault}
+use Rattle.suite_lines.specs.declared.fault.SuiteLineFault.{SuiteLineFault}
+use Rattle.suite_lines.specs.declared.fault.SuiteLineFault.TheVariants as read
+use Rattle.cmd_sim.specs.declared.answering.Told.{Told}
+use Rattle.cmd_sim.specs.declared.answering.Told.TheVariants as code
+use Rattle.cmd_sim.specs.declared.answering.Answer.{Answer}
+use Rattle.cmd_sim.specs.declared.answering.Answer.TheVariants as written
+use Rattle.cmd_sim.specs.declared.fault.Why.{Why}
+use Rattle.cmd_sim.specs.declared.fault.Why.TheVariants as why
+use Rattle.cmd_sim.specs.declared.fault.NoAnswer.{NoAnswer}
+use Rattle.cmd_sim.specs.declared.fault.NoAnswer.TheVariants as none
+use Rattle.cmd_sim.specs.Sim.{Past, Nothing, Service, OfSuite, Said, said, answers, first_refused, tells_scan, begins_suite, step_why}
 
--- There is a machine where lines were answered, and it stands for their history.
-abbrev pub Stands : Option History → Option State → Type 0
-Stands None None = ⊤
-Stands (Some past) (Some machine) = state_of past ≡ machine
-Stands past machine = ⊥
+-- Why a line has no answer
 
--- A line was answered with this text, after which the machine stands so.
-pub record Says (past : Option History) (line text : List ℕ) (machine : Option State) : Type 0 where
+abbrev pub unread : SuiteLineFault → NoAnswer
+unread read.UnknownEvent = none.Refused why.UnknownEvent
+unread read.Line = none.Refused why.Line
+unread read.Number = none.Refused why.Number
+unread read.Label = none.Refused why.Label
+unread read.OutOfMemory = none.OutOfMemory
+
+abbrev pub refused_or_missed : Option Why → NoAnswer
+refused_or_missed (Some why) = none.Refused why
+refused_or_missed None = none.OutOfMemory
+
+abbrev pub unstepped : StepFault → NoAnswer
+unstepped fault = refused_or_missed (step_why fault)
+
+-- One line
+
+-- A line of a service was answered with this text, after which the machine stands so.
+pub record TellsService (told : Result Said Why) (machine : State) (text : List ℕ) : Type 0 where
+  pub past : History
+  pub is : told ≡ Ok (record { texts = text ∷ []; past = Service past })
+  pub stands : state_of past ≡ machine
+
+-- What the code holds stands for what was told.
+abbrev pub Stands : {A : Type 0} → Past → Told A → Type 0
+Stands Nothing code.Nothing = ⊤
+Stands (Service past) (code.Service machine) = state_of past ≡ machine
+Stands (OfSuite suite) (code.Suite stands) = stands ≡ suite
+Stands past told = ⊥
+
+-- the lines of an answer
+abbrev pub texts_in : {A : Type 0} → Answer A → List (List ℕ)
+texts_in (written.Line text) = text.bytes ∷ []
+texts_in (written.Lines lines) = lines
+
+-- A line was answered with these texts, after which what the code holds stands so.
+pub record Says {A : Type 0} (past : Past) (line : List ℕ) (texts : List (List ℕ)) (told : Told A) : Type 0 where
   pub answer : Said
   pub is : said past line ≡ Ok answer
-  pub text_is : text ≡ answer.text
-  pub stands : Stands (Some answer.history) machine
+  pub texts_are : texts ≡ answer.texts
+  pub stands : Stands answer.past told
 
--- the answer to a line and a newline, or nothing where it is refused
-abbrev pub text_said : Result Said EventFault → List ℕ
-text_said (Ok answer) = answer.text ++ 10 ∷ []
+-- the answers to a line, each with a newline, or nothing where it is refused
+abbrev pub text_said : Result Said Why → List ℕ
+text_said (Ok answer) = printed answer.texts
 text_said (Err why) = []
 
--- A line was answered, and its answer waits behind those that wait already.
-pub record Answered (past : Option History) (line : List ℕ) (machine : Option State)
+-- A line was answered, and its answers wait behind those that wait already.
+pub record Answered {A : Type 0} (past : Past) (line : List ℕ) (told : Told A)
     (held holds : Option (List ℕ)) (waiting left : List ℕ) : Type 0 where
   pub answer : Said
   pub is : said past line ≡ Ok answer
-  pub stands : Stands (Some answer.history) machine
-  pub text : Emits held holds waiting left (answer.text ++ 10 ∷ [])
+  pub stands : Stands answer.past told
+  pub text : Emits held holds waiting left (printed answer.texts)
+
+-- whether a line is a suite's, after what was told
+abbrev pub is_suite_line : Past → List ℕ → Bool
+is_suite_line Nothing line = tells_scan (fields line)
+is_suite_line (Service past) line = false
+is_suite_line (OfSuite suite) line = true
 
 -- The whole lines among the bytes that were read are answered, but for those that are pending. Some
 -- of the answers wait to be written.
-pub record SoFar (before now held holds : Option (List ℕ)) (pending waiting : List ℕ) (machine : Option State)
+pub record SoFar {A : Type 0} (before now held holds : Option (List ℕ)) (pending waiting : List ℕ) (told : Told A)
     (count : ℕ) : Type 0 where
   pub done : List ℕ
   pub lines : List (List ℕ)
   pub texts : List (List ℕ)
-  pub past : Option History
+  pub past : Past
   pub read : Consumes before now (done ++ pending)
   pub whole : done ≡ printed lines
   pub counted : count ≡ length lines
   pub cut : (more : List ℕ) → texts_of (done ++ more) ≡ lines ++ texts_of more
-  pub says : (later : List (List ℕ)) → answers None (lines ++ later) ≡ texts ++ answers past later
-  pub refuses : (later : List (List ℕ)) → first_refused 1 None (lines ++ later) ≡ first_refused (count + 1) past later
+  pub says : (later : List (List ℕ)) → answers Nothing (lines ++ later) ≡ texts ++ answers past later
+  pub refuses : (later : List (List ℕ)) → first_refused 1 Nothing (lines ++ later) ≡ first_refused (count + 1) past later
   pub text : Emits held holds [] waiting (printed texts)
-  pub stands : Stands past machine
+  pub stands : Stands past told
+  pub suite : (line : List ℕ) (later : List (List ℕ)) → is_suite_line past line ≡ true
+      → begins_suite (lines ++ line ∷ later) ≡ true

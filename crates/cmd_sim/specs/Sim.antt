@@ -1,5 +1,5 @@
 -- What `sim` prints for the lines of its input.
-use Rattle.std.specs.Prelude.{◌≡◌, ℕ, ◌+◌, ◌-◌, ◌≤◌, nat_lt, Bool, true, false, if◌then◌else◌, List, [], ◌∷◌, length, take, codes, flat_map, Option, Some, None, Result, Ok, Err}
+use Rattle.std.specs.Prelude.{◌≡◌, ℕ, ◌+◌, ◌-◌, ◌≤◌, nat_lt, bytes_eq, Bool, true, false, if◌then◌else◌, List, [], ◌∷◌, ◌++◌, length, take, codes, flat_map, Option, Some, None, Result, Ok, Err}
 use Rattle.std.specs.Io.KnownBytes.{Appends, Consumes}
 use Rattle.tai_status.specs.Label.{Tai64n}
 use Rattle.tai_status.specs.Counted.{Device, AppendsFront}
@@ -13,65 +13,133 @@ use Rattle.sup_core.specs.History.{History, Begin, phase_of}
 use Rattle.sup_core.specs.Rules.{next, reply_to, asks_of_begin}
 use Rattle.sup_core.specs.Reading.{fields, begin_from, event_from}
 use Rattle.sup_core.specs.Text.{answer_text, table_text}
+use Rattle.scan_table.specs.declared.fault.ScanFault.{ScanFault}
+use Rattle.scan_table.specs.declared.fault.ScanFault.TheVariants as scan
+use Rattle.suite_lines.specs.declared.event.SuiteEvent.{SuiteEvent}
+use Rattle.suite_lines.specs.Reading.{suite_event_from}
+use Rattle.suite_lines.specs.Text.{step_lines}
+use Rattle.suite_core.specs.declared.fault.StepFault.{StepFault}
+use Rattle.suite_core.specs.declared.fault.StepFault.TheVariants as step
+use Rattle.suite_core.specs.Suite.{SuiteState, new_suite, refusal, outs_of, suite_after}
+use Rattle.cmd_sim.specs.declared.fault.Why.{Why}
+use Rattle.cmd_sim.specs.declared.fault.Why.TheVariants as why
 
--- What a line says: its answer, and the history after it.
+-- What was told so far: nothing, a service's history, or a suite as it stands.
+pub data Past : Type 0 where
+  Nothing : Past
+  Service : History → Past
+  OfSuite : SuiteState → Past
+
+-- What a line says: its answers, and what was told after it.
 pub record Said : Type 0 where
-  pub text : List ℕ
-  pub history : History
+  pub texts : List (List ℕ)
+  pub past : Past
+
+abbrev pub event_why : EventFault → Why
+event_why fault.UnknownEvent = why.UnknownEvent
+event_why fault.Line = why.Line
+event_why fault.Number = why.Number
+event_why fault.Label = why.Label
 
 -- where supervise begins
-abbrev pub beginning : Result (Bool × Tai64n) EventFault → Result Said EventFault
-beginning (Err why) = Err why
+abbrev pub beginning : Result (Bool × Tai64n) EventFault → Result Said Why
+beginning (Err fault) = Err (event_why fault)
 beginning (Ok opening) = Ok (record {
-  text = answer_text (Took (asks_of_begin (Begin opening.0 opening.1))) (phase_of (Begin opening.0 opening.1));
-  history = Begin opening.0 opening.1;
+  texts = answer_text (Took (asks_of_begin (Begin opening.0 opening.1))) (phase_of (Begin opening.0 opening.1)) ∷ [];
+  past = Service (Begin opening.0 opening.1);
 })
 
 -- an event after a history
-abbrev pub going_on : History → Result Event EventFault → Result Said EventFault
-going_on past (Err why) = Err why
+abbrev pub going_on : History → Result Event EventFault → Result Said Why
+going_on past (Err fault) = Err (event_why fault)
 going_on past (Ok event) = Ok (record {
-  text = answer_text (reply_to past event) (phase_of (next past event));
-  history = next past event;
+  texts = answer_text (reply_to past event) (phase_of (next past event)) ∷ [];
+  past = Service (next past event);
 })
 
--- Line 1 begins, and each later line is an event.
-abbrev pub said_by : Option History → List ℕ → Result Said EventFault
-said_by None line = beginning (begin_from (fields line))
-said_by (Some past) line = going_on past (event_from (fields line))
+-- why a scan is refused; want of memory refuses no line
+abbrev pub scan_why : ScanFault → Option Why
+scan_why (scan.Unsorted place) = Some why.Unsorted
+scan_why (scan.Twice place) = Some why.Twice
+scan_why scan.Exhausted = Some why.Exhausted
+scan_why scan.OutOfMemory = None
+
+-- why an event of a suite is refused
+abbrev pub step_why : StepFault → Option Why
+step_why step.NoSuchPart = Some why.NoSuchPart
+step_why (step.Scan fault) = scan_why fault
+step_why step.OutOfMemory = None
+
+abbrev pub refused_step : Option StepFault → Option Why
+refused_step None = None
+refused_step (Some fault) = step_why fault
+
+abbrev pub stepped_unless : {A : Type 0} → Option Why → SuiteState → SuiteEvent A → Result Said Why
+stepped_unless (Some why) suite event = Err why
+stepped_unless None suite event = Ok (record {
+  texts = flat_map step_lines (outs_of suite event);
+  past = OfSuite (suite_after suite event);
+})
+
+-- an event of a suite
+abbrev pub stepping : {A : Type 0} → SuiteState → Result (SuiteEvent A) EventFault → Result Said Why
+stepping suite (Err fault) = Err (event_why fault)
+stepping suite (Ok event) = stepped_unless (refused_step (refusal suite event)) suite event
+
+-- whether a line's first word is that of a scan
+abbrev pub tells_scan : List (List ℕ) → Bool
+tells_scan [] = false
+tells_scan (word ∷ rest) = bytes_eq word (codes "scan")
+
+-- The first line begins a service, or a suite where it tells a scan. Each later line is an event.
+abbrev pub said_by : Past → List ℕ → Result Said Why
+said_by Nothing line =
+    if tells_scan (fields line) then stepping (new_suite 0 256) (suite_event_from {A = Unit {0}} (fields line))
+    else beginning (begin_from (fields line))
+said_by (Service past) line = going_on past (event_from (fields line))
+said_by (OfSuite suite) line = stepping suite (suite_event_from {A = Unit {0}} (fields line))
 
 -- what a line says after these lines; one of more than 65,536 bytes says nothing
-abbrev pub said : Option History → List ℕ → Result Said EventFault
-said past line = if nat_lt 65536 (length line) then Err fault.Line else said_by past line
+abbrev pub said : Past → List ℕ → Result Said Why
+said past line = if nat_lt 65536 (length line) then Err why.Line else said_by past line
 
 -- the answers to lines, up to the first one that is refused
-abbrev pub answers : Option History → List (List ℕ) → List (List ℕ)
+abbrev pub answers : Past → List (List ℕ) → List (List ℕ)
 answers past [] = []
 answers past (line ∷ lines) = elim (said past line) [
-  | Ok answer ↦ answer.text ∷ answers (Some answer.history) lines
+  | Ok answer ↦ answer.texts ++ answers answer.past lines
   | Err why ↦ []
 ]
 
 -- A line that is refused: its number, and why.
 pub record Refusal : Type 0 where
   pub line : ℕ
-  pub why : EventFault
+  pub why : Why
 
 -- the first line that is refused, where lines are numbered from here
-abbrev pub first_refused : ℕ → Option History → List (List ℕ) → Option Refusal
+abbrev pub first_refused : ℕ → Past → List (List ℕ) → Option Refusal
 first_refused number past [] = None
 first_refused number past (line ∷ lines) = elim (said past line) [
-  | Ok answer ↦ first_refused (number + 1) (Some answer.history) lines
+  | Ok answer ↦ first_refused (number + 1) answer.past lines
   | Err why ↦ Some (record { line = number; why = why })
 ]
 
 -- what `sim` prints for an input: the answers to its lines before the first that is refused
 abbrev pub printed_for : List ℕ → List ℕ
-printed_for input = printed (answers None (texts_of input))
+printed_for input = printed (answers Nothing (texts_of input))
 
 -- the first line of an input that is refused
 abbrev pub refused_in : List ℕ → Option Refusal
-refused_in input = first_refused 1 None (texts_of input)
+refused_in input = first_refused 1 Nothing (texts_of input)
+
+-- whether these lines begin with a suite's
+abbrev pub begins_suite : List (List ℕ) → Bool
+begins_suite [] = false
+begins_suite (line ∷ lines) = tells_scan (fields line)
+
+-- An input begins with a suite's line.
+abbrev pub IsOfSuite : (before : Option (List ℕ)) → Type 0
+IsOfSuite before = (input : List ℕ) → before ≡ Some input → begins_suite (texts_of input) ≡ true
 
 -- No line of an input is refused, and what was written is what `sim` prints for it.
 abbrev pub AnswersWhole : (before held holds : Option (List ℕ)) → Type 0

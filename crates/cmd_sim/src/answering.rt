@@ -1,16 +1,41 @@
-//! The answer to one line.
-ghost use Rattle.std.specs.Prelude.{◌≡◌, ◌≤◌, length, IfOk, IsErrOf, Err, None, Some, Option};
-ghost use Rattle.sup_core.specs.declared.reading.EventFault.{EventFault};
+//! The answers to one line.
+ghost use Rattle.std.specs.Prelude.{◌≡◌, ◌≢◌, ◌≤◌, [], ◌∷◌, length, flat_map, true, IfOk, IfErr, IsErrOf, Ok, Err};
 ghost use Rattle.sup_core.specs.declared.asks.Reply.{Reply};
 ghost use Rattle.sup_core.specs.History.{History, Begin, state_of, phase_of};
+ghost use Rattle.sup_core.specs.Reading.{fields, event_from, begin_from};
 ghost use Rattle.sup_core.specs.Rules.{asks_of_begin};
 ghost use Rattle.sup_core.specs.Text.{answer_text};
-ghost use Rattle.cmd_sim.specs.Sim.{said};
-ghost use Rattle.cmd_sim.specs.Progress.{Stands, Says};
+ghost use Rattle.suite_lines.specs.Reading.{suite_event_from};
+ghost use Rattle.suite_lines.specs.Text.{step_lines};
+ghost use Rattle.cmd_sim.specs.declared.fault.Why.{Why};
+ghost use Rattle.cmd_sim.specs.Sim.{Past, Nothing, OfSuite, said, tells_scan, beginning, going_on, stepping};
+ghost use Rattle.cmd_sim.specs.Progress.{TellsService, Stands, Says, texts_in, is_suite_line};
 
+use crate::fault::NoAnswer;
 use arrayvec::ArrayString;
-use sup_core::{EventFault, Machine, Reply, answer_text, read_begin, read_event};
-use tai_status::Label;
+use std::alloc::{AllocError, Allocator, Global};
+use suite_core::Suite;
+use suite_lines::{StepOut, read_suite_event, step_text};
+use sup_core::{Machine, answer_text, read_begin, read_event, split_field, took_text};
+use tai_status::{Label, Lines};
+
+/// How many entries the trace of a suite's part has room for.
+const TRACE_CAPACITY: usize = 256;
+
+/// What the lines so far told, as far as later lines go on from it.
+#[derive(Drop)]
+pub(crate) enum Told<A: Allocator + Clone = Global> {
+    Nothing,
+    Service(Machine),
+    Suite(Suite<A>),
+}
+
+/// The answers to a line.
+#[derive(Drop)]
+pub(crate) enum Answer<A: Allocator = Global> {
+    Line(ArrayString<128>),
+    Lines(Lines<A>),
+}
 
 /// Where supervise begins, and what is told of it.
 fn begin_at(opening: (bool, Label)) -> (Machine, ArrayString<128>)
@@ -20,37 +45,106 @@ fn begin_at(opening: (bool, Label)) -> (Machine, ArrayString<128>)
 {
     let (down_file, label) = opening;
     let (machine, asks) = Machine::begin(down_file, label);
-    let text = answer_text(&Reply::Took(asks), machine.phase());
+    let text = took_text(&asks, machine.phase());
     (machine, text)
 }
 
-/// Answers a begin line.
-pub fn begin(line: &[u8]) -> Result<(Machine, ArrayString<128>), EventFault>
-    requires { length line.now ≤ 65536 }
-    ensures ok { IfOk result (λ begun. Says None line.now begun.1.bytes (Some begun.0)) }
-    ensures refused { (why : EventFault) → IsErrOf result why → said None line.now ≡ Err why }
+/// Begins a service.
+fn begin_service(line: &[u8]) -> Result<(Machine, ArrayString<128>), NoAnswer>
+    ensures ok { IfOk result (λ (machine, text).
+        TellsService (beginning (begin_from (fields line.now))) machine text.bytes) }
+    ensures refused { (why : Why) → IsErrOf result (NoAnswer.Refused why)
+        → beginning (begin_from (fields line.now)) ≡ Err why }
+    ensures memory { IfErr result (λ none. none ≢ NoAnswer.OutOfMemory) }
 {
-    match read_begin(line) {
-        Ok(opening) => Ok(begin_at(opening)),
-        Err(why) => Err(why),
-    }
+    Ok(begin_at(read_begin(line)?))
 }
 
-/// Answers an event line.
-pub fn go_on(machine: Machine, line: &[u8]) -> Result<(Machine, ArrayString<128>), EventFault>
-    requires { length line.now ≤ 65536 }
-    ensures ok { IfOk result (λ gone. (past : Option History) → Stands past (Some machine)
-        → Says past line.now gone.1.bytes (Some gone.0)) }
-    ensures refused { (why : EventFault) → IsErrOf result why
-        → (past : Option History) → Stands past (Some machine) → said past line.now ≡ Err why }
+/// Takes an event of a service.
+fn step_service(machine: &mut Machine, line: &[u8]) -> Result<ArrayString<128>, NoAnswer>
+    ensures ok { IfOk result (λ text. (past : History) → state_of past ≡ machine.old
+        → TellsService (going_on past (event_from (fields line.now))) machine.new text.bytes) }
+    ensures refused { (why : Why) → IsErrOf result (NoAnswer.Refused why)
+        → (past : History) → going_on past (event_from (fields line.now)) ≡ Err why }
+    ensures memory { IfErr result (λ none. none ≢ NoAnswer.OutOfMemory) }
 {
-    match read_event(line) {
-        Ok(event) => {
-            let mut machine = machine;
-            let reply = machine.step(event);
-            let text = answer_text(&reply, machine.phase());
-            Ok((machine, text))
+    let event = read_event(line)?;
+    let reply = machine.step(event);
+    Ok(answer_text(&reply, machine.phase()))
+}
+
+/// The lines of what the steps of a suite give.
+fn lines_of<A: Allocator + Clone>(alloc: &A, outs: &[StepOut<A>]) -> Result<Lines<A>, AllocError>
+    ensures { IfOk result (λ lines. lines ≡ flat_map step_lines outs.now) }
+{
+    let mut lines = Vec::new(alloc.clone()?);
+    for out in outs {
+        let mut more = step_text(alloc.clone()?, out)?.into_vec();
+        lines.append(&mut more)?;
+    }
+    Ok(Lines::from_vec(lines))
+}
+
+/// Takes an event of a suite.
+fn step_suite<A: Allocator + Clone>(
+    alloc: &A,
+    suite: &mut Suite<A>,
+    line: &[u8],
+) -> Result<Lines<A>, NoAnswer>
+    ensures ok { IfOk result (λ lines. stepping suite.old (suite_event_from {A = A} (fields line.now))
+        ≡ Ok (record { texts = lines; past = OfSuite suite.new })) }
+    ensures refused { (why : Why) → IsErrOf result (NoAnswer.Refused why)
+        → stepping suite.old (suite_event_from {A = A} (fields line.now)) ≡ Err why }
+{
+    let event = read_suite_event(alloc.clone()?, line)?;
+    let mut outs = Vec::new(alloc.clone()?);
+    suite.step(&event, &mut outs)?;
+    Ok(lines_of(alloc, &outs)?)
+}
+
+/// Whether a line's first word is that of a scan.
+fn tells_scan(line: &[u8]) -> bool
+    ensures { result ≡ tells_scan (fields line.now) }
+{
+    let (word, _) = split_field(line);
+    word == b"scan".as_slice()
+}
+
+/// Begins a service, or a suite.
+fn begin<A: Allocator + Clone>(alloc: &A, line: &[u8]) -> Result<(Told<A>, Answer<A>), NoAnswer>
+    requires { length line.now ≤ 65536 }
+    ensures ok { IfOk result (λ (told, answer). Says Nothing line.now (texts_in answer) told) }
+    ensures refused { (why : Why) → IsErrOf result (NoAnswer.Refused why) → said Nothing line.now ≡ Err why }
+    ensures memory { IsErrOf result NoAnswer.OutOfMemory → is_suite_line Nothing line.now ≡ true }
+{
+    if tells_scan(line) {
+        let mut suite = Suite::new(alloc.clone()?, 0, TRACE_CAPACITY)?;
+        let lines = step_suite(alloc, &mut suite, line)?;
+        return Ok((Told::Suite(suite), Answer::Lines(lines)));
+    }
+    let (machine, text) = begin_service(line)?;
+    Ok((Told::Service(machine), Answer::Line(text)))
+}
+
+impl<A: Allocator + Clone> Told<A> {
+    /// Answers a line: the first begins, and each later one is an event.
+    pub(crate) fn answer(&mut self, alloc: &A, line: &[u8]) -> Result<Answer<A>, NoAnswer>
+        requires { length line.now ≤ 65536 }
+        ensures ok { IfOk result (λ answer. (past : Past) → Stands past self.old
+            → Says past line.now (texts_in answer) self.new) }
+        ensures refused { (why : Why) → IsErrOf result (NoAnswer.Refused why)
+            → (past : Past) → Stands past self.old → said past line.now ≡ Err why }
+        ensures memory { IsErrOf result NoAnswer.OutOfMemory
+            → (past : Past) → Stands past self.old → is_suite_line past line.now ≡ true }
+    {
+        match self {
+            Told::Nothing => {
+                let (told, answer) = begin(alloc, line)?;
+                *self = told;
+                Ok(answer)
+            }
+            Told::Service(machine) => Ok(Answer::Line(step_service(machine, line)?)),
+            Told::Suite(suite) => Ok(Answer::Lines(step_suite(alloc, suite, line)?)),
         }
-        Err(why) => Err(why),
     }
 }

@@ -4,14 +4,13 @@ ghost use Rattle.tai_status.specs.Counted.{Tells};
 ghost use Rattle.cmd_base.specs.Console.{console};
 ghost use Rattle.cmd_sim.specs.Ends.{AnswersByStatus, SimEnds, TableByStatus, told_of, status_of};
 
-use crate::fault::SimFault;
+use crate::fault::{SimFault, why_name};
 use crate::session::answer_lines;
 use crate::table::whole_table;
 use arrayvec::ArrayString;
 use cmd_base::{DONE, REFUSED, TROUBLE, push_number, report, usage};
 use std::alloc::Allocator;
 use std::io::{Read, Write};
-use sup_core::fault_name;
 use tai_status::{Input, Output};
 
 /// What is told of a fault.
@@ -24,7 +23,7 @@ fn fault_text(fault: SimFault) -> ArrayString<64>
             out.push_str("sim: line ");
             push_number(&mut out, line);
             out.push_str(": ");
-            out.push_str(fault_name(why));
+            out.push_str(why_name(why));
         }
         SimFault::OutOfMemory => out.push_str("sim: OutOfMemory"),
         SimFault::Read => out.push_str("sim: read fault"),
@@ -53,7 +52,7 @@ fn report_fault<E: Write>(fault: SimFault, faults: &mut Output<E>) -> u8
 }
 
 /// `sim` without words: answers the lines of the input.
-fn answer_input<A: Allocator, D: Read, W: Write, E: Write>(
+fn answer_input<A: Allocator + Clone, D: Read, W: Write, E: Write>(
     alloc: A,
     reader: &mut Input<D>,
     writer: &mut Output<W>,
@@ -82,7 +81,7 @@ fn show_table<W: Write, E: Write>(writer: &mut Output<W>, faults: &mut Output<E>
 /// `table` it prints the table of the control bytes, and other words are wrong. Answers the status: 0;
 /// 100 where a line is refused, of which the fault writer tells the number, or for wrong words; 111 for
 /// want of memory and for a fault of the reader or the writer.
-pub fn run_sim<A: Allocator, D: Read, W: Write, E: Write>(
+pub fn run_sim<A: Allocator + Clone, D: Read, W: Write, E: Write>(
     alloc: A,
     words: &[&str],
     reader: &mut Input<D>,

@@ -8,4 +8,4 @@ mod session;
 mod table;
 
 pub use command::run_sim;
-pub use fault::SimFault;
+pub use fault::{SimFault, Why};

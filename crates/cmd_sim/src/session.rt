@@ -1,65 +1,64 @@
 //! A service as the lines tell it, and the answers to them.
-ghost use Rattle.std.specs.Prelude.{◌≡◌, ◌≤◌, ◌<◌, ◌+◌, ◌^◌, [], ◌∷◌, ◌++◌, length, OnOk, OnErr, IfOk, IfErr, IsErrOf, Err, Option, List, ℕ, ◌≢◌};
+ghost use Rattle.std.specs.Prelude.{◌≡◌, ◌≤◌, ◌<◌, ◌+◌, ◌^◌, [], ◌∷◌, ◌++◌, length, OnOk, OnErr, IfOk, IfErr, IsErrOf, Err, Option, List, ℕ, ◌≢◌, ◌⊎◌, true, map, string_bytes};
 ghost use Rattle.std.specs.Io.KnownBytes.{IsAtEnd};
 ghost use Rattle.tai_status.specs.Counted.{Fails, Works, Wrote, WroteFront, IsRead};
 ghost use Rattle.tai_status.specs.Block.{Puts};
 ghost use Rattle.tai_status.specs.LineReader.{IsPlain};
-ghost use Rattle.sup_core.specs.declared.reading.EventFault.{EventFault};
-ghost use Rattle.sup_core.specs.History.{History};
+ghost use Rattle.cmd_base.specs.Printed.{printed};
+ghost use Rattle.cmd_sim.specs.declared.answering.Told.TheVariants as code;
 ghost use Rattle.cmd_sim.specs.declared.fault.SimFault.{SimFault};
-ghost use Rattle.cmd_sim.specs.Sim.{said, AnswersWhole, AnswersBefore, AnswersPart, ReadsNear, AnswersAll, AnswersUpTo, AnswersFront};
-ghost use Rattle.cmd_sim.specs.Progress.{Stands, Says, Answered, SoFar, text_said};
+ghost use Rattle.cmd_sim.specs.declared.fault.Why.{Why};
+ghost use Rattle.cmd_sim.specs.declared.fault.NoAnswer.{NoAnswer};
+ghost use Rattle.cmd_sim.specs.Sim.{Past, said, IsOfSuite, AnswersWhole, AnswersBefore, AnswersPart, ReadsNear, AnswersAll, AnswersUpTo, AnswersFront};
+ghost use Rattle.cmd_sim.specs.Progress.{Stands, Says, Answered, SoFar, text_said, texts_in, is_suite_line};
 
-use crate::answering::{begin, go_on};
-use crate::fault::SimFault;
-use arrayvec::ArrayString;
-use std::alloc::Allocator;
+use crate::answering::{Answer, Told};
+use crate::fault::{NoAnswer, SimFault, Why};
+use std::alloc::{AllocError, Allocator};
 use std::io::{Read, Write};
-use sup_core::{EventFault, Machine};
 use tai_status::{Block, Input, LineFault, LineReader, Output};
 
 /// The most bytes that a line may have, without its newline.
 const LINE_BOUND: usize = 65_536;
 
-/// A service as told so far, how many lines told it, and the answers that wait to be written.
+/// What was told so far, how many lines told it, and the answers that wait to be written.
 #[derive(Drop)]
-struct Session {
-    machine: Option<Machine>,
+struct Session<A: Allocator + Clone> {
+    alloc: A,
+    told: Told<A>,
     count: u64,
     waiting: Block,
 }
 
-impl Session {
-    fn new() -> Session
-        ensures machine { result.machine ≡ None }
+impl<A: Allocator + Clone> Session<A> {
+    fn new(alloc: A) -> Session<A>
+        ensures told { result.told ≡ code.Nothing }
         ensures count { result.count ≡ 0 }
         ensures waiting { result.waiting ≡ [] }
     {
         Session {
-            machine: None,
+            alloc,
+            told: Told::Nothing,
             count: 0,
             waiting: Block::new(),
         }
     }
 
-    /// Answers a line: the first begins, and each later one is an event.
-    fn answer(&mut self, line: &[u8]) -> Result<ArrayString<128>, EventFault>
-        ensures ok { IfOk result (λ text. (past : Option History) → Stands past self.old.machine
-            → Says past line.now text.bytes self.new.machine) }
-        ensures refused { (why : EventFault) → IsErrOf result why
-            → (past : Option History) → Stands past self.old.machine → said past line.now ≡ Err why }
+    /// Answers a line.
+    fn answer(&mut self, line: &[u8]) -> Result<Answer<A>, NoAnswer>
+        ensures ok { IfOk result (λ answer. (past : Past) → Stands past self.old.told
+            → Says past line.now (texts_in answer) self.new.told) }
+        ensures refused { (why : Why) → IsErrOf result (NoAnswer.Refused why)
+            → (past : Past) → Stands past self.old.told → said past line.now ≡ Err why }
+        ensures memory { IsErrOf result NoAnswer.OutOfMemory
+            → (past : Past) → Stands past self.old.told → is_suite_line past line.now ≡ true }
         ensures count { self.new.count ≡ self.old.count }
         ensures waiting { self.new.waiting ≡ self.old.waiting }
     {
         if line.len() > LINE_BOUND {
-            return Err(EventFault::Line);
+            return Err(NoAnswer::Refused(Why::Line));
         }
-        let (machine, text) = match self.machine {
-            None => begin(line)?,
-            Some(machine) => go_on(machine, line)?,
-        };
-        self.machine = Some(machine);
-        Ok(text)
+        self.told.answer(&self.alloc, line)
     }
 
     /// Writes the answers that wait.
@@ -70,7 +69,7 @@ impl Session {
         ensures why { IfErr result (λ fault. fault ≡ SimFault.Write) }
         ensures fault { OnErr result (Fails writer.old writer.new) }
         ensures faults { OnOk result (Works writer.old writer.new) }
-        ensures machine { self.new.machine ≡ self.old.machine }
+        ensures told { self.new.told ≡ self.old.told }
         ensures count { self.new.count ≡ self.old.count }
     {
         match self.waiting.flush(writer) {
@@ -86,7 +85,7 @@ impl Session {
         ensures why { IfErr result (λ fault. fault ≡ SimFault.Write) }
         ensures fault { OnErr result (Fails writer.old writer.new) }
         ensures faults { OnOk result (Works writer.old writer.new) }
-        ensures machine { self.new.machine ≡ self.old.machine }
+        ensures told { self.new.told ≡ self.old.told }
         ensures count { self.new.count ≡ self.old.count }
     {
         match self.waiting.put_both(text, b"\n", writer) {
@@ -95,86 +94,132 @@ impl Session {
         }
     }
 
-    /// What is told of the next line where it is refused. The answers that wait are written first.
-    fn refuse<W: Write>(&mut self, why: EventFault, writer: &mut Output<W>) -> SimFault
+    /// Puts answers behind those that wait.
+    fn put_all<W: Write>(&mut self, answer: &Answer<A>, writer: &mut Output<W>) -> Result<(), SimFault>
+        ensures ok { OnOk result
+            (Puts writer.old writer.new self.old.waiting self.new.waiting (printed (texts_in answer.now))) }
+        ensures err { OnErr result
+            (WroteFront writer.old writer.new (self.old.waiting ++ printed (texts_in answer.now))) }
+        ensures why { IfErr result (λ fault. fault ≡ SimFault.Write) }
+        ensures fault { OnErr result (Fails writer.old writer.new) }
+        ensures faults { OnOk result (Works writer.old writer.new) }
+        ensures told { self.new.told ≡ self.old.told }
+        ensures count { self.new.count ≡ self.old.count }
+    {
+        match answer {
+            Answer::Line(text) => self.put(text.as_bytes(), writer),
+            Answer::Lines(lines) => self.put_lines(lines.as_slice(), writer),
+        }
+    }
+
+    /// Puts lines behind the answers that wait.
+    fn put_lines<W: Write>(&mut self, lines: &[String<A>], writer: &mut Output<W>) -> Result<(), SimFault>
+        ensures ok { OnOk result (Puts writer.old writer.new self.old.waiting self.new.waiting
+            (printed (map (λ line. string_bytes line) lines.now))) }
+        ensures err { OnErr result (WroteFront writer.old writer.new
+            (self.old.waiting ++ printed (map (λ line. string_bytes line) lines.now))) }
+        ensures why { IfErr result (λ fault. fault ≡ SimFault.Write) }
+        ensures fault { OnErr result (Fails writer.old writer.new) }
+        ensures faults { OnOk result (Works writer.old writer.new) }
+        ensures told { self.new.told ≡ self.old.told }
+        ensures count { self.new.count ≡ self.old.count }
+    {
+        for line in lines {
+            self.put(line.as_bytes(), writer)?;
+        }
+        Ok(())
+    }
+
+    /// What is told where the next line has no answer. The answers that wait are written first.
+    fn give_up<W: Write>(&mut self, none: NoAnswer, writer: &mut Output<W>) -> SimFault
         requires { self.old.count < 2 ^ 63 }
-        ensures told { (number : ℕ) (told : EventFault) → result ≡ SimFault.Refused number told
-            → (number ≡ self.old.count + 1) × (told ≡ why)
+        ensures told { (number : ℕ) (why : Why) → result ≡ SimFault.Refused number why
+            → (number ≡ self.old.count + 1) × (none ≡ NoAnswer.Refused why)
             × Wrote writer.old writer.new self.old.waiting × Works writer.old writer.new }
+        ensures memory { result ≡ SimFault.OutOfMemory
+            → (none ≡ NoAnswer.OutOfMemory) × Wrote writer.old writer.new self.old.waiting }
         ensures write { result ≡ SimFault.Write
             → WroteFront writer.old writer.new self.old.waiting × Fails writer.old writer.new }
-        ensures neither { (result ≢ SimFault.Read) × (result ≢ SimFault.OutOfMemory) }
+        ensures neither { result ≢ SimFault.Read }
     {
         match self.flush(writer) {
-            Ok(()) => SimFault::Refused {
-                line: self.count + 1,
-                why,
+            Ok(()) => match none {
+                NoAnswer::Refused(why) => SimFault::Refused {
+                    line: self.count + 1,
+                    why,
+                },
+                NoAnswer::OutOfMemory => SimFault::OutOfMemory,
             },
             Err(fault) => fault,
         }
     }
 
-    /// Answers a line, behind the answers that wait. Where it is refused, those are written.
+    /// Answers a line, behind the answers that wait. Where it has no answer, those are written.
     fn answer_line<W: Write>(&mut self, line: &[u8], writer: &mut Output<W>) -> Result<(), SimFault>
         requires { self.old.count < 2 ^ 63 }
-        ensures ok { OnOk result ((past : Option History) → Stands past self.old.machine
-            → Answered past line.now self.new.machine writer.old.bytes writer.new.bytes
+        ensures ok { OnOk result ((past : Past) → Stands past self.old.told
+            → Answered past line.now self.new.told writer.old.bytes writer.new.bytes
             self.old.waiting self.new.waiting) }
         ensures count { OnOk result (self.new.count ≡ self.old.count + 1) }
-        ensures refused { (number : ℕ) (why : EventFault) → IsErrOf result (SimFault.Refused number why)
+        ensures refused { (number : ℕ) (why : Why) → IsErrOf result (SimFault.Refused number why)
             → (number ≡ self.old.count + 1) × Wrote writer.old writer.new self.old.waiting
-            × ((past : Option History) → Stands past self.old.machine → said past line.now ≡ Err why) }
-        ensures refused_works { (number : ℕ) (why : EventFault) → IsErrOf result (SimFault.Refused number why)
+            × ((past : Past) → Stands past self.old.told → said past line.now ≡ Err why) }
+        ensures refused_works { (number : ℕ) (why : Why) → IsErrOf result (SimFault.Refused number why)
             → Works writer.old writer.new }
-        ensures write { IsErrOf result SimFault.Write → (past : Option History) → Stands past self.old.machine
+        ensures memory { IsErrOf result SimFault.OutOfMemory → Wrote writer.old writer.new self.old.waiting
+            × ((past : Past) → Stands past self.old.told → is_suite_line past line.now ≡ true) }
+        ensures write { IsErrOf result SimFault.Write → (past : Past) → Stands past self.old.told
             → WroteFront writer.old writer.new (self.old.waiting ++ text_said (said past line.now)) }
         ensures fault { IsErrOf result SimFault.Write → Fails writer.old writer.new }
         ensures faults { OnOk result (Works writer.old writer.new) }
-        ensures neither { IfErr result (λ fault. (fault ≢ SimFault.Read) × (fault ≢ SimFault.OutOfMemory)) }
+        ensures neither { IfErr result (λ fault. fault ≢ SimFault.Read) }
     {
         match self.answer(line) {
-            Ok(text) => {
-                self.put(text.as_bytes(), writer)?;
+            Ok(answer) => {
+                self.put_all(&answer, writer)?;
                 self.count += 1;
                 Ok(())
             }
-            Err(why) => Err(self.refuse(why, writer)),
+            Err(none) => Err(self.give_up(none, writer)),
         }
     }
 
     /// Answers the whole lines that are pending, and writes the answers.
-    fn answer_pending<A: Allocator, W: Write>(
+    fn answer_pending<W: Write>(
         &mut self,
         lines: &mut LineReader<A>,
         writer: &mut Output<W>,
     ) -> Result<(), SimFault>
         requires { self.old.count + length lines.old.pending ≤ 2 ^ 63 }
         ensures ok { OnOk result ((before now held : Option (List ℕ))
-            → SoFar before now held writer.old.bytes lines.old.pending self.old.waiting self.old.machine self.old.count
+            → SoFar before now held writer.old.bytes lines.old.pending self.old.waiting self.old.told self.old.count
             → SoFar before now held writer.new.bytes
-            lines.new.pending self.new.waiting self.new.machine self.new.count) }
+            lines.new.pending self.new.waiting self.new.told self.new.count) }
         ensures waiting { OnOk result (self.new.waiting ≡ []) }
         ensures plain { OnOk result (IsPlain lines.new.pending) }
         ensures room { OnOk result (self.new.count + length lines.new.pending
             ≤ self.old.count + length lines.old.pending) }
         ensures less { length lines.new.pending ≤ length lines.old.pending }
         ensures bound { lines.new.bound ≡ lines.old.bound }
-        ensures refused { (number : ℕ) (why : EventFault) → IsErrOf result (SimFault.Refused number why)
+        ensures refused { (number : ℕ) (why : Why) → IsErrOf result (SimFault.Refused number why)
             → (before now held : Option (List ℕ))
-            → SoFar before now held writer.old.bytes lines.old.pending self.old.waiting self.old.machine self.old.count
+            → SoFar before now held writer.old.bytes lines.old.pending self.old.waiting self.old.told self.old.count
             → AnswersBefore before held writer.new.bytes (record { line = number; why = why }) }
-        ensures near { (number : ℕ) (why : EventFault) → IsErrOf result (SimFault.Refused number why)
+        ensures near { (number : ℕ) (why : Why) → IsErrOf result (SimFault.Refused number why)
             → (before now held : Option (List ℕ))
-            → SoFar before now held writer.old.bytes lines.old.pending self.old.waiting self.old.machine self.old.count
+            → SoFar before now held writer.old.bytes lines.old.pending self.old.waiting self.old.told self.old.count
             → length lines.old.pending ≤ 98304 → ReadsNear before now number }
-        ensures refused_works { (number : ℕ) (why : EventFault) → IsErrOf result (SimFault.Refused number why)
+        ensures refused_works { (number : ℕ) (why : Why) → IsErrOf result (SimFault.Refused number why)
             → Works writer.old writer.new }
         ensures write { IsErrOf result SimFault.Write → (before now held : Option (List ℕ))
-            → SoFar before now held writer.old.bytes lines.old.pending self.old.waiting self.old.machine self.old.count
+            → SoFar before now held writer.old.bytes lines.old.pending self.old.waiting self.old.told self.old.count
             → AnswersPart before now held writer.new.bytes }
         ensures fault { IsErrOf result SimFault.Write → Fails writer.old writer.new }
         ensures faults { OnOk result (Works writer.old writer.new) }
-        ensures neither { IfErr result (λ fault. (fault ≢ SimFault.Read) × (fault ≢ SimFault.OutOfMemory)) }
+        ensures memory { IsErrOf result SimFault.OutOfMemory → (before now held : Option (List ℕ))
+            → SoFar before now held writer.old.bytes lines.old.pending self.old.waiting self.old.told self.old.count
+            → IsOfSuite before × AnswersPart before now held writer.new.bytes }
+        ensures neither { IfErr result (λ fault. fault ≢ SimFault.Read) }
     {
         'each: while lines.take_line() {
             self.answer_line(lines.line(), writer)?;
@@ -183,7 +228,7 @@ impl Session {
     }
 
     /// Answers the last line, where it has no newline, and writes the answer.
-    fn answer_rest<A: Allocator, W: Write>(
+    fn answer_rest<W: Write>(
         &mut self,
         lines: &mut LineReader<A>,
         writer: &mut Output<W>,
@@ -192,24 +237,27 @@ impl Session {
         requires plain { IsPlain lines.old.pending }
         requires waiting { self.old.waiting ≡ [] }
         ensures all { OnOk result ((before now held : Option (List ℕ))
-            → SoFar before now held writer.old.bytes lines.old.pending self.old.waiting self.old.machine self.old.count
+            → SoFar before now held writer.old.bytes lines.old.pending self.old.waiting self.old.told self.old.count
             → IsAtEnd now → AnswersWhole before held writer.new.bytes) }
-        ensures refused { (number : ℕ) (why : EventFault) → IsErrOf result (SimFault.Refused number why)
+        ensures refused { (number : ℕ) (why : Why) → IsErrOf result (SimFault.Refused number why)
             → (before now held : Option (List ℕ))
-            → SoFar before now held writer.old.bytes lines.old.pending self.old.waiting self.old.machine self.old.count
+            → SoFar before now held writer.old.bytes lines.old.pending self.old.waiting self.old.told self.old.count
             → IsAtEnd now → AnswersBefore before held writer.new.bytes (record { line = number; why = why }) }
-        ensures near { (number : ℕ) (why : EventFault) → IsErrOf result (SimFault.Refused number why)
+        ensures near { (number : ℕ) (why : Why) → IsErrOf result (SimFault.Refused number why)
             → (before now held : Option (List ℕ))
-            → SoFar before now held writer.old.bytes lines.old.pending self.old.waiting self.old.machine self.old.count
+            → SoFar before now held writer.old.bytes lines.old.pending self.old.waiting self.old.told self.old.count
             → length lines.old.pending ≤ 98304 → ReadsNear before now number }
-        ensures refused_works { (number : ℕ) (why : EventFault) → IsErrOf result (SimFault.Refused number why)
+        ensures refused_works { (number : ℕ) (why : Why) → IsErrOf result (SimFault.Refused number why)
             → Works writer.old writer.new }
         ensures write { IsErrOf result SimFault.Write → (before now held : Option (List ℕ))
-            → SoFar before now held writer.old.bytes lines.old.pending self.old.waiting self.old.machine self.old.count
+            → SoFar before now held writer.old.bytes lines.old.pending self.old.waiting self.old.told self.old.count
             → AnswersPart before now held writer.new.bytes }
         ensures fault { IsErrOf result SimFault.Write → Fails writer.old writer.new }
         ensures faults { OnOk result (Works writer.old writer.new) }
-        ensures neither { IfErr result (λ fault. (fault ≢ SimFault.Read) × (fault ≢ SimFault.OutOfMemory)) }
+        ensures memory { IsErrOf result SimFault.OutOfMemory → (before now held : Option (List ℕ))
+            → SoFar before now held writer.old.bytes lines.old.pending self.old.waiting self.old.told self.old.count
+            → IsAtEnd now → IsOfSuite before × AnswersPart before now held writer.new.bytes }
+        ensures neither { IfErr result (λ fault. fault ≢ SimFault.Read) }
     {
         if !lines.take_rest() {
             return Ok(());
@@ -219,8 +267,15 @@ impl Session {
     }
 }
 
-/// Answers the lines of a reader, one answer a line, up to the first line that is refused.
-pub fn answer_lines<A: Allocator, D: Read, W: Write>(
+/// A reader of lines, before any is read.
+fn line_reader<A: Allocator + Clone>(alloc: &A) -> Result<LineReader<A>, AllocError>
+    ensures { IfOk result (λ lines. lines ≡ record { pending = []; line = []; bound = LINE_BOUND }) }
+{
+    LineReader::new(alloc.clone()?, LINE_BOUND)
+}
+
+/// Answers the lines of a reader up to the first one that is refused.
+pub fn answer_lines<A: Allocator + Clone, D: Read, W: Write>(
     alloc: A,
     reader: &mut Input<D>,
     writer: &mut Output<W>,
@@ -228,20 +283,21 @@ pub fn answer_lines<A: Allocator, D: Read, W: Write>(
     ensures all { OnOk result (AnswersAll reader.old writer.old writer.new) }
     ensures end { OnOk result (IsRead reader.new) }
     ensures works { OnOk result (Works reader.old reader.new × Works writer.old writer.new) }
-    ensures refused { (number : ℕ) (why : EventFault) → IsErrOf result (SimFault.Refused number why)
+    ensures refused { (number : ℕ) (why : Why) → IsErrOf result (SimFault.Refused number why)
         → AnswersUpTo reader.old reader.new writer.old writer.new (record { line = number; why = why }) }
-    ensures refused_works { (number : ℕ) (why : EventFault) → IsErrOf result (SimFault.Refused number why)
+    ensures refused_works { (number : ℕ) (why : Why) → IsErrOf result (SimFault.Refused number why)
         → Works reader.old reader.new × Works writer.old writer.new }
-    ensures memory { IsErrOf result SimFault.OutOfMemory → (reader.new ≡ reader.old) × (writer.new ≡ writer.old) }
+    ensures memory { IsErrOf result SimFault.OutOfMemory → ((reader.new ≡ reader.old) × (writer.new ≡ writer.old))
+        ⊎ (IsOfSuite reader.old.bytes × AnswersFront reader.old reader.new writer.old writer.new) }
     ensures read { IsErrOf result SimFault.Read
         → Fails reader.old reader.new × AnswersFront reader.old reader.new writer.old writer.new }
     ensures write { IsErrOf result SimFault.Write
         → Fails writer.old writer.new × AnswersFront reader.old reader.new writer.old writer.new }
 {
-    let Ok(mut lines) = LineReader::new(alloc, LINE_BOUND) else {
+    let Ok(mut lines) = line_reader(&alloc) else {
         return Err(SimFault::OutOfMemory);
     };
-    let mut session = Session::new();
+    let mut session = Session::new(alloc);
     'reads: loop {
         session.answer_pending(&mut lines, writer)?;
         match lines.fill(reader) {
@@ -250,7 +306,7 @@ pub fn answer_lines<A: Allocator, D: Read, W: Write>(
             Err(LineFault::TooLong) => {
                 return Err(SimFault::Refused {
                     line: session.count + 1,
-                    why: EventFault::Line,
+                    why: Why::Line,
                 });
             }
             Err(LineFault::Read) => return Err(SimFault::Read),

@@ -1,9 +1,11 @@
+use crate::memory::leave;
 use crate::slow::Slow;
 use crate::tight::Tight;
 use bumpalo::Bump;
 use cmd_sim::run_sim;
-use std::alloc::Global;
+use std::alloc::{AllocError, Global};
 use std::io::Read;
+use std::test::Fail;
 use tai_status::Counted;
 
 /// One service that is begun, started, brought down and dead, and what is answered.
@@ -19,6 +21,27 @@ took record:400000000000000b00000000671200000075 -> settling
 took -> up
 took TERM:4711 CONT:4711 record:400000000000000b00000000671200000064 -> up
 took record:400000000000000d00000000000000000064 -> down
+";
+
+/// Two services, of which the second is not told to stop while it settles.
+const SUITE: &[u8] = b"scan @400000000000000a00000000 d---:a d---:b
+at 0.main.1 started 10 @400000000000000b00000000
+at 2.main.3 started 20 @400000000000000b00000000
+at 0.main.1 clock @400000000000000c00000000
+at 2.main.3 byte d
+at 0.main.1 byte d
+at 2.main.3 clock @400000000000000c00000000
+";
+
+const SUITE_ANSWERS: &[u8] = b"scan: 2 started, 0 restarted, 0 dropped, 0 refused
+0.main.1 took record:400000000000000a00000000000000000075 start -> starting
+2.main.3 took record:400000000000000a00000000000000000075 start -> starting
+0.main.1 took record:400000000000000b000000000a0000000075 -> settling
+2.main.3 took record:400000000000000b00000000140000000075 -> settling
+0.main.1 took -> up
+2.main.3 held -> settling
+0.main.1 took TERM:10 CONT:10 record:400000000000000b000000000a0000000064 -> up
+2.main.3 took -> up
 ";
 
 /// What a run wrote, what it told, and its status.
@@ -77,4 +100,77 @@ fn says_where_memory_is_refused(rt: HostRuntime) {
     // Nothing was read or written.
     assert_eq!(rt; reader.into_device().len(), SERVICE.len());
     assert_eq!(rt; writer.into_device().len(), 0);
+}
+
+/// Memory runs out further and further on, up to a run that has enough. What is written then is a front of the answers.
+#[test]
+fn tells_want_of_memory_for_a_suite(rt: HostRuntime) -> Result<(), Fail> {
+    let mut refused = 0usize;
+    for step in 0..4096usize {
+        let bump = Bump::try_with_capacity(rt.alloc(), 1 << 19)?;
+        leave(&bump, 65_536 + 64 * step)?;
+        let mut reader = Counted::new(SUITE);
+        let mut writer = Counted::new(Vec::new(rt.alloc()));
+        let mut faults = Counted::new(Vec::new(rt.alloc()));
+        let status = run_sim(&bump, &[], &mut reader, &mut writer, &mut faults);
+        let out = writer.into_device();
+        if status == 0 {
+            assert_eq!(rt; out.as_slice(), SUITE_ANSWERS);
+            break;
+        }
+        assert_eq!(rt; status, 111);
+        assert!(rt; SUITE_ANSWERS.starts_with(out.as_slice()));
+        let told = faults.into_device();
+        assert_eq!(rt; told.as_slice(), b"sim: OutOfMemory\n".as_slice());
+        refused = step;
+    }
+    assert!(rt; refused > 0 && refused < 4095);
+    Ok(())
+}
+
+/// The line of a scan that finds directories of these numbers up to 1000, as `d0000`, all with a file `down`.
+fn scan_line(alloc: Global, label: &str, from: usize) -> Result<String, AllocError> {
+    let mut line = format!(in alloc; "scan {label}")?;
+    for number in from..1001 {
+        line.push_str(format!(in alloc; " d-n-:d{:04}", number)?.as_str())?;
+    }
+    line.push('\n')?;
+    Ok(line)
+}
+
+#[test]
+fn keeps_a_thousand_services(rt: HostRuntime) -> Result<(), Fail> {
+    let first = "scan: 1000 started, 0 restarted, 0 dropped, 1 refused
+0.main.1 took record:400000000000000a00000000000000000064 -> down
+";
+    for (from, last) in [
+        (
+            0,
+            "1998.main.1999 took record:400000000000000a00000000000000000064 -> down
+d1000 refused TooMany
+0.main.1 took record:400000000000000a00000000000000000064 -> gone
+scan: 0 started, 1 restarted, 0 dropped, 1 refused
+0.main.2000 took record:400000000000000d00000000000000000064 -> down
+d1000 refused TooMany
+",
+        ),
+        (
+            1,
+            "0.main.1 took record:400000000000000a00000000000000000064 -> gone
+scan: 1 started, 0 restarted, 1 dropped, 0 refused
+0 dropped
+2000.main.2001 took record:400000000000000d00000000000000000064 -> down
+",
+        ),
+    ] {
+        let mut input = scan_line(rt.alloc(), "@400000000000000a00000000", 0)?;
+        input.push_str("at 0.main.1 byte x\n")?;
+        let again = scan_line(rt.alloc(), "@400000000000000d00000000", from)?;
+        input.push_str(again.as_str())?;
+        let ran = sim(rt.alloc(), input.as_bytes());
+        assert_eq!(rt; (ran.told.len(), ran.status), (0, 0));
+        assert!(rt; ran.out.as_slice().starts_with(first.as_bytes()));
+        assert!(rt; ran.out.as_slice().ends_with(last.as_bytes()));
+    }
+    Ok(())
 }

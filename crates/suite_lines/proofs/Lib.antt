@@ -1,0 +1,4 @@
+pub mod PartTexts
+pub mod RowTexts
+pub mod EventTexts
+mod TextLines

@@ -49,7 +49,10 @@ impl<A: Allocator> Begins<A> {
 #[derive(Drop)]
 pub enum StepOut<A: Allocator = Global> {
     /// What a scan did, and the parts that it began: those that start, then those that restart.
-    Scanned { out: ScanOut<A>, begun: Begins<A> },
+    Scanned {
+        out: ScanOut<A>,
+        begun: Begins<A>,
+    },
     /// What an event at a part is answered with, and the phase after it.
     At {
         part: PartId,

@@ -258,7 +258,7 @@ event_told word rest event h =
     (choose word (codes "clock") _ _ event (label_line (codes "clock") word (λ label. Clock label) rest event clock_alone)
     (λ (none : None ≡ Some event). cc none))))) h
 
-told_of : (parts : List (List ℕ)) (event : Event) → event_from parts ≡ Ok event → Told parts event
+pub told_of : (parts : List (List ℕ)) (event : Event) → event_from parts ≡ Ok event → Told parts event
 told_of [] event h = cc h
 told_of (word ∷ rest) event h = event_told word rest event (ok_parts _ _ event h)
 

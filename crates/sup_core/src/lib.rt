@@ -23,4 +23,4 @@ pub use reading::{
     split_field,
 };
 pub use table::table_line;
-pub use text::{answer_text, event_text, fault_name, phase_name, sig_name};
+pub use text::{answer_text, event_text, fault_name, phase_name, sig_name, took_text};

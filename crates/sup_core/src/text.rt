@@ -249,9 +249,27 @@ pub fn answer_text(reply: &Reply, phase: Phase) -> ArrayString<128>
         Reply::Held => out.push_str("held"),
         Reply::Took(asks) => push_asks(&mut out, asks),
     }
+    push_phase(&mut out, phase);
+    out
+}
+
+/// The answer to an event that was taken, or to a beginning, by what it asked: as `answer_text` has it.
+pub fn took_text(asks: &Asks, phase: Phase) -> ArrayString<128>
+    ensures { result.bytes ≡ answer_text (Reply.Took asks.now) phase }
+{
+    let mut out = ArrayString::new();
+    push_asks(&mut out, asks);
+    push_phase(&mut out, phase);
+    out
+}
+
+/// Writes the phase after an event at the end of its answer.
+fn push_phase(out: &mut ArrayString<128>, phase: Phase)
+    requires { array_string_len out.old ≤ 100 }
+    ensures { out.new.bytes ≡ out.old.bytes ++ codes " -> " ++ phase_name phase }
+{
     out.push_str(" -> ");
     out.push_str(phase_name(phase));
-    out
 }
 
 /// Writes that an event was taken, and what it asked.

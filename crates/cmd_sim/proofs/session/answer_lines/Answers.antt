@@ -1,14 +1,14 @@
-use Rattle.std.proofs.Common.{◌≡◌, ◌+◌, ℕ, Err, length, subst, sym, ap, ◌∙◌, arith, refl}
+use Rattle.std.proofs.Common.{◌≡◌, ◌+◌, ℕ, Err, length, subst, sym, ap, ◌∙◌, arith, refl, inr}
 use Rattle.std.proofs.lemmas.Result.{err_from_is_err_and, on_ok_weaker}
 use Rattle.tai_status.specs.LineReader.{Given}
 use Rattle.tai_status.specs.Counted.{Device, Rose}
-use Rattle.sup_core.specs.declared.reading.EventFault.TheVariants as fault
+use Rattle.cmd_sim.specs.declared.fault.Why.TheVariants as fault
 use Rattle.cmd_sim.proofs.Steps.{SoFar-begin, SoFar-filled, SoFar-near, SoFar-kept, long_refused, read_failed, told_as}
 use Rattle.cmd_sim.proofs.session.answer_lines.Goals as goal
 
 pub reads-init : goal.reads-init
 reads-init g c = (
-  SoFar-begin _ _ (ap (λ (l : Given). l.pending) c.in-Ok.ensures) c.new-session.ensures.waiting c.new-session.ensures.machine c.new-session.ensures.count,
+  SoFar-begin _ _ (ap (λ (l : Given). l.pending) c.in-Ok.ensures) c.new-session.ensures.waiting c.new-session.ensures.told c.new-session.ensures.count,
   c.new-session.ensures.waiting,
   ap (λ (l : Given). l.bound) c.in-Ok.ensures,
   (let n = c.new-session.ensures.count in let p : length c.in-Ok.lines.pending ≡ 0 = ap (λ (l : Given). length l.pending) c.in-Ok.ensures in omega (arith, n, p)),
@@ -96,3 +96,8 @@ returns-in-Err-TooLong-clause-refused_works g c = λ number why is. (
   ap (λ (d : Device). d.faults) (c.in-Err-TooLong.ensures.untouched (ap Err c.in-Err-TooLong.field-0-is)) ∙ c.reads.invariant.4,
   c.in_ok-answer_pending.ensures.faults ∙ c.reads.invariant.5,
 )
+
+pub returns-in-Ok-false-clause-memory : goal.returns-in-Ok-false-clause-memory
+returns-in-Ok-false-clause-memory g c = λ is.
+    let s = SoFar-filled (c.in_ok-answer_pending.ensures.ok _ _ _ c.reads.invariant.0) c.in-Ok-false.ensures.filled in
+    inr (c.answer_rest.ensures.memory is _ _ _ s (c.in-Ok-false.ensures.end c.in-Ok-false.field-0-test).0)

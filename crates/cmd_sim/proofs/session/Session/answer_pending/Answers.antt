@@ -1,6 +1,6 @@
 use Rattle.std.proofs.Common.{Err, sym, ap, ◌∙◌, arith}
 use Rattle.std.proofs.lemmas.Result.{err_from_is_err_and}
-use Rattle.cmd_sim.proofs.Steps.{SoFar-further, SoFar-line_refused, SoFar-line_unwritten, SoFar-flushed, flush_failed, room_after, less_after, on_ok_both, SoFar-near}
+use Rattle.cmd_sim.proofs.Steps.{SoFar-further, SoFar-line_refused, SoFar-line_unwritten, SoFar-line_missed, SoFar-flushed, flush_failed, room_after, less_after, on_ok_both, SoFar-near}
 use Rattle.cmd_sim.proofs.session.Session.answer_pending.Goals as goal
 
 pub each-preserved : goal.each-preserved
@@ -35,7 +35,7 @@ returns-clause-ok g c =
     on_ok_both c.flush.result
     (λ w none. λ before now held first.
     SoFar-flushed c.flush.new.writer.bytes (c.each.invariant.0 before now held first) (c.take_line.ensures.none c.each-test.false).1
-    w none c.flush.ensures.machine c.flush.ensures.count)
+    w none c.flush.ensures.told c.flush.ensures.count)
     c.flush.ensures.ok c.flush.ensures.waiting
 
 pub returns-clause-write : goal.returns-clause-write
@@ -53,3 +53,10 @@ pub returns-in_err-answer_line-clause-refused_works : goal.returns-in_err-answer
 returns-in_err-answer_line-clause-refused_works g c = λ number why is.
     let passed = err_from_is_err_and c.from_residual.result c.from_residual.ensures.1 in
     c.in_err-answer_line.ensures.refused_works number why (ap Err (sym passed.2) ∙ sym passed.1 ∙ is) ∙ c.each.invariant.3
+
+pub returns-in_err-answer_line-clause-memory : goal.returns-in_err-answer_line-clause-memory
+returns-in_err-answer_line-clause-memory g c = λ is before now held first.
+    let passed = err_from_is_err_and c.from_residual.result c.from_residual.ensures.1 in
+    let told = c.in_err-answer_line.ensures.memory (ap Err (sym passed.2) ∙ sym passed.1 ∙ is) in
+    let s = c.each.invariant.0 before now held first in
+    SoFar-line_missed c.answer_line.new.writer.bytes s (c.take_line.ensures.taken c.each-test.true) c.line.ensures (told.1 s.past s.stands) told.0

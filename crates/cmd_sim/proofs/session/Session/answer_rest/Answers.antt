@@ -1,6 +1,6 @@
 use Rattle.std.proofs.Common.{Err, sym, ap, ◌∙◌}
 use Rattle.std.proofs.lemmas.Result.{err_from_is_err_and, on_ok_weaker}
-use Rattle.cmd_sim.proofs.Steps.{not_nothing, rest_refused, rest_unwritten, rest_answered, rest_unflushed, on_err_of, SoFar-near}
+use Rattle.cmd_sim.proofs.Steps.{not_nothing, rest_refused, rest_missed, rest_unwritten, rest_answered, rest_unflushed, on_err_of, SoFar-near}
 use Rattle.cmd_sim.proofs.session.Session.answer_rest.Goals as goal
 
 pub returns-in_err-answer_line-clause-refused : goal.returns-in_err-answer_line-clause-refused
@@ -43,3 +43,11 @@ pub returns-in_err-answer_line-clause-refused_works : goal.returns-in_err-answer
 returns-in_err-answer_line-clause-refused_works g c = λ number why is.
     let passed = err_from_is_err_and c.from_residual.result c.from_residual.ensures.1 in
     c.in_err-answer_line.ensures.refused_works number why (ap Err (sym passed.2) ∙ sym passed.1 ∙ is)
+
+pub returns-in_err-answer_line-clause-memory : goal.returns-in_err-answer_line-clause-memory
+returns-in_err-answer_line-clause-memory g c = λ is before now held s end.
+    let passed = err_from_is_err_and c.from_residual.result c.from_residual.ensures.1 in
+    let told = c.in_err-answer_line.ensures.memory (ap Err (sym passed.2) ∙ sym passed.1 ∙ is) in
+    let some = not_nothing c.args.lines.now.pending c.if-not-take_rest.false c.take_rest.ensures.none in
+    rest_missed c.answer_line.new.writer.bytes s some c.requires.plain end
+    (c.line.ensures ∙ c.take_rest.ensures.taken c.if-not-take_rest.false) (told.1 s.past s.stands) told.0

@@ -1,0 +1,54 @@
+//! Why a suite's line is refused.
+ghost use Rattle.std.specs.Prelude.{◌≡◌};
+ghost use Rattle.suite_lines.specs.Answers.{line_fault};
+
+use std::alloc::AllocError;
+use sup_core::EventFault;
+use thiserror::Error;
+
+/// Why a line is the text of no event of a suite. The first of these that applies is told.
+#[derive(Clone, Copy, Debug, PartialEq, Eq, Error)]
+pub enum SuiteLineFault {
+    /// A first word that is not known: the line's, or that of its event at a part.
+    #[error("UnknownEvent")]
+    UnknownEvent,
+
+    /// The number of fields is wrong, or a field that is neither a number nor a label.
+    #[error("Line")]
+    Line,
+
+    /// A number is wrong: a slot's, a life's or a process's.
+    #[error("Number")]
+    Number,
+
+    /// A label is wrong.
+    #[error("Label")]
+    Label,
+
+    /// The allocator refused the memory for the rows of a scan whose line is right.
+    #[error("OutOfMemory")]
+    OutOfMemory,
+}
+
+impl From<EventFault> for SuiteLineFault {
+    ghost from_gives = { λ fault told. told ≡ line_fault fault };
+
+    fn from(fault: EventFault) -> SuiteLineFault {
+        match fault {
+            EventFault::UnknownEvent => SuiteLineFault::UnknownEvent,
+            EventFault::Line => SuiteLineFault::Line,
+            EventFault::Number => SuiteLineFault::Number,
+            EventFault::Label => SuiteLineFault::Label,
+        }
+    }
+}
+
+impl From<AllocError> for SuiteLineFault {
+    ghost use Rattle.suite_lines.specs.declared.fault.SuiteLineFault.TheVariants.{OutOfMemory};
+
+    ghost from_gives = { λ _ told. told ≡ OutOfMemory };
+
+    fn from(_error: AllocError) -> SuiteLineFault {
+        SuiteLineFault::OutOfMemory
+    }
+}

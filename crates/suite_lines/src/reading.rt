@@ -1,0 +1,117 @@
+//! Reading a suite event's line.
+ghost use Rattle.std.specs.Prelude.{◌≡◌, true, Some, IfOk, MatchResult};
+ghost use Rattle.std.specs.Option.{option_copied};
+ghost use Rattle.sup_core.specs.Reading.{fields};
+ghost use Rattle.sup_core.specs.Fields.{fields_after};
+ghost use Rattle.suite_lines.specs.declared.event.SuiteEvent.{SuiteEvent};
+ghost use Rattle.suite_lines.specs.Text.{IsSpellable, suite_event_text};
+ghost use Rattle.suite_lines.specs.Reading.{rows_of_texts, scan_from, at_from, suite_event_from};
+ghost use Rattle.suite_lines.specs.Answers.{IsRead};
+ghost use Rattle.suite_lines.specs.Fields.{are_rows};
+
+use crate::event::{Rows, SuiteEvent};
+use crate::fault::SuiteLineFault;
+use crate::part::read_part;
+use crate::row::{own_row, read_row};
+use std::alloc::{AllocError, Allocator};
+use sup_core::{read_event, read_label, split_field};
+
+/// Whether each field left is the text of a row.
+fn are_rows(rest: Option<&[u8]>) -> bool
+    ensures { result ≡ are_rows (fields_after (option_copied rest.entry)) }
+{
+    let mut left = rest;
+    while let Some(text) = left {
+        let (field, later) = split_field(text);
+        if read_row(field).is_none() {
+            return false;
+        }
+        left = later;
+    }
+    true
+}
+
+/// The rows of the fields left, of which each is the text of a row.
+fn own_rows<A: Allocator + Clone>(alloc: A, rest: Option<&[u8]>) -> Result<Rows<A>, AllocError>
+    requires { are_rows (fields_after (option_copied rest)) ≡ true }
+    ensures { IfOk result (λ rows. rows_of_texts (fields_after (option_copied rest.entry)) ≡ Some rows) }
+{
+    let mut rows = Vec::new(alloc.clone()?);
+    let mut left = rest;
+    while let Some(text) = left {
+        let (field, later) = split_field(text);
+        let row = read_row(field).unwrap();
+        rows.push(own_row(alloc.clone()?, &row)?)?;
+        left = later;
+    }
+    Ok(Rows::from_vec(rows))
+}
+
+/// The scan of the fields left: a label, and rows.
+fn read_scan<A: Allocator + Clone>(
+    alloc: A,
+    rest: Option<&[u8]>,
+) -> Result<SuiteEvent<A>, SuiteLineFault>
+    ensures { IsRead (scan_from (fields_after (option_copied rest.entry))) result }
+{
+    let (text, rest) = split_field(rest.ok_or(SuiteLineFault::Line)?);
+    let label = read_label(text).ok_or(SuiteLineFault::Label)?;
+    if !are_rows(rest) {
+        return Err(SuiteLineFault::Line);
+    }
+    Ok(SuiteEvent::Scan(own_rows(alloc, rest)?, label))
+}
+
+/// The event at a part of the fields left: the part, and the event's line.
+#[tactic(auto, using(crate::proofs::EventTexts::at_from_line))]
+fn read_at<A: Allocator>(rest: Option<&[u8]>) -> Result<SuiteEvent<A>, SuiteLineFault>
+    ensures { IsRead (at_from (fields_after (option_copied rest.entry))) result }
+{
+    let (text, rest) = split_field(rest.ok_or(SuiteLineFault::Line)?);
+    let line = rest.ok_or(SuiteLineFault::Line)?;
+    let part = read_part(text)?;
+    let event = read_event(line)?;
+    Ok(SuiteEvent::At(part, event))
+}
+
+/// The event of a line, by its fields.
+fn tell_suite_event<A: Allocator + Clone>(
+    alloc: A,
+    line: &[u8],
+) -> Result<SuiteEvent<A>, SuiteLineFault>
+    ensures { IsRead (suite_event_from (fields line.now)) result }
+{
+    let (word, rest) = split_field(line);
+    match word {
+        b"scan" => read_scan(alloc, rest),
+        b"at" => read_at(rest),
+        _ => Err(SuiteLineFault::UnknownEvent),
+    }
+}
+
+/// The event of a suite that a line tells, without its newline. Fields are parted by one space:
+///
+/// | line | event |
+/// |---|---|
+/// | `scan LABEL ROW ..` | the folder was scanned, and held these rows, of which there may be none |
+/// | `at PART EVENT` | at this part happened what the line EVENT tells, as `sup_core::read_event` reads it |
+///
+/// PART is a slot's number, `main` or `log`, and a life's number, parted by dots. ROW is the four flags `d` (a directory),
+/// `l` (has a log), `n` (has a file `down`) and `m` (its log has one), each its letter or `-`, then a colon, and a name of
+/// at least one byte, all from `!` to `~`.
+///
+/// The first fault is told: another first word; for a scan no field of a label, a wrong label, a field that is no row's
+/// text; at a part fewer than three fields or no part, then a slot or a life that is no number of 64 bits, then the faults
+/// of the event's line. Memory is asked for once a scan's line is known to be right.
+pub fn read_suite_event<A: Allocator + Clone>(
+    alloc: A,
+    line: &[u8],
+) -> Result<SuiteEvent<A>, SuiteLineFault>
+    ensures found { IfOk result (λ event. IsSpellable event × (line.now ≡ suite_event_text event)) }
+    ensures only { (event : SuiteEvent A) → IsSpellable event → line.now ≡ suite_event_text event
+        → MatchResult result (λ read. read ≡ event) (λ why. why ≡ SuiteLineFault.OutOfMemory) }
+    // Which fault it is. Memory is asked for once the line is known to be a scan's.
+    ensures exact { IsRead (suite_event_from (fields line.now)) result }
+{
+    tell_suite_event(alloc, line)
+}
