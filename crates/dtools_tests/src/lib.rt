@@ -29,6 +29,8 @@ mod slow;
 #[cfg(test)]
 mod station;
 #[cfg(test)]
+mod suite;
+#[cfg(test)]
 mod tight;
 #[cfg(test)]
 mod trace;
