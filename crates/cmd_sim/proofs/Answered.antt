@@ -18,7 +18,6 @@ use Rattle.sup_core.proofs.Lines.{IsEvent-in_range}
 use Rattle.suite_lines.specs.declared.event.SuiteEvent.{SuiteEvent}
 use Rattle.suite_lines.specs.declared.event.SuiteEvent.TheVariants.{Scan, At}
 use Rattle.suite_lines.specs.declared.fault.SuiteLineFault.{SuiteLineFault}
-use Rattle.suite_lines.specs.declared.fault.SuiteLineFault.TheVariants as read
 use Rattle.suite_lines.specs.Text.{IsSpellable, step_lines}
 use Rattle.suite_lines.specs.Reading.{dotted, part_from, rows_of_texts, scan_of, scan_from, at_of, at_from, suite_event_from}
 use Rattle.suite_lines.specs.Answers.{line_fault, IsRead}
@@ -30,7 +29,6 @@ use Rattle.cmd_sim.specs.declared.answering.Told.{Told}
 use Rattle.cmd_sim.specs.declared.answering.Told.TheVariants as code
 use Rattle.cmd_sim.specs.declared.fault.Why.{Why}
 use Rattle.cmd_sim.specs.declared.fault.Why.TheVariants as why
-use Rattle.cmd_sim.specs.declared.fault.NoAnswer.{NoAnswer}
 use Rattle.cmd_sim.specs.declared.fault.NoAnswer.TheVariants as none
 use Rattle.cmd_sim.specs.Sim.{Past, Nothing, Service, OfSuite, Said, event_why, beginning, going_on, step_why, refused_step, stepped_unless, stepping, tells_scan, said_by, said}
 use Rattle.cmd_sim.specs.Progress.{unread, refused_or_missed, unstepped, TellsService, Stands, Says, is_suite_line}
@@ -136,9 +134,11 @@ unstepped_so suite event fault why cause is = refused (refusal suite event) faul
     unless : (r : Option Why) (why : Why) → r ≡ Some why → stepped_unless r suite event ≡ Err why
     unless (Some other) why is = let same : other ≡ why = cc is in ap Err same
     unless None why is = cc is
+
     named : (o : Option Why) (why : Why) → refused_or_missed o ≡ none.Refused why → o ≡ Some why
     named (Some other) why is = cc is
     named None why is = cc is
+
     refused : (r : Option StepFault) (fault : StepFault) (why : Why) → IsCause r fault → unstepped fault ≡ none.Refused why
         → stepped_unless (refused_step r) suite event ≡ Err why
     refused r step.NoSuchPart why cause is = unless (refused_step r) why (ap refused_step cause ∙ named (step_why step.NoSuchPart) why is)

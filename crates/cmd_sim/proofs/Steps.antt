@@ -16,7 +16,7 @@ use Rattle.tai_status.specs.Counted.{Device, Works, Tells}
 use Rattle.cmd_base.specs.Console.{Console}
 use Rattle.cmd_base.specs.Printed.{printed}
 use Rattle.cmd_sim.specs.Ends.{status_of, told_of, AnswersByStatus, SimCause}
-use Rattle.cmd_sim.specs.Sim.{begins_suite, IsOfSuite, Past, Nothing, Service, OfSuite, Said, said, said_by, answers, first_refused, Refusal, both_sides, printed_for, refused_in, ReadsNear, AnswersUpTo, AnswersWhole, AnswersBefore, AnswersPart}
+use Rattle.cmd_sim.specs.Sim.{begins_suite, IsOfSuite, Past, Nothing, Said, said, answers, first_refused, Refusal, both_sides, printed_for, refused_in, ReadsNear, AnswersUpTo, AnswersWhole, AnswersBefore, AnswersPart}
 use Rattle.cmd_sim.specs.Progress.{Answered, SoFar, text_said, is_suite_line}
 use Rattle.std.specs.Io.KnownBytes.{Appends, Consumes, Keeps, IsAtEnd}
 use Rattle.tai_status.specs.Counted.{AppendsFront}

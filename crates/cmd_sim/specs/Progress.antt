@@ -95,7 +95,8 @@ pub record SoFar {A : Type 0} (before now held holds : Option (List ℕ)) (pendi
   pub counted : count ≡ length lines
   pub cut : (more : List ℕ) → texts_of (done ++ more) ≡ lines ++ texts_of more
   pub says : (later : List (List ℕ)) → answers Nothing (lines ++ later) ≡ texts ++ answers past later
-  pub refuses : (later : List (List ℕ)) → first_refused 1 Nothing (lines ++ later) ≡ first_refused (count + 1) past later
+  pub refuses : (later : List (List ℕ))
+      → first_refused 1 Nothing (lines ++ later) ≡ first_refused (count + 1) past later
   pub text : Emits held holds [] waiting (printed texts)
   pub stands : Stands past told
   pub suite : (line : List ℕ) (later : List (List ℕ)) → is_suite_line past line ≡ true

@@ -77,10 +77,12 @@ fn show_table<W: Write, E: Write>(writer: &mut Output<W>, faults: &mut Output<E>
     }
 }
 
-/// The command `sim`: reads a begin line and event lines, and prints one answer a line. With the word
-/// `table` it prints the table of the control bytes, and other words are wrong. Answers the status: 0;
-/// 100 where a line is refused, of which the fault writer tells the number, or for wrong words; 111 for
-/// want of memory and for a fault of the reader or the writer.
+/// The command `sim`: reads lines, and prints what each is answered with. A first line of the word `scan` is the first
+/// event of a suite, and each later line is one; each is answered by one line or more. Another first line begins a
+/// service, each later line is an event of it, and each is answered by one line. With the word `table` it prints the
+/// table of the control bytes, and other words are wrong. Answers the status: 0; 100 where a line is refused, of which
+/// the fault writer tells the number, or for wrong words; 111 for want of memory and for a fault of the reader or the
+/// writer.
 pub fn run_sim<A: Allocator + Clone, D: Read, W: Write, E: Write>(
     alloc: A,
     words: &[&str],

@@ -109,7 +109,8 @@ impl From<StepFault> for NoAnswer {
             StepFault::Scan(ScanFault::Unsorted(_)) => NoAnswer::Refused(Why::Unsorted),
             StepFault::Scan(ScanFault::Twice(_)) => NoAnswer::Refused(Why::Twice),
             StepFault::Scan(ScanFault::Exhausted) => NoAnswer::Refused(Why::Exhausted),
-            StepFault::Scan(ScanFault::OutOfMemory) | StepFault::OutOfMemory => NoAnswer::OutOfMemory,
+            StepFault::Scan(ScanFault::OutOfMemory) | StepFault::OutOfMemory =>
+                NoAnswer::OutOfMemory,
         }
     }
 }

@@ -95,7 +95,11 @@ impl<A: Allocator + Clone> Session<A> {
     }
 
     /// Puts answers behind those that wait.
-    fn put_all<W: Write>(&mut self, answer: &Answer<A>, writer: &mut Output<W>) -> Result<(), SimFault>
+    fn put_all<W: Write>(
+        &mut self,
+        answer: &Answer<A>,
+        writer: &mut Output<W>,
+    ) -> Result<(), SimFault>
         ensures ok { OnOk result
             (Puts writer.old writer.new self.old.waiting self.new.waiting (printed (texts_in answer.now))) }
         ensures err { OnErr result
@@ -113,7 +117,11 @@ impl<A: Allocator + Clone> Session<A> {
     }
 
     /// Puts lines behind the answers that wait.
-    fn put_lines<W: Write>(&mut self, lines: &[String<A>], writer: &mut Output<W>) -> Result<(), SimFault>
+    fn put_lines<W: Write>(
+        &mut self,
+        lines: &[String<A>],
+        writer: &mut Output<W>,
+    ) -> Result<(), SimFault>
         ensures ok { OnOk result (Puts writer.old writer.new self.old.waiting self.new.waiting
             (printed (map (λ line. string_bytes line) lines.now))) }
         ensures err { OnErr result (WroteFront writer.old writer.new

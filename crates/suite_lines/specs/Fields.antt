@@ -1,5 +1,5 @@
--- The parts of a line, as reading goes through it: words of private functions alone. What reading a line answers is said
--- in specs/Reading and specs/Answers.
+-- The parts of a line, as reading goes through it: words of private functions alone. What reading a line answers is
+-- said in specs/Reading and specs/Answers.
 use Rattle.std.specs.Prelude.{Bool, ℕ, List, [], Option, Some, None, is_some}
 use Rattle.suite_lines.specs.Reading.{dotted, rows_of_texts}
 

@@ -96,13 +96,13 @@ fn tell_suite_event<A: Allocator + Clone>(
 /// | `scan LABEL ROW ..` | the folder was scanned, and held these rows, of which there may be none |
 /// | `at PART EVENT` | at this part happened what the line EVENT tells, as `sup_core::read_event` reads it |
 ///
-/// PART is a slot's number, `main` or `log`, and a life's number, parted by dots. ROW is the four flags `d` (a directory),
-/// `l` (has a log), `n` (has a file `down`) and `m` (its log has one), each its letter or `-`, then a colon, and a name of
-/// at least one byte, all from `!` to `~`.
+/// PART is a slot's number, `main` or `log`, and a life's number, parted by dots. ROW is the four flags `d` (a
+/// directory), `l` (has a log), `n` (has a file `down`) and `m` (its log has one), each its letter or `-`, then a colon,
+/// and a name of at least one byte, all from `!` to `~`.
 ///
 /// The first fault is told: another first word; for a scan no field of a label, a wrong label, a field that is no row's
-/// text; at a part fewer than three fields or no part, then a slot or a life that is no number of 64 bits, then the faults
-/// of the event's line. Memory is asked for once a scan's line is known to be right.
+/// text; at a part fewer than three fields or no part, then a slot or a life that is no number of 64 bits, then the
+/// faults of the event's line. Memory is asked for once a scan's line is known to be right.
 pub fn read_suite_event<A: Allocator + Clone>(
     alloc: A,
     line: &[u8],

@@ -104,10 +104,10 @@ fn push_refused<A: Allocator + Clone, B: Allocator>(
     Ok(())
 }
 
-/// The lines of what a step gives, without their newlines. At a part, its text and the answer to the event. Of a scan, how
-/// many parts it started and restarted, how many slots it dropped, and how many names it refused; then a line for each
-/// slot that went, for each part that it began, with what that asks, and for each name that it refused, as there were too
-/// many slots.
+/// The lines of what a step gives, without their newlines. At a part, its text and the answer to the event. Of a scan,
+/// how many parts it started and restarted, how many slots it dropped, and how many names it refused; then a line for
+/// each slot that went, for each part that it began, with what that asks, and for each name that it refused, as there
+/// were too many slots.
 pub fn step_text<A: Allocator + Clone, B: Allocator>(
     alloc: A,
     out: &StepOut<B>,

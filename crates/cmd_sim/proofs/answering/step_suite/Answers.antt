@@ -1,4 +1,4 @@
-use Rattle.std.proofs.Common.{◌≡◌, ◌++◌, Ok, Err, refl, sym, ap, ◌∙◌}
+use Rattle.std.proofs.Common.{◌≡◌, ◌++◌, Ok, refl, sym, ap, ◌∙◌}
 use Rattle.std.proofs.lemmas.Result.{err_from_is_err_and}
 use Rattle.sup_core.specs.Reading.{fields}
 use Rattle.std.specs.Prelude.{flat_map}
@@ -7,7 +7,6 @@ use Rattle.suite_core.specs.Suite.{outs_of}
 use Rattle.suite_lines.specs.Reading.{suite_event_from}
 use Rattle.suite_lines.proofs.EventTexts.{read_told}
 use Rattle.cmd_sim.specs.declared.fault.NoAnswer.TheVariants as none
-use Rattle.cmd_sim.specs.Progress.{unread, unstepped}
 use Rattle.cmd_sim.specs.Sim.{stepping}
 use Rattle.cmd_sim.proofs.Answered.{unread_so, unstepped_so, stepped_so, IsSuiteEvent-spellable}
 use Rattle.cmd_sim.proofs.answering.step_suite.Goals as goal

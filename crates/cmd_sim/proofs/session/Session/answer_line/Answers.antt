@@ -1,4 +1,4 @@
-use Rattle.std.proofs.Common.{◌≡◌, ◌++◌, ◌+◌, ℕ, List, Err, refl, sym, subst, ap, ◌∙◌}
+use Rattle.std.proofs.Common.{◌≡◌, ◌+◌, ℕ, List, Err, subst, ap, ◌∙◌}
 use Rattle.tai_status.specs.Counted.{Wrote, WroteFront}
 use Rattle.tai_status.proofs.Known.{AppendsFront-more}
 use Rattle.cmd_sim.specs.declared.fault.SimFault.TheVariants as fault
