@@ -1,0 +1,5 @@
+pub mod Taking
+pub mod Growing
+mod Ones
+mod Fronts
+mod Alerted
