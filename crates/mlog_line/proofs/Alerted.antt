@@ -1,12 +1,13 @@
 -- Alerts and status files, one after another.
-use Rattle.std.proofs.Common.{◌≡◌, ◌≢◌, ℕ, ◌+◌, ◌-◌, ◌<◌, ◌≤◌, ◌==◌, if◌then◌else◌, Bool, true, false, List, [], ◌∷◌, ◌++◌, length, take, drop, get_or, Option, Some, None, refl, sym, subst, ap, ◌∙◌, arith, append-nil}
-use Rattle.std.proofs.lemmas.List.{take_more, take-append-drop}
+use Rattle.std.proofs.Common.{◌≡◌, ◌≢◌, ℕ, zero, suc, ◌+◌, ◌-◌, min, replicate, ◌<◌, ◌≤◌, ◌==◌, if◌then◌else◌, Bool, true, false, List, [], ◌∷◌, ◌++◌, length, take, drop, get_or, Option, Some, None, refl, sym, subst, ap, ◌∙◌, arith, append-nil}
+use Rattle.std.proofs.lemmas.List.{take_more, take_all, take_min, take-append-drop, length-take, drop-replicate}
+use Rattle.std.proofs.Math.Seq.{take-append-add}
 use Rattle.std.proofs.lemmas.List.Concat.{flat_map-append}
 use Rattle.std.specs.List.{flat_map}
 use Rattle.std.specs.Io.KnownBytes.{Appends}
 use Rattle.tai_status.specs.Counted.{AppendsFront}
 use Rattle.tai_status.proofs.Known.{Appends-then, Appends-further, AppendsFront-more}
-use Rattle.mlog_script.specs.Selection.{flag_at, alert}
+use Rattle.mlog_script.specs.Selection.{flag_at, alert, padded}
 use Rattle.mlog_files.specs.Store.{Told, Alerts, Replaces, IsNow}
 use Rattle.mlog_line.specs.Given.{alerts_for}
 use Rattle.mlog_line.specs.Outputs.{Becomes}
@@ -26,7 +27,7 @@ Alerts-then a b c xs ys k l = record {
 
 pub Alerts-front : (a b c : Told) (xs ys : List ℕ) → Alerts a b xs → AlertsFront b c ys → AlertsFront a c (xs ++ ys)
 Alerts-front a b c xs ys k f = record {
-  here = Appends-front k.here f.here;
+  here = Appends-front a.alerts b.alerts c.alerts xs ys k.here f.here;
   files = f.files ∙ k.files;
   statuses = f.statuses ∙ k.statuses;
 }
@@ -97,9 +98,9 @@ replaced_none a content = record { here = λ file. Becomes-none (a.statuses file
 
 pub replaced_next : (a b c : Told) (flags : List Bool) (k : ℕ) (flag : Bool) (content : List ℕ) → k < length flags → flag ≡ get_or flags k flag → flag ≡ true
     → Replaced a b (take k flags) content → Replaces b c k content → Replaced a c (take (k + 1) flags) content
-replaced_next a b c flags k flag content within is yes r s = record {
+replaced_next a b c flags k flag content within is set r s = record {
   here = λ n. subst (λ (t : List (List ℕ)). Becomes (a.statuses n) (c.statuses n) t)
-      (ap (λ (t : Bool). (if flag_at (take k flags) n then content ∷ [] else []) ++ (if n == k then (if t then content ∷ [] else []) else [])) (sym yes)
+      (ap (λ (t : Bool). (if flag_at (take k flags) n then content ∷ [] else []) ++ (if n == k then (if t then content ∷ [] else []) else [])) (sym set)
       ∙ flag_next flags k flag n (content ∷ []) within is)
       (Becomes-then (a.statuses n) (b.statuses n) (c.statuses n) _ _ (r.here n) (becomes_at b c k n content (n == k) refl s));
   files = s.files ∙ r.files;
@@ -107,21 +108,47 @@ replaced_next a b c flags k flag content within is yes r s = record {
 }
 
 nothing_at : {X : Type 0} (b : Bool) (flag : Bool) (x : X) → flag ≡ false → (if b then (if flag then x ∷ [] else []) else []) ≡ []
-nothing_at true flag x no = rw no refl
-nothing_at false flag x no = refl
+nothing_at true flag x unset = rw unset refl
+nothing_at false flag x unset = refl
 
 no_more : (flags : List Bool) (k : ℕ) (flag : Bool) (content : List ℕ) (n : ℕ) → flag ≡ false
     → (if flag_at (take k flags) n then content ∷ [] else []) ++ (if n == k then (if flag then content ∷ [] else []) else [])
     ≡ (if flag_at (take k flags) n then content ∷ [] else [])
-no_more flags k flag content n no =
-    ap (λ (t : List (List ℕ)). (if flag_at (take k flags) n then content ∷ [] else []) ++ t) (nothing_at (n == k) flag content no)
+no_more flags k flag content n unset =
+    ap (λ (t : List (List ℕ)). (if flag_at (take k flags) n then content ∷ [] else []) ++ t) (nothing_at (n == k) flag content unset)
     ∙ append-nil (if flag_at (take k flags) n then content ∷ [] else [])
 
 pub replaced_not : (a b : Told) (flags : List Bool) (k : ℕ) (flag : Bool) (content : List ℕ) → k < length flags → flag ≡ get_or flags k flag → flag ≡ false
     → Replaced a b (take k flags) content → Replaced a b (take (k + 1) flags) content
-replaced_not a b flags k flag content within is no r = record {
+replaced_not a b flags k flag content within is unset r = record {
   here = λ n. subst (λ (t : List (List ℕ)). Becomes (a.statuses n) (b.statuses n) t)
-      (sym (no_more flags k flag content n no) ∙ flag_next flags k flag n (content ∷ []) within is) (r.here n);
+      (sym (no_more flags k flag content n unset) ∙ flag_next flags k flag n (content ∷ []) within is) (r.here n);
   files = r.files;
   alerts = r.alerts;
 }
+
+-- Texts
+
+min_swap : (a b : ℕ) → min a b ≡ min b a
+min_swap a b = omega arith
+
+drop_same : (n m : ℕ) → drop n (replicate {A = ℕ} m 10) ≡ replicate (m - n) 10
+drop_same n m = drop-replicate n m 10
+
+next_of : (a r : List ℕ) (n : ℕ) → length a ≡ n → take (n + 1) (a ++ 10 ∷ r) ≡ a ++ 10 ∷ []
+next_of a r n long = rw (← long) (take-append-add a (10 ∷ r) 1)
+
+-- The text of an alert, as an array has it.
+pub alert_is : (f a : List ℕ) (n : ℕ) → n ≡ min (length f) 200 → a ≡ take n f → take (n + 1) (a ++ drop n (replicate {A = ℕ} 201 10)) ≡ alert f
+alert_is f a n few is =
+    let long : length a ≡ n = let l = length-take n f in ap length is ∙ (omega (arith, l, few)) in
+    let one : 201 - n ≡ suc (200 - n) = omega (arith, few) in
+    let rest : drop n (replicate {A = ℕ} 201 10) ≡ 10 ∷ replicate (200 - n) 10 = drop_same n 201 ∙ ap (λ (m : ℕ). replicate m 10) one in
+    let front : take n f ≡ take 200 f = ap (λ (m : ℕ). take m f) few ∙ ap (λ (m : ℕ). take m f) (min_swap (length f) 200) ∙ take_min 200 f in
+    ap (λ (t : List ℕ). take (n + 1) (a ++ t)) rest ∙ next_of a (replicate (200 - n) 10) n long ∙ ap (λ (t : List ℕ). t ++ 10 ∷ []) (is ∙ front)
+
+-- The content of a status file.
+pub padded_is : (f : List ℕ) → length f ≤ 1000 → f ++ drop (length f) (replicate {A = ℕ} 1001 10) ≡ padded f
+padded_is f few =
+    let whole = take_all 1000 f few in
+    ap (λ (t : List ℕ). f ++ t) (drop_same (length f) 1001) ∙ ap (λ (t : List ℕ). t ++ replicate (1001 - length t) 10) (sym whole)

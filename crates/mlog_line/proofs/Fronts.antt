@@ -43,11 +43,11 @@ log_on : (label : Tai64n) (b c : Bool) (xs more whole : List ℕ) → c ≡ b �
 log_on label true c xs more whole same is = rw same (sym (sent-append label xs more) ∙ ap (sent label) (sym is))
 log_on label false c xs more whole same is = rw same refl
 
-alert_text : List ℕ → Chosen → List ℕ
-alert_text text c = flat_map (λ (flag : Bool). if flag then text else []) c.alerts
+alerted_as : List ℕ → Chosen → List ℕ
+alerted_as text c = flat_map (λ (flag : Bool). if flag then text else []) c.alerts
 
-file_text : ℕ → List ℕ → Chosen → List (List ℕ)
-file_text file text c = if flag_at c.files file then text ∷ [] else []
+file_as : ℕ → List ℕ → Chosen → List (List ℕ)
+file_as file text c = if flag_at c.files file then text ∷ [] else []
 
 padded_front : List ℕ → List ℕ
 padded_front front = front ++ replicate (1001 - length front) 10
@@ -55,7 +55,7 @@ padded_front front = front ++ replicate (1001 - length front) 10
 -- A line that is decided on goes on.
 pub line_goes_on : (script : List Act) (label : Tai64n) (line more : List ℕ) → 1000 ≤ length (shown script label line)
     → SameGiven (joined (of_front script label line) (to_logs (chosen_line script label line).logs label more)) (of_front script label (line ++ more))
-unfolding alert_text, file_text, padded_front
+unfolding alerted_as file_as padded_front
 line_goes_on script label line more long =
     let was = shown script label line in
     let on : shown script label (line ++ more) ≡ was ++ more = shown-append script label line more in
@@ -68,9 +68,9 @@ line_goes_on script label line more long =
       logs = λ log. log_on label (flag_at (chosen_line script label line).logs log) (flag_at (chosen_line script label (line ++ more)).logs log) was more
           (shown script label (line ++ more)) (ap (λ (c : Chosen). flag_at c.logs log) same) on;
       alerts = append-nil (to_alerts script label line)
-          ∙ sym (ap (alert_text (alert (shown script label (line ++ more)))) same ∙ ap (λ (t : List ℕ). alert_text t (chosen_line script label line)) alerted);
+          ∙ sym (ap (alerted_as (alert (shown script label (line ++ more)))) same ∙ ap (λ (t : List ℕ). alerted_as t (chosen_line script label line)) alerted);
       files = λ file. append-nil (to_file script file label line)
-          ∙ sym (ap (file_text file (padded (shown script label (line ++ more)))) same ∙ ap (λ (t : List ℕ). file_text file t (chosen_line script label line)) content);
+          ∙ sym (ap (file_as file (padded (shown script label (line ++ more)))) same ∙ ap (λ (t : List ℕ). file_as file t (chosen_line script label line)) content);
     }
 
 -- It ends.
@@ -90,14 +90,14 @@ front_chosen script label line front is few = ap (chosen script) (sym (ap (take 
 -- What is given for a front that is all of the line so far.
 pub line_is_decided : (script : List Act) (label : Tai64n) (line front : List ℕ) → front ≡ shown script label line → length front ≤ 1000
     → SameGiven (of_chosen script label front) (of_front script label line)
-unfolding alert_text, file_text
+unfolding alerted_as file_as
 line_is_decided script label line front is few =
     let same = front_chosen script label line front is few in
     record {
       logs = λ log. ap (λ (c : Chosen). if flag_at c.logs log then sent label front else []) same
           ∙ ap (λ (t : List ℕ). if flag_at (chosen_line script label line).logs log then sent label t else []) is;
-      alerts = ap (alert_text (alert front)) same ∙ ap (λ (t : List ℕ). alert_text (alert t) (chosen_line script label line)) is;
-      files = λ file. ap (file_text file (padded front)) same ∙ ap (λ (t : List ℕ). file_text file (padded t) (chosen_line script label line)) is;
+      alerts = ap (alerted_as (alert front)) same ∙ ap (λ (t : List ℕ). alerted_as (alert t) (chosen_line script label line)) is;
+      files = λ file. ap (file_as file (padded front)) same ∙ ap (λ (t : List ℕ). file_as file (padded t) (chosen_line script label line)) is;
     }
 
 -- So far

@@ -3,3 +3,5 @@ pub mod Growing
 mod Ones
 mod Fronts
 mod Alerted
+mod Deciding
+mod Handing

@@ -1,5 +1,6 @@
 -- One log of several.
-use Rattle.std.proofs.Common.{◌≡◌, ◌≢◌, ℕ, zero, suc, ◌+◌, ◌<◌, ◌≤◌, ◌==◌, if◌then◌else◌, Bool, true, false, List, [], ◌∷◌, ◌++◌, length, take, set, get_or, Option, Some, None, refl, sym, subst, ap, ◌∙◌, arith, append-nil, add-one}
+use Rattle.std.proofs.Common.{◌≡◌, ◌≢◌, ℕ, zero, suc, ◌+◌, ◌<◌, ◌≤◌, ◌==◌, if◌then◌else◌, Bool, true, false, List, [], ◌∷◌, ◌++◌, length, take, set, get_or, Option, Some, None, refl, sym, subst, ap, ◌∙◌, arith, append-nil, add-one, inl, inr}
+use Rattle.std.proofs.lemmas.Bool.{cases_lt}
 use Rattle.std.specs.Prelude.{slice_get}
 use Rattle.tai_status.specs.Label.{Tai64n}
 use Rattle.tai_status.specs.Lines.{Sent, sent}
@@ -16,8 +17,8 @@ use Rattle.tai_status.specs.Counted.{Rose}
 use Rattle.mlog_files.specs.declared.tail.LogFault.{LogFault}
 use Rattle.mlog_files.specs.declared.tail.LogFault.TheVariants as fault
 use Rattle.mlog_line.specs.Outputs.{Outputs, outputs, steps_for, after, TakesIn, TakesFront, TakesInAt, TakesFrontAt, Takes, IsSpent, Stops, SameGiven}
-use Rattle.mlog_line.specs.Desk.{IsWrittenAt, IsWrittenUpTo}
-use Rattle.mlog_line.proofs.Taking.{TakesInAt-none, TakesFrontAt-none, Becomes-none, Appends-none, AppendsFront-none, Takes-none, Takes-same, Stops-same}
+use Rattle.mlog_line.specs.Desk.{IsWrittenAt, IsWritten, IsWrittenUpTo}
+use Rattle.mlog_line.proofs.Taking.{TakesInAt-none, TakesFrontAt-none, Becomes-none, Appends-none, AppendsFront-none, Takes-none, Takes-same, Takes-then, Stops-same, Stops-then, Stops-more}
 
 pub set_here : {X : Type 0} (xs : List X) (i : ℕ) (y : X) → i < length xs → slice_get (set xs i y) i ≡ Some y
 set_here [] i y within = absurd (omega (arith, within))
@@ -34,7 +35,7 @@ set_elsewhere (x ∷ xs) (suc i) (suc j) y apart = set_elsewhere xs i j y (λ sa
 not_same : (i j : ℕ) → (i == j) ≡ false → i ≢ j
 not_same i j e = λ is. grind (arith, e, is)
 
-if_none : {X : Type 0} (b : Bool) → (if b then [] else []) ≡ [] {X}
+if_none : {X : Type 0} (b : Bool) → ◌≡◌ {A = List X} (if b then [] else []) []
 if_none true = refl
 if_none false = refl
 
@@ -189,10 +190,12 @@ pub flag_next : {X : Type 0} (flags : List Bool) (k : ℕ) (flag : Bool) (n : �
     → (if flag_at (take k flags) n then text else []) ++ (if n == k then (if flag then text else []) else []) ≡ (if flag_at (take (k + 1) flags) n then text else [])
 flag_next [] k flag n text within is = absurd (omega (arith, within))
 flag_next (f ∷ fs) zero flag zero text within is = ap (λ (b : Bool). if b then text else []) is
-flag_next (f ∷ fs) zero flag (suc n) text within is = refl
-flag_next (f ∷ fs) (suc k) flag zero text within is = rw add-one (append-nil (if f then text else []))
+flag_next (f ∷ fs) zero flag (suc n) text within is = let apart : (suc n == 0) ≡ false = grind arith in rw apart refl
+flag_next (f ∷ fs) (suc k) flag zero text within is =
+    let apart : (0 == suc k) ≡ false = grind arith in rw (add-one, apart) (append-nil (if f then text else []))
 flag_next (f ∷ fs) (suc k) flag (suc n) text within is =
-    let rest = flag_next fs k flag n text (omega (arith, within)) is in rw (add-one) (rw (add-one) at rest)
+    let rest = flag_next fs k flag n text (omega (arith, within)) is in
+    let same : (suc n == suc k) ≡ (n == k) = grind arith in rw (add-one, same) (rw (add-one) at rest)
 
 pub chosen_next : (chosen : List Bool) (k : ℕ) (flag : Bool) (label : Tai64n) (bytes : List ℕ) → k < length chosen → flag ≡ get_or chosen k flag
     → SameGiven (joined (to_logs (take k chosen) label bytes) (to_one k (if flag then sent label bytes else []))) (to_logs (take (k + 1) chosen) label bytes)
@@ -201,3 +204,51 @@ chosen_next chosen k flag label bytes within is = record {
   alerts = refl;
   files = λ file. refl;
 }
+
+pub chosen_further : (a b c : Outputs) (chosen : List Bool) (k : ℕ) (flag : Bool) (label : Tai64n) (bytes : List ℕ) → k < length chosen → flag ≡ get_or chosen k flag
+    → Takes a b (to_logs (take k chosen) label bytes) → Takes b c (to_one k (if flag then sent label bytes else []))
+    → Takes a c (to_logs (take (k + 1) chosen) label bytes)
+chosen_further a b c chosen k flag label bytes within is t u =
+    Takes-same a c (joined (to_logs (take k chosen) label bytes) (to_one k (if flag then sent label bytes else []))) (to_logs (take (k + 1) chosen) label bytes)
+    (Takes-then a b c (to_logs (take k chosen) label bytes) (to_one k (if flag then sent label bytes else [])) t u)
+    (chosen_next chosen k flag label bytes within is)
+
+-- Flags that come later change nothing at the earlier ones.
+later_flags : {X : Type 0} (flags : List Bool) (k n : ℕ) (text : List X)
+    → (rest : List X) × ((if flag_at (take k flags) n then text else []) ++ rest ≡ (if flag_at flags n then text else []))
+later_flags [] zero n text = ([], append-nil _)
+later_flags [] (suc k) n text = ([], append-nil _)
+later_flags (f ∷ fs) zero n text = (if flag_at (f ∷ fs) n then text else [], refl)
+later_flags (f ∷ fs) (suc k) zero text = ([], append-nil (if f then text else []))
+later_flags (f ∷ fs) (suc k) (suc n) text = later_flags fs k n text
+
+pub chosen_stopped : (a b c : Outputs) (chosen : List Bool) (k : ℕ) (flag : Bool) (label : Tai64n) (bytes : List ℕ) (why : LogFault) → k < length chosen
+    → flag ≡ get_or chosen k flag → Takes a b (to_logs (take k chosen) label bytes) → Stops b c (to_one k (if flag then sent label bytes else [])) why
+    → Stops a c (to_logs chosen label bytes) why
+chosen_stopped a b c chosen k flag label bytes why within is t u =
+    let upto : Stops a c (to_logs (take (k + 1) chosen) label bytes) why =
+    Stops-same a c (joined (to_logs (take k chosen) label bytes) (to_one k (if flag then sent label bytes else []))) (to_logs (take (k + 1) chosen) label bytes) why
+    (Stops-then a b c (to_logs (take k chosen) label bytes) (to_one k (if flag then sent label bytes else [])) why t u)
+    (chosen_next chosen k flag label bytes within is) in
+    let rest : Given = record { logs = λ log. (later_flags chosen (k + 1) log (sent label bytes)).0; alerts = []; files = λ file. [] } in
+    Stops-same a c (joined (to_logs (take (k + 1) chosen) label bytes) rest) (to_logs chosen label bytes) why
+    (Stops-more a c (to_logs (take (k + 1) chosen) label bytes) rest why upto)
+    (record { logs = λ log. (later_flags chosen (k + 1) log (sent label bytes)).1; alerts = refl; files = λ file. refl })
+
+past_end : (tails : List Tail) (log : ℕ) → length tails ≤ log → IsWrittenAt (slice_get tails log)
+past_end [] log past = tt
+past_end (t ∷ ts) zero past = absurd (omega (arith, past))
+past_end (t ∷ ts) (suc log) past = past_end ts log (omega (arith, past))
+
+pub all_written : (tails : List Tail) (count : ℕ) → IsWrittenUpTo count tails → length tails ≤ count → IsWritten tails
+all_written tails count upto all = λ log. elim (cases_lt log count) [ inl below ↦ upto log below | inr past ↦ past_end tails log (omega (arith, past, all)) ]
+
+same_default : (flags : List Bool) (k : ℕ) (a b : Bool) → k < length flags → get_or flags k a ≡ get_or flags k b
+same_default [] k a b within = absurd (omega (arith, within))
+same_default (f ∷ fs) zero a b within = refl
+same_default (f ∷ fs) (suc k) a b within = same_default fs k a b (omega (arith, within))
+
+pub read_flag : (flags : List Bool) (k : ℕ) → k < length flags → get_or flags k false ≡ get_or flags k (get_or flags k false)
+read_flag [] k within = absurd (omega (arith, within))
+read_flag (f ∷ fs) zero within = refl
+read_flag (f ∷ fs) (suc k) within = same_default fs k false (get_or fs k false) (omega (arith, within))

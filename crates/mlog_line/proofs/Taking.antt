@@ -2,7 +2,7 @@
 use Rattle.std.proofs.Common.{◌≡◌, ℕ, ◌+◌, ◌≤◌, List, [], ◌∷◌, ◌++◌, length, take, Option, Some, None, refl, sym, subst, ap, ◌∙◌, arith, append_assoc, append-nil, fold}
 use Rattle.std.proofs.Math.Seq.{take-append-add}
 use Rattle.std.proofs.lemmas.List.Sums.{fold-append}
-use Rattle.std.specs.Prelude.{slice_get}
+use Rattle.std.specs.Prelude.{slice_get, Result, Ok, Err, OnOk, OnErr, IfErr, IsErrOf}
 use Rattle.std.specs.Io.KnownBytes.{Appends}
 use Rattle.tai_status.specs.Counted.{AppendsFront, Rose}
 use Rattle.tai_status.specs.Lines.{Sent}
@@ -13,6 +13,7 @@ use Rattle.mlog_files.specs.Store.{Told, Reaches}
 use Rattle.mlog_files.specs.Tails.{size_of, keep_of, waiting_in, standing}
 use Rattle.mlog_files.specs.declared.tail.Tail.{Tail}
 use Rattle.mlog_files.specs.declared.tail.LogFault.{LogFault}
+use Rattle.mlog_files.specs.declared.tail.LogFault.TheVariants as fault
 use Rattle.mlog_files.proofs.Doing.{Reaches-then, front_stays, rose_since}
 use Rattle.mlog_files.proofs.Goings.{steps_on-none, standing_on-none}
 use Rattle.mlog_files.proofs.Putting.{steps_parted, stands_parted, same_files}
@@ -148,8 +149,8 @@ Becomes-none (Some a) = refl
 
 -- Alerts
 
-pub Appends-front : {a b c : Option (List ℕ)} {xs ys : List ℕ} → Appends a b xs → AppendsFront b c ys → AppendsFront a c (xs ++ ys)
-Appends-front {a} {b} {c} {xs} {ys} k f = record {
+pub Appends-front : (a b c : Option (List ℕ)) (xs ys : List ℕ) → Appends a b xs → AppendsFront b c ys → AppendsFront a c (xs ++ ys)
+Appends-front a b c xs ys k f = record {
   count = length xs + f.count;
   front = subst (λ (t : List ℕ). Appends a c t) (sym (take-append-add xs ys f.count)) (Appends-then a b c xs (take f.count ys) k f.front);
 }
@@ -192,7 +193,7 @@ pub Stops-then : (a b c : Outputs) (x y : Given) (why : LogFault) → Takes a b 
 Stops-then a b c x y why k f = record {
   logs = λ log. TakesInAt-front (slice_get a.tails log) (slice_get b.tails log) (a.told.files log) (b.told.files log) (c.told.files log)
       (x.logs log) (y.logs log) (k.logs log) (f.logs log);
-  alerts = Appends-front k.alerts f.alerts;
+  alerts = Appends-front a.told.alerts b.told.alerts c.told.alerts x.alerts y.alerts k.alerts f.alerts;
   store = λ is. rose_since a.failures b.failures c.failures k.steady (f.store is);
   spent = λ is. let s = f.spent is in record {
     log = s.log;
@@ -222,3 +223,27 @@ Stops-same a b x y why f s = record {
     spent = subst (λ (text : List Sent). IsSpent (slice_get a.tails p.log) text) (s.logs p.log) p.spent;
   };
 }
+
+-- Results
+
+pub on_ok_two : {T E P Q R : Type 0} (r : Result T E) → (P → Q → R) → OnOk r P → OnOk r Q → OnOk r R
+on_ok_two (Ok x) f p q = f p q
+on_ok_two (Err e) f p q = tt
+
+pub if_err_with : {T E D : Type 0} (r : Result T E) (P R : E → Type 0) → ((e : E) → D → P e → R e) → OnErr r D → IfErr r P → IfErr r R
+if_err_with (Ok x) P R f d p = tt
+if_err_with (Err e) P R f d p = f e d p
+
+pub if_err_weaker : {T E : Type 0} (r : Result T E) (P R : E → Type 0) → ((e : E) → P e → R e) → IfErr r P → IfErr r R
+if_err_weaker (Ok x) P R f p = tt
+if_err_weaker (Err e) P R f p = f e p
+
+err_same : (T : Type 0) (x y : LogFault) → x ≡ y → ◌≡◌ {A = Result T LogFault} (Err x) (Err y)
+err_same T x y is = cc
+
+pub stopped_by : {T D S X Y : Type 0} (r : Result T LogFault) (R : LogFault → Type 0)
+    → ((why : LogFault) → D → (why ≡ fault.Store → S) → (why ≡ fault.LabelsSpent → X) → R why)
+    → OnErr r D → (IsErrOf r fault.Store → S) → (IsErrOf r fault.LabelsSpent → X × Y) → IfErr r R
+stopped_by (Ok x) R f d store spent = tt
+stopped_by {T} (Err e) R f d store spent =
+    f e d (λ is. store (err_same T e _ is)) (λ is. (spent (err_same T e _ is)).0)

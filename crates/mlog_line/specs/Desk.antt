@@ -26,11 +26,11 @@ abbrev pub IsAt : List Act → Place → Tai64n → List ℕ → Type 0
 IsAt script place label line = IsHeldOrDecided place.decided script place.chosen place.front label line
 
 -- A place serves a script over a store that has so many logs and status files.
-pub record Serves (script : List Act) (place : Place) (logs files : ℕ) : Type 0 where
+pub record Serves (script : List Act) (place : Place) (log_count file_count : ℕ) : Type 0 where
   pub fits : Fits place.chosen script
   pub tails : length place.tails ≡ count_by is_log script
-  pub logs : count_by is_log script ≤ logs
-  pub files : count_by is_file script ≤ files
+  pub logs : count_by is_log script ≤ log_count
+  pub files : count_by is_file script ≤ file_count
 
 -- The end of a log is as its plan and the store have it.
 pub record IsOpened (plan : Plan) (files : Option Files) (tail : Tail) : Type 0 where

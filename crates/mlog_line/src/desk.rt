@@ -201,9 +201,34 @@ impl<A: Allocator + Clone> Desk<A> {
         ensures serves { Serves script.now self.new (S.logs store.new) (S.status_files store.new) }
         ensures counts { (S.logs store.new ≡ S.logs store.old) × (S.status_files store.new ≡ S.status_files store.old) }
     {
-        if !self.decided {
-            self.decide(script, store, label)?;
+        if self.decided {
+            put_chosen(&mut self.tails, self.choices.logs(), store, label, b"\n")
+        } else {
+            self.end_held(script, store, label)
         }
+    }
+
+    // Ends a line whose front is held: it is all of the line.
+    fn end_held<B: Allocator + Clone, S: LogStore>(
+        &mut self,
+        script: &Script<B>,
+        store: &mut S,
+        label: &Label,
+    ) -> Result<(), LogFault>
+        requires serves { Serves script.now self.old (S.logs store.old) (S.status_files store.old) }
+        requires held { self.old.decided ≡ false }
+        ensures grows { OnOk result ((line : List ℕ) → IsAt script.now self.old label.now line
+            → Grows (outputs self.old.tails (S.told store.old) (S.failures store.old))
+            (outputs self.new.tails (S.told store.new) (S.failures store.new))
+            (so_far script.now label.now line) (of_line script.now label.now line)) }
+        ensures stopped { IfErr result (λ why. (line : List ℕ) → IsAt script.now self.old label.now line
+            → StopsAt (outputs self.old.tails (S.told store.old) (S.failures store.old))
+            (outputs self.new.tails (S.told store.new) (S.failures store.new))
+            (so_far script.now label.now line) (of_line script.now label.now line) why) }
+        ensures serves { Serves script.now self.new (S.logs store.new) (S.status_files store.new) }
+        ensures counts { (S.logs store.new ≡ S.logs store.old) × (S.status_files store.new ≡ S.status_files store.old) }
+    {
+        self.decide(script, store, label)?;
         put_chosen(&mut self.tails, self.choices.logs(), store, label, b"\n")
     }
 

@@ -1,5 +1,5 @@
 //! The ends of the logs of a script.
-ghost use Rattle.std.specs.Prelude.{◌≡◌, ◌≤◌, ◌<◌, ◌+◌, [], min, length, count_by, sum_by, if◌then◌else◌, OnOk, IfOk, OnErr, IfErr};
+ghost use Rattle.std.specs.Prelude.{◌≡◌, ◌≤◌, ◌<◌, ◌+◌, [], length, count_by, if◌then◌else◌, OnOk, IfOk, OnErr, IfErr};
 ghost use Rattle.tai_status.specs.Lines.{sent};
 ghost use Rattle.mlog_script.specs.Script.{is_log};
 ghost use Rattle.mlog_line.specs.Given.{nothing, to_one, to_logs};
