@@ -1,7 +1,7 @@
 pub mod Taking
 pub mod Growing
-mod Ones
-mod Fronts
+pub mod Ones
+pub mod Fronts
 mod Alerted
 mod Deciding
 mod Handing
