@@ -1,10 +1,13 @@
 //! The run of a script.
-ghost use Rattle.std.specs.Prelude.{◌≡◌, ◌≤◌, None, count_by, IfOk, OnOk, IfErr, IsErrOf};
+ghost use Rattle.std.specs.Prelude.{◌≡◌, ◌≤◌, ℕ, Option, Some, None, count_by, IfOk, OnOk, IfErr, IsErrOf};
+ghost use Rattle.tai_status.specs.Label.{Tai64n};
 ghost use Rattle.tai_status.specs.Counted.{Fails, IsRead, Rose};
 ghost use Rattle.mlog_script.specs.Script.{is_log, is_file};
-ghost use Rattle.mlog_line.specs.Desk.{AreOpened, IsWritten, Serves};
-ghost use Rattle.mlog_core.specs.Run.{world, RunsAll, RunsUpTo, RunsLines, IsSpentIn};
-ghost use Rattle.mlog_core.specs.Story.{Came, Stopped, begin, came_to};
+ghost use Rattle.mlog_line.specs.Desk.{IsWritten, Serves};
+ghost use Rattle.mlog_core.specs.Scene.{scene};
+ghost use Rattle.mlog_core.specs.Run.{world, RunsAll, RunsLines, RunsUpTo};
+ghost use Rattle.mlog_core.specs.Story.{Came, Done, Halted};
+ghost use Rattle.mlog_files.specs.declared.tail.LogFault.TheVariants as log_fault;
 
 use crate::feed::{feed_block, feed_end};
 use mlog_files::{LogFault, LogStore};
@@ -43,4 +46,68 @@ pub enum RunFault {
     /// There is no greater label for an old file.
     #[error("LabelsSpent")]
     LabelsSpent,
+}
+
+/// The fault of a run whose log goes no further.
+fn fault_of(why: LogFault) -> RunFault
+    ensures store { why ≡ log_fault.Store → result ≡ RunFault.Store }
+    ensures spent { why ≡ log_fault.LabelsSpent → result ≡ RunFault.LabelsSpent }
+    ensures only_store { result ≡ RunFault.Store → why ≡ log_fault.Store }
+    ensures only_spent { result ≡ RunFault.LabelsSpent → why ≡ log_fault.LabelsSpent }
+    ensures other { (¬ (result ≡ RunFault.Read)) × (¬ (result ≡ RunFault.OutOfMemory)) }
+{
+    match why {
+        LogFault::Store => RunFault::Store,
+        LogFault::LabelsSpent => RunFault::LabelsSpent,
+    }
+}
+
+/// Reads all lines, and hands them out. It tells how many there were.
+fn run_lines<A: Allocator + Clone, B: Allocator + Clone, D: Read, S: LogStore, C: TimeSource>(
+    desk: &mut Desk<A>,
+    script: &Script<B>,
+    reader: &mut Input<D>,
+    store: &mut S,
+    clock: &mut C,
+) -> Result<u64, RunFault>
+    requires serves { Serves script.now desk.old (S.logs store.old) (S.status_files store.old) }
+    requires written { IsWritten desk.old.tails }
+    ensures done { IfOk result (λ lines. Done script.now
+        (scene None desk.old (S.told store.old) (S.failures store.old) (C.readings clock.old))
+        (scene None desk.new (S.told store.new) (S.failures store.new) (C.readings clock.new)) reader.old reader.new lines) }
+    ensures written { OnOk result (IsWritten desk.new.tails) }
+    ensures end { OnOk result (IsRead reader.new) }
+    ensures came { IsErrOf result RunFault.Read → (inside : Option Tai64n) × (lines : ℕ) × IsWritten desk.new.tails
+        × Came script.now (scene None desk.old (S.told store.old) (S.failures store.old) (C.readings clock.old))
+        (scene inside desk.new (S.told store.new) (S.failures store.new) (C.readings clock.new)) reader.old reader.new lines }
+    ensures unread { IsErrOf result RunFault.Read → Fails reader.old reader.new }
+    ensures memory { ¬ (IsErrOf result RunFault.OutOfMemory) }
+    ensures store { IsErrOf result RunFault.Store → Halted script.now
+        (scene None desk.old (S.told store.old) (S.failures store.old) (C.readings clock.old))
+        (scene None desk.new (S.told store.new) (S.failures store.new) (C.readings clock.new)) reader.old reader.new
+        log_fault.Store }
+    ensures spent { IsErrOf result RunFault.LabelsSpent → Halted script.now
+        (scene None desk.old (S.told store.old) (S.failures store.old) (C.readings clock.old))
+        (scene None desk.new (S.told store.new) (S.failures store.new) (C.readings clock.new)) reader.old reader.new
+        log_fault.LabelsSpent }
+{
+    let mut bytes = [0; BLOCK];
+    let mut inside = None;
+    let mut lines = 0;
+    'reads: loop {
+        let count = match reader.read(&mut bytes) {
+            Ok(count) => count,
+            Err(_) => return Err(RunFault::Read),
+        };
+        if count == 0 {
+            return match feed_end(desk, script, store, inside) {
+                Ok(()) => Ok(lines),
+                Err(why) => Err(fault_of(why)),
+            };
+        }
+        match feed_block(desk, script, store, clock, &mut inside, &bytes[..count]) {
+            Ok(begun) => lines += begun,
+            Err(why) => return Err(fault_of(why)),
+        }
+    }
 }
