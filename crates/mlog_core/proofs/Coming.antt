@@ -121,3 +121,7 @@ pub told_end : (script : List Act) (a b c : Scene) (r q p : Device) (m : ℕ) (w
     → Halted script a c r p told
 told_end script a b c r q p m why told is none k read same end =
     subst (λ (w : LogFault). Halted script a c r p w) is (halted_end script a b c r q p m why none k read same end)
+
+-- The same fault, of another result.
+pub fault_moved : {T U E : Type 0} (x y : E) → ◌≡◌ {A = Result T E} (Err x) (Err y) → ◌≡◌ {A = Result U E} (Err x) (Err y)
+fault_moved {T} {U} {E} x y e = ap (λ (z : E). Err z) (err_same {T = T} x y e)

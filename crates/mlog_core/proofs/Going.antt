@@ -342,11 +342,11 @@ flushed script a line i p q s t e f r bytes m same w k =
     }
 
 -- What a begun line is yet to give, at the end of the input.
-record End (script : List Act) (i : Option Tai64n) (left : List ℕ) : Type 0 where
-  rest : Given
-  whole : SameGiven (joined (given_in script i left) rest) (of_text script (labels_of i) left)
+pub record End (script : List Act) (i : Option Tai64n) (left : List ℕ) : Type 0 where
+  pub rest : Given
+  pub whole : SameGiven (joined (given_in script i left) rest) (of_text script (labels_of i) left)
 
-the_end : (script : List Act) (p : Place) (i : Option Tai64n) (left : List ℕ) → IsInLine script p i left → End script i left
+pub the_end : (script : List Act) (p : Place) (i : Option Tai64n) (left : List ℕ) → IsInLine script p i left → End script i left
 the_end script p None left is = record { rest = nothing; whole = subst (λ (t : List ℕ). SameGiven (joined nothing nothing) (of_text script [] t)) (sym is) (record { logs = λ log. refl; alerts = refl; files = λ file. refl }) }
 the_end script p (Some label) left is =
     let h = ahead script label left in record {

@@ -2,3 +2,4 @@ mod Parts
 mod Lines
 mod Going
 mod Coming
+mod Telling

@@ -9,4 +9,4 @@ mod feed;
 mod part;
 mod stream;
 
-pub use stream::{Counts, RunFault};
+pub use stream::{Counts, RunFault, run};

@@ -48,6 +48,57 @@ pub enum RunFault {
     LabelsSpent,
 }
 
+/// Reads all lines, and hands each out to the logs, alerts and status files at which the script selects it. The clock is
+/// read once for each line, at its first byte. A last line without a newline gets one in the logs.
+///
+/// All memory is taken at the beginning: `OutOfMemory` comes only where the allocator refuses a block of 32,768 bytes for
+/// each log, or a byte for each alert, log and status file, and nothing was read then. After `Read` all lines that were
+/// read whole are in their logs. After `Store` and `LabelsSpent` a front of what each log was to get is in it.
+pub fn run<A: Allocator + Clone, B: Allocator + Clone, D: Read, S: LogStore, C: TimeSource>(
+    alloc: A,
+    script: &Script<B>,
+    reader: &mut Input<D>,
+    store: &mut S,
+    clock: &mut C,
+) -> Result<Counts, RunFault>
+    // The store has the logs and status files of the script.
+    requires logs { count_by is_log script.now ≤ S.logs store.old }
+    requires files { count_by is_file script.now ≤ S.status_files store.old }
+    ensures done { IfOk result (λ counts. RunsAll script.now
+        (world reader.old (S.told store.old) (C.readings clock.old))
+        (world reader.new (S.told store.new) (C.readings clock.new)) counts) }
+    ensures end { OnOk result (IsRead reader.new) }
+    // The reader failed, and all steps of the lines that it gave are done.
+    ensures read { IsErrOf result RunFault.Read → RunsLines script.now
+        (world reader.old (S.told store.old) (C.readings clock.old))
+        (world reader.new (S.told store.new) (C.readings clock.new)) }
+    ensures unread { IsErrOf result RunFault.Read → Fails reader.old reader.new }
+    // The store failed, after a front of the steps.
+    ensures store { IsErrOf result RunFault.Store → RunsUpTo script.now
+        (world reader.old (S.told store.old) (C.readings clock.old))
+        (world reader.new (S.told store.new) (C.readings clock.new)) RunFault.Store }
+    ensures unwritten { IsErrOf result RunFault.Store → Rose (S.failures store.old) (S.failures store.new) }
+    // A log has no label for an old file.
+    ensures spent { IsErrOf result RunFault.LabelsSpent → RunsUpTo script.now
+        (world reader.old (S.told store.old) (C.readings clock.old))
+        (world reader.new (S.told store.new) (C.readings clock.new)) RunFault.LabelsSpent }
+    // There was no memory, and nothing was done.
+    ensures memory { IsErrOf result RunFault.OutOfMemory → (reader.new ≡ reader.old)
+        × (S.told store.new ≡ S.told store.old) × (C.readings clock.new ≡ C.readings clock.old) }
+{
+    let Ok(mut desk) = Desk::open(alloc, script, store) else {
+        return Err(RunFault::OutOfMemory);
+    };
+    match run_lines(&mut desk, script, reader, store, clock) {
+        Ok(lines) => Ok(Counts {
+            lines,
+            finished: desk.finished(),
+            removed: desk.removed(),
+        }),
+        Err(why) => Err(why),
+    }
+}
+
 /// The fault of a run whose log goes no further.
 fn fault_of(why: LogFault) -> RunFault
     ensures store { why ≡ log_fault.Store → result ≡ RunFault.Store }
