@@ -1,9 +1,8 @@
 -- From the beginning of the input on.
-use Rattle.std.proofs.Common.{◌≡◌, ℕ, ◌+◌, ◌<◌, ◌≤◌, List, [], ◌∷◌, ◌++◌, length, take, Option, Some, None, Result, Err, refl, sym, subst, ap, ◌∙◌, arith, append-nil, length-append}
+use Rattle.std.proofs.Common.{◌≡◌, ℕ, ◌+◌, List, [], ◌++◌, length, Option, Some, None, Result, Err, sym, subst, ap, ◌∙◌, arith, append-nil, length-append}
 use Rattle.std.specs.Io.KnownBytes.{Consumes}
 use Rattle.tai_status.specs.Label.{Tai64n}
 use Rattle.tai_status.specs.Lines.{texts_of, Gave}
-use Rattle.tai_status.specs.LineReader.{IsPlain}
 use Rattle.tai_status.specs.Counted.{Device, Gives}
 use Rattle.tai_status.proofs.Stamped.{Consumes-then, Consumes-none}
 use Rattle.tai_status.proofs.Texts.{texts_of-last}
@@ -12,10 +11,10 @@ use Rattle.mlog_script.proofs.Texts.{texts-append}
 use Rattle.mlog_files.specs.declared.tail.LogFault.{LogFault}
 use Rattle.mlog_line.specs.Desk.{Place}
 use Rattle.mlog_line.specs.Given.{Given, nothing, joined, of_text}
-use Rattle.mlog_line.specs.Outputs.{Outputs, Takes, Stops, SameGiven, Grows, StopsAt}
+use Rattle.mlog_line.specs.Outputs.{Outputs, Takes, Stops, Grows, StopsAt}
 use Rattle.mlog_line.proofs.Taking.{Takes-same, Stops-same}
 use Rattle.mlog_line.proofs.Growing.{Grows-then, Grows-same, Grows-behind, StopsAt-then, StopsAt-same, StopsAt-behind}
-use Rattle.mlog_core.specs.Scene.{Scene, scene, outputs_of, labels_of, IsInLine, IsIn, given_in, Went, WentUpTo}
+use Rattle.mlog_core.specs.Scene.{Scene, outputs_of, labels_of, IsInLine, IsIn, given_in, Went, WentUpTo}
 use Rattle.mlog_core.specs.Story.{Came, Done, Halted}
 use Rattle.mlog_core.proofs.Lines.{text_turn}
 use Rattle.mlog_core.proofs.Going.{no_bytes, Went-then, WentUpTo-then}

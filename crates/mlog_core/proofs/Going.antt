@@ -1,12 +1,12 @@
 -- Bytes that go on behind others.
-use Rattle.std.proofs.Common.{◌≡◌, ℕ, ◌+◌, ◌-◌, ◌<◌, ◌≤◌, Bool, true, false, List, [], ◌∷◌, ◌++◌, length, take, drop, Option, Some, None, refl, sym, subst, ap, ◌∙◌, arith, append_assoc, append-nil, length-append}
+use Rattle.std.proofs.Common.{◌≡◌, ℕ, ◌+◌, ◌-◌, ◌<◌, Bool, true, false, List, [], ◌∷◌, ◌++◌, length, take, drop, Option, Some, None, refl, sym, subst, ap, ◌∙◌, arith, append_assoc, append-nil, length-append}
 use Rattle.tai_status.specs.Label.{Tai64n}
 use Rattle.tai_status.specs.Lines.{texts_of, Gave}
 use Rattle.tai_status.specs.LineReader.{IsPlain}
 use Rattle.tai_status.proofs.Stamped.{Gave-then, Gave-none}
 use Rattle.tai_status.proofs.Texts.{texts_of-line}
 use Rattle.mlog_script.specs.Script.{Act}
-use Rattle.mlog_script.specs.Selection.{is_whole, Chosen}
+use Rattle.mlog_script.specs.Selection.{Chosen}
 use Rattle.mlog_script.proofs.Texts.{texts-append}
 use Rattle.mlog_files.specs.Store.{Told}
 use Rattle.mlog_files.specs.declared.tail.LogFault.{LogFault}
@@ -15,9 +15,9 @@ use Rattle.std.proofs.lemmas.List.{take_rest, take-append-drop}
 use Rattle.mlog_line.specs.Desk.{Place, IsAt, IsHeldOrDecided}
 use Rattle.mlog_line.specs.Given.{Given, nothing, joined, of_line, of_text, so_far}
 use Rattle.mlog_line.specs.Outputs.{Outputs, outputs, Takes, Stops, SameGiven, Grows, StopsAt}
-use Rattle.mlog_line.proofs.Growing.{Same-refl, Same-then, Same-sym, Same-nothing, Same-moved, Same-joined, Same-behind, Grows-none, Grows-then, Grows-same, Grows-from, Grows-behind, StopsAt-then, StopsAt-more, StopsAt-same, StopsAt-from, StopsAt-behind}
+use Rattle.mlog_line.proofs.Growing.{Same-then, Same-sym, Same-nothing, Same-moved, Same-joined, Same-behind, Grows-none, Grows-then, Grows-same, Grows-behind, StopsAt-then, StopsAt-more, StopsAt-same, StopsAt-behind}
 use Rattle.mlog_core.specs.Scene.{Scene, scene, outputs_of, labels_of, IsInLine, IsIn, given_in, Went, WentUpTo, LineOpen, LineEnded, left_of}
-use Rattle.mlog_core.proofs.Lines.{plain_both, whole_end, whole_both, cut_one, first_line, last_line, text_turn, Ahead, ahead, begun_nothing, text_line}
+use Rattle.mlog_core.proofs.Lines.{plain_both, whole_end, whole_both, cut_one, first_line, last_line, text_turn, ahead, begun_nothing, text_line}
 
 -- A line
 

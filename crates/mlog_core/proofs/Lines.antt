@@ -1,8 +1,7 @@
 -- Lines, and what they give.
-use Rattle.std.proofs.Common.{◌≡◌, ℕ, zero, suc, ◌+◌, ◌<◌, ◌≤◌, ◌==◌, nat_le, if◌then◌else◌, Bool, true, false, not, List, [], ◌∷◌, ◌++◌, length, take, drop, refl, sym, subst, ap, ◌∙◌, arith, append_assoc, append-nil, length-append}
+use Rattle.std.proofs.Common.{◌≡◌, ℕ, ◌+◌, ◌<◌, ◌==◌, nat_le, if◌then◌else◌, Bool, true, false, not, List, [], ◌∷◌, ◌++◌, length, take, drop, refl, sym, subst, ap, ◌∙◌, arith, append_assoc, append-nil, length-append}
 use Rattle.std.proofs.Math.Seq.{take-append-add, take-length}
 use Rattle.std.proofs.lemmas.List.{length-take}
-use Rattle.std.specs.List.{list_all}
 use Rattle.hex.specs.Hex.{lower_digits}
 use Rattle.hex.proofs.HexLemmas.{length-encode_with}
 use Rattle.tai_status.specs.Label.{Tai64n, label_text, packed}
@@ -11,10 +10,9 @@ use Rattle.tai_status.specs.LineReader.{IsPlain}
 use Rattle.tai_status.proofs.Texts.{texts_of-line, texts_of-last}
 use Rattle.mlog_script.specs.Script.{Act}
 use Rattle.mlog_script.specs.Selection.{stamps, shown, chosen_line, to_log, to_alerts, to_file, by_line, is_whole}
-use Rattle.mlog_script.proofs.Texts.{comes_in_turn, texts-append}
-use Rattle.mlog_line.specs.Given.{Given, nothing, joined, of_line, of_front, of_text, so_far, to_logs}
+use Rattle.mlog_script.proofs.Texts.{comes_in_turn}
+use Rattle.mlog_line.specs.Given.{Given, nothing, joined, of_line, of_text, so_far, to_logs}
 use Rattle.mlog_line.specs.Outputs.{SameGiven}
-use Rattle.mlog_line.proofs.Growing.{Same-then, Same-sym}
 use Rattle.mlog_line.proofs.Fronts.{line_ends, held_so_far}
 
 -- Plain bytes

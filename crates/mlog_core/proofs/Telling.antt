@@ -1,38 +1,38 @@
 -- What a run tells of the logs, alerts and status files.
-use Rattle.std.proofs.Common.{◌≡◌, ℕ, ◌+◌, ◌-◌, ◌^◌, min, ◌<◌, ◌≤◌, List, [], ◌∷◌, ◌++◌, length, take, map, fold, Option, Some, None, refl, sym, subst, ap, ◌∙◌, arith, append_assoc, append-nil, length-append}
+use Rattle.std.proofs.Common.{◌≡◌, ℕ, ◌+◌, ◌-◌, ◌^◌, min, List, [], ◌∷◌, ◌++◌, length, take, map, fold, Option, Some, None, refl, sym, subst, ap, ◌∙◌, arith, append-nil, length-append}
 use Rattle.std.proofs.Math.Seq.{take-append_seam}
 use Rattle.std.proofs.lemmas.Option.{slice_get-map}
 use Rattle.std.specs.Prelude.{slice_get, IfSome}
 use Rattle.std.specs.Option.{option_map}
-use Rattle.std.specs.Io.KnownBytes.{Consumes, Appends}
+use Rattle.std.specs.Io.KnownBytes.{Consumes}
 use Rattle.tai_status.specs.Label.{Tai64n}
-use Rattle.tai_status.specs.Lines.{Sent, texts_of, Gave}
+use Rattle.tai_status.specs.Lines.{Sent, Gave}
 use Rattle.tai_status.specs.LineReader.{IsPlain}
 use Rattle.tai_status.specs.Counted.{Device, AppendsFront}
 use Rattle.tai_status.proofs.Known.{AppendsFront-whole, AppendsFront-more}
 use Rattle.mlog_script.specs.Script.{Act, Plan, log_plans}
-use Rattle.mlog_script.specs.Selection.{log_text, alert_text}
+use Rattle.mlog_script.specs.Selection.{log_text}
 use Rattle.mlog_files.specs.Files.{Files, Step, append_steps}
 use Rattle.mlog_files.specs.Going.{Standing, steps_on, standing_on}
 use Rattle.mlog_files.specs.Store.{Told, Reaches}
-use Rattle.mlog_files.specs.Tails.{size_of, keep_of, waiting_in, marks_at, standing, found}
+use Rattle.mlog_files.specs.Tails.{keep_of, waiting_in, standing, found}
 use Rattle.mlog_files.specs.declared.tail.Tail.{Tail}
 use Rattle.mlog_files.specs.declared.tail.LogFault.{LogFault}
 use Rattle.mlog_files.specs.declared.tail.LogFault.TheVariants as log_fault
 use Rattle.mlog_files.proofs.Goings.{steps_on-append}
 use Rattle.mlog_line.specs.Desk.{Place, IsOpened, IsOpenedAt, AreOpened, IsWrittenAt, IsWritten, total_finished, total_removed}
-use Rattle.mlog_line.specs.Given.{Given, nothing, joined, of_text}
-use Rattle.mlog_line.specs.Outputs.{Outputs, steps_for, after, TakesIn, TakesFront, TakesInAt, TakesFrontAt, Takes, IsSpent, Stops, SameGiven, Grows}
+use Rattle.mlog_line.specs.Given.{joined, of_text}
+use Rattle.mlog_line.specs.Outputs.{steps_for, after, TakesIn, TakesInAt, TakesFrontAt, Takes, IsSpent, SameGiven}
 use Rattle.mlog_line.proofs.Taking.{Takes-same}
 use Rattle.mlog_line.proofs.Growing.{Same-then, Same-sym, Same-moved, Same-behind}
-use Rattle.mlog_core.specs.Run.{World, world, AreFound, planned_steps, log_steps, IsPlanSpent, IsEnd, all_finished, all_removed, RunsAll, ReachesFront, RunsLines, RunsUpTo}
-use Rattle.mlog_core.specs.Scene.{Scene, scene, outputs_of, labels_of, IsInLine, IsIn, given_in, Went}
+use Rattle.mlog_core.specs.Run.{world, AreFound, planned_steps, log_steps, IsPlanSpent, IsEnd, RunsAll, ReachesFront, RunsLines, RunsUpTo}
+use Rattle.mlog_core.specs.Scene.{scene, outputs_of, labels_of, IsInLine, given_in}
 use Rattle.mlog_core.specs.Story.{Came, Done, Halted}
 use Rattle.mlog_core.specs.declared.stream.Counts.{Counts}
 use Rattle.mlog_core.specs.declared.stream.RunFault.{RunFault}
 use Rattle.mlog_core.specs.declared.stream.RunFault.TheVariants as fault
 use Rattle.mlog_core.proofs.Lines.{text_turn}
-use Rattle.mlog_core.proofs.Going.{End, the_end}
+use Rattle.mlog_core.proofs.Going.{the_end}
 
 -- Where logs stood
 

@@ -1,5 +1,5 @@
 -- What a run of multilog does.
-use Rattle.std.specs.Prelude.{◌≡◌, ℕ, ◌+◌, ◌-◌, ◌^◌, ◌<◌, ◌≤◌, min, true, List, [], ◌++◌, length, take, fold, slice_get, Option, Some, None, IfSome}
+use Rattle.std.specs.Prelude.{◌≡◌, ℕ, ◌+◌, ◌-◌, ◌^◌, ◌≤◌, min, true, List, [], ◌++◌, length, take, fold, slice_get, Option, Some, None, IfSome}
 use Rattle.std.specs.Io.KnownBytes.{Appends}
 use Rattle.tai_status.specs.Label.{Tai64n}
 use Rattle.tai_status.specs.Counted.{Device, AppendsFront, Gives}

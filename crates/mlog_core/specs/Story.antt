@@ -1,5 +1,5 @@
 -- What a run has done, as the functions below it tell. No public contract speaks of it.
-use Rattle.std.specs.Prelude.{◌≡◌, ℕ, List, [], length, Option, None}
+use Rattle.std.specs.Prelude.{◌≡◌, ℕ, List, [], length}
 use Rattle.tai_status.specs.Label.{Tai64n}
 use Rattle.tai_status.specs.Lines.{texts_of, Gave}
 use Rattle.tai_status.specs.Counted.{Device, Gives}

@@ -1,4 +1,3 @@
-use Rattle.std.proofs.Common.{length}
 use Rattle.std.proofs.lemmas.Result.{err_from_is_err_and}
 use Rattle.mlog_core.proofs.Going.{line_put_stopped, line_end_stopped, line_ended}
 use Rattle.mlog_core.proofs.Lines.{not_false}

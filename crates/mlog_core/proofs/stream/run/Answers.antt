@@ -1,6 +1,6 @@
 use Rattle.std.proofs.Common.{refl}
 use Rattle.mlog_core.proofs.Coming.{fault_moved}
-use Rattle.mlog_core.proofs.Telling.{opened_written, runs_all, runs_up_to, runs_lines}
+use Rattle.mlog_core.proofs.Telling.{runs_all, runs_up_to, runs_lines}
 use Rattle.mlog_core.proofs.stream.run.Goals as goal
 
 pub returns-in-Ok-run_lines-clause-done : goal.returns-in-Ok-run_lines-clause-done

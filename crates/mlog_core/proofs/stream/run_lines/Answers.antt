@@ -1,4 +1,4 @@
-use Rattle.std.proofs.Common.{List, ℕ, take, length, ◌++◌, subst, arith, refl}
+use Rattle.std.proofs.Common.{List, ℕ, take, subst, arith, refl}
 use Rattle.std.specs.Io.KnownBytes.{Consumes}
 use Rattle.std.proofs.lemmas.Grind.{common_steps}
 use Rattle.mlog_core.proofs.Coming.{err_same, came_none, came_then, came_to_end, told_block, told_end}
