@@ -1,18 +1,16 @@
 -- Alerts and status files, one after another.
-use Rattle.std.proofs.Common.{◌≡◌, ◌≢◌, ℕ, zero, suc, ◌+◌, ◌-◌, min, replicate, ◌<◌, ◌≤◌, ◌==◌, if◌then◌else◌, Bool, true, false, List, [], ◌∷◌, ◌++◌, length, take, drop, get_or, Option, Some, None, refl, sym, subst, ap, ◌∙◌, arith, append-nil}
+use Rattle.std.proofs.Common.{◌≡◌, ◌≢◌, ℕ, suc, ◌+◌, ◌-◌, min, replicate, ◌<◌, ◌≤◌, ◌==◌, if◌then◌else◌, Bool, true, false, List, [], ◌∷◌, ◌++◌, length, take, drop, get_or, Option, Some, None, refl, sym, subst, ap, ◌∙◌, arith, append-nil}
 use Rattle.std.proofs.lemmas.List.{take_more, take_all, take_min, take-append-drop, length-take, drop-replicate}
 use Rattle.std.proofs.Math.Seq.{take-append-add}
 use Rattle.std.proofs.lemmas.List.Concat.{flat_map-append}
 use Rattle.std.specs.List.{flat_map}
-use Rattle.std.specs.Io.KnownBytes.{Appends}
-use Rattle.tai_status.specs.Counted.{AppendsFront}
 use Rattle.tai_status.proofs.Known.{Appends-then, Appends-further, AppendsFront-more}
 use Rattle.mlog_script.specs.Selection.{flag_at, alert, padded}
 use Rattle.mlog_files.specs.Store.{Told, Alerts, Replaces, IsNow}
 use Rattle.mlog_line.specs.Given.{alerts_for}
 use Rattle.mlog_line.specs.Outputs.{Becomes}
-use Rattle.mlog_line.specs.Several.{AlertsFront, Replaced, OnlyStatuses}
-use Rattle.mlog_line.proofs.Taking.{Appends-front, Appends-none, AppendsFront-none, Becomes-then, Becomes-none}
+use Rattle.mlog_line.specs.Several.{AlertsFront, Replaced}
+use Rattle.mlog_line.proofs.Taking.{Appends-front, Appends-none, Becomes-then, Becomes-none}
 use Rattle.mlog_line.proofs.Ones.{flag_next}
 
 pub Alerts-none : (a : Told) → Alerts a a []

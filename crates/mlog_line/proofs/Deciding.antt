@@ -1,5 +1,5 @@
 -- A line that is decided on: alerts, status files and logs.
-use Rattle.std.proofs.Common.{◌≡◌, ℕ, ◌≤◌, if◌then◌else◌, Bool, List, [], ◌∷◌, ◌++◌, Option, refl, sym, subst, ap, ◌∙◌, append-nil}
+use Rattle.std.proofs.Common.{◌≡◌, ℕ, ◌≤◌, if◌then◌else◌, Bool, List, [], ◌∷◌, ◌++◌, Option, refl, sym, subst, ◌∙◌, append-nil}
 use Rattle.std.specs.Prelude.{slice_get}
 use Rattle.std.specs.Io.KnownBytes.{Appends}
 use Rattle.tai_status.specs.Counted.{AppendsFront, Rose}
@@ -7,16 +7,16 @@ use Rattle.tai_status.proofs.Known.{AppendsFront-whole}
 use Rattle.tai_status.specs.Label.{Tai64n}
 use Rattle.tai_status.specs.Lines.{sent}
 use Rattle.mlog_script.specs.Script.{Act}
-use Rattle.mlog_script.specs.Selection.{Chosen, chosen, flag_at, padded}
+use Rattle.mlog_script.specs.Selection.{chosen, flag_at, padded}
 use Rattle.mlog_files.specs.Files.{Files}
 use Rattle.mlog_files.specs.Store.{Told, Alerts}
 use Rattle.mlog_files.specs.declared.tail.Tail.{Tail}
 use Rattle.mlog_files.specs.declared.tail.LogFault.{LogFault}
 use Rattle.mlog_files.specs.declared.tail.LogFault.TheVariants as fault
 use Rattle.mlog_files.proofs.Doing.{rose_since}
-use Rattle.mlog_line.specs.Given.{Given, nothing, joined, of_chosen, to_logs, alerts_for}
-use Rattle.mlog_line.specs.Outputs.{Outputs, outputs, TakesInAt, TakesFrontAt, Becomes, Takes, Stops, SameGiven}
-use Rattle.mlog_line.specs.Several.{AlertsFront, Replaced, OnlyStatuses}
+use Rattle.mlog_line.specs.Given.{Given, joined, of_chosen, to_logs, alerts_for}
+use Rattle.mlog_line.specs.Outputs.{outputs, TakesInAt, TakesFrontAt, Becomes, Takes, Stops, SameGiven}
+use Rattle.mlog_line.specs.Several.{Replaced, OnlyStatuses}
 use Rattle.mlog_line.proofs.Taking.{TakesInAt-none, TakesFrontAt-none, Becomes-none, Appends-none, Takes-then, Stops-then, Stops-same}
 
 to_alert : List ℕ → Given

@@ -1,19 +1,18 @@
 -- Fronts of lines.
-use Rattle.std.proofs.Common.{◌≡◌, ℕ, ◌+◌, ◌-◌, ◌<◌, ◌≤◌, nat_le, if◌then◌else◌, Bool, true, false, List, [], ◌∷◌, ◌++◌, length, take, drop, refl, sym, subst, ap, ◌∙◌, arith, append_assoc, append-nil, length-append}
+use Rattle.std.proofs.Common.{◌≡◌, ℕ, ◌-◌, ◌<◌, ◌≤◌, nat_le, if◌then◌else◌, Bool, true, false, List, [], ◌∷◌, ◌++◌, length, take, refl, sym, subst, ap, ◌∙◌, arith, append_assoc, append-nil, length-append}
 use Rattle.std.proofs.Math.Seq.{take-append-le}
-use Rattle.std.proofs.lemmas.List.{take_all, take-append-drop, map-append, length-take}
+use Rattle.std.proofs.lemmas.List.{take_all}
 use Rattle.tai_status.specs.Label.{Tai64n}
 use Rattle.std.specs.Prelude.{replicate}
 use Rattle.std.specs.List.{flat_map}
-use Rattle.tai_status.specs.Lines.{Sent, sent, stamp}
+use Rattle.tai_status.specs.Lines.{sent, stamp}
 use Rattle.mlog_files.proofs.Goings.{sent-append}
 use Rattle.mlog_files.specs.declared.tail.LogFault.{LogFault}
 use Rattle.mlog_script.specs.Script.{Act}
 use Rattle.mlog_script.specs.Selection.{Chosen, stamps, shown, chosen, chosen_line, flag_at, alert, padded, to_alerts, to_file}
-use Rattle.mlog_line.specs.Given.{Given, nothing, joined, of_line, of_front, of_chosen, so_far, to_logs, alerts_for}
+use Rattle.mlog_line.specs.Given.{Given, nothing, joined, of_line, of_front, of_chosen, so_far, to_logs}
 use Rattle.mlog_line.specs.Outputs.{Outputs, Takes, Stops, SameGiven, Grows, StopsAt}
-use Rattle.mlog_line.specs.Desk.{IsHeldOrDecided}
-use Rattle.mlog_line.proofs.Growing.{Same-refl, Grows-none, Grows-then, StopsAt-then, StopsAt-more}
+use Rattle.mlog_line.proofs.Growing.{Grows-none, StopsAt-more}
 
 shown_by : (b : Bool) (label : Tai64n) (line more : List ℕ)
     → (if b then stamp label ++ (line ++ more) else line ++ more) ≡ (if b then stamp label ++ line else line) ++ more

@@ -1,9 +1,9 @@
 -- Outputs on their way from the one to the other.
-use Rattle.std.proofs.Common.{◌≡◌, ℕ, List, [], ◌∷◌, ◌++◌, refl, sym, ap, ◌∙◌, append_assoc, append-nil}
+use Rattle.std.proofs.Common.{ℕ, List, ◌++◌, refl, sym, ap, ◌∙◌, append_assoc, append-nil}
 use Rattle.tai_status.specs.Lines.{Sent}
 use Rattle.mlog_files.specs.declared.tail.LogFault.{LogFault}
 use Rattle.mlog_line.specs.Given.{Given, nothing, joined}
-use Rattle.mlog_line.specs.Outputs.{Outputs, Takes, Stops, SameGiven, Grows, StopsAt}
+use Rattle.mlog_line.specs.Outputs.{Outputs, SameGiven, Grows, StopsAt}
 use Rattle.mlog_line.proofs.Taking.{Takes-then, Takes-none, Stops-then, Stops-more}
 
 pub Same-refl : (x : Given) → SameGiven x x

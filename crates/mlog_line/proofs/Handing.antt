@@ -1,15 +1,14 @@
 -- What a desk does, by its place.
-use Rattle.std.proofs.Common.{◌≡◌, ℕ, ◌+◌, ◌-◌, ◌<◌, ◌≤◌, Bool, true, false, List, [], ◌∷◌, ◌++◌, length, take, drop, refl, sym, subst, ap, ◌∙◌, arith, append_assoc, append-nil, length-append}
+use Rattle.std.proofs.Common.{◌≡◌, ℕ, ◌+◌, ◌-◌, ◌<◌, ◌≤◌, Bool, true, false, List, [], ◌∷◌, ◌++◌, length, take, drop, sym, subst, ap, ◌∙◌, arith, append_assoc, append-nil, length-append}
 use Rattle.std.proofs.lemmas.List.{take_rest, take-append-drop, length-take}
 use Rattle.tai_status.specs.Label.{Tai64n, label_text}
 use Rattle.tai_status.specs.Lines.{stamp}
 use Rattle.mlog_script.specs.Script.{Act}
 use Rattle.mlog_script.specs.Selection.{Chosen, stamps, shown, chosen, chosen_line}
-use Rattle.mlog_files.specs.Store.{Told}
 use Rattle.mlog_files.specs.declared.tail.Tail.{Tail}
 use Rattle.mlog_files.specs.declared.tail.LogFault.{LogFault}
-use Rattle.mlog_line.specs.Given.{Given, nothing, joined, of_line, of_front, of_chosen, so_far, to_logs}
-use Rattle.mlog_line.specs.Outputs.{Outputs, outputs, Takes, Stops, SameGiven, Grows, StopsAt}
+use Rattle.mlog_line.specs.Given.{Given, of_line, of_front, of_chosen, so_far, to_logs}
+use Rattle.mlog_line.specs.Outputs.{Outputs, Takes, Stops, Grows, StopsAt}
 use Rattle.mlog_line.specs.Desk.{Place, IsAt, IsHeldOrDecided}
 use Rattle.mlog_line.proofs.Growing.{Grows-then, StopsAt-then, StopsAt-more}
 use Rattle.mlog_line.proofs.Fronts.{shown-append, front_chosen, same_chosen, line_goes_on, held_on, decides_at, decides_stopped, goes_at, stops_at, long_on, decided_so_far, decided_goes, decided_stops, ends_at, end_stops, end_undecided}
@@ -196,7 +195,7 @@ pub front_is : (front held bytes now inside : List ℕ) → held ≡ front → i
 front_is front held bytes now inside is same within many made = (
   made ∙ ap (λ (t : List ℕ). t ++ take (1000 - length held) bytes) same,
   (let e = ap length is in let s = ap length same in let m = ap length made in let l = length-append inside (take (1000 - length held) bytes) in
-  let t = length-take (1000 - length held) bytes in omega (arith, e, s, m, l, t, within, many)),
+      let t = length-take (1000 - length held) bytes in omega (arith, e, s, m, l, t, within, many)),
 )
 
 pub parts_are : (n : ℕ) (bytes : List ℕ) → take n bytes ++ take (length bytes - n) (drop n bytes) ≡ bytes

@@ -11,7 +11,6 @@ use Rattle.mlog_files.specs.Store.{Told, Reaches, Does, DoesFront, Goes}
 use Rattle.mlog_files.specs.Tails.{size_of, keep_of, waiting_in, standing, steps_at, after_at}
 use Rattle.mlog_files.specs.declared.tail.Tail.{Tail}
 use Rattle.mlog_files.proofs.Goings.{steps_on-none, standing_on-none}
-use Rattle.mlog_files.proofs.Putting.{same_files}
 use Rattle.mlog_line.specs.Given.{Given, nothing, joined, to_one, to_logs}
 use Rattle.tai_status.specs.Counted.{Rose}
 use Rattle.mlog_files.specs.declared.tail.LogFault.{LogFault}

@@ -1,15 +1,15 @@
 -- Outputs that are given one thing after another.
-use Rattle.std.proofs.Common.{◌≡◌, ℕ, ◌+◌, ◌≤◌, List, [], ◌∷◌, ◌++◌, length, take, Option, Some, None, refl, sym, subst, ap, ◌∙◌, arith, append_assoc, append-nil, fold}
+use Rattle.std.proofs.Common.{◌≡◌, ℕ, ◌+◌, List, [], ◌++◌, length, take, Option, Some, None, refl, sym, subst, ap, ◌∙◌, arith, append_assoc, append-nil, fold}
 use Rattle.std.proofs.Math.Seq.{take-append-add}
 use Rattle.std.proofs.lemmas.List.Sums.{fold-append}
 use Rattle.std.specs.Prelude.{slice_get, Result, Ok, Err, OnOk, OnErr, IfErr, IsErrOf}
 use Rattle.std.specs.Io.KnownBytes.{Appends}
-use Rattle.tai_status.specs.Counted.{AppendsFront, Rose}
+use Rattle.tai_status.specs.Counted.{AppendsFront}
 use Rattle.tai_status.specs.Lines.{Sent}
 use Rattle.tai_status.proofs.Known.{Appends-then, AppendsFront-more}
 use Rattle.mlog_files.specs.Files.{Files, Step, append_steps}
 use Rattle.mlog_files.specs.Going.{Standing, steps_on, standing_on}
-use Rattle.mlog_files.specs.Store.{Told, Reaches}
+use Rattle.mlog_files.specs.Store.{Reaches}
 use Rattle.mlog_files.specs.Tails.{size_of, keep_of, waiting_in, standing}
 use Rattle.mlog_files.specs.declared.tail.Tail.{Tail}
 use Rattle.mlog_files.specs.declared.tail.LogFault.{LogFault}
@@ -18,7 +18,7 @@ use Rattle.mlog_files.proofs.Doing.{Reaches-then, front_stays, rose_since}
 use Rattle.mlog_files.proofs.Goings.{steps_on-none, standing_on-none}
 use Rattle.mlog_files.proofs.Putting.{steps_parted, stands_parted, same_files}
 use Rattle.mlog_line.specs.Given.{Given, nothing, joined}
-use Rattle.mlog_line.specs.Outputs.{Outputs, steps_for, after, TakesIn, TakesFront, TakesInAt, TakesFrontAt, Becomes, Takes, IsSpent, Spends, Stops, SameGiven}
+use Rattle.mlog_line.specs.Outputs.{Outputs, steps_for, after, TakesIn, TakesFront, TakesInAt, TakesFrontAt, Becomes, Takes, IsSpent, Stops, SameGiven}
 
 -- One log
 

@@ -144,7 +144,13 @@ impl<A: Allocator + Clone> Desk<A> {
         }
         self.held.push(&bytes[..room]);
         self.decide(script, store, label)?;
-        put_chosen(&mut self.tails, self.choices.logs(), store, label, &bytes[room..])
+        put_chosen(
+            &mut self.tails,
+            self.choices.logs(),
+            store,
+            label,
+            &bytes[room..],
+        )
     }
 
     // Decides where the line with the held front is selected: it is alerted, put into status files and into logs.

@@ -1,6 +1,5 @@
-use Rattle.std.proofs.Common.{ℕ, List, subst, ◌≡◌, take}
+use Rattle.std.proofs.Common.{ℕ, List, subst}
 use Rattle.std.proofs.lemmas.Result.{on_ok_weaker, on_err_weaker}
-use Rattle.mlog_script.specs.Selection.{alert}
 use Rattle.mlog_files.specs.Store.{Alerts}
 use Rattle.mlog_line.specs.Several.{AlertsFront}
 use Rattle.mlog_line.proofs.Alerted.{alert_is}

@@ -1,8 +1,7 @@
-use Rattle.std.proofs.Common.{arith, length}
+use Rattle.std.proofs.Common.{arith}
 use Rattle.std.proofs.lemmas.Grind.{common_steps}
 use Rattle.std.proofs.lemmas.Result.{err_from_is_err_and}
 use Rattle.mlog_line.specs.Given.{nothing}
-use Rattle.mlog_line.specs.Outputs.{outputs}
 use Rattle.mlog_line.proofs.Taking.{Takes-then, Stops-then}
 use Rattle.mlog_line.proofs.Ones.{all_written}
 use Rattle.mlog_line.proofs.logs.flush_all.Goals as goal

@@ -1,4 +1,4 @@
-use Rattle.std.proofs.Common.{◌≡◌, ◌≤◌, ◌<◌, ◌-◌, ℕ, length, count_by}
+use Rattle.std.proofs.Common.{◌≤◌, ◌<◌, ◌-◌, ℕ, length, count_by}
 use Rattle.std.specs.Prelude.{slice_get}
 use Rattle.mlog_script.specs.Script.{is_log, log_plans}
 use Rattle.mlog_line.specs.Desk.{IsOpenedAt}

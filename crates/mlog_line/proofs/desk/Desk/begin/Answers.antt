@@ -1,5 +1,5 @@
-use Rattle.std.proofs.Common.{rules, arith}
-use Rattle.std.proofs.Common.{ap, length, ◌∙◌, List, ℕ, ◌++◌, ◌∷◌, [], sym}
+use Rattle.std.proofs.Common.{rules}
+use Rattle.std.proofs.Common.{ap, ◌∙◌, List, ℕ, ◌++◌, ◌∷◌, [], sym}
 use Rattle.mlog_line.proofs.Handing.{stamped_front}
 use Rattle.mlog_line.proofs.desk.Desk.begin.Goals as goal
 

@@ -1,5 +1,4 @@
-use Rattle.std.proofs.Common.{ap, ◌∙◌, List, refl}
-use Rattle.std.specs.Prelude.{ℕ}
+use Rattle.std.proofs.Common.{ap, ◌∙◌}
 use Rattle.mlog_script.specs.Selection.{Chosen, chosen}
 use Rattle.mlog_line.specs.Desk.{Place}
 use Rattle.mlog_line.proofs.Taking.{if_err_weaker}

@@ -1,4 +1,4 @@
-use Rattle.std.proofs.Common.{ap, ◌∙◌, sym, Bool, List, true, ◌≡◌, refl}
+use Rattle.std.proofs.Common.{ap, ◌∙◌}
 use Rattle.std.proofs.lemmas.Result.{on_ok_weaker, err_from_is_err_and}
 use Rattle.mlog_line.specs.Desk.{Place}
 use Rattle.mlog_line.specs.Outputs.{outputs}

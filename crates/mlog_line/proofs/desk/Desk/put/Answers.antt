@@ -1,6 +1,5 @@
-use Rattle.std.proofs.Common.{ap, ◌∙◌, sym, Bool, List, true, ◌≡◌, refl}
+use Rattle.std.proofs.Common.{ap, ◌∙◌, sym, true, ◌≡◌}
 use Rattle.std.proofs.lemmas.Result.{on_ok_weaker}
-use Rattle.mlog_script.specs.Selection.{Chosen}
 use Rattle.mlog_line.specs.Desk.{Place}
 use Rattle.mlog_line.specs.Outputs.{outputs}
 use Rattle.mlog_line.proofs.Taking.{if_err_weaker}
