@@ -13,7 +13,7 @@ pub files_after-append : (a b : List Step) (files : Files) → files_after (a ++
 files_after-append [] b files = refl
 files_after-append (step ∷ a) b files = files_after-append a b (step_files step files)
 
-Reaches-then : (o p q : Option Files) (a b : List Step) → Reaches o p a → Reaches p q b → Reaches o q (a ++ b)
+pub Reaches-then : (o p q : Option Files) (a b : List Step) → Reaches o p a → Reaches p q b → Reaches o q (a ++ b)
 Reaches-then None None None a b k l = tt
 Reaches-then None None (Some q) a b k l = absurd l
 Reaches-then None (Some p) q a b k l = absurd k
@@ -40,7 +40,7 @@ Does-front {o} {p} {q} {log} {a} b d e = record {
 pub Does-none : {o p q : Told} {log : ℕ} {a : List Step} (b : List Step) → Does o p log a → Does p q log [] → DoesFront o q log (a ++ b)
 Does-none {o} {p} {q} {log} {a} b d e = Does-front b d (record { count = 0; front = e })
 
-front_stays : (a b : List Step) (n : ℕ) → take n a ≡ take (length (take n a)) (a ++ b)
+pub front_stays : (a b : List Step) (n : ℕ) → take n a ≡ take (length (take n a)) (a ++ b)
 front_stays a b n =
     sym (ap (take (length (take n a))) (ap (λ (t : List Step). t ++ b) (sym (take-append-drop n a)) ∙ append_assoc (take n a) (drop n a) b)
     ∙ take-append_seam (take n a) (drop n a ++ b))

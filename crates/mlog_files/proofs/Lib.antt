@@ -1,6 +1,6 @@
 mod Places
-mod Doing
-mod Goings
-mod Putting
+pub mod Doing
+pub mod Goings
+pub mod Putting
 mod Cutting
 mod Kept

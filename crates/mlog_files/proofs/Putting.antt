@@ -252,7 +252,7 @@ put_spent {o} {p} {q} {log} {waited} {waits} size keep size' keep' from to readi
       (sym (steps_parted size keep size' keep' from (Some to) _ _ _ a b (sent-rest reading bytes at) is)) (Goes-does _ g h),
 )
 
-same_files : (files : Option Files) → Reaches files files []
+pub same_files : (files : Option Files) → Reaches files files []
 same_files None = tt
 same_files (Some files) = refl
 

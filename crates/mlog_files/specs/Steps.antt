@@ -1,13 +1,20 @@
 -- What a text does to the files of a log: the names of old files, the removals, the steps of a cut text.
-use Rattle.std.specs.Prelude.{ℕ, ◌+◌, ◌==◌, nat_le, Bool, ◌&&◌, if◌then◌else◌, List, [], ◌∷◌, ◌++◌, Option, Some, None}
+use Rattle.std.specs.Prelude.{ℕ, ◌+◌, ◌-◌, ◌^◌, min, ◌==◌, nat_le, Bool, ◌&&◌, if◌then◌else◌, List, [], ◌∷◌, ◌++◌, Option, Some, None}
 use Rattle.tai_status.specs.Label.{Tai64n, greatest, is_earlier, plus_nano}
 use Rattle.tai_status.specs.Lines.{Sent}
 use Rattle.mlog_files.specs.Files.{Step, Finish, Remove, appends}
 
--- the greatest label of an old file that was given or found, and how many old files there are
+-- The greatest label of an old file that was given or found; how many old files there are; and how many were finished
+-- and removed since the log was opened. These two counts stop at 2^64 - 1.
 pub record Marks : Type 0 where
   pub last : Option Tai64n
   pub kept : ℕ
+  pub finished : ℕ
+  pub removed : ℕ
+
+-- one more, up to where a count stops
+abbrev pub one_more : ℕ → ℕ
+one_more count = min (2 ^ 64 - 1) (count + 1)
 
 abbrev pub is_greatest : Tai64n → Bool
 is_greatest label = (label.sec == greatest.sec) && (label.nano == greatest.nano)
@@ -27,6 +34,8 @@ abbrev pub marks_after : ℕ → Marks → Tai64n → Marks
 marks_after keep marks label = record {
   last = Some label;
   kept = if nat_le keep (marks.kept + 1) then marks.kept else marks.kept + 1;
+  finished = one_more marks.finished;
+  removed = if nat_le keep (marks.kept + 1) then one_more marks.removed else marks.removed;
 }
 
 -- the reading of the last byte

@@ -20,9 +20,14 @@ keep_of tail = tail.keep
 abbrev pub waiting_in : Tail → List ℕ
 waiting_in tail = tail.waiting
 
--- the greatest label of an old file, and how many there are
+-- the greatest label of an old file, how many there are, and how many were finished and removed
 abbrev pub marks_at : Tail → Marks
-marks_at tail = record { last = tail.last; kept = tail.kept }
+marks_at tail = record {
+  last = tail.last;
+  kept = tail.kept;
+  finished = tail.finished;
+  removed = tail.removed;
+}
 
 -- how many bytes the current file has, those that wait among them, and the marks
 abbrev pub standing : Tail → Standing
@@ -32,7 +37,7 @@ standing tail = record { count = tail.count; marks = marks_at tail }
 abbrev pub found : Files → Standing
 found files = record {
   count = length files.current;
-  marks = record { last = greatest_label files.olds; kept = length files.olds };
+  marks = record { last = greatest_label files.olds; kept = length files.olds; finished = 0; removed = 0 };
 }
 
 -- the steps for bytes of a line with this reading

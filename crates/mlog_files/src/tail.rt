@@ -22,7 +22,7 @@ pub enum LogFault {
 }
 
 /// How far a log has come: how many bytes its current file has, those that wait in memory among them, how many old
-/// files there are, and the greatest label of one.
+/// files there are, the greatest label of one, and how many were finished and removed.
 #[derive(Drop)]
 pub struct Tail {
     size: usize,
@@ -30,6 +30,8 @@ pub struct Tail {
     count: usize,
     kept: u64,
     last: Option<Label>,
+    finished: u64,
+    removed: u64,
     waiting: Block,
     ghost sized: { 2000 ≤ size },
     ghost keeps: { 2 ≤ keep },
@@ -128,8 +130,24 @@ impl Tail {
             count: store.length(log) as usize,
             kept: store.old_count(log),
             last: store.last_label(log),
+            finished: 0,
+            removed: 0,
             waiting: Block::new(),
         }
+    }
+
+    /// How many old files were finished since the log was opened. The count stops at `u64::MAX`.
+    pub fn finished(&self) -> u64
+        ensures { result ≡ (marks_at self.now).finished }
+    {
+        self.finished
+    }
+
+    /// How many old files were removed since the log was opened. The count stops at `u64::MAX`.
+    pub fn removed(&self) -> u64
+        ensures { result ≡ (marks_at self.now).removed }
+    {
+        self.removed
     }
 
     // Finishes the current file, and removes an old one where there are as many as are kept.
@@ -152,8 +170,10 @@ impl Tail {
         ensures counts { (S.logs store.new ≡ S.logs store.old) × (S.status_files store.new ≡ S.status_files store.old) }
     {
         store.finish(log, &label)?;
+        self.finished = self.finished.saturating_add(1);
         if self.kept >= self.keep - 1 {
             store.remove_smallest(log)?;
+            self.removed = self.removed.saturating_add(1);
         } else {
             self.kept += 1;
         }

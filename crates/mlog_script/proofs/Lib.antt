@@ -1,7 +1,8 @@
 mod Choosing
 mod Faults
+pub mod Limits
 mod Maps
 mod Numbers
 mod Placed
 mod Plans
-mod Texts
+pub mod Texts

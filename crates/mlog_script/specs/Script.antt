@@ -157,6 +157,12 @@ abbrev pub keep_set : Act → Option ℕ
 keep_set (Keep n) = Some n
 keep_set act = None
 
+-- whether an action's number is within its limits, as every word's is
+abbrev pub is_within_limits : Act → Bool
+is_within_limits (Size n) = nat_le 4096 n
+is_within_limits (Keep n) = nat_le 2 n
+is_within_limits act = true
+
 -- the size of a log behind these actions: the last that they set, or 99999
 abbrev pub size_after : List Act → ℕ
 size_after acts = unwrap_or (last_given size_set acts) 99999

@@ -1,6 +1,6 @@
-ghost use Rattle.std.specs.Prelude.{◌≡◌, ◌<◌, ◌≤◌, ◌↔◌, Ok, length, map, count_by, slice_get, option_copied, IfOk, IfErr, IsErrOf, IsSome, MatchOption};
-ghost use Rattle.std.specs.List.{list_any};
-ghost use Rattle.mlog_script.specs.Script.{texts, said, first_fault, is_stamp, is_alert, is_pattern, is_log, is_file, log_plans, file_paths};
+ghost use Rattle.std.specs.Prelude.{◌≡◌, ◌<◌, ◌≤◌, ◌↔◌, Ok, true, length, map, count_by, slice_get, option_copied, IfOk, IfErr, IsErrOf, IfSome, IsSome, MatchOption};
+ghost use Rattle.std.specs.List.{list_any, list_all};
+ghost use Rattle.mlog_script.specs.Script.{texts, said, first_fault, is_stamp, is_alert, is_pattern, is_log, is_file, is_within_limits, log_plans, file_paths};
 ghost use Rattle.mlog_script.specs.Selection.{stamps};
 ghost use Rattle.mlog_script.specs.Action.{act};
 
@@ -19,13 +19,16 @@ pub struct Script<A: Allocator + Clone = Global> {
 }
 
 impl<A: Allocator + Clone> Model for Script<A> {
-    ghost use Rattle.std.specs.Prelude.{List, map};
-    ghost use Rattle.mlog_script.specs.Script.{Act};
+    ghost use Rattle.std.specs.Prelude.{◌≡◌, true, List, map};
+    ghost use Rattle.std.specs.List.{list_all};
+    ghost use Rattle.mlog_script.specs.Script.{Act, is_within_limits};
     ghost use Rattle.mlog_script.specs.Action.{act};
 
     ghost Value = { List Act };
 
     ghost view = { λ script. map act script.actions.items };
+
+    ghost invariant = { λ script. list_all is_within_limits (map act script.actions.items) ≡ true };
 }
 
 impl<A: Allocator + Clone> Script<A> {
@@ -49,7 +52,8 @@ impl<A: Allocator + Clone> Script<A> {
 
     /// The actions, in order.
     pub(crate) fn actions(&self) -> &[Action<A>]
-        ensures { map act result.now ≡ self.now }
+        ensures actions { map act result.now ≡ self.now }
+        ensures limits { list_all is_within_limits self.now ≡ true }
     {
         self.actions.as_slice()
     }
@@ -89,10 +93,12 @@ impl<A: Allocator + Clone> Script<A> {
         count_files(&self.actions)
     }
 
-    /// What the script asks of the log of this number: `Some` for each number below [`Script::logs`].
+    /// What the script asks of the log of this number: `Some` for each number below [`Script::logs`]. Its size is at least
+    /// 4096, and it keeps at least 2 old files.
     pub fn log(&self, log: usize) -> Option<LogPlan<'_>>
         ensures plan { result ≡ slice_get (log_plans self.now) log }
         ensures there { IsSome result ↔ log < count_by is_log self.now }
+        ensures limits { IfSome result (λ plan. (4096 ≤ plan.size) × (2 ≤ plan.keep)) }
     {
         log_plan(self.actions(), log)
     }

@@ -6,4 +6,4 @@ use Rattle.mlog_script.proofs.Maps.{list_any-map}
 use Rattle.mlog_script.proofs.script.Script.has_patterns.Goals as goal
 
 pub returns : goal.returns
-returns g c = c.any_pattern.ensures ∙ sym (list_any-map is_pattern act c.actions.result.now) ∙ ap (list_any is_pattern) c.actions.ensures
+returns g c = c.any_pattern.ensures ∙ sym (list_any-map is_pattern act c.actions.result.now) ∙ ap (list_any is_pattern) c.actions.ensures.actions

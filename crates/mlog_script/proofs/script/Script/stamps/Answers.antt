@@ -6,4 +6,4 @@ use Rattle.mlog_script.proofs.Maps.{list_any-map}
 use Rattle.mlog_script.proofs.script.Script.stamps.Goals as goal
 
 pub returns : goal.returns
-returns g c = c.any_stamp.ensures ∙ sym (list_any-map is_stamp act c.actions.result.now) ∙ ap (list_any is_stamp) c.actions.ensures
+returns g c = c.any_stamp.ensures ∙ sym (list_any-map is_stamp act c.actions.result.now) ∙ ap (list_any is_stamp) c.actions.ensures.actions

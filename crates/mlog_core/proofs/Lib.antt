@@ -1,0 +1,5 @@
+mod Parts
+mod Lines
+mod Going
+mod Coming
+mod Telling

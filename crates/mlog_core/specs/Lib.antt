@@ -1,0 +1,3 @@
+pub mod Scene
+pub mod Run
+pub mod Story

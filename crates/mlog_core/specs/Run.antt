@@ -1,0 +1,118 @@
+-- What a run of multilog does.
+use Rattle.std.specs.Prelude.{◌≡◌, ℕ, ◌+◌, ◌-◌, ◌^◌, ◌≤◌, min, true, List, [], ◌++◌, length, take, fold, slice_get, Option, Some, None, IfSome}
+use Rattle.std.specs.Io.KnownBytes.{Appends}
+use Rattle.tai_status.specs.Label.{Tai64n}
+use Rattle.tai_status.specs.Counted.{Device, AppendsFront, Gives}
+use Rattle.tai_status.specs.Lines.{Sent, texts_of, Gave}
+use Rattle.tai_status.specs.LineReader.{IsPlain}
+use Rattle.mlog_script.specs.Script.{Act, Plan, log_plans}
+use Rattle.mlog_script.specs.Selection.{log_text, alert_text, file_contents, is_whole}
+use Rattle.mlog_files.specs.Files.{Files, Step}
+use Rattle.mlog_files.specs.Going.{Standing, steps_on, standing_on}
+use Rattle.mlog_files.specs.Store.{Told, Reaches}
+use Rattle.mlog_files.specs.Tails.{found}
+use Rattle.mlog_line.specs.Outputs.{Becomes}
+use Rattle.mlog_core.specs.declared.stream.Counts.{Counts}
+use Rattle.mlog_core.specs.declared.stream.RunFault.{RunFault}
+use Rattle.mlog_core.specs.declared.stream.RunFault.TheVariants as fault
+
+-- What a run reads, writes and asks: the reader, what the store tells, and what the clock gave.
+pub record World : Type 0 where
+  pub reader : Device
+  pub told : Told
+  pub readings : Option (List Tai64n)
+
+abbrev pub world : Device → Told → Option (List Tai64n) → World
+world reader told readings = record { reader = reader; told = told; readings = readings }
+
+-- where each log stood when it was opened: as its files are, where they are told
+abbrev pub AreFound : Told → (ℕ → Standing) → Type 0
+AreFound told stood = (log : ℕ) → IfSome (told.files log) (λ files. stood log ≡ found files)
+
+-- the steps of a log that a plan asks for, for a text
+abbrev pub planned_steps : Option Plan → Standing → List Sent → List Step
+planned_steps None stood text = []
+planned_steps (Some plan) stood text = steps_on plan.size plan.keep (Some stood) text
+
+-- the steps of a log for the lines of an input, which have these labels
+abbrev pub log_steps : List Act → (ℕ → Standing) → List Tai64n → List ℕ → ℕ → List Step
+log_steps script stood labels bytes log =
+    planned_steps (slice_get (log_plans script) log) (stood log) (log_text script log labels bytes)
+
+-- where such a log goes no further, as there is no label for an old file
+abbrev pub IsPlanSpent : Option Plan → Standing → List Sent → Type 0
+IsPlanSpent None stood text = ⊥
+IsPlanSpent (Some plan) stood text = standing_on plan.size plan.keep (Some stood) text ≡ None
+
+-- where such a log stands at the end
+abbrev pub IsEnd : Option Plan → Standing → List Sent → Option Standing → Type 0
+IsEnd None stood text end = end ≡ None
+IsEnd (Some plan) stood text end = standing_on plan.size plan.keep (Some stood) text ≡ end
+
+-- How many files all logs have finished, and removed, by where each stands at the end. The counts stop at 2^64 - 1.
+abbrev pub all_finished : List Standing → ℕ
+all_finished ends = fold (λ total end. min (2 ^ 64 - 1) (total + end.marks.finished)) 0 ends
+
+abbrev pub all_removed : List Standing → ℕ
+all_removed ends = fold (λ total end. min (2 ^ 64 - 1) (total + end.marks.removed)) 0 ends
+
+-- All the input was handed out: each log's files went through the steps of its text, the alerts were alerted, and each
+-- status file has its last content. There was one reading of the clock for each line.
+pub record RunsAll (script : List Act) (old new : World) (counts : Counts) : Type 0 where
+  pub bytes : List ℕ
+  pub labels : List Tai64n
+  pub stood : ℕ → Standing
+  pub ends : List Standing
+  pub read : Gives old.reader new.reader bytes
+  pub gave : Gave old.readings new.readings labels
+  pub each : length labels ≡ length (texts_of bytes)
+  pub are_found : AreFound old.told stood
+  pub logs : (log : ℕ)
+      → Reaches (old.told.files log) (new.told.files log) (log_steps script stood labels bytes log)
+  pub alerts : Appends old.told.alerts new.told.alerts (alert_text script labels bytes)
+  pub files : (file : ℕ) → Becomes (old.told.statuses file) (new.told.statuses file)
+      (file_contents script file labels bytes)
+  pub lines : counts.lines ≡ length (texts_of bytes)
+  pub are_ends : (log : ℕ)
+      → IsEnd (slice_get (log_plans script) log) (stood log) (log_text script log labels bytes) (slice_get ends log)
+  pub finished : counts.finished ≡ all_finished ends
+  pub removed : counts.removed ≡ all_removed ends
+
+-- The files of a log went through a front of some steps, and at least so many of them.
+pub record ReachesFront (old new : Option Files) (least : ℕ) (steps : List Step) : Type 0 where
+  pub count : ℕ
+  pub enough : least ≤ count
+  pub reaches : Reaches old new (take count steps)
+
+-- The reader failed. What it gave is whole lines and the front of a last one. All steps of the lines are done, and
+-- perhaps some of the front.
+pub record RunsLines (script : List Act) (old new : World) : Type 0 where
+  pub lines : List ℕ
+  pub front : List ℕ
+  pub labels : List Tai64n
+  pub more : List Tai64n
+  pub stood : ℕ → Standing
+  pub read : Gives old.reader new.reader (lines ++ front)
+  pub gave : Gave old.readings new.readings (labels ++ more)
+  pub whole : is_whole lines ≡ true
+  pub plain : IsPlain front
+  pub each : length labels ≡ length (texts_of lines)
+  pub are_found : AreFound old.told stood
+  pub logs : (log : ℕ) → ReachesFront (old.told.files log) (new.told.files log)
+      (length (log_steps script stood labels lines log)) (log_steps script stood (labels ++ more) (lines ++ front) log)
+  pub alerts : AppendsFront old.told.alerts new.told.alerts (alert_text script (labels ++ more) (lines ++ front))
+
+-- The store failed, or there was no label for an old file: a front of the steps of each log is done, and a front of
+-- the alerts was alerted.
+pub record RunsUpTo (script : List Act) (old new : World) (why : RunFault) : Type 0 where
+  pub bytes : List ℕ
+  pub labels : List Tai64n
+  pub stood : ℕ → Standing
+  pub read : Gives old.reader new.reader bytes
+  pub gave : Gave old.readings new.readings labels
+  pub are_found : AreFound old.told stood
+  pub logs : (log : ℕ)
+      → ReachesFront (old.told.files log) (new.told.files log) 0 (log_steps script stood labels bytes log)
+  pub alerts : AppendsFront old.told.alerts new.told.alerts (alert_text script labels bytes)
+  pub spent : why ≡ fault.LabelsSpent → (log : ℕ)
+      × IsPlanSpent (slice_get (log_plans script) log) (stood log) (log_text script log labels bytes)

@@ -1,0 +1,152 @@
+-- Alerts and status files, one after another.
+use Rattle.std.proofs.Common.{◌≡◌, ◌≢◌, ℕ, suc, ◌+◌, ◌-◌, min, replicate, ◌<◌, ◌≤◌, ◌==◌, if◌then◌else◌, Bool, true, false, List, [], ◌∷◌, ◌++◌, length, take, drop, get_or, Option, Some, None, refl, sym, subst, ap, ◌∙◌, arith, append-nil}
+use Rattle.std.proofs.lemmas.List.{take_more, take_all, take_min, take-append-drop, length-take, drop-replicate}
+use Rattle.std.proofs.Math.Seq.{take-append-add}
+use Rattle.std.proofs.lemmas.List.Concat.{flat_map-append}
+use Rattle.std.specs.List.{flat_map}
+use Rattle.tai_status.proofs.Known.{Appends-then, Appends-further, AppendsFront-more}
+use Rattle.mlog_script.specs.Selection.{flag_at, alert, padded}
+use Rattle.mlog_files.specs.Store.{Told, Alerts, Replaces, IsNow}
+use Rattle.mlog_line.specs.Given.{alerts_for}
+use Rattle.mlog_line.specs.Outputs.{Becomes}
+use Rattle.mlog_line.specs.Several.{AlertsFront, Replaced}
+use Rattle.mlog_line.proofs.Taking.{Appends-front, Appends-none, Becomes-then, Becomes-none}
+use Rattle.mlog_line.proofs.Ones.{flag_next}
+
+pub Alerts-none : (a : Told) → Alerts a a []
+Alerts-none a = record { here = Appends-none a.alerts; files = refl; statuses = refl }
+
+pub Alerts-then : (a b c : Told) (xs ys : List ℕ) → Alerts a b xs → Alerts b c ys → Alerts a c (xs ++ ys)
+Alerts-then a b c xs ys k l = record {
+  here = Appends-then a.alerts b.alerts c.alerts xs ys k.here l.here;
+  files = l.files ∙ k.files;
+  statuses = l.statuses ∙ k.statuses;
+}
+
+pub Alerts-front : (a b c : Told) (xs ys : List ℕ) → Alerts a b xs → AlertsFront b c ys → AlertsFront a c (xs ++ ys)
+Alerts-front a b c xs ys k f = record {
+  here = Appends-front a.alerts b.alerts c.alerts xs ys k.here f.here;
+  files = f.files ∙ k.files;
+  statuses = f.statuses ∙ k.statuses;
+}
+
+pub AlertsFront-more : (a b : Told) (xs ys : List ℕ) → AlertsFront a b xs → AlertsFront a b (xs ++ ys)
+AlertsFront-more a b xs ys f = record { here = AppendsFront-more ys f.here; files = f.files; statuses = f.statuses }
+
+-- Nothing more was alerted.
+stays : (a b : Told) (xs : List ℕ) → Alerts a b [] → AlertsFront a b xs
+stays a b xs k = record { here = record { count = 0; front = k.here }; files = k.files; statuses = k.statuses }
+
+pub alerted_further : (a b c : Told) (xs : List ℕ) (at n : ℕ) → Alerts a b (take at xs) → Alerts b c (take n (take (length xs - at) (drop at xs)))
+    → Alerts a c (take (at + n) xs)
+alerted_further a b c xs at n k l = record {
+  here = Appends-further a.alerts b.alerts c.alerts xs at n k.here l.here;
+  files = l.files ∙ k.files;
+  statuses = l.statuses ∙ k.statuses;
+}
+
+pub alerted_upto : (a b c : Told) (xs : List ℕ) (at : ℕ) → Alerts a b (take at xs) → Alerts b c [] → AlertsFront a c xs
+alerted_upto a b c xs at k l =
+    subst (λ (t : List ℕ). AlertsFront a c t) (take-append-drop at xs)
+    (Alerts-front a b c (take at xs) (drop at xs) k (stays b c (drop at xs) l))
+
+-- Flag by flag
+
+alerts_next : (flags : List Bool) (k : ℕ) (flag : Bool) (front : List ℕ) → k < length flags → flag ≡ get_or flags k flag
+    → alerts_for (take (k + 1) flags) front ≡ alerts_for (take k flags) front ++ (if flag then alert front else [])
+alerts_next flags k flag front within is =
+    let one : Bool → List ℕ = λ (b : Bool). if b then alert front else [] in
+    ap (flat_map one) (take_more flags k flag within) ∙ flat_map-append one (take k flags) (get_or flags k flag ∷ [])
+    ∙ ap (λ (t : List ℕ). flat_map one (take k flags) ++ t) (append-nil (one (get_or flags k flag)) ∙ ap one (sym is))
+
+pub alerted_next : (a b c : Told) (flags : List Bool) (k : ℕ) (flag : Bool) (front : List ℕ) → k < length flags → flag ≡ get_or flags k flag
+    → Alerts a b (alerts_for (take k flags) front) → Alerts b c (if flag then alert front else []) → Alerts a c (alerts_for (take (k + 1) flags) front)
+alerted_next a b c flags k flag front within is k' l =
+    subst (λ (t : List ℕ). Alerts a c t) (sym (alerts_next flags k flag front within is)) (Alerts-then a b c _ _ k' l)
+
+pub alerted_no_further : (a b c : Told) (flags : List Bool) (k : ℕ) (flag : Bool) (front : List ℕ) → k < length flags → flag ≡ get_or flags k flag
+    → Alerts a b (alerts_for (take k flags) front) → AlertsFront b c (if flag then alert front else []) → AlertsFront a c (alerts_for flags front)
+alerted_no_further a b c flags k flag front within is k' l =
+    let one : Bool → List ℕ = λ (b : Bool). if b then alert front else [] in
+    let upto : AlertsFront a c (alerts_for (take (k + 1) flags) front) =
+    subst (λ (t : List ℕ). AlertsFront a c t) (sym (alerts_next flags k flag front within is)) (Alerts-front a b c _ _ k' l) in
+    subst (λ (t : List ℕ). AlertsFront a c t)
+    (sym (flat_map-append one (take (k + 1) flags) (drop (k + 1) flags)) ∙ ap (flat_map one) (take-append-drop (k + 1) flags))
+    (AlertsFront-more a c _ (flat_map one (drop (k + 1) flags)) upto)
+
+-- Status files
+
+becomes_now : (a b : Option (List ℕ)) (content : List ℕ) → IsNow a b content → Becomes a b (content ∷ [])
+becomes_now None None content k = tt
+becomes_now None (Some b) content k = absurd k
+becomes_now (Some a) None content k = tt
+becomes_now (Some a) (Some b) content k = k
+
+becomes_at : (a b : Told) (k n : ℕ) (content : List ℕ) (t : Bool) → (n == k) ≡ t → Replaces a b k content
+    → Becomes (a.statuses n) (b.statuses n) (if n == k then content ∷ [] else [])
+becomes_at a b k n content true e r =
+    let same : n ≡ k = grind (arith, e) in
+    rw e (subst (λ (m : ℕ). Becomes (a.statuses m) (b.statuses m) (content ∷ [])) (sym same) (becomes_now (a.statuses k) (b.statuses k) content r.here))
+becomes_at a b k n content false e r =
+    let apart : n ≢ k = λ is. grind (arith, e, is) in
+    rw e (subst (λ (f : Option (List ℕ)). Becomes (a.statuses n) f []) (sym (r.others n apart)) (Becomes-none (a.statuses n)))
+
+pub replaced_none : (a : Told) (content : List ℕ) → Replaced a a [] content
+replaced_none a content = record { here = λ file. Becomes-none (a.statuses file); files = refl; alerts = refl }
+
+pub replaced_next : (a b c : Told) (flags : List Bool) (k : ℕ) (flag : Bool) (content : List ℕ) → k < length flags → flag ≡ get_or flags k flag → flag ≡ true
+    → Replaced a b (take k flags) content → Replaces b c k content → Replaced a c (take (k + 1) flags) content
+replaced_next a b c flags k flag content within is set r s = record {
+  here = λ n. subst (λ (t : List (List ℕ)). Becomes (a.statuses n) (c.statuses n) t)
+      (ap (λ (t : Bool). (if flag_at (take k flags) n then content ∷ [] else []) ++ (if n == k then (if t then content ∷ [] else []) else [])) (sym set)
+      ∙ flag_next flags k flag n (content ∷ []) within is)
+      (Becomes-then (a.statuses n) (b.statuses n) (c.statuses n) _ _ (r.here n) (becomes_at b c k n content (n == k) refl s));
+  files = s.files ∙ r.files;
+  alerts = s.alerts ∙ r.alerts;
+}
+
+nothing_at : {X : Type 0} (b : Bool) (flag : Bool) (x : X) → flag ≡ false → (if b then (if flag then x ∷ [] else []) else []) ≡ []
+nothing_at true flag x unset = rw unset refl
+nothing_at false flag x unset = refl
+
+no_more : (flags : List Bool) (k : ℕ) (flag : Bool) (content : List ℕ) (n : ℕ) → flag ≡ false
+    → (if flag_at (take k flags) n then content ∷ [] else []) ++ (if n == k then (if flag then content ∷ [] else []) else [])
+    ≡ (if flag_at (take k flags) n then content ∷ [] else [])
+no_more flags k flag content n unset =
+    ap (λ (t : List (List ℕ)). (if flag_at (take k flags) n then content ∷ [] else []) ++ t) (nothing_at (n == k) flag content unset)
+    ∙ append-nil (if flag_at (take k flags) n then content ∷ [] else [])
+
+pub replaced_not : (a b : Told) (flags : List Bool) (k : ℕ) (flag : Bool) (content : List ℕ) → k < length flags → flag ≡ get_or flags k flag → flag ≡ false
+    → Replaced a b (take k flags) content → Replaced a b (take (k + 1) flags) content
+replaced_not a b flags k flag content within is unset r = record {
+  here = λ n. subst (λ (t : List (List ℕ)). Becomes (a.statuses n) (b.statuses n) t)
+      (sym (no_more flags k flag content n unset) ∙ flag_next flags k flag n (content ∷ []) within is) (r.here n);
+  files = r.files;
+  alerts = r.alerts;
+}
+
+-- Texts
+
+min_swap : (a b : ℕ) → min a b ≡ min b a
+min_swap a b = omega arith
+
+drop_same : (n m : ℕ) → drop n (replicate {A = ℕ} m 10) ≡ replicate (m - n) 10
+drop_same n m = drop-replicate n m 10
+
+next_of : (a r : List ℕ) (n : ℕ) → length a ≡ n → take (n + 1) (a ++ 10 ∷ r) ≡ a ++ 10 ∷ []
+next_of a r n long = rw (← long) (take-append-add a (10 ∷ r) 1)
+
+-- The text of an alert, as an array has it.
+pub alert_is : (f a : List ℕ) (n : ℕ) → n ≡ min (length f) 200 → a ≡ take n f → take (n + 1) (a ++ drop n (replicate {A = ℕ} 201 10)) ≡ alert f
+alert_is f a n few is =
+    let long : length a ≡ n = let l = length-take n f in ap length is ∙ (omega (arith, l, few)) in
+    let one : 201 - n ≡ suc (200 - n) = omega (arith, few) in
+    let rest : drop n (replicate {A = ℕ} 201 10) ≡ 10 ∷ replicate (200 - n) 10 = drop_same n 201 ∙ ap (λ (m : ℕ). replicate m 10) one in
+    let front : take n f ≡ take 200 f = ap (λ (m : ℕ). take m f) few ∙ ap (λ (m : ℕ). take m f) (min_swap (length f) 200) ∙ take_min 200 f in
+    ap (λ (t : List ℕ). take (n + 1) (a ++ t)) rest ∙ next_of a (replicate (200 - n) 10) n long ∙ ap (λ (t : List ℕ). t ++ 10 ∷ []) (is ∙ front)
+
+-- The content of a status file.
+pub padded_is : (f : List ℕ) → length f ≤ 1000 → f ++ drop (length f) (replicate {A = ℕ} 1001 10) ≡ padded f
+padded_is f few =
+    let whole = take_all 1000 f few in
+    ap (λ (t : List ℕ). f ++ t) (drop_same (length f) 1001) ∙ ap (λ (t : List ℕ). t ++ replicate (1001 - length t) 10) (sym whole)

@@ -1,0 +1,7 @@
+pub mod Taking
+pub mod Growing
+pub mod Ones
+pub mod Fronts
+mod Alerted
+mod Deciding
+mod Handing

@@ -1,0 +1,4 @@
+pub mod Given
+pub mod Outputs
+pub mod Several
+pub mod Desk

@@ -1,0 +1,104 @@
+-- The logs, alerts and status files of a script, and what happens to them.
+use Rattle.std.specs.Prelude.{◌≡◌, ℕ, ◌≤◌, List, [], ◌++◌, take, fold, slice_get, Option, Some, None, ⊤}
+use Rattle.std.specs.Io.KnownBytes.{Appends}
+use Rattle.tai_status.specs.Counted.{AppendsFront, Rose}
+use Rattle.tai_status.specs.Lines.{Sent}
+use Rattle.mlog_files.specs.Files.{Files, Step, append_steps}
+use Rattle.mlog_files.specs.Going.{Standing, steps_on, standing_on}
+use Rattle.mlog_files.specs.Store.{Told, Reaches}
+use Rattle.mlog_files.specs.Tails.{size_of, keep_of, waiting_in, standing}
+use Rattle.mlog_files.specs.declared.tail.Tail.{Tail}
+use Rattle.mlog_files.specs.declared.tail.LogFault.{LogFault}
+use Rattle.mlog_files.specs.declared.tail.LogFault.TheVariants as fault
+use Rattle.mlog_line.specs.Given.{Given, joined}
+
+-- The ends of the logs, what the store tells, and how many of its calls failed.
+pub record Outputs : Type 0 where
+  pub tails : List Tail
+  pub told : Told
+  pub failures : ℕ
+
+abbrev pub outputs : List Tail → Told → ℕ → Outputs
+outputs tails told failures = record { tails = tails; told = told; failures = failures }
+
+-- the steps of a log for a text
+abbrev pub steps_for : Tail → List Sent → List Step
+steps_for tail text = steps_on (size_of tail) (keep_of tail) (Some (standing tail)) text
+
+-- where it stands after the text
+abbrev pub after : Tail → List Sent → Option Standing
+after tail text = standing_on (size_of tail) (keep_of tail) (Some (standing tail)) text
+
+-- A text went into a log. Some of it may wait.
+pub record TakesIn (tail now : Tail) (old new : Option Files) (text : List Sent) : Type 0 where
+  pub done : List Step
+  pub reaches : Reaches old new done
+  pub whole : done ++ append_steps (waiting_in now) ≡ append_steps (waiting_in tail) ++ steps_for tail text
+  pub stands : after tail text ≡ Some (standing now)
+  pub size : size_of now ≡ size_of tail
+  pub keep : keep_of now ≡ keep_of tail
+
+-- The files of a log went through a front of the steps for a text, after what waited.
+pub record TakesFront (tail : Tail) (old new : Option Files) (text : List Sent) : Type 0 where
+  pub count : ℕ
+  pub reaches : Reaches old new (take count (append_steps (waiting_in tail) ++ steps_for tail text))
+
+-- The same of the log of a number. The files of a number that has no log are as before.
+abbrev pub TakesInAt : (old new : Option Tail) (was are : Option Files) → List Sent → Type 0
+TakesInAt None None was are text = Reaches was are []
+TakesInAt None (Some now) was are text = ⊥
+TakesInAt (Some tail) None was are text = ⊥
+TakesInAt (Some tail) (Some now) was are text = TakesIn tail now was are text
+
+abbrev pub TakesFrontAt : Option Tail → (was are : Option Files) → List Sent → Type 0
+TakesFrontAt None was are text = Reaches was are []
+TakesFrontAt (Some tail) was are text = TakesFront tail was are text
+
+-- A status file was given these contents, one after another: it has the last. A store may stop to tell it.
+abbrev pub Becomes : (old new : Option (List ℕ)) → List (List ℕ) → Type 0
+Becomes None None contents = ⊤
+Becomes None (Some new) contents = ⊥
+Becomes (Some old) None contents = ⊤
+Becomes (Some old) (Some new) contents = new ≡ fold (λ before content. content) old contents
+
+-- This was given to the outputs.
+pub record Takes (old new : Outputs) (given : Given) : Type 0 where
+  pub logs : (log : ℕ) → TakesInAt (slice_get old.tails log) (slice_get new.tails log) (old.told.files log) (new.told.files log) (given.logs log)
+  pub alerts : Appends old.told.alerts new.told.alerts given.alerts
+  pub files : (file : ℕ) → Becomes (old.told.statuses file) (new.told.statuses file) (given.files file)
+  pub steady : old.failures ≤ new.failures
+
+-- There is no label for an old file that a text fills.
+abbrev pub IsSpent : Option Tail → List Sent → Type 0
+IsSpent None text = ⊥
+IsSpent (Some tail) text = after tail text ≡ None
+
+-- One of the logs has no label for an old file that its text fills.
+pub record Spends (old : Outputs) (given : Given) : Type 0 where
+  pub log : ℕ
+  pub spent : IsSpent (slice_get old.tails log) (given.logs log)
+
+-- Giving this ended early: each log took a front of the steps, and a front was alerted; and why.
+pub record Stops (old new : Outputs) (given : Given) (why : LogFault) : Type 0 where
+  pub logs : (log : ℕ) → TakesFrontAt (slice_get old.tails log) (old.told.files log) (new.told.files log) (given.logs log)
+  pub alerts : AppendsFront old.told.alerts new.told.alerts given.alerts
+  pub store : why ≡ fault.Store → Rose old.failures new.failures
+  pub spent : why ≡ fault.LabelsSpent → Spends old given
+
+-- two that give the same
+pub record SameGiven (a b : Given) : Type 0 where
+  pub logs : (log : ℕ) → a.logs log ≡ b.logs log
+  pub alerts : a.alerts ≡ b.alerts
+  pub files : (file : ℕ) → a.files file ≡ b.files file
+
+-- Outputs that were given the one have been given the other.
+pub record Grows (old new : Outputs) (before now : Given) : Type 0 where
+  pub more : Given
+  pub whole : SameGiven (joined before more) now
+  pub takes : Takes old new more
+
+-- They stopped on the way from the one to the other.
+pub record StopsAt (old new : Outputs) (before now : Given) (why : LogFault) : Type 0 where
+  pub more : Given
+  pub whole : SameGiven (joined before more) now
+  pub stops : Stops old new more why
