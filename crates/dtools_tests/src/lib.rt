@@ -29,8 +29,6 @@ mod slow;
 #[cfg(test)]
 mod station;
 #[cfg(test)]
-mod suite;
-#[cfg(test)]
 mod tight;
 #[cfg(test)]
 mod trace;
