@@ -17,6 +17,8 @@ mod mail;
 #[cfg(test)]
 mod memory;
 #[cfg(test)]
+mod multilog;
+#[cfg(test)]
 mod patterns;
 #[cfg(test)]
 mod scan;
@@ -28,6 +30,8 @@ mod sim;
 mod slow;
 #[cfg(test)]
 mod station;
+#[cfg(test)]
+mod suite;
 #[cfg(test)]
 mod tight;
 #[cfg(test)]

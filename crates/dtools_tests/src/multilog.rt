@@ -1,0 +1,125 @@
+use crate::slow::Slow;
+use mlog_core::{Counts, RunFault, run};
+use mlog_files::{LogFiles, MemoryStore, StatusFile};
+use mlog_script::Script;
+use std::alloc::Global;
+use std::test::Fail;
+use tai_status::{Counted, Label, TimeSource};
+
+/// A clock that stands.
+#[derive(Drop)]
+struct Still {
+    label: Label,
+}
+
+impl TimeSource for Still {
+    fn now(&mut self) -> Label {
+        self.label
+    }
+}
+
+/// What a run over one log and one status file in memory leaves, and what it answers.
+#[derive(Drop)]
+struct Ran {
+    log: LogFiles,
+    status: Vec<u8>,
+    alerts: Vec<u8>,
+    answer: Result<Counts, RunFault>,
+}
+
+/// Runs a script of at most one log and one status file over an input that comes in reads of so many bytes, and then ends
+/// or fails. The clock stands at the beginning of 1970.
+fn run_over(alloc: Global, words: &[&[u8]], input: &[u8], most: usize, fails: bool) -> Result<Ran, Fail> {
+    let Ok(script) = Script::read(alloc, words) else {
+        return Err("a script")?;
+    };
+    if script.logs() > 1 || script.files() > 1 {
+        return Err("one log and one status file")?;
+    }
+    let mut logs = Vec::new(alloc);
+    logs.push(LogFiles {
+        current: Vec::new(alloc),
+        olds: Vec::new(alloc),
+    })?;
+    let mut statuses = Vec::new(alloc);
+    statuses.push(StatusFile {
+        bytes: Vec::new(alloc),
+    })?;
+    let mut store = MemoryStore::new(alloc, logs, statuses);
+    let mut clock = Still {
+        label: Label::from_unix(0, 0).ok_or("a label")?,
+    };
+    let device = if fails {
+        Slow::failing(input, most)
+    } else {
+        Slow::ending(input, most)
+    };
+    let mut reader = Counted::new(device);
+    let answer = run(alloc, &script, &mut reader, &mut store, &mut clock);
+    let (mut logs, mut statuses, alerts) = store.take_apart();
+    Ok(Ran {
+        log: logs.pop().ok_or("a log")?,
+        status: statuses.pop().ok_or("a status file")?.bytes,
+        alerts,
+        answer,
+    })
+}
+
+/// So many times `a`, and then this.
+fn many(alloc: Global, count: usize, end: &str) -> Result<String, Fail> {
+    let mut text = "a".repeat(alloc, count)?;
+    text.push_str(end)?;
+    Ok(text)
+}
+
+#[test]
+fn hands_lines_out(rt: HostRuntime) -> Result<(), Fail> {
+    let stamped: [&[u8]; 4] = [b"t", b"-*", b"+* fatal: *", b"./log"];
+    let kept: [&[u8]; 3] = [b"-*", b"+*b", b"./log"];
+    for most in [1, 7, 1000, 4096] {
+        let empty = run_over(rt.alloc(), &stamped, b"", most, false)?;
+        assert!(rt; empty.log.current.is_empty());
+        let fatal = run_over(rt.alloc(), &stamped, b"fatal: x", most, false)?;
+        assert_eq!(rt; fatal.log.current.as_slice(), b"@400000000000000a00000000 fatal: x\n".as_slice());
+        for (count, len) in [(999, 1001), (1000, 0)] {
+            let line = many(rt.alloc(), count, "b\n")?;
+            let chosen = run_over(rt.alloc(), &kept, line.as_bytes(), most, false)?;
+            assert_eq!(rt; chosen.log.current.len(), len);
+        }
+        for count in [1000, 1001] {
+            let line = many(rt.alloc(), count, "\n")?;
+            let told = run_over(rt.alloc(), &[b"=st".as_slice()], line.as_bytes(), most, false)?;
+            let content = many(rt.alloc(), 1000, "\n")?;
+            assert_eq!(rt; told.status.as_slice(), content.as_bytes());
+        }
+        let line = many(rt.alloc(), 201, "")?;
+        let told = run_over(rt.alloc(), &[b"e".as_slice()], line.as_bytes(), most, false)?;
+        assert_eq!(rt; told.alerts.as_slice(), many(rt.alloc(), 200, "\n")?.as_bytes());
+    }
+    Ok(())
+}
+
+#[test]
+fn cuts_a_long_line(rt: HostRuntime) -> Result<(), Fail> {
+    let words: [&[u8]; 2] = [b"s4096", b"./log"];
+    let line = many(rt.alloc(), 1_000_000, "\n")?;
+    let long = run_over(rt.alloc(), &words, line.as_bytes(), 4096, false)?;
+    let counts = Counts {
+        lines: 1,
+        finished: 244,
+        removed: 235,
+    };
+    assert_eq!(rt; long.answer.ok(), Some(counts));
+    assert_eq!(rt; (long.log.olds.len(), long.log.current.len()), (9, 577));
+    Ok(())
+}
+
+#[test]
+fn keeps_whole_lines_where_the_reader_fails(rt: HostRuntime) -> Result<(), Fail> {
+    for most in [1, 7] {
+        let stopped = run_over(rt.alloc(), &[b"./log".as_slice()], b"x\nab", most, true)?;
+        assert_eq!(rt; stopped.answer.err(), Some(RunFault::Read));
+        assert!(rt; stopped.log.current.starts_with(b"x\n"));
+    }
+    Ok(())
+}
