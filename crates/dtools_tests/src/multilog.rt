@@ -29,7 +29,13 @@ struct Ran {
 
 /// Runs a script of at most one log and one status file over an input that comes in reads of so many bytes, and then ends
 /// or fails. The clock stands at the beginning of 1970.
-fn run_over(alloc: Global, words: &[&[u8]], input: &[u8], most: usize, fails: bool) -> Result<Ran, Fail> {
+fn run_over(
+    alloc: Global,
+    words: &[&[u8]],
+    input: &[u8],
+    most: usize,
+    fails: bool,
+) -> Result<Ran, Fail> {
     let Ok(script) = Script::read(alloc, words) else {
         return Err("a script")?;
     };
@@ -80,7 +86,10 @@ fn hands_lines_out(rt: HostRuntime) -> Result<(), Fail> {
         let empty = run_over(rt.alloc(), &stamped, b"", most, false)?;
         assert!(rt; empty.log.current.is_empty());
         let fatal = run_over(rt.alloc(), &stamped, b"fatal: x", most, false)?;
-        assert_eq!(rt; fatal.log.current.as_slice(), b"@400000000000000a00000000 fatal: x\n".as_slice());
+        assert_eq!(rt;
+            fatal.log.current.as_slice(),
+            b"@400000000000000a00000000 fatal: x\n".as_slice()
+        );
         for (count, len) in [(999, 1001), (1000, 0)] {
             let line = many(rt.alloc(), count, "b\n")?;
             let chosen = run_over(rt.alloc(), &kept, line.as_bytes(), most, false)?;
@@ -88,13 +97,22 @@ fn hands_lines_out(rt: HostRuntime) -> Result<(), Fail> {
         }
         for count in [1000, 1001] {
             let line = many(rt.alloc(), count, "\n")?;
-            let told = run_over(rt.alloc(), &[b"=st".as_slice()], line.as_bytes(), most, false)?;
+            let told = run_over(
+                rt.alloc(),
+                &[b"=st".as_slice()],
+                line.as_bytes(),
+                most,
+                false,
+            )?;
             let content = many(rt.alloc(), 1000, "\n")?;
             assert_eq!(rt; told.status.as_slice(), content.as_bytes());
         }
         let line = many(rt.alloc(), 201, "")?;
         let told = run_over(rt.alloc(), &[b"e".as_slice()], line.as_bytes(), most, false)?;
-        assert_eq!(rt; told.alerts.as_slice(), many(rt.alloc(), 200, "\n")?.as_bytes());
+        assert_eq!(rt;
+            told.alerts.as_slice(),
+            many(rt.alloc(), 200, "\n")?.as_bytes()
+        );
     }
     Ok(())
 }

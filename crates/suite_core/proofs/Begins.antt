@@ -46,10 +46,11 @@ rise-after place name (row ∷ rows) none =
     elim (name_order name row.name) as (λ o. name_order name row.name ≡ o → fault_at place o (order_fault_after (place + 1) row.name rows) ≡ None →
     AllPairs IsBelow (row ∷ rows) × All (λ (r : Row). name_order name r.name ≡ Less) (row ∷ rows)) [
       | Less ↦ λ less none.
-          let later = rise-after (place + 1) row.name rows none in
-          (AllPairs-cons IsBelow row rows later.1 later.0,
-          All-cons (λ (r : Row). name_order name r.name ≡ Less) row rows less
-          (All-weaker (λ (r : Row). name_order row.name r.name ≡ Less) (λ (r : Row). name_order name r.name ≡ Less) (λ r below. trans name row.name r.name less below) rows later.1))
+          let later = rise-after (place + 1) row.name rows none in (
+            AllPairs-cons IsBelow row rows later.1 later.0,
+            All-cons (λ (r : Row). name_order name r.name ≡ Less) row rows less
+                (All-weaker (λ (r : Row). name_order row.name r.name ≡ Less) (λ (r : Row). name_order name r.name ≡ Less) (λ r below. trans name row.name r.name less below) rows later.1),
+          )
       | Equal ↦ λ is none. absurd (cc)
       | Greater ↦ λ is none. absurd (cc)
     ] refl none
@@ -166,10 +167,10 @@ other-slots slots rows row slot n (other ∷ rest) rising at below =
       | None ↦ λ none. All-nil (λ (b : PartId). b.slot ≢ slot.number)
       | (Some its) ↦ λ some.
           let apart : its.number ≢ slot.number = (λ e.
-            let same : its ≡ slot = slot-prop (λ (s : SlotState). s.number ≡ slot.number → s ≡ slot) slots other its (only-slot slots row slot rising at) some e in
-            let one : row.name ≡ slot.name = named-same row.name slot.name (slot-named slots row slot at) in
-            let two : other.name ≡ its.name = named-same other.name its.name (slot-named slots other its some) in
-            below-differs row.name other.name (All-head (IsBelow row) other rest below) (one ∙ sym (two ∙ ap (λ (s : SlotState). s.name) same))) in
+          let same : its ≡ slot = slot-prop (λ (s : SlotState). s.number ≡ slot.number → s ≡ slot) slots other its (only-slot slots row slot rising at) some e in
+          let one : row.name ≡ slot.name = named-same row.name slot.name (slot-named slots row slot at) in
+          let two : other.name ≡ its.name = named-same other.name its.name (slot-named slots other its some) in
+          below-differs row.name other.name (All-head (IsBelow row) other rest below) (one ∙ sym (two ∙ ap (λ (s : SlotState). s.name) same))) in
           All-weaker (λ (b : PartId). b.slot ≡ its.number) (λ (b : PartId). b.slot ≢ slot.number) (λ b is e. apart (sym is ∙ e)) (lives_from n its.number (ended_roles its)) (lives-slot n its.number (ended_roles its))
     ] refl)
     (other-slots slots rows row slot (n + need slots rows other) rest rising at (All-tail (IsBelow row) other rest below))
@@ -186,25 +187,25 @@ slot-apart : (n : ℕ) (slot : SlotState) → AllPairs Apart (lives_from n slot.
 slot-apart n slot =
     elim slot.log as (λ log. AllPairs Apart (lives_from n slot.number (roles_ended slot.main log))) [
       | None ↦ elim slot.main.has_ended as (λ b. AllPairs Apart (lives_from n slot.number (map (λ (part : SlotPart). part.role) (if b then record { role = Main; life = slot.main } ∷ [] else [])))) [
-          | true ↦ λ i j d b w. absurd (omega (arith, b, w))
-          | false ↦ λ i j d b w. absurd (omega (arith, b, w))
-        ]
+        | true ↦ λ i j d b w. absurd (omega (arith, b, w))
+        | false ↦ λ i j d b w. absurd (omega (arith, b, w))
+      ]
       | (Some life) ↦ elim slot.main.has_ended as (λ b. AllPairs Apart (lives_from n slot.number (map (λ (part : SlotPart). part.role)
           (if b then record { role = Main; life = slot.main } ∷ filter (λ (part : SlotPart). part.life.has_ended) (record { role = Log; life = life } ∷ [])
           else filter (λ (part : SlotPart). part.life.has_ended) (record { role = Log; life = life } ∷ []))))) [
-          | true ↦ elim life.has_ended as (λ b. AllPairs Apart (lives_from n slot.number (map (λ (part : SlotPart). part.role)
-              (record { role = Main; life = slot.main } ∷ (if b then record { role = Log; life = life } ∷ [] else []))))) [
-              | true ↦ AllPairs-cons Apart (record { slot = slot.number; role = Main; life = n }) (record { slot = slot.number; role = Log; life = n + 1 } ∷ [])
-                  (All-cons (Apart (record { slot = slot.number; role = Main; life = n })) (record { slot = slot.number; role = Log; life = n + 1 }) []
-                  (λ e. absurd (omega (arith, e))) (All-nil (Apart (record { slot = slot.number; role = Main; life = n }))))
-                  (λ i j d b w. absurd (omega (arith, b, w)))
-              | false ↦ λ i j d b w. absurd (omega (arith, b, w))
-            ]
-          | false ↦ elim life.has_ended as (λ b. AllPairs Apart (lives_from n slot.number (map (λ (part : SlotPart). part.role) (if b then record { role = Log; life = life } ∷ [] else [])))) [
+            | true ↦ elim life.has_ended as (λ b. AllPairs Apart (lives_from n slot.number (map (λ (part : SlotPart). part.role)
+                (record { role = Main; life = slot.main } ∷ (if b then record { role = Log; life = life } ∷ [] else []))))) [
+                  | true ↦ AllPairs-cons Apart (record { slot = slot.number; role = Main; life = n }) (record { slot = slot.number; role = Log; life = n + 1 } ∷ [])
+                      (All-cons (Apart (record { slot = slot.number; role = Main; life = n })) (record { slot = slot.number; role = Log; life = n + 1 }) []
+                      (λ e. absurd (omega (arith, e))) (All-nil (Apart (record { slot = slot.number; role = Main; life = n }))))
+                      (λ i j d b w. absurd (omega (arith, b, w)))
+                  | false ↦ λ i j d b w. absurd (omega (arith, b, w))
+                ]
+            | false ↦ elim life.has_ended as (λ b. AllPairs Apart (lives_from n slot.number (map (λ (part : SlotPart). part.role) (if b then record { role = Log; life = life } ∷ [] else [])))) [
               | true ↦ λ i j d b w. absurd (omega (arith, b, w))
               | false ↦ λ i j d b w. absurd (omega (arith, b, w))
             ]
-        ]
+          ]
     ]
 
 restarts-apart : (slots : List SlotState) (rows : List Row) (n : ℕ) (rest : List Row) → AllPairs IsBefore slots → AllPairs IsBelow rest →
@@ -219,7 +220,7 @@ restarts-apart slots rows n (row ∷ rest) rising below =
           AllPairs-append Apart (lives_from n slot.number (ended_roles slot)) more (slot-apart n slot) later
           (All-weaker (λ (a : PartId). a.slot ≡ slot.number) (λ a. All (Apart a) more)
           (λ a is. All-weaker (λ (b : PartId). b.slot ≢ slot.number) (Apart a) (λ b other. apart-by-slot a b slot.number is other) more
-            (other-slots slots rows row slot (n + need slots rows row) rest rising some (pairs-head IsBelow row rest below)))
+          (other-slots slots rows row slot (n + need slots rows row) rest rising some (pairs-head IsBelow row rest below)))
           (lives_from n slot.number (ended_roles slot)) (lives-slot n slot.number (ended_roles slot)))
     ] refl
 
@@ -233,10 +234,10 @@ slot-serves n slot =
     elim slot.log as (λ log. All (λ (id : PartId). AnyOf (Serves id) (map (seen_life slot.number) (record { role = Main; life = slot.main } ∷ log_parts log))) (lives_from n slot.number (roles_ended slot.main log))) [
       | None ↦ elim slot.main.has_ended as (λ b. All (λ (id : PartId). AnyOf (Serves id) (seen_life slot.number (record { role = Main; life = slot.main }) ∷ []))
           (lives_from n slot.number (map (λ (part : SlotPart). part.role) (if b then record { role = Main; life = slot.main } ∷ [] else [])))) [
-          | true ↦ All-cons (λ (id : PartId). AnyOf (Serves id) (seen_life slot.number (record { role = Main; life = slot.main }) ∷ [])) (record { slot = slot.number; role = Main; life = n }) [] (inl refl)
-              (All-nil (λ (id : PartId). AnyOf (Serves id) (seen_life slot.number (record { role = Main; life = slot.main }) ∷ [])))
-          | false ↦ All-nil (λ (id : PartId). AnyOf (Serves id) (seen_life slot.number (record { role = Main; life = slot.main }) ∷ []))
-        ]
+            | true ↦ All-cons (λ (id : PartId). AnyOf (Serves id) (seen_life slot.number (record { role = Main; life = slot.main }) ∷ [])) (record { slot = slot.number; role = Main; life = n }) [] (inl refl)
+                (All-nil (λ (id : PartId). AnyOf (Serves id) (seen_life slot.number (record { role = Main; life = slot.main }) ∷ [])))
+            | false ↦ All-nil (λ (id : PartId). AnyOf (Serves id) (seen_life slot.number (record { role = Main; life = slot.main }) ∷ []))
+          ]
       | (Some life) ↦ pair life
     ]
   where
@@ -248,14 +249,14 @@ slot-serves n slot =
         (if b then record { role = Main; life = slot.main } ∷ filter (λ (part : SlotPart). part.life.has_ended) (record { role = Log; life = life } ∷ [])
         else filter (λ (part : SlotPart). part.life.has_ended) (record { role = Log; life = life } ∷ []))))) [
           | true ↦ elim life.has_ended as (λ b. All P (lives_from n slot.number (map (λ (part : SlotPart). part.role) (record { role = Main; life = slot.main } ∷ (if b then record { role = Log; life = life } ∷ [] else []))))) [
-              | true ↦ All-cons P (record { slot = slot.number; role = Main; life = n }) (record { slot = slot.number; role = Log; life = n + 1 } ∷ []) (inl refl)
-                  (All-cons P (record { slot = slot.number; role = Log; life = n + 1 }) [] (inr (inl refl)) (All-nil P))
-              | false ↦ All-cons P (record { slot = slot.number; role = Main; life = n }) [] (inl refl) (All-nil P)
-            ]
+            | true ↦ All-cons P (record { slot = slot.number; role = Main; life = n }) (record { slot = slot.number; role = Log; life = n + 1 } ∷ []) (inl refl)
+                (All-cons P (record { slot = slot.number; role = Log; life = n + 1 }) [] (inr (inl refl)) (All-nil P))
+            | false ↦ All-cons P (record { slot = slot.number; role = Main; life = n }) [] (inl refl) (All-nil P)
+          ]
           | false ↦ elim life.has_ended as (λ b. All P (lives_from n slot.number (map (λ (part : SlotPart). part.role) (if b then record { role = Log; life = life } ∷ [] else [])))) [
-              | true ↦ All-cons P (record { slot = slot.number; role = Log; life = n }) [] (inr (inl refl)) (All-nil P)
-              | false ↦ All-nil P
-            ]
+            | true ↦ All-cons P (record { slot = slot.number; role = Log; life = n }) [] (inr (inl refl)) (All-nil P)
+            | false ↦ All-nil P
+          ]
         ]
 
 -- A slot of an eligible row is not dropped.
@@ -275,10 +276,10 @@ restarts-served slots rows n (row ∷ rest) each =
           let has : has_row rows slot ≡ true = All-head Has row rest each slot (slot-named slots row slot some) in
           let stays : not (is_dropped rows slot) ≡ true = slot-stays rows row slot has in
           let among : AnyOf (λ (s : SlotState). s ≡ slot) (kept slots rows) =
-            any-filter (λ (s : SlotState). s ≡ slot) (λ s. not (is_dropped rows s)) slots (λ s e. ap (λ (x : SlotState). not (is_dropped rows x)) e ∙ stays) (slot-among slots row slot some) in
+          any-filter (λ (s : SlotState). s ≡ slot) (λ s. not (is_dropped rows s)) slots (λ s e. ap (λ (x : SlotState). not (is_dropped rows x)) e ∙ stays) (slot-among slots row slot some) in
           All-weaker (λ (id : PartId). AnyOf (Serves id) (seen_in slot)) (λ (id : PartId). AnyOf (Serves id) (flat_map seen_in (kept slots rows)))
           (λ id here. any-flat (Serves id) seen_in (kept slots rows)
-            (any-weaker (λ (s : SlotState). s ≡ slot) (λ (s : SlotState). AnyOf (Serves id) (seen_in s)) (kept slots rows) (λ s e. subst (λ (x : SlotState). AnyOf (Serves id) (seen_in x)) (sym e) here) among))
+          (any-weaker (λ (s : SlotState). s ≡ slot) (λ (s : SlotState). AnyOf (Serves id) (seen_in s)) (kept slots rows) (λ s e. subst (λ (x : SlotState). AnyOf (Serves id) (seen_in x)) (sym e) here) among))
           (lives_from n slot.number (ended_roles slot)) (slot-serves n slot)
     ] refl)
     (restarts-served slots rows (n + need slots rows row) rest (All-tail Has row rest each))
@@ -290,7 +291,7 @@ any-of-true q (x ∷ xs) =
     All-cons (λ (y : Row). (r : Row) → y ≡ r → q r ≡ true → list_any q (x ∷ xs) ≡ true) x xs
     (λ r e is. let here : q x ≡ true = ap q e ∙ is in rw here refl)
     (All-weaker (λ (y : Row). (r : Row) → y ≡ r → q r ≡ true → list_any q xs ≡ true) (λ (y : Row). (r : Row) → y ≡ r → q r ≡ true → list_any q (x ∷ xs) ≡ true)
-    (λ y later r e is. let more = later r e is in elim (q x) as (λ b. (b || list_any q xs) ≡ true) [ | true ↦ refl | false ↦ more ]) xs (any-of-true q xs))
+    (λ y later r e is. let more = later r e is in elim (q x) as (λ b. (b || list_any q xs) ≡ true) [ true ↦ refl | false ↦ more ]) xs (any-of-true q xs))
 
 -- What restarts stands in the place that it takes.
 
@@ -384,10 +385,10 @@ started-there suite rows label rising =
     let news = map (begun_part suite.capacity label) (scan_restarts suite.table rows) in
     All-weaker (λ (x : Beginning). AnyOf (λ (y : Beginning). y ≡ x) (scan_starts suite.table rows)) (Begun suite rows label)
     (λ begins among. there-of (parts_scanned suite rows label) (begun_part suite.capacity label begins) rising
-      (any-right (λ (x : PartState). x ≡ begun_part suite.capacity label begins) (map (restarted_in news) stay) (map (begun_part suite.capacity label) (scan_starts suite.table rows))
-      (any-map (λ (x : PartState). x ≡ begun_part suite.capacity label begins) (begun_part suite.capacity label) (scan_starts suite.table rows)
-      (any-weaker (λ (y : Beginning). y ≡ begins) (λ (y : Beginning). begun_part suite.capacity label y ≡ begun_part suite.capacity label begins) (scan_starts suite.table rows)
-      (λ y e. ap (begun_part suite.capacity label) e) among))))
+    (any-right (λ (x : PartState). x ≡ begun_part suite.capacity label begins) (map (restarted_in news) stay) (map (begun_part suite.capacity label) (scan_starts suite.table rows))
+    (any-map (λ (x : PartState). x ≡ begun_part suite.capacity label begins) (begun_part suite.capacity label) (scan_starts suite.table rows)
+    (any-weaker (λ (y : Beginning). y ≡ begins) (λ (y : Beginning). begun_part suite.capacity label y ≡ begun_part suite.capacity label begins) (scan_starts suite.table rows)
+    (λ y e. ap (begun_part suite.capacity label) e) among))))
     (scan_starts suite.table rows) (each-among (scan_starts suite.table rows))
 
 restarted-there : (suite : SuiteState) (rows : List Row) (label : Tai64n) → IsSuite suite → AllPairs IsBelow rows → AreRising (parts_scanned suite rows label) →
@@ -406,17 +407,17 @@ restarted-there suite rows label is below rising =
     all-mapped (Begun suite rows label) (beginning after rows) ids
     (all-both (λ (id : PartId). AnyOf (Serves id) (flat_map seen_in (kept slots rows))) (λ (id : PartId). AnyOf (λ (y : PartId). y ≡ id) ids) (λ (id : PartId). Begun suite rows label (beginning after rows id)) ids
     (λ id serves among.
-      let new = begun_part suite.capacity label (beginning after rows id) in
-      let place : AnyOf (λ (part : PartState). rank part.id ≡ rank id) stay = any-unmap (Serves id) seen stay (subst (AnyOf (Serves id)) (sym stayed) serves) in
-      let mine : AnyOf (λ (x : PartState). x ≡ new) news =
-        any-map (λ (x : PartState). x ≡ new) (begun_part suite.capacity label) (map (beginning after rows) ids)
-        (any-map (λ (y : Beginning). begun_part suite.capacity label y ≡ new) (beginning after rows) ids
-        (any-weaker (λ (y : PartId). y ≡ id) (λ (y : PartId). begun_part suite.capacity label (beginning after rows y) ≡ new) ids (λ y e. ap (λ (z : PartId). begun_part suite.capacity label (beginning after rows z)) e) among)) in
-      there-of (parts_scanned suite rows label) new rising
-      (any-left (λ (x : PartState). x ≡ new) (map (restarted_in news) stay) start
-      (any-map (λ (x : PartState). x ≡ new) (restarted_in news) stay
-      (any-weaker (λ (part : PartState). rank part.id ≡ rank id) (λ (part : PartState). restarted_in news part ≡ new) stay
-      (λ part same. restarted-of news part new apart mine (in-place id part.id same)) place))))
+    let new = begun_part suite.capacity label (beginning after rows id) in
+    let place : AnyOf (λ (part : PartState). rank part.id ≡ rank id) stay = any-unmap (Serves id) seen stay (subst (AnyOf (Serves id)) (sym stayed) serves) in
+    let mine : AnyOf (λ (x : PartState). x ≡ new) news =
+    any-map (λ (x : PartState). x ≡ new) (begun_part suite.capacity label) (map (beginning after rows) ids)
+    (any-map (λ (y : Beginning). begun_part suite.capacity label y ≡ new) (beginning after rows) ids
+    (any-weaker (λ (y : PartId). y ≡ id) (λ (y : PartId). begun_part suite.capacity label (beginning after rows y) ≡ new) ids (λ y e. ap (λ (z : PartId). begun_part suite.capacity label (beginning after rows z)) e) among)) in
+    there-of (parts_scanned suite rows label) new rising
+    (any-left (λ (x : PartState). x ≡ new) (map (restarted_in news) stay) start
+    (any-map (λ (x : PartState). x ≡ new) (restarted_in news) stay
+    (any-weaker (λ (part : PartState). rank part.id ≡ rank id) (λ (part : PartState). restarted_in news part ≡ new) stay
+    (λ part same. restarted-of news part new apart mine (in-place id part.id same)) place))))
     served (each-among ids))
   where
     in-place : (a b : PartId) → rank b ≡ rank a → is_place a b ≡ true
@@ -434,7 +435,7 @@ begins-as-rows-say suite events n is conditions accepted place rows label within
     let all = recursion_from_All IsSuiteEvent events conditions in
     let before = suite_along suite (take place events) in
     let reached : suite_along suite (take (suc place) events) ≡ suite_scanned before rows label =
-      ap (suite_along suite) (next-place suite events place (Scan rows label) here) ∙ suite_along-append suite (take place events) (Scan rows label ∷ []) in
+    ap (suite_along suite) (next-place suite events place (Scan rows label) here) ∙ suite_along-append suite (take place events) (Scan rows label ∷ []) in
     let free : refusal_of_scan before rows ≡ None = accepted-at suite events n place (Scan rows label) within here accepted in
     subst (λ (s : SuiteState). All (λ (begun : Beginning). trace_of s.parts begun.part ≡ Some (new_trace (state_of (opening label begun)) before.capacity)) (scan_starts before.table rows ++ scan_restarts before.table rows))
     (sym reached) (begun-there before rows label (at-place suite events place is all) (accepted-rise before.table rows free))

@@ -66,7 +66,7 @@ pub suite-scanned : (suite : SuiteState) (rows : List Row) (label : Tai64n) (cap
     record { table = table; parts = parts; capacity = capacity } ≡ suite_scanned suite rows label
 suite-scanned suite rows label capacity table dropped started restarted seen parts room scan drop start restart same is =
     let all : parts ≡ parts_scanned suite rows label =
-      is ∙ ap (λ d. changed d started restarted seen) drop ∙ ap (λ l. changed (drops suite.table.slots rows) l restarted seen) start
-      ∙ ap (λ l. changed (drops suite.table.slots rows) (map (begun_part suite.capacity label) (scan_starts suite.table rows)) l seen) restart
-      ∙ ap (changed (drops suite.table.slots rows) (map (begun_part suite.capacity label) (scan_starts suite.table rows)) (map (begun_part suite.capacity label) (scan_restarts suite.table rows))) same in
+    is ∙ ap (λ d. changed d started restarted seen) drop ∙ ap (λ l. changed (drops suite.table.slots rows) l restarted seen) start
+    ∙ ap (λ l. changed (drops suite.table.slots rows) (map (begun_part suite.capacity label) (scan_starts suite.table rows)) l seen) restart
+    ∙ ap (changed (drops suite.table.slots rows) (map (begun_part suite.capacity label) (scan_starts suite.table rows)) (map (begun_part suite.capacity label) (scan_restarts suite.table rows))) same in
     rw (room, scan, all) refl

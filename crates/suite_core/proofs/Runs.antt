@@ -172,10 +172,10 @@ gone-along : {A : Type 0} → (suite : SuiteState) (events : List (SuiteEvent A)
 gone-along suite [] id below none = none
 gone-along suite (At other event ∷ events) id below none =
     let next_same : (suite_at suite other event).table.next ≡ suite.table.next =
-      elim (trace_of suite.parts other) as (λ t. (table_told suite.table other event t).next ≡ suite.table.next) [
-        | None ↦ refl
-        | (Some kept) ↦ elim (has_ended (noted_if_taken kept event)) as (λ b. (if b then after_end suite.table other else suite.table).next ≡ suite.table.next) [ true ↦ refl | false ↦ refl ]
-      ] in
+    elim (trace_of suite.parts other) as (λ t. (table_told suite.table other event t).next ≡ suite.table.next) [
+      | None ↦ refl
+      | (Some kept) ↦ elim (has_ended (noted_if_taken kept event)) as (λ b. (if b then after_end suite.table other else suite.table).next ≡ suite.table.next) [ true ↦ refl | false ↦ refl ]
+    ] in
     gone-along (suite_at suite other event) events id (omega (arith, below, next_same))
     (trace_of-after suite.parts other id event ∙ ap (option_map (noted_where (is_part other id) event)) none)
 gone-along suite (Scan rows label ∷ events) id below none =
@@ -190,7 +190,7 @@ own-along : {A : Type 0} → (suite : SuiteState) (events : List (SuiteEvent A))
 own-along suite [] id kept is conditions at = subst (λ (t : Option Kept). IsSameOrNone t kept) (sym at) refl
 own-along suite (At other event ∷ events) id kept is conditions at =
     let grown : trace_of (parts_after other event suite.parts) id ≡ Some (noted_where (is_part other id) event kept) =
-      trace_of-after suite.parts other id event ∙ ap (option_map (noted_where (is_part other id) event)) at in
+    trace_of-after suite.parts other id event ∙ ap (option_map (noted_where (is_part other id) event)) at in
     let next_is = IsSuite-at suite other event conditions.0 is in
     elim (is_part other id) as (λ b. trace_of (parts_after other event suite.parts) id ≡ Some (noted_where b event kept) →
     IsSameOrNone (trace_of (suite_along (suite_at suite other event) events).parts id) (noted_along kept (if b then event ∷ own_events id events else own_events id events))) [
@@ -253,17 +253,17 @@ ran-more suite left after_it outs outs_left outs_after events n event ran below 
     let more : take (n + 1) events ≡ take n events ++ event ∷ [] = take_more events n event below ∙ ap (λ e. take n events ++ e ∷ []) (sym at) in
     let count : length (take (n + 1) events) ≡ n + 1 = omega (arith, length-take (n + 1) events) in
     let accepted = subst (AreAccepted suite) (sym more)
-        (accepted-more suite (take n events) event ran.accepted (subst (λ (s : SuiteState). refusal s event ≡ None) ran.state here)) in
+    (accepted-more suite (take n events) event ran.accepted (subst (λ (s : SuiteState). refusal s event ≡ None) ran.state here)) in
     record {
       within = omega arith;
       accepted = accepted;
       count = outs-count suite (take (n + 1) events) accepted ∙ count;
       state = next_state ∙ ap (λ (s : SuiteState). suite_after s event) ran.state
-        ∙ sym (ap (suite_along suite) more ∙ suite_along-append suite (take n events) (event ∷ []));
+          ∙ sym (ap (suite_along suite) more ∙ suite_along-append suite (take n events) (event ∷ []));
       outs_are = next_outs ∙ ap (λ l. l ++ outs_of left event) ran.outs_are
-        ∙ append_assoc outs (outs_along suite (take n events)) (outs_of left event)
-        ∙ ap (λ (s : SuiteState). outs ++ (outs_along suite (take n events) ++ outs_of s event)) ran.state
-        ∙ ap (λ l. outs ++ l) (sym (ap (outs_along suite) more ∙ outs_along-append suite (take n events) (event ∷ [])
+          ∙ append_assoc outs (outs_along suite (take n events)) (outs_of left event)
+          ∙ ap (λ (s : SuiteState). outs ++ (outs_along suite (take n events) ++ outs_of s event)) ran.state
+          ∙ ap (λ l. outs ++ l) (sym (ap (outs_along suite) more ∙ outs_along-append suite (take n events) (event ∷ [])
           ∙ ap (λ l. outs_along suite (take n events) ++ l) (append-nil (outs_of (suite_along suite (take n events)) event))));
     }
 
@@ -305,16 +305,16 @@ by-own-events suite events n is conditions id from to kept ordered within at =
     let rest = drop from (take to events) in
     let here = suite_along suite (take from events) in
     let whole : take from events ++ rest ≡ take to events =
-      ap (λ l. l ++ rest) (sym (take-take from to events ordered)) ∙ take-append-drop from (take to events) in
+    ap (λ l. l ++ rest) (sym (take-take from to events ordered)) ∙ take-append-drop from (take to events) in
     let reached : suite_along suite (take to events) ≡ suite_along here rest = ap (suite_along suite) (sym whole) ∙ suite_along-append suite (take from events) rest in
     let own = own_events id rest in
     let here_is = at-place suite events from is all in
     let rest_all = conditions-drop (take to events) from (conditions-take events to all) in
     let later = own-along here rest id kept here_is rest_all at in
     let told : Follows kept own (noted_along kept own) = record {
-        machine = replay-noted_along kept own;
-        trace = noted_along-taken kept own (trace-there here id kept here_is at) (own-conditions rest id rest_all);
-      } in
+      machine = replay-noted_along kept own;
+      trace = noted_along-taken kept own (trace-there here id kept here_is at) (own-conditions rest id rest_all);
+    } in
     subst (λ (t : Option Kept). FollowsIfThere kept own t) (sym (ap (λ (s : SuiteState). trace_of s.parts id) reached))
     (follows (trace_of (suite_along here rest).parts id) kept own told later)
 
@@ -359,7 +359,7 @@ out-by {A = A} id event (Some later) kept own there told =
     let one : state_of (history_of later) ≡ state_of past = told.machine in
     let reply : reply_to (history_of later) event ≡ reply_to past event = reply_to-state (history_of later) past event one in
     let phase : (replay (noted_if_taken later event)).phase ≡ phase_of (next past event) =
-      ap (λ (s : State). s.phase) (replay-noted_if_taken later event ∙ next-state (history_of later) past event one) in
+    ap (λ (s : State). s.phase) (replay-noted_if_taken later event ∙ next-state (history_of later) past event one) in
     ap (λ r. out.At id r (replay (noted_if_taken later event)).phase ∷ []) reply ∙ ap (λ p. out.At id (reply_to past event) p ∷ []) phase
 
 pub replies-by-history : {A : Type 0} → (suite : SuiteState) (events : List (SuiteEvent A)) (n : ℕ) → IsSuite suite → All IsSuiteEvent events → AreAccepted suite (take n events) → ReplyByOwnHistory suite events n
@@ -374,13 +374,13 @@ replies-by-history {A = A} suite events n is conditions accepted id from place k
     let parted : take place events ++ At id event ∷ later ≡ take n events = sym (append_assoc (take place events) (At id event ∷ []) later) ∙ whole in
     let both = accepted-append suite (take place events) (At id event ∷ later) (subst (AreAccepted suite) (sym parted) accepted) in
     let one : outs_at {A = A} id event (trace_of before.parts id) ≡ out.At id (reply_to past event) (phase_of (next past event)) ∷ [] =
-      out-by id event (trace_of before.parts id) kept own both.1.0 followed in
+    out-by id event (trace_of before.parts id) kept own both.1.0 followed in
     let inside : place < length events = below-of events place (At id event) here in
     let count : length (outs_along suite (take place events)) ≡ place =
-      outs-count suite (take place events) both.0 ∙ (let t = length-take place events in omega (arith, t, inside)) in
+    outs-count suite (take place events) both.0 ∙ (let t = length-take place events in omega (arith, t, inside)) in
     ap (λ l. slice_get (outs_along suite l) place) (sym parted)
     ∙ ap (λ l. slice_get l place) (outs_along-append suite (take place events) (At id event ∷ later)
-      ∙ ap (λ l. outs_along suite (take place events) ++ (l ++ outs_along (suite_at before id event) later)) one)
+    ∙ ap (λ l. outs_along suite (take place events) ++ (l ++ outs_along (suite_at before id event) later)) one)
     ∙ get-middle (outs_along suite (take place events)) (outs_along (suite_at before id event) later) (out.At id (reply_to past event) (phase_of (next past event))) place count
   where
     below-of : {T : Type 0} (xs : List T) (k : ℕ) (x : T) → slice_get xs k ≡ Some x → k < length xs

@@ -169,9 +169,9 @@ seen-stays (part ∷ parts) id event trace stays each =
   where
     before : has_ended trace ≡ false
     before = elim (has_ended trace) as (λ b. has_ended trace ≡ b → b ≡ false) [
-        | true ↦ λ is. let after : has_ended (noted_if_taken trace event) ≡ true = stays-ended trace event is in absurd (cc)
-        | false ↦ λ is. refl
-      ] refl
+      | true ↦ λ is. let after : has_ended (noted_if_taken trace event) ≡ true = stays-ended trace event is in absurd (cc)
+      | false ↦ λ is. refl
+    ] refl
 
     here : (part : PartState) → Has id trace part → seen (part_after id event part) ≡ seen part
     here part has =
@@ -274,7 +274,7 @@ kept-flat dropped rows (slot ∷ slots) told =
     ∙ ap (λ l. l ++ filter (stays_seen dropped) (flat_map seen_in slots)) (slot-filter dropped slot ∙ ap (λ b. if b then [] else seen_in slot) here)
     ∙ ap (λ l. (if is_dropped rows slot then [] else seen_in slot) ++ l) later
     ∙ elim (is_dropped rows slot) as (λ b. (if b then [] else seen_in slot) ++ flat_map seen_in (kept slots rows)
-      ≡ flat_map seen_in (if not b then slot ∷ kept slots rows else kept slots rows)) [ true ↦ refl | false ↦ refl ]
+    ≡ flat_map seen_in (if not b then slot ∷ kept slots rows else kept slots rows)) [ true ↦ refl | false ↦ refl ]
 
 seen-filter : (dropped : List ℕ) (parts : List PartState) → map seen (filter (λ part. not (is_of dropped part)) parts) ≡ filter (stays_seen dropped) (map seen parts)
 seen-filter dropped [] = refl
@@ -401,13 +401,13 @@ tied-scan suite rows label rising tied =
     let restarted_parts = map (begun_part suite.capacity label) (map (beginning after rows) again) in
     let started_parts = map (begun_part suite.capacity label) (map (beginning after rows) (starts slots next rows)) in
     let stayed : map seen stay ≡ flat_map seen_in (kept slots rows) =
-      parts-stay suite.table suite.parts rows rising tied in
+    parts-stay suite.table suite.parts rows rising tied in
     let restarts_seen : map seen (map (restarted_in restarted_parts) stay) ≡ flat_map seen_in (map (renewed again) (kept slots rows)) =
-      seen-restarted suite.capacity label after rows again stay ∙ ap (map (seen_restart again)) stayed
-      ∙ sym (flat-map (renewed again) (seen_restart again) (kept slots rows) (restart-slot again)) in
+    seen-restarted suite.capacity label after rows again stay ∙ ap (map (seen_restart again)) stayed
+    ∙ sym (flat-map (renewed again) (seen_restart again) (kept slots rows) (restart-slot again)) in
     let starts_seen : map seen started_parts ≡ flat_map seen_in (new_slots slots next rows) =
-      seen-started suite.capacity label after rows (starts slots next rows)
-      ∙ sym (new-flat (new_slots slots next rows) (new-slots slots rows next (eligible rows))) in
+    seen-started suite.capacity label after rows (starts slots next rows)
+    ∙ sym (new-flat (new_slots slots next rows) (new-slots slots rows next (eligible rows))) in
     map-append seen (map (restarted_in restarted_parts) stay) started_parts
     ∙ ap (λ l. l ++ map seen started_parts) restarts_seen
     ∙ ap (λ l. flat_map seen_in (map (renewed again) (kept slots rows)) ++ l) starts_seen
@@ -465,9 +465,9 @@ parts-rise table parts rising tied i j d before within =
 pub parts-below : (table : TableState) (parts : List PartState) → All (IsNumbered table.next) table.slots → AreTied table parts → All (λ (part : PartState). part.id.life < table.next) parts
 parts-below table parts numbered tied k d within =
     let all : All (λ (a : Seen). a.id.life < table.next) (map seen parts) =
-      subst (All (λ (a : Seen). a.id.life < table.next)) (sym tied)
-      (all-flat (λ (a : Seen). a.id.life < table.next) seen_in table.slots
-      (All-weaker (IsNumbered table.next) (λ (slot : SlotState). All (λ (a : Seen). a.id.life < table.next) (seen_in slot)) (λ slot is. lives slot is) table.slots numbered)) in
+    subst (All (λ (a : Seen). a.id.life < table.next)) (sym tied)
+    (all-flat (λ (a : Seen). a.id.life < table.next) seen_in table.slots
+    (All-weaker (IsNumbered table.next) (λ (slot : SlotState). All (λ (a : Seen). a.id.life < table.next) (seen_in slot)) (λ slot is. lives slot is) table.slots numbered)) in
     let below : (get_or (map seen parts) k (seen d)).id.life < table.next = all k (seen d) (omega (arith, within, length-map parts seen)) in
     subst (λ (a : Seen). a.id.life < table.next) (get_or-map seen parts k d (seen d) within) below
   where

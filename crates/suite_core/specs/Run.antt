@@ -110,5 +110,5 @@ BeginAsRowsSay suite events n =
     (place : ℕ) (rows : List Row) (label : Tai64n) → place < n → slice_get events place ≡ Some (Scan rows label)
     → let before = suite_along suite (take place events) in
     All (λ (begun : Beginning). trace_at suite events (suc place) begun.part
-        ≡ Some (new_trace (state_of (opening label begun)) before.capacity))
+    ≡ Some (new_trace (state_of (opening label begun)) before.capacity))
     (scan_starts before.table rows ++ scan_restarts before.table rows)

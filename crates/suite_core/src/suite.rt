@@ -111,7 +111,10 @@ fn tell_end<A: Allocator + Clone>(table: &mut ScanTable<A>, id: PartId, ended: b
 }
 
 /// Scans, where the scan is not refused but for want of memory.
-fn scan<A: Allocator + Clone>(table: &mut ScanTable<A>, rows: &[DirRow<A>]) -> Result<ScanOut<A>, AllocError>
+fn scan<A: Allocator + Clone>(
+    table: &mut ScanTable<A>,
+    rows: &[DirRow<A>],
+) -> Result<ScanOut<A>, AllocError>
     ensures table { OnOk result (table.new ≡ scanned table.old rows.now) }
     ensures out { IfOk result (λ out. out ≡ scan_out table.old rows.now) }
 {
@@ -266,7 +269,11 @@ impl<A: Allocator + Clone> Suite<A> {
     ///
     /// At a fault nothing changed. `NoSuchPart` comes exactly where the event is at a part that is not there, `Scan` exactly
     /// where the table refuses the scan, and `OutOfMemory` only where neither is so.
-    pub fn step(&mut self, event: &SuiteEvent<A>, out: &mut Vec<StepOut<A>, A>) -> Result<(), StepFault>
+    pub fn step(
+        &mut self,
+        event: &SuiteEvent<A>,
+        out: &mut Vec<StepOut<A>, A>,
+    ) -> Result<(), StepFault>
         requires { IsSuiteEvent event.now }
         ensures ok { OnOk result (self.new ≡ suite_after self.old event.now) }
         ensures outs { OnOk result (out.new.items ≡ out.old.items ++ outs_of self.old event.now) }
