@@ -1,5 +1,5 @@
 //! The table of the commands.
-ghost use Rattle.std.specs.Prelude.{map};
+ghost use Rattle.std.specs.Prelude.{◌≡◌, [], map};
 ghost use Rattle.cmd_envdir.specs.Around.{around};
 ghost use Rattle.dtools.specs.Commands.{CommandEnds, ProgramEnds, machine};
 
@@ -7,6 +7,7 @@ use crate::devices::Devices;
 use cmd_base::{FileSource, usage};
 use cmd_envdir::{Launcher, Surroundings, run_envdir};
 use cmd_filters::{run_readproctitle, run_tai64n};
+use cmd_multilog::{FolderStore, LogDisk, run_multilog};
 use cmd_sim::run_sim;
 use cmd_trace::run_trace;
 use std::io::{Read, Write};
@@ -14,9 +15,10 @@ use tai_status::TimeSource;
 
 /// Runs the command of this name over words, and answers its status. A name of no command is
 /// `dtools: usage`, 100.
-fn run_command<R, L, D, W, E, C>(
+fn run_command<R, L, K, D, W, E, C>(
     rt: &R,
     launcher: &mut L,
+    store: &mut FolderStore<K>,
     name: &str,
     words: &[&str],
     devices: &mut Devices<D, W, E, C>,
@@ -24,13 +26,16 @@ fn run_command<R, L, D, W, E, C>(
 where
     R: FileSource + Surroundings + AllocGlobal,
     L: Launcher,
+    K: LogDisk + Drop,
     D: Read,
     W: Write,
     E: Write,
     C: TimeSource,
+    requires no_logs { store.old.logs ≡ [] }
+    requires no_files { store.old.statuses ≡ [] }
     ensures ends { CommandEnds name.now (map (λ word. word.now) words.now) result
-        (machine (R.file_at rt.now) (around (R.folder_at rt.now) (R.known_variables rt.now)) (L.launched launcher.old))
-        (L.launched launcher.new) devices.old devices.new }
+        (machine (R.file_at rt.now) (around (R.folder_at rt.now) (R.known_variables rt.now)) (L.launched launcher.old)
+        store.old) (L.launched launcher.new) store.new devices.old devices.new }
 {
     let Devices {
         reader,
@@ -42,6 +47,7 @@ where
         "sim" => return run_sim(rt.alloc(), words, reader, writer, faults),
         "tai64n" => return run_tai64n(words, reader, writer, faults, clock),
         "readproctitle" => return run_readproctitle(rt.alloc(), words, reader, writer, faults),
+        "multilog" => return run_multilog(rt.alloc(), store, words, reader, faults, clock),
         "envdir" => return run_envdir(rt, launcher, rt.alloc(), words, faults),
         "trace" => return run_trace(rt, rt.alloc(), words, writer, faults),
         _ => return usage(faults),
@@ -50,25 +56,29 @@ where
 
 /// Runs the command that the first word names, over the words after it, and answers its status. No
 /// word, or one that names no command, is `dtools: usage`, 100.
-pub fn run<R, L, D, W, E, C>(
+pub fn run<R, L, K, D, W, E, C>(
     rt: &R,
     launcher: &mut L,
+    store: &mut FolderStore<K>,
     words: &[&str],
     devices: &mut Devices<D, W, E, C>,
 ) -> u8
 where
     R: FileSource + Surroundings + AllocGlobal,
     L: Launcher,
+    K: LogDisk + Drop,
     D: Read,
     W: Write,
     E: Write,
     C: TimeSource,
+    requires no_logs { store.old.logs ≡ [] }
+    requires no_files { store.old.statuses ≡ [] }
     ensures ends { ProgramEnds (map (λ word. word.now) words.now) result
-        (machine (R.file_at rt.now) (around (R.folder_at rt.now) (R.known_variables rt.now)) (L.launched launcher.old))
-        (L.launched launcher.new) devices.old devices.new }
+        (machine (R.file_at rt.now) (around (R.folder_at rt.now) (R.known_variables rt.now)) (L.launched launcher.old)
+        store.old) (L.launched launcher.new) store.new devices.old devices.new }
 {
     match words {
-        [name, words @ ..] => run_command(rt, launcher, name, words, devices),
+        [name, words @ ..] => run_command(rt, launcher, store, name, words, devices),
         [] => usage(&mut devices.faults),
     }
 }

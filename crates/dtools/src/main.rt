@@ -7,6 +7,7 @@ mod devices;
 
 use cmd_base::{SystemClock, TROUBLE, report, usage};
 use cmd_envdir::SystemLauncher;
+use cmd_multilog::{FolderStore, MachineDisk};
 use command::run;
 use devices::Devices;
 use std::env;
@@ -39,7 +40,17 @@ fn run_arguments<D: Read, W: Write, E: Write, C: TimeSource>(
             return refuse_words(ErrorKind::OutOfMemory, &mut devices.faults);
         }
     }
-    run(rt, &mut SystemLauncher::new(rt), &words, devices)
+    let disk = MachineDisk::new(rt, rt.stderr(), rt.alloc());
+    match FolderStore::new(disk, rt.alloc()) {
+        Ok(mut store) => run(
+            rt,
+            &mut SystemLauncher::new(rt),
+            &mut store,
+            &words,
+            devices,
+        ),
+        Err(_) => refuse_words(ErrorKind::OutOfMemory, &mut devices.faults),
+    }
 }
 
 /// The program's words, without its own name.

@@ -1,2 +1,3 @@
+mod OneSender
 mod Pair
 mod TwoReaders

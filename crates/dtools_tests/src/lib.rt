@@ -7,7 +7,11 @@ mod envdir;
 #[cfg(test)]
 mod environment;
 #[cfg(test)]
+mod faulty;
+#[cfg(test)]
 mod filters;
+#[cfg(test)]
+mod house;
 #[cfg(test)]
 mod kept;
 #[cfg(test)]
@@ -20,6 +24,8 @@ mod memory;
 mod multilog;
 #[cfg(test)]
 mod patterns;
+#[cfg(test)]
+mod relay;
 #[cfg(test)]
 mod scan;
 #[cfg(test)]

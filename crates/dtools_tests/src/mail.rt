@@ -18,7 +18,7 @@ use svc_mail::sender::Sender;
 use svc_mail::whole::every_letter_arrives;
 
 // The two senders of a mailbox that was just opened, and the vector that held them.
-fn two_of<T: Copy, A: Allocator + Clone>(
+pub(crate) fn two_of<T: Copy, A: Allocator + Clone>(
     mut senders: Vec<Sender<T, A>, A>,
     capacity: usize,
     mailbox: &Mailbox<T, A>,
@@ -99,6 +99,17 @@ fn each_growth_is_refused_in_turn(rt: HostRuntime) -> Result<(), Fail> {
     assert!(rt; opens_refused > 0);
     assert!(rt; closes_refused > 0);
     every_letter_arrives::<u8, Global>();
+    Ok(())
+}
+
+#[test]
+fn a_mailbox_of_64_refuses_the_65th_letter(rt: HostRuntime) -> Result<(), Fail> {
+    let (mailbox, senders, _receiver) = Mailbox::open(rt.alloc(), 64, 2)?;
+    let (mut first, _second, _room) = two_of(senders, 64, &mailbox);
+    for _letter in 0..64usize {
+        assert_eq!(rt; first.post(&rt, b'u'), Ok(()));
+    }
+    assert_eq!(rt; first.post(&rt, b'u'), Err(Full(b'u')));
     Ok(())
 }
 

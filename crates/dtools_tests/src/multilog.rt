@@ -1,3 +1,4 @@
+use crate::faulty::{Call, Faulty};
 use crate::slow::Slow;
 use mlog_core::{Counts, RunFault, run};
 use mlog_files::{LogFiles, MemoryStore, StatusFile};
@@ -139,5 +140,89 @@ fn keeps_whole_lines_where_the_reader_fails(rt: HostRuntime) -> Result<(), Fail>
         assert_eq!(rt; stopped.answer.err(), Some(RunFault::Read));
         assert!(rt; stopped.log.current.starts_with(b"x\n"));
     }
+    Ok(())
+}
+
+/// What a run over one log and one status file leaves, where the store takes few bytes an append and fails at one call. The
+/// input comes in reads of seven bytes.
+fn run_faulty(
+    alloc: Global,
+    words: &[&[u8]],
+    input: &[u8],
+    most: usize,
+    failing: Call,
+) -> Result<Ran, Fail> {
+    let Ok(script) = Script::read(alloc, words) else {
+        return Err("a script")?;
+    };
+    if script.logs() > 1 || script.files() > 1 {
+        return Err("one log and one status file")?;
+    }
+    let mut logs = Vec::new(alloc);
+    logs.push(LogFiles {
+        current: Vec::new(alloc),
+        olds: Vec::new(alloc),
+    })?;
+    let mut statuses = Vec::new(alloc);
+    statuses.push(StatusFile {
+        bytes: Vec::new(alloc),
+    })?;
+    let memory = MemoryStore::new(alloc, logs, statuses);
+    let mut store = Faulty::new(memory, most, failing);
+    let mut clock = Still {
+        label: Label::from_unix(0, 0).ok_or("a label")?,
+    };
+    let mut reader = Counted::new(Slow::ending(input, 7));
+    let answer = run(alloc, &script, &mut reader, &mut store, &mut clock);
+    let (mut logs, mut statuses, alerts) = store.take_apart();
+    Ok(Ran {
+        log: logs.pop().ok_or("a log")?,
+        status: statuses.pop().ok_or("a status file")?.bytes,
+        alerts,
+        answer,
+    })
+}
+
+#[test]
+fn hands_all_to_a_store_that_takes_little(rt: HostRuntime) -> Result<(), Fail> {
+    let words: [&[u8]; 4] = [b"s4096", b"n2", b"e", b"./log"];
+    let line = many(rt.alloc(), 2095, "\nx")?;
+    let ran = run_faulty(rt.alloc(), &words, line.as_bytes(), 3, Call::None)?;
+    let counts = Counts {
+        lines: 2,
+        finished: 1,
+        removed: 0,
+    };
+    assert_eq!(rt; ran.answer.ok(), Some(counts));
+    assert_eq!(rt; ran.log.olds.len(), 1);
+    assert_eq!(rt; ran.log.olds[0].bytes.len(), 2096);
+    assert_eq!(rt; ran.log.current.as_slice(), b"x\n".as_slice());
+    assert_eq!(rt; ran.alerts.len(), 203);
+    Ok(())
+}
+
+#[test]
+fn stands_at_a_front_where_the_store_fails(rt: HostRuntime) -> Result<(), Fail> {
+    let words: [&[u8]; 4] = [b"s4096", b"n2", b"./log", b"=st"];
+    let first = run_faulty(rt.alloc(), &words, b"x\ny\n", 3, Call::Append)?;
+    assert_eq!(rt; first.answer.err(), Some(RunFault::Store));
+    assert!(rt; first.log.current.is_empty());
+    // The append that fills the file is done.
+    let line = many(rt.alloc(), 5000, "\n")?;
+    let full = run_faulty(rt.alloc(), &words, line.as_bytes(), 3, Call::Finish)?;
+    assert_eq!(rt; full.answer.err(), Some(RunFault::Store));
+    assert_eq!(rt; (full.log.olds.len(), full.log.current.len()), (0, 4096));
+    // The second finish is done.
+    let two = many(rt.alloc(), 9000, "\n")?;
+    let kept = run_faulty(rt.alloc(), &words, two.as_bytes(), 3, Call::RemoveSmallest)?;
+    assert_eq!(rt; kept.answer.err(), Some(RunFault::Store));
+    assert_eq!(rt; (kept.log.olds.len(), kept.log.current.len()), (2, 0));
+    let status = run_faulty(rt.alloc(), &words, b"x\n", 3, Call::ReplaceStatus)?;
+    assert_eq!(rt; status.answer.err(), Some(RunFault::Store));
+    assert!(rt; status.status.is_empty());
+    let alerts: [&[u8]; 2] = [b"./log", b"e"];
+    let alert = run_faulty(rt.alloc(), &alerts, b"x\n", 3, Call::Alert)?;
+    assert_eq!(rt; alert.answer.err(), Some(RunFault::Store));
+    assert!(rt; alert.alerts.is_empty());
     Ok(())
 }

@@ -17,7 +17,7 @@ use svc_station::writer::Writer;
 use tai_status::{Label, View, Want};
 
 // The two readers of a station that was just opened, and the vector that held them.
-fn two_of(mut readers: Vec<Reader>, writer: &Writer) -> (Reader, Reader, Vec<Reader>)
+pub(crate) fn two_of(mut readers: Vec<Reader>, writer: &Writer) -> (Reader, Reader, Vec<Reader>)
     requires { (length readers.items ≡ 2) × AreNewReaders (station writer.now) readers.items }
     ensures first { IsNewReader (station writer.now) 0 result.0 }
     ensures second { IsNewReader (station writer.now) 1 result.1 }
@@ -29,7 +29,7 @@ fn two_of(mut readers: Vec<Reader>, writer: &Writer) -> (Reader, Reader, Vec<Rea
 }
 
 // Ends a station of two readers, in a vector that held them.
-fn end_two<R: Wait + Abort>(
+pub(crate) fn end_two<R: Wait + Abort>(
     rt: &R,
     writer: Writer,
     first: Reader,

@@ -1,0 +1,295 @@
+-- Folders of logs: what calls in turn do.
+use Rattle.std.proofs.Common.{◌≡◌, ℕ, ◌+◌, ◌<◌, ◌≤◌, Bool, true, false, List, [], ◌∷◌, ◌++◌, length, map, drop, get_or, Option, Some, None, refl, sym, ap, ◌∙◌, arith, subst, append_assoc, append-nil}
+use Rattle.std.specs.Prelude.{IfSome, MatchOption, unwrap_or, bytes_eq, if◌then◌else◌, ⊤, take, Result, Ok, Err, OnOk, OnErr}
+use Rattle.std.specs.Option.{option_map}
+use Rattle.std.proofs.lemmas.Slice.Eq.{bytes_eq-Decides}
+use Rattle.std.proofs.lemmas.List.{length-append}
+use Rattle.tai_status.specs.Label.{Tai64n}
+use Rattle.mlog_files.specs.Files.{Old, Files, Step, Finish, Remove, files_after, append_steps, old_name, with_old}
+use Rattle.mlog_files.specs.Store.{Reaches}
+use Rattle.cmd_multilog.specs.Names.{old_names, with_name}
+use Rattle.cmd_multilog.specs.Folder.{Folder, Changes, Locks, Opens, Extends, Syncs, has_old, Renames, without, Removes, Begins, files_in, files_of, IsKept, HasLength, HasNames, StaysAt}
+use Rattle.cmd_multilog.proofs.Naming.{names-with_old}
+
+-- the files of a folder with this current file
+abbrev files_with : List Old → Option (List ℕ) → Option Files
+files_with olds current = option_map (λ bytes. record { current = bytes; olds = olds }) current
+
+-- the folder after a sync, after a rename, and after an opening
+abbrev synced : Folder → Folder
+synced a = record { path = a.path; locked = a.locked; current = a.current; synced = true; olds = a.olds }
+
+abbrev extended : List ℕ → Folder → List ℕ → Folder
+extended piece a bytes = record { path = a.path; locked = a.locked; current = Some (bytes ++ piece); synced = false; olds = a.olds }
+
+abbrev renamed : List ℕ → Folder → List ℕ → Folder
+renamed name a bytes = record {
+  path = a.path;
+  locked = a.locked;
+  current = None;
+  synced = false;
+  olds = with_old (record { name = name; bytes = bytes }) a.olds;
+}
+
+abbrev opened : Folder → Folder
+opened a = record { path = a.path; locked = a.locked; current = Some (unwrap_or a.current []); synced = false; olds = a.olds }
+
+abbrev removed : List ℕ → Folder → Folder
+removed name a = record { path = a.path; locked = a.locked; current = a.current; synced = a.synced; olds = without name a.olds }
+
+abbrev locked_of : Folder → Folder
+locked_of a = record { path = a.path; locked = true; current = a.current; synced = a.synced; olds = a.olds }
+
+-- Files
+
+pub Reaches-same : (files : Option Files) → Reaches files files []
+Reaches-same None = tt
+Reaches-same (Some files) = refl
+
+Reaches-gone : (files : Option Files) (steps : List Step) → Reaches files None steps
+Reaches-gone None steps = tt
+Reaches-gone (Some files) steps = tt
+
+appended_files : (bytes : List ℕ) (files : Files)
+    → files_after (append_steps bytes) files ≡ record { current = files.current ++ bytes; olds = files.olds }
+appended_files [] files = ap (λ (t : List ℕ). record { current = t; olds = files.olds }) (sym (append-nil files.current))
+appended_files (b ∷ bs) files =
+    appended_files bs (record { current = files.current ++ b ∷ []; olds = files.olds })
+    ∙ ap (λ (t : List ℕ). record { current = t; olds = files.olds }) (append_assoc files.current (b ∷ []) bs)
+
+pub extends_files : (a b : Option Folder) (piece : List ℕ) → Changes a b (Extends piece)
+    → Reaches (files_of a) (files_of b) (append_steps piece)
+extends_files None None piece h = tt
+extends_files None (Some b) piece h = absurd h
+extends_files (Some a) None piece h = absurd h
+extends_files (Some a) (Some b) piece h =
+    elim (a.current) as (λ cur. MatchOption cur ⊥ (λ bytes. b ≡ extended piece a bytes) → Reaches (files_with a.olds cur) (files_of (Some b)) (append_steps piece)) [
+      | None ↦ λ never. absurd never
+      | Some bytes ↦ λ e. subst (λ (f : Folder). Reaches (files_with a.olds (Some bytes)) (files_in f) (append_steps piece)) (sym e)
+          (sym (appended_files piece (record { current = bytes; olds = a.olds })))
+    ] h
+
+pub synced_files : (a b : Option Folder) → Changes a b Syncs → Reaches (files_of a) (files_of b) []
+synced_files None None h = tt
+synced_files None (Some b) h = absurd h
+synced_files (Some a) None h = absurd h
+synced_files (Some a) (Some b) h = subst (λ (f : Folder). Reaches (files_in a) (files_in f) []) (sym h) (Reaches-same (files_in a))
+
+renamed_gone : (a b : Folder) (name : List ℕ) → Renames name a b → b.current ≡ None
+renamed_gone a b name h =
+    elim (a.current) as (λ cur. MatchOption cur ⊥ (λ bytes. b ≡ renamed name a bytes) → b.current ≡ None) [
+      | None ↦ λ never. absurd never
+      | Some bytes ↦ λ e. ap (λ (f : Folder). f.current) e
+    ] (h.1)
+
+-- a finish that is not begun anew
+pub renamed_files : (a b c : Option Folder) (name : List ℕ) → Changes a b Syncs → Changes b c (Renames name)
+    → Reaches (files_of a) (files_of c) []
+renamed_files None None None name h k = tt
+renamed_files None None (Some c) name h k = absurd k
+renamed_files None (Some b) c name h k = absurd h
+renamed_files (Some a) None c name h k = absurd h
+renamed_files (Some a) (Some b) None name h k = absurd k
+renamed_files (Some a) (Some b) (Some c) name h k =
+    subst (λ (cur : Option (List ℕ)). Reaches (files_in a) (files_with c.olds cur) []) (sym (renamed_gone b c name k)) (Reaches-gone (files_in a) [])
+
+-- a finish
+pub finished_files : (a b c d : Option Folder) (label : Tai64n) → Changes a b Syncs → Changes b c (Renames (old_name label)) → Changes c d Opens
+    → Reaches (files_of a) (files_of d) (Finish label ∷ [])
+finished_files None None None None label h k l = tt
+finished_files None None None (Some d) label h k l = absurd l
+finished_files None None (Some c) d label h k l = absurd k
+finished_files None (Some b) c d label h k l = absurd h
+finished_files (Some a) None c d label h k l = absurd h
+finished_files (Some a) (Some b) None d label h k l = absurd k
+finished_files (Some a) (Some b) (Some c) None label h k l = absurd l
+finished_files (Some a) (Some b) (Some c) (Some d) label h k l =
+    let name = old_name label in
+    elim (a.current) as (λ cur. MatchOption cur ⊥ (λ bytes. c ≡ renamed name (synced a) bytes) → Reaches (files_with a.olds cur) (files_of (Some d)) (Finish label ∷ [])) [
+      | None ↦ λ never. absurd never
+      | Some bytes ↦ λ e. subst (λ (f : Folder). Reaches (files_with a.olds (Some bytes)) (files_in f) (Finish label ∷ [])) (sym (l ∙ ap opened e)) refl
+    ] (subst (λ (f : Folder). MatchOption f.current ⊥ (λ bytes. c ≡ renamed name f bytes)) h (k.1))
+
+-- Paths
+
+pub stays-same : (a b : Option Folder) → b ≡ a → StaysAt a b
+stays-same None None h = tt
+stays-same None (Some b) h = cc h
+stays-same (Some a) None h = cc h
+stays-same (Some a) (Some b) h = ap (λ (f : Option Folder). elim f as (λ _. List ℕ) [ None ↦ [] | Some folder ↦ folder.path ]) h
+
+pub stays-then : (a b c : Option Folder) → StaysAt a b → StaysAt b c → StaysAt a c
+stays-then None None None h k = tt
+stays-then None None (Some c) h k = absurd k
+stays-then None (Some b) c h k = absurd h
+stays-then (Some a) None c h k = absurd h
+stays-then (Some a) (Some b) None h k = absurd k
+stays-then (Some a) (Some b) (Some c) h k = k ∙ h
+
+pub stays-changed : (change : Folder → Folder → Type 0) (a b : Option Folder) → ((f g : Folder) → change f g → g.path ≡ f.path)
+    → Changes a b change → StaysAt a b
+stays-changed change None None keeps h = tt
+stays-changed change None (Some b) keeps h = absurd h
+stays-changed change (Some a) None keeps h = absurd h
+stays-changed change (Some a) (Some b) keeps h = keeps a b h
+
+pub stays-synced : (a b : Option Folder) → Changes a b Syncs → StaysAt a b
+stays-synced a b h = stays-changed Syncs a b (λ f g e. ap (λ (x : Folder). x.path) e) h
+
+pub stays-opened : (a b : Option Folder) → Changes a b Opens → StaysAt a b
+stays-opened a b h = stays-changed Opens a b (λ f g e. ap (λ (x : Folder). x.path) e) h
+
+pub stays-removed : (a b : Option Folder) (name : List ℕ) → Changes a b (Removes name) → StaysAt a b
+stays-removed a b name h = stays-changed (Removes name) a b (λ f g e. ap (λ (x : Folder). x.path) e) h
+
+extends_path : (piece : List ℕ) (f g : Folder) → Extends piece f g → g.path ≡ f.path
+extends_path piece f g h =
+    elim (f.current) as (λ cur. MatchOption cur ⊥ (λ bytes. g ≡ extended piece f bytes) → g.path ≡ f.path) [
+      | None ↦ λ never. absurd never
+      | Some bytes ↦ λ e. ap (λ (x : Folder). x.path) e
+    ] h
+
+renames_path : (name : List ℕ) (f g : Folder) → Renames name f g → g.path ≡ f.path
+renames_path name f g h =
+    elim (f.current) as (λ cur. MatchOption cur ⊥ (λ bytes. g ≡ renamed name f bytes) → g.path ≡ f.path) [
+      | None ↦ λ never. absurd never
+      | Some bytes ↦ λ e. ap (λ (x : Folder). x.path) e
+    ] (h.1)
+
+pub stays-extended : (a b : Option Folder) (piece : List ℕ) → Changes a b (Extends piece) → StaysAt a b
+stays-extended a b piece h = stays-changed (Extends piece) a b (extends_path piece) h
+
+pub stays-renamed : (a b : Option Folder) (name : List ℕ) → Changes a b (Renames name) → StaysAt a b
+stays-renamed a b name h = stays-changed (Renames name) a b (renames_path name) h
+
+-- What is kept of a folder
+
+pub kept-extended : (a b : Option Folder) (piece : List ℕ) (names : List (List ℕ)) (len : ℕ) → Changes a b (Extends piece)
+    → IsKept a names len → IsKept b names (len + length piece)
+kept-extended None None piece names len h kept = tt
+kept-extended None (Some b) piece names len h kept = absurd h
+kept-extended (Some a) None piece names len h kept = absurd h
+kept-extended (Some a) (Some b) piece names len h kept =
+    elim (a.current) as (λ cur. MatchOption cur ⊥ (λ bytes. b ≡ extended piece a bytes) → IfSome cur (λ bytes. len ≡ length bytes)
+    → IsKept (Some b) names (len + length piece)) [
+      | None ↦ λ never _. absurd never
+      | Some bytes ↦ λ e is. subst (λ (f : Folder). IsKept (Some f) names (len + length piece)) (sym e)
+          (kept.0, kept.1, ap (λ (n : ℕ). n + length piece) is ∙ sym (length-append bytes piece))
+    ] h (kept.2)
+
+pub kept-synced : (a b : Option Folder) (names : List (List ℕ)) (len : ℕ) → Changes a b Syncs → IsKept a names len → IsKept b names len
+kept-synced None None names len h kept = tt
+kept-synced None (Some b) names len h kept = absurd h
+kept-synced (Some a) None names len h kept = absurd h
+kept-synced (Some a) (Some b) names len h kept = subst (λ (f : Folder). IsKept (Some f) names len) (sym h) kept
+
+pub kept-renamed : (a b : Option Folder) (name : List ℕ) (names : List (List ℕ)) (len n : ℕ) → Changes a b (Renames name)
+    → IsKept a names len → IsKept b (with_name name names) n
+kept-renamed None None name names len n h kept = tt
+kept-renamed None (Some b) name names len n h kept = absurd h
+kept-renamed (Some a) None name names len n h kept = absurd h
+kept-renamed (Some a) (Some b) name names len n h kept =
+    elim (a.current) as (λ cur. MatchOption cur ⊥ (λ bytes. b ≡ renamed name a bytes) → IsKept (Some b) (with_name name names) n) [
+      | None ↦ λ never. absurd never
+      | Some bytes ↦ λ e. subst (λ (f : Folder). IsKept (Some f) (with_name name names) n) (sym e)
+          (kept.0, ap (with_name name) (kept.1) ∙ sym (names-with_old (record { name = name; bytes = bytes }) a.olds), tt)
+    ] (h.1)
+
+pub kept-begun : (a b c : Option Folder) (name : List ℕ) (names : List (List ℕ)) → Changes a b (Renames name) → Changes b c Opens
+    → IsKept b names 0 → IsKept c names 0
+kept-begun None None None name names h k kept = tt
+kept-begun None None (Some c) name names h k kept = absurd k
+kept-begun None (Some b) c name names h k kept = absurd h
+kept-begun (Some a) None c name names h k kept = absurd h
+kept-begun (Some a) (Some b) None name names h k kept = absurd k
+kept-begun (Some a) (Some b) (Some c) name names h k kept =
+    let gone = renamed_gone a b name h in
+    subst (λ (f : Folder). IsKept (Some f) names 0) (sym k)
+    (kept.0, kept.1, ap (λ (cur : Option (List ℕ)). length (unwrap_or cur [])) (sym gone))
+
+pub kept-opened : (a b c : Option Folder) (names : List (List ℕ)) (len : ℕ) → Changes a b Locks → Changes b c Opens → HasLength c len → HasNames c names
+    → IsKept c (old_names names) len
+kept-opened None None None names len h k l n = tt
+kept-opened None None (Some c) names len h k l n = absurd k
+kept-opened None (Some b) c names len h k l n = absurd h
+kept-opened (Some a) None c names len h k l n = absurd h
+kept-opened (Some a) (Some b) None names len h k l n = absurd k
+kept-opened (Some a) (Some b) (Some c) names len h k l n =
+    (ap (λ (f : Folder). f.locked) k ∙ ap (λ (f : Folder). f.locked) h, n, l)
+
+pub begun : (a b c : Option Folder) → Changes a b Locks → Changes b c Opens → Changes a c Begins
+begun None None None h k = tt
+begun None None (Some c) h k = absurd k
+begun None (Some b) c h k = absurd h
+begun (Some a) None c h k = absurd h
+begun (Some a) (Some b) None h k = absurd k
+begun (Some a) (Some b) (Some c) h k = k ∙ ap opened h
+
+without-first : (name : List ℕ) (old : Old) (olds : List Old) → name ≡ old.name → without name (old ∷ olds) ≡ olds
+without-first name old olds is = rw ((bytes_eq-Decides name old.name).1 is) refl
+
+removed_olds : (olds : List Old) (first : List ℕ) (rest : List (List ℕ)) → first ∷ rest ≡ map (λ (o : Old). o.name) olds
+    → without first olds ≡ drop 1 olds
+removed_olds [] first rest is = cc is
+removed_olds (old ∷ olds) first rest is =
+    without-first first old olds (ap (λ (t : List (List ℕ)). get_or t 0 first) is)
+
+drop-map : (olds : List Old) → map (λ (o : Old). o.name) (drop 1 olds) ≡ drop 1 (map (λ (o : Old). o.name) olds)
+drop-map [] = refl
+drop-map (old ∷ olds) = refl
+
+-- the old file of the first name is removed
+pub kept-removed : (a b : Option Folder) (first : List ℕ) (rest : List (List ℕ)) (len : ℕ) → Changes a b (Removes first) → IsKept a (first ∷ rest) len
+    → IsKept b rest len
+kept-removed None None first rest len h kept = tt
+kept-removed None (Some b) first rest len h kept = absurd h
+kept-removed (Some a) None first rest len h kept = absurd h
+kept-removed (Some a) (Some b) first rest len h kept =
+    let is = removed_olds a.olds first rest (kept.1) in
+    subst (λ (f : Folder). IsKept (Some f) rest len) (sym h)
+    (kept.0, ap (λ (t : List (List ℕ)). drop 1 t) (kept.1) ∙ sym (drop-map a.olds) ∙ ap (map (λ (o : Old). o.name)) (sym is), kept.2)
+
+pub removed_files : (a b : Option Folder) (first : List ℕ) (rest : List (List ℕ)) (len : ℕ) → Changes a b (Removes first) → IsKept a (first ∷ rest) len
+    → Reaches (files_of a) (files_of b) (Remove ∷ [])
+removed_files None None first rest len h kept = tt
+removed_files None (Some b) first rest len h kept = absurd h
+removed_files (Some a) None first rest len h kept = absurd h
+removed_files (Some a) (Some b) first rest len h kept =
+    let is = removed_olds a.olds first rest (kept.1) in
+    subst (λ (f : Folder). Reaches (files_in a) (files_in f) (Remove ∷ [])) (sym h)
+    (elim (a.current) as (λ cur. Reaches (files_with a.olds cur) (files_with (without first a.olds) cur) (Remove ∷ [])) [
+      | None ↦ tt
+      | Some bytes ↦ ap (λ (t : List Old). record { current = bytes; olds = t }) is
+    ])
+
+-- there is none
+pub none_removed : (a : Option Folder) (len : ℕ) → IsKept a [] len → Reaches (files_of a) (files_of a) (Remove ∷ [])
+none_removed None len kept = tt
+none_removed (Some a) len kept =
+    let none : a.olds ≡ drop 1 a.olds = elim (a.olds) as (λ olds. [] ≡ map (λ (o : Old). o.name) olds → olds ≡ drop 1 olds) [
+      | [] ↦ λ _. refl
+      | old ∷ olds ↦ λ never. cc never
+    ] (kept.1) in
+    elim (a.current) as (λ cur. Reaches (files_with a.olds cur) (files_with a.olds cur) (Remove ∷ [])) [
+      | None ↦ tt
+      | Some bytes ↦ ap (λ (t : List Old). record { current = bytes; olds = t }) none
+    ]
+
+-- the same, where the first name was read and removed at its place
+pub kept-removed-first : (a b : Option Folder) (first : List ℕ) (names : List (List ℕ)) (len : ℕ) → Changes a b (Removes first) → 0 < length names
+    → first ≡ get_or names 0 first → IsKept a names len → IsKept b (take 0 names ++ drop 1 names) len
+kept-removed-first a b first [] len h some is kept = absurd (omega (arith, some))
+kept-removed-first a b first (name ∷ names) len h some is kept =
+    kept-removed a b first names len h (subst (λ (n : List ℕ). IsKept a (n ∷ names) len) (sym is) kept)
+
+pub removed_first_files : (a b : Option Folder) (first : List ℕ) (names : List (List ℕ)) (len : ℕ) → Changes a b (Removes first) → 0 < length names
+    → first ≡ get_or names 0 first → IsKept a names len → Reaches (files_of a) (files_of b) (Remove ∷ [])
+removed_first_files a b first [] len h some is kept = absurd (omega (arith, some))
+removed_first_files a b first (name ∷ names) len h some is kept =
+    removed_files a b first names len h (subst (λ (n : List ℕ). IsKept a (n ∷ names) len) (sym is) kept)
+
+-- a new current file is begun, or there is none
+pub kept-begun-or : {X E : Type 0} (r : Result X E) (a b c : Option Folder) (name : List ℕ) (names : List (List ℕ)) → Changes a b (Renames name)
+    → OnOk r (Changes b c Opens) → OnErr r (c ≡ b) → IsKept b names 0 → IsKept c names 0
+kept-begun-or (Ok x) a b c name names h ok err kept = kept-begun a b c name names h ok kept
+kept-begun-or (Err e) a b c name names h ok err kept = subst (λ (f : Option Folder). IsKept f names 0) (sym err) kept

@@ -1,0 +1,5 @@
+pub mod Naming
+pub mod Folders
+pub mod Shelves
+pub mod Openings
+pub mod Running

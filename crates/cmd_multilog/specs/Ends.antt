@@ -1,0 +1,123 @@
+-- How `multilog` ends.
+use Rattle.std.specs.Prelude.{◌≡◌, ◌⊎◌, ⊤, ℕ, List, [], map, slice_get, unwrap_or, Option, Some, None, MatchOption, Ok}
+use Rattle.tai_status.specs.Label.{Tai64n}
+use Rattle.tai_status.specs.Counted.{Device, Fails, IsRead, Rose, Tells}
+use Rattle.mlog_script.specs.Script.{Act, said, first_fault, file_paths}
+use Rattle.mlog_script.specs.declared.fault.ScriptFault.{ScriptFault}
+use Rattle.mlog_script.specs.declared.fault.ScriptFaultKind.TheVariants as kind
+use Rattle.mlog_core.specs.Run.{World, world, RunsAll, RunsLines, RunsUpTo}
+use Rattle.mlog_core.specs.declared.stream.Counts.{Counts}
+use Rattle.mlog_core.specs.declared.stream.RunFault.{RunFault}
+use Rattle.mlog_core.specs.declared.stream.RunFault.TheVariants as fault
+use Rattle.cmd_multilog.specs.Shelf.{Shelf, told_of}
+use Rattle.cmd_multilog.specs.Opening.{Opens, OpensUpTo, folders_of}
+use Rattle.cmd_multilog.specs.Sayings.{script_told, script_status, run_told, memory_told, unopened_told}
+use Rattle.cmd_multilog.specs.declared.fault.OpenFault.{OpenFault}
+use Rattle.cmd_multilog.specs.declared.fault.OpenFault.TheVariants as why
+use Rattle.cmd_multilog.specs.declared.fault.NoScript.{NoScript}
+use Rattle.cmd_multilog.specs.declared.fault.NoScript.TheVariants as no
+
+-- What `multilog` works with: its store, its input, what the clock gave, and where it tells faults.
+pub record Stage : Type 0 where
+  pub store : Shelf
+  pub reader : Device
+  pub readings : Option (List Tai64n)
+  pub faults : Device
+
+abbrev pub stage : Shelf → Device → Option (List Tai64n) → Device → Stage
+stage store reader readings faults =
+    record { store = store; reader = reader; readings = readings; faults = faults }
+
+-- The script
+
+-- These words say this script.
+abbrev pub IsSaidBy : List Act → List (List ℕ) → Type 0
+IsSaidBy script words = map said words ≡ map (λ action. Ok action) script
+
+-- Why words are no script: the first bad word is told; or there is none, and no memory.
+abbrev pub IsRefusal : NoScript → List (List ℕ) → Type 0
+IsRefusal (no.Refused fault) words =
+    MatchOption (first_fault words) (fault.kind ≡ kind.OutOfMemory) (λ first. fault ≡ first)
+IsRefusal no.OutOfMemory words = ⊤
+
+abbrev pub refusal_told : NoScript → List ℕ
+refusal_told (no.Refused fault) = script_told fault
+refusal_told no.OutOfMemory = memory_told
+
+abbrev pub refusal_status : NoScript → ℕ
+refusal_status (no.Refused fault) = script_status fault
+refusal_status no.OutOfMemory = 111
+
+-- Nothing is made, opened or read.
+pub record DoesNothing (old new : Stage) : Type 0 where
+  pub store : new.store ≡ old.store
+  pub reader : new.reader ≡ old.reader
+  pub readings : new.readings ≡ old.readings
+
+-- The words are no script: nothing is done, and it is told why.
+pub record Refuses (words : List (List ℕ)) (status : ℕ) (old new : Stage) : Type 0 where
+  pub why : NoScript
+  pub refusal : IsRefusal why words
+  pub nothing : DoesNothing old new
+  pub status_is : status ≡ refusal_status why
+  pub told : Tells old.faults new.faults (refusal_told why)
+
+-- The logs
+
+abbrev pub open_told : List Act → OpenFault → List ℕ
+open_told script (why.Unopened log) = unopened_told (unwrap_or (slice_get (folders_of script) log) [])
+open_told script why.OutOfMemory = memory_told
+
+-- A log can't be opened, or there is no memory: nothing is read, and it is told.
+pub record OpensNotAll (script : List Act) (status : ℕ) (old new : Stage) : Type 0 where
+  pub cause : OpenFault
+  pub opens : OpensUpTo old.store new.store script cause
+  pub unread : new.reader ≡ old.reader
+  pub unasked : new.readings ≡ old.readings
+  pub status_is : status ≡ 111
+  pub told : Tells old.faults new.faults (open_told script cause)
+
+-- The run
+
+abbrev pub world_of : Stage → World
+world_of s = world s.reader (told_of s.store) s.readings
+
+-- what a run did, by its fault
+abbrev pub RunsBy : Option RunFault → List Act → Stage → Stage → Type 0
+RunsBy None script old new =
+    ((counts : Counts) × RunsAll script (world_of old) (world_of new) counts) × IsRead new.reader
+RunsBy (Some fault.Read) script old new = RunsLines script (world_of old) (world_of new) × Fails old.reader new.reader
+RunsBy (Some fault.Store) script old new =
+    RunsUpTo script (world_of old) (world_of new) fault.Store × Rose old.store.failures new.store.failures
+RunsBy (Some fault.LabelsSpent) script old new = RunsUpTo script (world_of old) (world_of new) fault.LabelsSpent
+RunsBy (Some fault.OutOfMemory) script old new = (new.reader ≡ old.reader)
+    × (told_of new.store ≡ told_of old.store) × (new.readings ≡ old.readings)
+
+abbrev pub run_status : Option RunFault → ℕ
+run_status None = 0
+run_status (Some fault) = 111
+
+abbrev pub TellsRun : Option RunFault → Device → Device → Type 0
+TellsRun None old new = new ≡ old
+TellsRun (Some fault) old new = Tells old new (run_told fault)
+
+-- The script was run over opened logs, and its fault is told.
+pub record RunsOpened (script : List Act) (status : ℕ) (old new : Stage) : Type 0 where
+  pub ran : Option RunFault
+  pub runs : RunsBy ran script old new
+  pub status_is : status ≡ run_status ran
+  pub told : TellsRun ran old.faults new.faults
+
+-- The logs were opened, and then the script was run.
+pub record RunsScript (script : List Act) (status : ℕ) (old new : Stage) : Type 0 where
+  pub opened : Shelf
+  pub opens : Opens old.store opened (folders_of script) (file_paths script)
+  pub runs : RunsOpened script status (stage opened old.reader old.readings old.faults) new
+
+abbrev pub ScriptEnds : List Act → ℕ → Stage → Stage → Type 0
+ScriptEnds script status old new = OpensNotAll script status old new ⊎ RunsScript script status old new
+
+-- `multilog`, by its words
+abbrev pub MultilogEnds : List (List ℕ) → ℕ → Stage → Stage → Type 0
+MultilogEnds words status old new =
+    Refuses words status old new ⊎ ((script : List Act) × IsSaidBy script words × ScriptEnds script status old new)

@@ -1,0 +1,172 @@
+-- The folder of a log, as a disk tells it, and what calls do to it.
+use Rattle.std.specs.Prelude.{◌≡◌, ⊤, ℕ, Bool, true, false, if◌then◌else◌, List, [], ◌∷◌, ◌++◌, map, length, bytes_eq, unwrap_or, Option, Some, None, IfSome, MatchOption}
+use Rattle.std.specs.List.{list_any}
+use Rattle.std.specs.Option.{option_map}
+use Rattle.mlog_files.specs.Files.{Old, Files, with_old}
+use Rattle.cmd_multilog.specs.Names.{old_names}
+
+-- A folder: its path; whether this process holds its lock; its current file, where it has one, and whether all of that is
+-- on the disk for certain; and its old files, in byte order of their names.
+pub record Folder : Type 0 where
+  pub path : List ℕ
+  pub locked : Bool
+  pub current : Option (List ℕ)
+  pub synced : Bool
+  pub olds : List Old
+
+-- the files of a log in a folder: none are told while it has no current file
+abbrev pub files_in : Folder → Option Files
+files_in folder = option_map (λ bytes. record { current = bytes; olds = folder.olds }) folder.current
+
+abbrev pub files_of : Option Folder → Option Files
+files_of None = None
+files_of (Some folder) = files_in folder
+
+-- A folder that is told changes so. It goes on being told.
+abbrev pub Changes : Option Folder → Option Folder → (Folder → Folder → Type 0) → Type 0
+Changes None None change = ⊤
+Changes None (Some new) change = ⊥
+Changes (Some old) None change = ⊥
+Changes (Some old) (Some new) change = change old new
+
+-- Calls
+
+-- This process takes the lock.
+abbrev pub Locks : Folder → Folder → Type 0
+Locks old new = new ≡ record {
+  path = old.path;
+  locked = true;
+  current = old.current;
+  synced = old.synced;
+  olds = old.olds;
+}
+
+-- The current file is opened, and made where it is missing.
+abbrev pub Opens : Folder → Folder → Type 0
+Opens old new = new ≡ record {
+  path = old.path;
+  locked = old.locked;
+  current = Some (unwrap_or old.current []);
+  synced = false;
+  olds = old.olds;
+}
+
+-- This piece is appended to the current file, which is there.
+abbrev pub Extends : List ℕ → Folder → Folder → Type 0
+Extends piece old new = MatchOption old.current ⊥ (λ bytes. new ≡ record {
+  path = old.path;
+  locked = old.locked;
+  current = Some (bytes ++ piece);
+  synced = false;
+  olds = old.olds;
+})
+
+-- All of the current file goes to the disk.
+abbrev pub Syncs : Folder → Folder → Type 0
+Syncs old new = new ≡ record {
+  path = old.path;
+  locked = old.locked;
+  current = old.current;
+  synced = true;
+  olds = old.olds;
+}
+
+-- whether an old file has this name
+abbrev pub has_old : List ℕ → List Old → Bool
+has_old name olds = list_any (λ old. bytes_eq name old.name) olds
+
+-- The current file, which is there, becomes the old file of a name that no old file has.
+abbrev pub Renames : List ℕ → Folder → Folder → Type 0
+Renames name old new = (has_old name old.olds ≡ false) × MatchOption old.current ⊥ (λ bytes. new ≡ record {
+  path = old.path;
+  locked = old.locked;
+  current = None;
+  synced = false;
+  olds = with_old (record { name = name; bytes = bytes }) old.olds;
+})
+
+-- the old files without the first of this name
+abbrev pub without : List ℕ → List Old → List Old
+without name [] = []
+without name (old ∷ olds) = if bytes_eq name old.name then olds else old ∷ without name olds
+
+-- The old file of a name is removed.
+abbrev pub Removes : List ℕ → Folder → Folder → Type 0
+Removes name old new = new ≡ record {
+  path = old.path;
+  locked = old.locked;
+  current = old.current;
+  synced = old.synced;
+  olds = without name old.olds;
+}
+
+-- The folder is locked, and its current file opened.
+abbrev pub Begins : Folder → Folder → Type 0
+Begins old new = new ≡ record {
+  path = old.path;
+  locked = true;
+  current = Some (unwrap_or old.current []);
+  synced = false;
+  olds = old.olds;
+}
+
+-- Conditions, and what is read
+
+-- This process holds the lock.
+abbrev pub IsLocked : Option Folder → Type 0
+IsLocked folder = IfSome folder (λ f. f.locked ≡ true)
+
+-- All of the current file is on the disk.
+abbrev pub IsSynced : Option Folder → Type 0
+IsSynced folder = IfSome folder (λ f. f.synced ≡ true)
+
+-- The current file has this length.
+abbrev pub HasLength : Option Folder → ℕ → Type 0
+HasLength folder len = IfSome folder (λ f. IfSome f.current (λ bytes. len ≡ length bytes))
+
+-- Of these names those of old files are the folder's.
+abbrev pub HasNames : Option Folder → List (List ℕ) → Type 0
+HasNames folder names = IfSome folder (λ f. old_names names ≡ map (λ old. old.name) f.olds)
+
+-- The folder is locked, these are the names of its old files, and its current file has this length.
+abbrev pub IsKept : Option Folder → List (List ℕ) → ℕ → Type 0
+IsKept None names len = ⊤
+IsKept (Some folder) names len = (folder.locked ≡ true) × (names ≡ map (λ old. old.name) folder.olds)
+    × IfSome folder.current (λ bytes. len ≡ length bytes)
+
+-- The folder stays at its path.
+abbrev pub StaysAt : Option Folder → Option Folder → Type 0
+StaysAt None None = ⊤
+StaysAt None (Some new) = ⊥
+StaysAt (Some old) None = ⊥
+StaysAt (Some old) (Some new) = new.path ≡ old.path
+
+-- Status files, and the disk
+
+-- a status file: its path, and what it holds
+pub record Status : Type 0 where
+  pub path : List ℕ
+  pub content : List ℕ
+
+abbrev pub content_of : Option Status → Option (List ℕ)
+content_of status = option_map (λ s. s.content) status
+
+-- The file stays at its path. It goes on being told.
+abbrev pub StaysThere : Option Status → Option Status → Type 0
+StaysThere None None = ⊤
+StaysThere None (Some new) = ⊥
+StaysThere (Some old) None = ⊥
+StaysThere (Some old) (Some new) = new.path ≡ old.path
+
+-- The file holds this content.
+abbrev pub Holds : Option Status → Option Status → List ℕ → Type 0
+Holds None None content = ⊤
+Holds None (Some new) content = ⊥
+Holds (Some old) None content = ⊥
+Holds (Some old) (Some new) content = new ≡ record { path = old.path; content = content }
+
+-- A disk was asked for the folder at a path. One that tells what it was asked for goes on telling it.
+abbrev pub Asked : Option (List (List ℕ)) → Option (List (List ℕ)) → List ℕ → Type 0
+Asked None now path = ⊤
+Asked (Some past) None path = ⊥
+Asked (Some past) (Some now) path = now ≡ past ++ path ∷ []

@@ -1,0 +1,6 @@
+pub mod Names
+pub mod Folder
+pub mod Shelf
+pub mod Sayings
+pub mod Opening
+pub mod Ends

@@ -1,0 +1,63 @@
+-- What a store over folders holds, and what it tells of it.
+use Rattle.std.specs.Prelude.{◌≡◌, ⊤, ℕ, List, [], ◌∷◌, ◌++◌, Option, Some, None, IfSome, slice_get}
+use Rattle.mlog_files.specs.Files.{Files}
+use Rattle.mlog_files.specs.Store.{Told}
+use Rattle.cmd_multilog.specs.Folder.{Folder, files_of, Begins, Status, content_of, Asked}
+
+-- The folders of the logs and the status files, as far as the disk tells them; the alerts; the folders that the disk was
+-- asked for; and how many calls failed.
+pub record Shelf : Type 0 where
+  pub logs : List (Option Folder)
+  pub statuses : List (Option Status)
+  pub alerts : Option (List ℕ)
+  pub asked : Option (List (List ℕ))
+  pub failures : ℕ
+
+-- the files of the log at a place
+abbrev pub files_at : Option (Option Folder) → Option Files
+files_at None = None
+files_at (Some folder) = files_of folder
+
+-- the content of the status file at a place
+abbrev pub content_at : Option (Option Status) → Option (List ℕ)
+content_at None = None
+content_at (Some status) = content_of status
+
+abbrev pub told_of : Shelf → Told
+told_of shelf = record {
+  files = λ log. files_at (slice_get shelf.logs log);
+  statuses = λ file. content_at (slice_get shelf.statuses file);
+  alerts = shelf.alerts;
+}
+
+-- The shelf without its logs, status files and what was asked is as before.
+pub record AddsNone (old new : Shelf) : Type 0 where
+  pub logs : new.logs ≡ old.logs
+  pub statuses : new.statuses ≡ old.statuses
+  pub alerts : new.alerts ≡ old.alerts
+  pub failures : new.failures ≡ old.failures
+
+-- A folder is that at a path, locked, with its current file, and nothing was done to it.
+abbrev pub IsBegunAt : List ℕ → Option Folder → Type 0
+IsBegunAt path None = ⊤
+IsBegunAt path (Some folder) = (found : Folder) × (found.path ≡ path) × Begins found folder
+
+-- The log in the folder at a path is opened.
+pub record OpensLog (old new : Shelf) (path : List ℕ) : Type 0 where
+  pub folder : Option Folder
+  pub begun : IsBegunAt path folder
+  pub logs : new.logs ≡ old.logs ++ folder ∷ []
+  pub statuses : new.statuses ≡ old.statuses
+  pub alerts : new.alerts ≡ old.alerts
+  pub asked : Asked old.asked new.asked path
+  pub failures : new.failures ≡ old.failures
+
+-- The status file at a path is the next.
+pub record AddsStatus (old new : Shelf) (path : List ℕ) : Type 0 where
+  pub status : Option Status
+  pub at : IfSome status (λ s. s.path ≡ path)
+  pub logs : new.logs ≡ old.logs
+  pub statuses : new.statuses ≡ old.statuses ++ status ∷ []
+  pub alerts : new.alerts ≡ old.alerts
+  pub asked : new.asked ≡ old.asked
+  pub failures : new.failures ≡ old.failures

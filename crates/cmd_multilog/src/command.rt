@@ -1,0 +1,188 @@
+//! The command `multilog`.
+ghost use Rattle.std.specs.Prelude.{◌≡◌, ◌≤◌, [], map, length, count_by, slice_get, unwrap_or, IfOk, IfErr};
+ghost use Rattle.tai_status.specs.Counted.{Tells};
+ghost use Rattle.mlog_script.specs.Script.{is_log, is_file, texts};
+ghost use Rattle.cmd_multilog.specs.Opening.{folders_of};
+ghost use Rattle.cmd_multilog.specs.Ends.{stage, IsSaidBy, IsRefusal, refusal_told, refusal_status, open_told};
+ghost use Rattle.cmd_multilog.specs.Ends.{RunsOpened, ScriptEnds, MultilogEnds};
+
+use crate::disk::LogDisk;
+use crate::fault::{NoScript, OpenFault, run_text, script_status, script_text};
+use crate::opening::open_all;
+use crate::store::FolderStore;
+use cmd_base::{DONE, TROUBLE, report, report_parts};
+use mlog_core::run;
+use mlog_script::Script;
+use std::alloc::{AllocError, Allocator};
+use std::io::{Read, Write};
+use tai_status::{Input, Output, TimeSource};
+
+/// What is told of want of memory.
+const NO_MEMORY: &[u8] = b"multilog: OutOfMemory\n";
+
+/// The bytes of words.
+fn bytes_of<'a, A: Allocator + Clone>(
+    alloc: &A,
+    words: &[&'a str],
+) -> Result<Vec<&'a [u8], A>, AllocError>
+    ensures { IfOk result (λ all. texts all.items ≡ map (λ word. word.now) words.now) }
+{
+    let mut all = Vec::new(alloc.clone()?);
+    for word in words {
+        all.push(word.as_bytes())?;
+    }
+    Ok(all)
+}
+
+/// Reads the words of a script, as bytes.
+fn script_of<A: Allocator + Clone>(alloc: A, words: &[&[u8]]) -> Result<Script<A>, NoScript>
+    ensures ok { IfOk result (λ script. IsSaidBy script (texts words.now)) }
+    ensures err { IfErr result (λ why. IsRefusal why (texts words.now)) }
+{
+    match Script::read(alloc, words) {
+        Ok(script) => Ok(script),
+        Err(fault) => Err(NoScript::Refused(fault)),
+    }
+}
+
+/// Reads the words of a script.
+fn read_script<A: Allocator + Clone>(alloc: &A, words: &[&str]) -> Result<Script<A>, NoScript>
+    ensures ok { IfOk result (λ script. IsSaidBy script (map (λ word. word.now) words.now)) }
+    ensures err { IfErr result (λ why. IsRefusal why (map (λ word. word.now) words.now)) }
+{
+    let Ok(all) = bytes_of(alloc, words) else {
+        return Err(NoScript::OutOfMemory);
+    };
+    match alloc.clone() {
+        Ok(own) => script_of(own, &all),
+        Err(_) => Err(NoScript::OutOfMemory),
+    }
+}
+
+/// Tells why words are no script, and answers the status of that.
+fn report_refusal<E: Write>(why: NoScript, faults: &mut Output<E>) -> u8
+    ensures status { result ≡ refusal_status why }
+    ensures told { Tells faults.old faults.new (refusal_told why) }
+{
+    match why {
+        NoScript::Refused(fault) => {
+            report(faults, script_text(fault).as_bytes(), script_status(fault))
+        }
+        NoScript::OutOfMemory => report(faults, NO_MEMORY, TROUBLE),
+    }
+}
+
+/// The folder of the log of a number, empty where there is none.
+fn folder_of<B: Allocator + Clone>(script: &Script<B>, log: usize) -> &[u8]
+    ensures { result.now ≡ unwrap_or (slice_get (folders_of script.now) log) [] }
+{
+    match script.log(log) {
+        Some(plan) => plan.folder,
+        None => b"",
+    }
+}
+
+/// Tells why not all logs are opened, and answers the status of that.
+fn report_unopened<B: Allocator + Clone, E: Write>(
+    why: OpenFault,
+    script: &Script<B>,
+    faults: &mut Output<E>,
+) -> u8
+    ensures status { result ≡ 111 }
+    ensures told { Tells faults.old faults.new (open_told script.now why) }
+{
+    match why {
+        OpenFault::Unopened(log) => {
+            report_parts(
+                faults,
+                b"multilog: unable to open ",
+                folder_of(script, log),
+                b"\n",
+                TROUBLE,
+            )
+        }
+        OpenFault::OutOfMemory => report(faults, NO_MEMORY, TROUBLE),
+    }
+}
+
+/// Runs a script over opened logs.
+fn run_opened<D, A, R, E, C>(
+    alloc: A,
+    store: &mut FolderStore<D, A>,
+    script: &Script<A>,
+    reader: &mut Input<R>,
+    faults: &mut Output<E>,
+    clock: &mut C,
+) -> u8
+where
+    D: LogDisk + Drop,
+    A: Allocator + Clone,
+    R: Read,
+    E: Write,
+    C: TimeSource,
+    requires logs { count_by is_log script.now ≤ length store.old.logs }
+    requires files { count_by is_file script.now ≤ length store.old.statuses }
+    ensures { RunsOpened script.now result (stage store.old reader.old (C.readings clock.old) faults.old)
+        (stage store.new reader.new (C.readings clock.new) faults.new) }
+{
+    match run(alloc, script, reader, store, clock) {
+        Ok(_) => DONE,
+        Err(fault) => report(faults, run_text(fault), TROUBLE),
+    }
+}
+
+/// Opens the logs of a script, and runs it.
+fn run_script<D, A, R, E, C>(
+    alloc: A,
+    store: &mut FolderStore<D, A>,
+    script: &Script<A>,
+    reader: &mut Input<R>,
+    faults: &mut Output<E>,
+    clock: &mut C,
+) -> u8
+where
+    D: LogDisk + Drop,
+    A: Allocator + Clone,
+    R: Read,
+    E: Write,
+    C: TimeSource,
+    requires no_logs { store.old.logs ≡ [] }
+    requires no_files { store.old.statuses ≡ [] }
+    ensures { ScriptEnds script.now result (stage store.old reader.old (C.readings clock.old) faults.old)
+        (stage store.new reader.new (C.readings clock.new) faults.new) }
+{
+    match open_all(store, &alloc, script) {
+        Ok(()) => run_opened(alloc, store, script, reader, faults, clock),
+        Err(why) => report_unopened(why, script, faults),
+    }
+}
+
+/// The command `multilog`: reads lines, and hands them out to the logs, alerts and status files that its words ask for
+/// (<https://cr.yp.to/daemontools/multilog.html>). No words are a lawful script. Answers the status: 0; 100 for words
+/// that are no script, where nothing is made or read; 111 where a log can't be opened, for a fault of the reader or the
+/// store, where a log has no greater label, and for want of memory.
+pub fn run_multilog<D, A, R, E, C>(
+    alloc: A,
+    store: &mut FolderStore<D, A>,
+    words: &[&str],
+    reader: &mut Input<R>,
+    faults: &mut Output<E>,
+    clock: &mut C,
+) -> u8
+where
+    D: LogDisk + Drop,
+    A: Allocator + Clone,
+    R: Read,
+    E: Write,
+    C: TimeSource,
+    requires no_logs { store.old.logs ≡ [] }
+    requires no_files { store.old.statuses ≡ [] }
+    ensures ends { MultilogEnds (map (λ word. word.now) words.now) result
+        (stage store.old reader.old (C.readings clock.old) faults.old)
+        (stage store.new reader.new (C.readings clock.new) faults.new) }
+{
+    match read_script(&alloc, words) {
+        Ok(script) => run_script(alloc, store, &script, reader, faults, clock),
+        Err(why) => report_refusal(why, faults),
+    }
+}

@@ -1,0 +1,124 @@
+//! A log in a folder.
+ghost use Rattle.std.specs.Prelude.{◌≡◌};
+
+use crate::disk::LogFolder;
+use crate::names::{FileName, greatest_in, insert, old_names};
+use std::alloc::{AllocError, Allocator, Global};
+use std::io;
+use std::io::{Error, ErrorKind};
+use std::marker::Model;
+use tai_status::Label;
+
+/// A log in a folder, which is locked while the log is there. The names of its old files are kept in byte order, so that the
+/// folder is listed once.
+#[derive(Drop)]
+pub struct FolderLog<F: LogFolder + Drop, A: Allocator = Global> {
+    folder: F,
+    names: Vec<FileName<A>, A>,
+    length: u64,
+}
+
+impl<F: LogFolder + Drop, A: Allocator> Model for FolderLog<F, A> {
+    ghost use Rattle.std.specs.Prelude.{Option};
+    ghost use Rattle.cmd_multilog.specs.Folder.{Folder, IsKept};
+
+    ghost Value = { Option Folder };
+
+    ghost view = { λ log. F.folder log.folder };
+
+    ghost invariant = { λ log. IsKept (F.folder log.folder) log.names.items log.length };
+}
+
+impl<F: LogFolder + Drop, A: Allocator + Clone> FolderLog<F, A> {
+    ghost use Rattle.std.specs.Prelude.{◌≡◌, ◌<◌, ◌≤◌, ◌∷◌, [], length, take, IfOk, IfSome, OnOk, OnErr};
+    ghost use Rattle.mlog_files.specs.Files.{Finish, Remove, append_steps};
+    ghost use Rattle.mlog_files.specs.Named.{greatest_label};
+    ghost use Rattle.mlog_files.specs.Store.{Reaches};
+    ghost use Rattle.cmd_multilog.specs.Folder.{Changes, StaysAt, Begins, files_of};
+
+    /// Locks a folder, opens its current file, and lists it.
+    pub(crate) fn open(folder: F, alloc: &A) -> io::Result<FolderLog<F, A>>
+        ensures { IfOk result (λ log. Changes (F.folder folder) log Begins) }
+    {
+        let mut folder = folder;
+        folder.lock()?;
+        folder.open_current()?;
+        let length = folder.length()?;
+        let names = folder.names(alloc)?;
+        let names = old_names(alloc, names)?;
+        Ok(FolderLog {
+            folder,
+            names,
+            length,
+        })
+    }
+
+    /// Appends a front of the piece to the current file, and tells how long it is.
+    pub(crate) fn append(&mut self, piece: &[u8]) -> io::Result<usize>
+        ensures bound { IfOk result (λ count. count ≤ length piece.now) }
+        ensures some { IfOk result (λ count. 0 < length piece.now → 0 < count) }
+        ensures ok { IfOk result (λ count. Reaches (files_of self.old) (files_of self.new) (append_steps (take count piece.now))) }
+        ensures err { OnErr result (self.new ≡ self.old) }
+        ensures stays { StaysAt self.old self.new }
+    {
+        if u64::MAX - self.length < piece.len() as u64 {
+            return Err(Error::from(ErrorKind::FileTooLarge));
+        }
+        let count = self.folder.append(piece)?;
+        self.length += count as u64;
+        Ok(count)
+    }
+
+    /// Has the current file put on the disk, makes it the old file of a label, and begins a new one. All memory is taken
+    /// first. Where the new one can't be made, the log has no current file.
+    pub(crate) fn finish(&mut self, label: &Label) -> io::Result<()>
+        ensures ok { OnOk result (Reaches (files_of self.old) (files_of self.new) (Finish label.now ∷ [])) }
+        ensures err { OnErr result (Reaches (files_of self.old) (files_of self.new) []) }
+        ensures stays { StaysAt self.old self.new }
+    {
+        let name = FileName::of_label(self.names.allocator().clone()?, label)?;
+        self.names.reserve(1)?;
+        self.folder.sync()?;
+        self.folder.rename(name.as_slice())?;
+        self.length = 0;
+        match insert(&mut self.names, name) {
+            Ok(()) => self.folder.open_current(),
+            Err(_) => unreachable!(),
+        }
+    }
+
+    /// Removes the old file whose name is smallest, where there is one.
+    pub(crate) fn remove_smallest(&mut self) -> io::Result<()>
+        ensures ok { OnOk result (Reaches (files_of self.old) (files_of self.new) (Remove ∷ [])) }
+        ensures err { OnErr result (self.new ≡ self.old) }
+        ensures stays { StaysAt self.old self.new }
+    {
+        if self.names.is_empty() {
+            return Ok(());
+        }
+        self.folder.remove(self.names[0].as_slice())?;
+        self.names.remove(0);
+        Ok(())
+    }
+
+    /// How many bytes the current file has.
+    pub(crate) fn length(&self) -> u64
+        ensures { IfSome (files_of self.now) (λ files. result ≡ length files.current) }
+    {
+        self.length
+    }
+
+    /// How many old files there are.
+    pub(crate) fn old_count(&self) -> u64
+        ensures { IfSome (files_of self.now) (λ files. result ≡ length files.olds) }
+    {
+        self.names.len() as u64
+    }
+
+    /// The greatest label in the names of the old files.
+    pub(crate) fn last_label(&self) -> Option<Label>
+        ensures { IfSome (files_of self.now) (λ files. result ≡ greatest_label files.olds) }
+    {
+        greatest_in(&self.names)
+    }
+}

@@ -1,0 +1,158 @@
+//! Names of old files.
+ghost use Rattle.std.specs.Prelude.{◌≡◌, ◌≤◌, ◌<◌, ◌++◌, ◌∷◌, [], length, take, drop, OnOk, OnErr, IfOk, IsOk, vec_len, vec_capacity, ◌+◌};
+ghost use Rattle.std.specs.Cmp.Lexicographic.{slice_cmp};
+ghost use Rattle.std.specs.Ordering.{is_lt, nat_cmp};
+ghost use Rattle.mlog_files.specs.Files.{old_name};
+ghost use Rattle.mlog_files.specs.Named.{label_in, later_of};
+ghost use Rattle.cmd_multilog.specs.Names.{begins_with_at, is_old_name, with_name, old_names, greatest_in};
+
+use std::alloc::{AllocError, Allocator, Global};
+use std::marker::Model;
+use tai_status::{Label, read_text, text};
+
+/// How long a label's text is.
+const LABEL: usize = 25;
+
+/// A name in the folder of a log.
+#[derive(Drop)]
+pub struct FileName<A: Allocator = Global> {
+    bytes: Vec<u8, A>,
+}
+
+impl<A: Allocator> Model for FileName<A> {
+    ghost use Rattle.std.specs.Prelude.{ℕ, List};
+
+    ghost Value = { List ℕ };
+
+    ghost view = { λ name. name.bytes.items };
+}
+
+impl<A: Allocator> FileName<A> {
+    ghost use Rattle.std.specs.Prelude.{◌≡◌, IfOk};
+    ghost use Rattle.mlog_files.specs.Files.{old_name};
+    ghost use Rattle.mlog_files.specs.Named.{label_in};
+
+    /// The name of these bytes.
+    pub fn new(alloc: A, bytes: &[u8]) -> Result<FileName<A>, AllocError>
+        ensures { IfOk result (λ name. name ≡ bytes.now) }
+    {
+        let mut name = Vec::new(alloc);
+        name.extend_from_slice(bytes)?;
+        Ok(FileName { bytes: name })
+    }
+
+    /// The name of the old file of a label.
+    pub(crate) fn of_label(alloc: A, label: &Label) -> Result<FileName<A>, AllocError>
+        ensures { IfOk result (λ name. name ≡ old_name label.now) }
+    {
+        let mut name = Vec::new(alloc);
+        name.extend_from_slice(&text(label))?;
+        name.extend_from_slice(b".s")?;
+        Ok(FileName { bytes: name })
+    }
+
+    /// The name's bytes.
+    pub fn as_slice(&self) -> &[u8]
+        ensures { result.now ≡ self.now }
+    {
+        self.bytes.as_slice()
+    }
+
+    // The label in the name.
+    fn label(&self) -> Option<Label>
+        ensures { result ≡ label_in self.now }
+    {
+        read_text(front(self.as_slice())).ok()
+    }
+}
+
+// The bytes of a name in which a label may stand.
+fn front(name: &[u8]) -> &[u8]
+    ensures { result.now ≡ take 25 name.now }
+{
+    if name.len() <= LABEL {
+        return name;
+    }
+    &name[..LABEL]
+}
+
+// The later of two labels.
+fn later_of(a: Option<Label>, b: Option<Label>) -> Option<Label>
+    ensures { result ≡ later_of a b }
+{
+    let Some(first) = a else {
+        return b;
+    };
+    let Some(second) = b else {
+        return a;
+    };
+    if first < second { b } else { a }
+}
+
+/// The greatest label in names.
+pub(crate) fn greatest_in<A: Allocator>(names: &[FileName<A>]) -> Option<Label>
+    ensures { result ≡ greatest_in names.now }
+{
+    let mut greatest = None;
+    for name in names {
+        greatest = later_of(greatest, name.label());
+    }
+    greatest
+}
+
+// Whether a name is that of an old file.
+fn is_old_name(name: &[u8]) -> bool
+    ensures { result ≡ is_old_name name.now }
+{
+    name.first() == Some(&b'@') && LABEL <= name.len()
+}
+
+// Whether a name comes before another, in byte order.
+fn is_below(first: &[u8], second: &[u8]) -> bool
+    ensures { result ≡ is_lt (slice_cmp nat_cmp first.now second.now) }
+{
+    first.cmp(second).is_lt()
+}
+
+// Where a name comes to stand among names.
+fn place_of<A: Allocator>(names: &[FileName<A>], name: &[u8]) -> usize
+    ensures within { result ≤ length names.now }
+    ensures place { with_name name.now names.now ≡ take result names.now ++ name.now ∷ drop result names.now }
+{
+    for (place, other) in names.iter().enumerate() {
+        if !is_below(other.as_slice(), name) {
+            return place;
+        }
+    }
+    names.len()
+}
+
+/// Puts a name in its place among names.
+pub(crate) fn insert<A: Allocator>(
+    names: &mut Vec<FileName<A>, A>,
+    name: FileName<A>,
+) -> Result<(), AllocError>
+    ensures ok { OnOk result (names.new.items ≡ with_name name names.old.items) }
+    ensures err { OnErr result (names.new.items ≡ names.old.items) }
+    ensures room { vec_len names.old + 1 ≤ vec_capacity names.old → IsOk result }
+{
+    let place = place_of(names, name.as_slice());
+    names.insert(place, name)?;
+    Ok(())
+}
+
+/// The names of old files among names, in byte order.
+pub(crate) fn old_names<A: Allocator + Clone>(
+    alloc: &A,
+    names: Vec<FileName<A>, A>,
+) -> Result<Vec<FileName<A>, A>, AllocError>
+    ensures { IfOk result (λ olds. olds.items ≡ old_names names.items) }
+{
+    let mut olds = Vec::new(alloc.clone()?);
+    for name in names {
+        if is_old_name(name.as_slice()) {
+            insert(&mut olds, name)?;
+        }
+    }
+    Ok(olds)
+}

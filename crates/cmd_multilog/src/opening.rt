@@ -1,0 +1,83 @@
+//! How the logs and status files of a script are opened.
+ghost use Rattle.std.specs.Prelude.{◌≡◌, ◌≢◌, ◌≤◌, ◌⊎◌, ℕ, [], length, count_by, take, IfErr, OnOk, OnErr};
+ghost use Rattle.std.specs.IoError.{error_kind};
+ghost use Rattle.mlog_script.specs.Script.{is_log, is_file, file_paths};
+ghost use Rattle.cmd_multilog.specs.Opening.{Opens, OpensUpTo, folders_of};
+
+use crate::disk::LogDisk;
+use crate::fault::OpenFault;
+use crate::store::FolderStore;
+use mlog_script::Script;
+use std::alloc::{AllocError, Allocator};
+use std::io::{Error, ErrorKind};
+
+/// Why a log is not opened.
+fn fault_of(error: Error, log: usize) -> OpenFault
+    ensures memory { error_kind error ≡ ErrorKind.OutOfMemory → result ≡ OpenFault.OutOfMemory }
+    ensures other { error_kind error ≢ ErrorKind.OutOfMemory → result ≡ OpenFault.Unopened log }
+    ensures either { (result ≡ OpenFault.OutOfMemory) ⊎ (result ≡ OpenFault.Unopened log) }
+{
+    if error.kind() == ErrorKind::OutOfMemory {
+        return OpenFault::OutOfMemory;
+    }
+    OpenFault::Unopened(log)
+}
+
+/// Opens the logs of a script, in order, up to the first that can't be opened.
+fn open_logs<D: LogDisk + Drop, A: Allocator + Clone, B: Allocator + Clone>(
+    store: &mut FolderStore<D, A>,
+    alloc: &A,
+    script: &Script<B>,
+) -> Result<(), OpenFault>
+    requires none { store.old.logs ≡ [] }
+    ensures ok { OnOk result (Opens store.old store.new (folders_of script.now) []) }
+    ensures enough { OnOk result (count_by is_log script.now ≤ length store.new.logs) }
+    ensures err { IfErr result (λ why. OpensUpTo store.old store.new script.now why) }
+{
+    let mut log = 0;
+    while let Some(plan) = script.log(log) {
+        match store.open_log(alloc, plan.folder) {
+            Ok(()) => log += 1,
+            Err(error) => return Err(fault_of(error, log)),
+        }
+    }
+    Ok(())
+}
+
+/// Places the status files of a script, in order.
+fn place_statuses<D: LogDisk + Drop, A: Allocator + Clone, B: Allocator + Clone>(
+    store: &mut FolderStore<D, A>,
+    script: &Script<B>,
+) -> Result<(), AllocError>
+    requires none { store.old.statuses ≡ [] }
+    ensures ok { OnOk result (Opens store.old store.new [] (file_paths script.now)) }
+    ensures enough { OnOk result (count_by is_file script.now ≤ length store.new.statuses) }
+    ensures err { OnErr result ((files : ℕ) × Opens store.old store.new [] (take files (file_paths script.now))) }
+{
+    let mut file = 0;
+    while let Some(path) = script.file(file) {
+        store.add_status(path)?;
+        file += 1;
+    }
+    Ok(())
+}
+
+/// Opens the logs of a script, and then places its status files.
+pub(crate) fn open_all<D: LogDisk + Drop, A: Allocator + Clone, B: Allocator + Clone>(
+    store: &mut FolderStore<D, A>,
+    alloc: &A,
+    script: &Script<B>,
+) -> Result<(), OpenFault>
+    requires no_logs { store.old.logs ≡ [] }
+    requires no_files { store.old.statuses ≡ [] }
+    ensures ok { OnOk result (Opens store.old store.new (folders_of script.now) (file_paths script.now)) }
+    ensures logs { OnOk result (count_by is_log script.now ≤ length store.new.logs) }
+    ensures files { OnOk result (count_by is_file script.now ≤ length store.new.statuses) }
+    ensures err { IfErr result (λ why. OpensUpTo store.old store.new script.now why) }
+{
+    open_logs(store, alloc, script)?;
+    match place_statuses(store, script) {
+        Ok(()) => Ok(()),
+        Err(_) => Err(OpenFault::OutOfMemory),
+    }
+}

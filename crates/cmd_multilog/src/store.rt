@@ -1,0 +1,186 @@
+//! A store over folders.
+ghost use Rattle.std.specs.Prelude.{◌≡◌};
+
+use crate::disk::{LogDisk, StatusFile};
+use crate::folder_log::FolderLog;
+use mlog_files::{LogStore, StoreFault};
+use std::alloc::{AllocError, Allocator, Global};
+use std::io;
+use std::marker::Model;
+use tai_status::Label;
+
+/// A status file in its place.
+#[derive(Drop)]
+struct PlacedStatus<S: StatusFile + Drop> {
+    file: S,
+}
+
+impl<S: StatusFile + Drop> Model for PlacedStatus<S> {
+    ghost use Rattle.std.specs.Prelude.{Option};
+    ghost use Rattle.cmd_multilog.specs.Folder.{Status};
+
+    ghost Value = { Option Status };
+
+    ghost view = { λ placed. S.status placed.file };
+}
+
+impl<S: StatusFile + Drop> PlacedStatus<S> {
+    ghost use Rattle.std.specs.Prelude.{◌≡◌, OnOk, OnErr};
+    ghost use Rattle.cmd_multilog.specs.Folder.{Holds, StaysThere};
+
+    fn new(file: S) -> PlacedStatus<S>
+        ensures { result ≡ S.status file }
+    {
+        PlacedStatus { file }
+    }
+
+    // Replaces what the file holds.
+    fn replace(&mut self, content: &[u8]) -> io::Result<()>
+        ensures ok { OnOk result (Holds self.old self.new content.now) }
+        ensures err { OnErr result (StaysThere self.old self.new) }
+    {
+        self.file.replace(content)
+    }
+}
+
+/// The logs, status files and alerts of a disk. It begins without logs and status files.
+#[derive(Drop)]
+pub struct FolderStore<D: LogDisk + Drop, A: Allocator = Global> {
+    disk: D,
+    logs: Vec<FolderLog<D::Folder, A>, A>,
+    statuses: Vec<PlacedStatus<D::Status>, A>,
+    failures: u64,
+}
+
+impl<D: LogDisk + Drop, A: Allocator> Model for FolderStore<D, A> {
+    ghost use Rattle.cmd_multilog.specs.Shelf.{Shelf};
+
+    ghost Value = { Shelf };
+
+    ghost view = { λ store. record {
+      logs = store.logs.items;
+      statuses = store.statuses.items;
+      alerts = D.alerts store.disk;
+      asked = D.asked store.disk;
+      failures = store.failures;
+    } };
+}
+
+impl<D: LogDisk + Drop, A: Allocator + Clone> FolderStore<D, A> {
+    ghost use Rattle.std.specs.Prelude.{◌≡◌, ◌<◌, ◌≤◌, ◌^◌, [], length, IfOk, OnOk, OnErr};
+    ghost use Rattle.tai_status.specs.Counted.{Rose};
+    ghost use Rattle.cmd_multilog.specs.Shelf.{OpensLog, AddsStatus, AddsNone};
+
+    /// A store over a disk.
+    pub fn new(disk: D, alloc: A) -> Result<FolderStore<D, A>, AllocError>
+        ensures logs { IfOk result (λ store. store.logs ≡ []) }
+        ensures statuses { IfOk result (λ store. store.statuses ≡ []) }
+        ensures failures { IfOk result (λ store. store.failures ≡ 0) }
+    {
+        let statuses = Vec::new(alloc.clone()?);
+        Ok(FolderStore {
+            disk,
+            logs: Vec::new(alloc),
+            statuses,
+            failures: 0,
+        })
+    }
+
+    /// Opens the log in the folder at a path, as the next one: makes the folder where it is missing, locks it, opens its
+    /// current file and lists it.
+    pub(crate) fn open_log(&mut self, alloc: &A, path: &[u8]) -> io::Result<()>
+        ensures ok { OnOk result (OpensLog self.old self.new path.now) }
+        ensures fits { OnOk result (length self.new.logs < 2 ^ 64) }
+        ensures err { OnErr result (AddsNone self.old self.new) }
+    {
+        self.logs.reserve(1)?;
+        let folder = self.disk.folder(path)?;
+        let log = FolderLog::open(folder, alloc)?;
+        self.logs.push(log)?;
+        Ok(())
+    }
+
+    /// Has the next status file at a path.
+    pub(crate) fn add_status(&mut self, path: &[u8]) -> Result<(), AllocError>
+        ensures ok { OnOk result (AddsStatus self.old self.new path.now) }
+        ensures fits { OnOk result (length self.new.statuses < 2 ^ 64) }
+        ensures err { OnErr result (AddsNone self.old self.new) }
+    {
+        let status = self.disk.status_file(path)?;
+        self.statuses.push(PlacedStatus::new(status))?;
+        Ok(())
+    }
+
+    // Counts a failed call.
+    fn fail(&mut self) -> StoreFault
+        ensures rose { Rose self.old.failures self.new.failures }
+        ensures steady { self.old.failures ≤ self.new.failures }
+        ensures logs { self.new.logs ≡ self.old.logs }
+        ensures statuses { self.new.statuses ≡ self.old.statuses }
+        ensures alerts { self.new.alerts ≡ self.old.alerts }
+    {
+        self.failures = self.failures.saturating_add(1);
+        StoreFault
+    }
+}
+
+impl<D: LogDisk + Drop, A: Allocator + Clone> LogStore for FolderStore<D, A> {
+    ghost use Rattle.std.specs.Prelude.{length};
+    ghost use Rattle.cmd_multilog.specs.Shelf.{told_of};
+
+    ghost logs = { λ store. length store.logs };
+
+    ghost status_files = { λ store. length store.statuses };
+
+    ghost failures = { λ store. store.failures };
+
+    ghost told = { told_of };
+
+    fn append(&mut self, log: usize, piece: &[u8]) -> Result<usize, StoreFault> {
+        match self.logs[log].append(piece) {
+            Ok(count) => Ok(count),
+            Err(_) => Err(self.fail()),
+        }
+    }
+
+    fn finish(&mut self, log: usize, label: &Label) -> Result<(), StoreFault> {
+        match self.logs[log].finish(label) {
+            Ok(()) => Ok(()),
+            Err(_) => Err(self.fail()),
+        }
+    }
+
+    fn remove_smallest(&mut self, log: usize) -> Result<(), StoreFault> {
+        match self.logs[log].remove_smallest() {
+            Ok(()) => Ok(()),
+            Err(_) => Err(self.fail()),
+        }
+    }
+
+    #[tactic(auto, using(crate::proofs::Shelves::holds_now))]
+    fn replace_status(&mut self, file: usize, content: &[u8]) -> Result<(), StoreFault> {
+        match self.statuses[file].replace(content) {
+            Ok(()) => Ok(()),
+            Err(_) => Err(self.fail()),
+        }
+    }
+
+    fn alert(&mut self, piece: &[u8]) -> Result<usize, StoreFault> {
+        match self.disk.alert(piece) {
+            Ok(count) => Ok(count),
+            Err(_) => Err(self.fail()),
+        }
+    }
+
+    fn length(&self, log: usize) -> u64 {
+        self.logs[log].length()
+    }
+
+    fn old_count(&self, log: usize) -> u64 {
+        self.logs[log].old_count()
+    }
+
+    fn last_label(&self, log: usize) -> Option<Label> {
+        self.logs[log].last_label()
+    }
+}

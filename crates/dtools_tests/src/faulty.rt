@@ -1,0 +1,138 @@
+ghost use Rattle.std.specs.Prelude.{◌≡◌, ◌≤◌};
+ghost use Rattle.tai_status.specs.Counted.{Rose};
+
+use mlog_files::{LogFiles, LogStore, MemoryStore, StatusFile, StoreFault};
+use tai_status::Label;
+
+/// The call of a store at which it fails.
+#[derive(Clone, Copy, Debug, PartialEq, Eq)]
+pub enum Call {
+    None,
+    Append,
+    Finish,
+    RemoveSmallest,
+    ReplaceStatus,
+    Alert,
+}
+
+/// A store in memory that takes few bytes an append, and fails at one call.
+#[derive(Drop)]
+pub struct Faulty {
+    store: MemoryStore,
+    most: usize,
+    failing: Call,
+    failures: u64,
+}
+
+impl Faulty {
+    /// A store that takes at most so many bytes an append, and fails at each call of this kind.
+    pub fn new(store: MemoryStore, most: usize, failing: Call) -> Faulty {
+        Faulty {
+            store,
+            most: most.max(1),
+            failing,
+            failures: 0,
+        }
+    }
+
+    /// The logs, the status files and all alerts.
+    pub fn take_apart(self) -> (Vec<LogFiles>, Vec<StatusFile>, Vec<u8>) {
+        self.store.take_apart()
+    }
+
+    // Counts a failed call.
+    fn fail(&mut self) -> StoreFault
+        ensures rose { Rose self.old.failures self.new.failures }
+        ensures steady { self.old.failures ≤ self.new.failures }
+        ensures store { self.new.store ≡ self.old.store }
+    {
+        self.failures = self.failures.saturating_add(1);
+        StoreFault
+    }
+}
+
+impl LogStore for Faulty {
+    ghost use Rattle.std.specs.Prelude.{length};
+    ghost use Rattle.mlog_files.specs.Memory.{told_of};
+
+    ghost logs = { λ faulty. length faulty.store.logs };
+
+    ghost status_files = { λ faulty. length faulty.store.statuses };
+
+    ghost failures = { λ faulty. faulty.failures };
+
+    ghost told = { λ faulty. told_of faulty.store };
+
+    fn append(&mut self, log: usize, piece: &[u8]) -> Result<usize, StoreFault> {
+        if self.failing == Call::Append {
+            return Err(self.fail());
+        }
+        let front = piece.len().min(self.most);
+        match self.store.append(log, &piece[..front]) {
+            Ok(count) => {
+                if count == 0 {
+                    return Err(self.fail());
+                }
+                Ok(count)
+            }
+            Err(_) => Err(self.fail()),
+        }
+    }
+
+    fn finish(&mut self, log: usize, label: &Label) -> Result<(), StoreFault> {
+        if self.failing == Call::Finish {
+            return Err(self.fail());
+        }
+        match self.store.finish(log, label) {
+            Ok(()) => Ok(()),
+            Err(_) => Err(self.fail()),
+        }
+    }
+
+    fn remove_smallest(&mut self, log: usize) -> Result<(), StoreFault> {
+        if self.failing == Call::RemoveSmallest {
+            return Err(self.fail());
+        }
+        match self.store.remove_smallest(log) {
+            Ok(()) => Ok(()),
+            Err(_) => Err(self.fail()),
+        }
+    }
+
+    fn replace_status(&mut self, file: usize, content: &[u8]) -> Result<(), StoreFault> {
+        if self.failing == Call::ReplaceStatus {
+            return Err(self.fail());
+        }
+        match self.store.replace_status(file, content) {
+            Ok(()) => Ok(()),
+            Err(_) => Err(self.fail()),
+        }
+    }
+
+    fn alert(&mut self, piece: &[u8]) -> Result<usize, StoreFault> {
+        if self.failing == Call::Alert {
+            return Err(self.fail());
+        }
+        match self.store.alert(piece) {
+            Ok(count) => {
+                if count == 0 {
+                    return Err(self.fail());
+                }
+                Ok(count)
+            }
+            Err(_) => Err(self.fail()),
+        }
+    }
+
+    fn length(&self, log: usize) -> u64 {
+        self.store.length(log)
+    }
+
+    fn old_count(&self, log: usize) -> u64 {
+        self.store.old_count(log)
+    }
+
+    fn last_label(&self, log: usize) -> Option<Label> {
+        self.store.last_label(log)
+    }
+}

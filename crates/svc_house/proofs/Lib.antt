@@ -1,0 +1,8 @@
+pub mod Lists
+pub mod Grown
+pub mod Asking
+pub mod Finding
+pub mod Publishing
+pub mod Halves
+pub mod Reading
+pub mod Winding

@@ -1,0 +1,116 @@
+-- What a world was told and what it answered, as one list of calls, and what happened, as one list of events.
+use Rattle.std.specs.Prelude.{◌≡◌, ℕ, ◌+◌, ◌<◌, Bool, true, false, List, [], ◌∷◌, ◌++◌, map, Option, Some, None, ⊤}
+use Rattle.tai_status.specs.Label.{Tai64n}
+use Rattle.sup_core.specs.declared.asks.Ask.{Ask}
+use Rattle.sup_core.specs.declared.asks.Ask.TheVariants.{Signal}
+use Rattle.sup_core.specs.declared.event.Event.{Event}
+use Rattle.sup_core.specs.declared.event.Event.TheVariants.{Byte, Started, StartFailed, Death, Clock}
+use Rattle.sup_core.specs.declared.machine.Phase.{Phase}
+use Rattle.sup_core.specs.declared.machine.Phase.TheVariants as phase
+use Rattle.svc_house.specs.declared.call.Call.{Call}
+use Rattle.svc_house.specs.declared.call.Call.TheVariants.{Asked, Answered, NoStart, NoDeath, Read}
+use Rattle.svc_house.specs.declared.call.StartAnswer.{StartAnswer}
+use Rattle.svc_house.specs.declared.call.StartAnswer.TheVariants as start
+use Rattle.svc_house.specs.declared.hand.Hand.{Hand}
+use Rattle.svc_house.specs.declared.hand.Hand.TheVariants.{Empty, One, ByteThenDeath}
+
+-- A list that is kept grew by these. It may stop to be kept, as where there is no memory for more, and is not kept again.
+abbrev pub Grew : {A : Type 0} → Option (List A) → Option (List A) → List A → Type 0
+Grew old None more = ⊤
+Grew None (Some new) more = ⊥
+Grew (Some old) (Some new) more = new ≡ old ++ more
+
+-- A count that is kept rose by one. It goes on being kept.
+abbrev pub CountsOne : Option ℕ → Option ℕ → Type 0
+CountsOne None new = ⊤
+CountsOne (Some old) None = ⊥
+CountsOne (Some old) (Some new) = new ≡ old + 1
+
+-- a list that is kept unless it was lost
+abbrev pub unless : {A : Type 0} → Bool → List A → Option (List A)
+unless true xs = None
+unless false xs = Some xs
+
+-- what there is, as a list
+abbrev pub held : {A : Type 0} → Option A → List A
+held None = []
+held (Some x) = x ∷ []
+
+-- Calls
+
+-- The condition on an ask: a signal goes to one process, whose number is at least 1.
+abbrev pub IsAsk : Ask → Type 0
+IsAsk (Signal sig pid) = 0 < pid
+IsAsk other = ⊤
+
+-- The condition on how a start ended: a process has a number of at least 1.
+abbrev pub IsAnswer : StartAnswer → Type 0
+IsAnswer (start.Started pid label) = 0 < pid
+IsAnswer (start.Failed label) = ⊤
+
+-- the event that an answer to a start is
+abbrev pub event_of : StartAnswer → Event
+event_of (start.Started pid label) = Started pid label
+event_of (start.Failed label) = StartFailed label
+
+-- the call that was a poll for the answer to a start
+abbrev pub start_poll : Option StartAnswer → List Call
+start_poll None = NoStart ∷ []
+start_poll (Some answer) = Answered (event_of answer) ∷ []
+
+-- the call that was a poll for a death
+abbrev pub death_poll : Option Tai64n → List Call
+death_poll None = NoDeath ∷ []
+death_poll (Some label) = Answered (Death label) ∷ []
+
+-- the calls that tell these asks
+abbrev pub told : List Ask → List Call
+told asks = map Asked asks
+
+-- the starts, failed starts and deaths that were answered in these calls
+abbrev pub answers_in : List Call → List Event
+answers_in [] = []
+answers_in (Answered event ∷ calls) = event ∷ answers_in calls
+answers_in (call ∷ calls) = answers_in calls
+
+-- the labels that the clock gave in these calls
+abbrev pub readings_in : List Call → List Tai64n
+readings_in [] = []
+readings_in (Read label ∷ calls) = label ∷ readings_in calls
+readings_in (call ∷ calls) = readings_in calls
+
+-- A clock reading is the last one in these calls.
+abbrev pub IsLastReading : Event → List Call → Type 0
+IsLastReading (Clock label) calls = (earlier : List Tai64n) × (readings_in calls ≡ earlier ++ label ∷ [])
+IsLastReading event calls = ⊤
+
+-- Events
+
+-- the control bytes among these events
+abbrev pub bytes_in : List Event → List ℕ
+bytes_in [] = []
+bytes_in (Byte byte ∷ events) = byte ∷ bytes_in events
+bytes_in (event ∷ events) = bytes_in events
+
+-- the starts, failed starts and deaths among these events
+abbrev pub outcomes_in : List Event → List Event
+outcomes_in [] = []
+outcomes_in (Byte byte ∷ events) = outcomes_in events
+outcomes_in (Clock label ∷ events) = outcomes_in events
+outcomes_in (event ∷ events) = event ∷ outcomes_in events
+
+-- Polls
+
+-- The calls with which one event is found. While the service is up a death is polled before a control byte is looked for;
+-- while it is down no call of the world is made.
+abbrev pub polls_for : Event → Phase → List Call
+polls_for (Byte byte) phase.Up = NoDeath ∷ []
+polls_for (Byte byte) other = []
+polls_for (Clock label) other = Read label ∷ []
+polls_for event other = Answered event ∷ []
+
+-- the calls with which this was found
+abbrev pub polls_before : Hand → Phase → List Call
+polls_before Empty phase = []
+polls_before (One event) phase = polls_for event phase
+polls_before (ByteThenDeath byte label) phase = Answered (Death label) ∷ []

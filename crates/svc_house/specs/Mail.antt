@@ -1,0 +1,13 @@
+-- What an inbox over a mailbox gives.
+use Rattle.std.specs.Prelude.{ℕ, List, map}
+use Rattle.svc_mail.specs.declared.letter.Letter.{Letter}
+use Rattle.svc_mail.specs.declared.receiver.Receiver.{Receiver}
+use Rattle.svc_house.specs.declared.mail_inbox.MailInbox.{MailInbox}
+
+-- the items of letters, in order
+abbrev pub items_of : List (Letter ℕ) → List ℕ
+items_of letters = map (λ letter. letter.item) letters
+
+-- the receiver whose letters it gives
+abbrev pub receiver_in : {A : Type 0} → MailInbox A → Receiver ℕ A
+receiver_in inbox = inbox.receiver

@@ -1,0 +1,58 @@
+-- How a service stands between two turns of its loop.
+use Rattle.std.specs.Prelude.{◌≡◌, ℕ, List, ◌++◌, Option, IfSome, ⊤}
+use Rattle.atomic_table.specs.Seated.{TableId}
+use Rattle.sup_core.specs.declared.event.Event.{Event}
+use Rattle.sup_core.specs.State.{State}
+use Rattle.sup_core.specs.History.{History, Opened, state_of}
+use Rattle.sup_core.specs.Runs.{followed_by, AreTaken}
+use Rattle.svc_station.specs.declared.rule.Origin.{Origin}
+use Rattle.svc_house.specs.declared.call.Call.{Call}
+use Rattle.svc_house.specs.declared.hand.Hand.{Hand}
+use Rattle.svc_house.specs.declared.hand.Hand.TheVariants.{One}
+use Rattle.svc_house.specs.Calls.{bytes_in, outcomes_in, answers_in, IsLastReading}
+use Rattle.svc_house.specs.Hand.{events_in}
+
+pub record Standing (I : Type 0) : Type 0 where
+  -- which station it publishes to, the machine that the station was opened with, and what was published
+  pub station : Origin
+  pub opening : State
+  pub events : List Event
+  -- what was found and is not published yet
+  pub hand : Hand
+  -- what the world was told and what it answered, where it keeps that
+  pub calls : Option (List Call)
+  -- where its control bytes come from: which mailbox, if any, what it gave, and how often it had none
+  pub inbox : I
+  pub source : Option (TableId × ℕ)
+  pub given : List ℕ
+  pub nones : ℕ
+  -- how often its gate was passed, where that is counted
+  pub passes : Option ℕ
+
+module _ {I : Type 0} where
+  -- the opening, and all events that were published
+  abbrev pub past_of : Standing I → History
+  past_of s = followed_by (Opened s.opening) s.events
+
+  -- where its machine stands
+  abbrev pub state_in : Standing I → State
+  state_in s = state_of (past_of s)
+
+  -- what was published, and then what is in hand
+  abbrev pub found : Standing I → List Event
+  found s = s.events ++ events_in s.hand
+
+-- A clock reading in hand is the last one that the world gave.
+abbrev pub HoldsLastReading : Hand → Option (List Call) → Type 0
+HoldsLastReading (One event) calls = IfSome calls (IsLastReading event)
+HoldsLastReading other calls = ⊤
+
+-- What holds of every house.
+pub record IsHouse {I : Type 0} (s : Standing I) : Type 0 where
+  -- The control bytes that were published, and then one in hand, are those that the inbox gave.
+  pub bytes : bytes_in (found s) ≡ s.given
+  -- The starts, failed starts and deaths that were published, and then one in hand, are those that the world answered.
+  pub outcomes : IfSome s.calls (λ calls. outcomes_in (found s) ≡ answers_in calls)
+  -- What is in hand is taken, one event after the other.
+  pub ready : AreTaken (past_of s) (events_in s.hand)
+  pub reading : HoldsLastReading s.hand s.calls

@@ -1,0 +1,23 @@
+//! Where the control bytes of a service come from.
+use std::sync::Wait;
+
+/// A source of control bytes. Contracts see the bytes that it gave, in order (`given`), how often it had none (`nones`,
+/// a count which may stand at its end), and which mailbox, of how many senders, it takes from (`source`), if it does.
+pub trait Inbox {
+    ghost use Rattle.std.specs.Prelude.{◌≡◌, ◌++◌, ℕ, Option, None, List};
+    ghost use Rattle.atomic_table.specs.Seated.{TableId};
+    ghost use Rattle.tai_status.specs.Counted.{Rose};
+    ghost use Rattle.svc_house.specs.Calls.{held};
+
+    ghost given: { Self → List ℕ };
+
+    ghost nones: { Self → ℕ };
+
+    ghost source: { Self → Option (TableId × ℕ) } = { λ _. None };
+
+    /// The next byte, where there is one.
+    fn take<R: Wait>(&mut self, rt: &R) -> Option<u8>
+        ensures source { source self.new ≡ source self.old }
+        ensures given { given self.new ≡ given self.old ++ held result }
+        ensures nones { result ≡ None → Rose (nones self.old) (nones self.new) };
+}

@@ -1,0 +1,113 @@
+//! How a service ends: its mailbox is closed.
+ghost use Rattle.std.specs.Prelude.{◌≡◌, ◌++◌, Some, IfOk, IfErr, OnOk, if◌then◌else◌};
+ghost use Rattle.sup_core.specs.declared.machine.Phase.{Phase};
+ghost use Rattle.sup_core.specs.State.{is_gone};
+ghost use Rattle.svc_mail.specs.Ends.{AreAllSenders, box_of, senders_in, taken_by};
+ghost use Rattle.svc_mail.specs.Whole.{RowsArrive, NamesASender};
+ghost use Rattle.svc_station.specs.Ends.{published, station};
+ghost use Rattle.svc_house.specs.Calls.{bytes_in};
+ghost use Rattle.svc_house.specs.Mail.{items_of, receiver_in};
+ghost use Rattle.svc_house.specs.Turn.{phase_in};
+
+use crate::gate::Gate;
+use crate::house::House;
+use crate::mail_inbox::MailInbox;
+use crate::world::World;
+use std::alloc::{Allocator, Global};
+use std::sync::Wait;
+use svc_mail::letters::Letters;
+use svc_mail::mailbox::Mailbox;
+use svc_mail::sender::Sender;
+use svc_mail::whole::every_letter_arrives;
+use svc_station::writer::Writer;
+
+/// Why a service was not wound up.
+#[derive(Clone, Copy, Debug, PartialEq, Eq)]
+pub enum WindFault {
+    /// It is not gone.
+    Running,
+    /// There was no memory for the letters that are left.
+    OutOfMemory,
+}
+
+/// A service that was not wound up. All that went in comes back, unchanged.
+pub struct NotWound<W: World, G: Gate + Drop, A: Allocator = Global> {
+    pub why: WindFault,
+    pub house: House<W, MailInbox<A>, G>,
+    pub mailbox: Mailbox<u8, A>,
+    pub senders: Vec<Sender<u8, A>, A>,
+}
+
+impl<W: World, G: Gate + Drop, A: Allocator + Clone> House<W, MailInbox<A>, G> {
+    /// Ends a service that is gone, and closes its mailbox: its world comes out, the writer of its station, and the letters
+    /// that are left, in the order in which they were accepted.
+    ///
+    /// `Running` exactly where it is not gone; `OutOfMemory` where there is no memory for as many letters as the mailbox
+    /// has room for. Then house, mailbox and senders come back as they were.
+    pub fn wind_up<R: Wait>(
+        self,
+        rt: &R,
+        mailbox: Mailbox<u8, A>,
+        senders: Vec<Sender<u8, A>, A>,
+    ) -> Result<(W, Writer, Letters<u8, A>), NotWound<W, G, A>>
+        requires receiver { self.source ≡ Some (box_of mailbox, senders_in mailbox) }
+        requires senders { AreAllSenders mailbox senders.items }
+        ensures gone { OnOk result (phase_in self ≡ Phase.Gone) }
+        ensures why { IfErr result (λ back.
+            back.why ≡ (if is_gone (phase_in self) then WindFault.OutOfMemory else WindFault.Running)) }
+        ensures back { IfErr result (λ back.
+            (back.house ≡ self) × (back.mailbox ≡ mailbox) × (back.senders ≡ senders)) }
+        ensures world { IfOk result (λ wound. W.calls wound.0 ≡ self.calls) }
+        ensures writer { IfOk result (λ wound.
+            (station wound.1 ≡ self.station) × (published wound.1 ≡ self.events)) }
+        // The control bytes of its whole history are the items of the letters that were taken.
+        ensures bytes { IfOk result (λ wound.
+            bytes_in (published wound.1) ≡ items_of (taken_by (receiver_in self.inbox))) }
+        // What each sender posted is what was taken of it, and then what is left of it.
+        ensures rows { IfOk result (λ wound.
+            RowsArrive senders.items (taken_by (receiver_in self.inbox)) wound.2) }
+        ensures names { IfOk result (λ wound.
+            NamesASender (senders_in mailbox) (taken_by (receiver_in self.inbox) ++ wound.2)) }
+    {
+        if !self.writer.machine().is_gone() {
+            return Err(NotWound {
+                why: WindFault::Running,
+                house: self,
+                mailbox,
+                senders,
+            });
+        }
+        let House {
+            world,
+            inbox,
+            gate,
+            writer,
+            hand,
+        } = self;
+        let MailInbox { receiver, nones } = inbox;
+        match mailbox.close(rt, senders, receiver) {
+            Ok(letters) => {
+                every_letter_arrives::<u8, A>();
+                Ok((world, writer, letters))
+            }
+            Err(back) => {
+                let inbox = MailInbox {
+                    receiver: back.receiver,
+                    nones,
+                };
+                Err(NotWound {
+                    why: WindFault::OutOfMemory,
+                    house: House {
+                        world,
+                        inbox,
+                        gate,
+                        writer,
+                        hand,
+                    },
+                    mailbox: back.mailbox,
+                    senders: back.senders,
+                })
+            }
+        }
+    }
+}

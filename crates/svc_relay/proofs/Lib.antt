@@ -1,0 +1,4 @@
+pub mod Carried
+pub mod Joined
+pub mod Passed
+pub mod Relayed

@@ -1,0 +1,209 @@
+//! From a mailbox of pieces into the lives of a logger.
+ghost use Rattle.std.specs.Prelude.{◌≡◌, ◌<◌, ◌≤◌, [], true, false, length, take};
+ghost use Rattle.std.specs.Io.KnownBytes.{append_known};
+ghost use Rattle.tai_status.specs.Counted.{Rose};
+ghost use Rattle.svc_mail.specs.Ends.{IsSameReceiver, WasEmpty, taken_by};
+ghost use Rattle.svc_relay.specs.Gathering.{Gathers};
+
+use crate::outlet::{Outlet, OutletFault};
+use crate::piece::{MOST, Piece};
+use crate::turn::RelayTurn;
+use std::marker::Model;
+use std::sync::Wait;
+use svc_mail::receiver::Receiver;
+use tai_status::Block;
+
+/// Puts the pieces of a service's output into the input of its logger, and into that of the next one where it dies.
+/// Contracts see it as `Passing`, of which `IsRelay` always holds: the bytes that it took are those that it put into
+/// all lives of the logger, followed by those that it keeps.
+#[derive(Drop)]
+pub struct Relay<O: Outlet> {
+    receiver: Receiver<Piece>,
+    outlet: O,
+    // What was taken in one go, and how many bytes of it were put.
+    waiting: Block,
+    put: usize,
+    // How many bytes were put into earlier lives, and into this one.
+    earlier: u128,
+    here: u128,
+}
+
+impl<O: Outlet> Model for Relay<O> {
+    ghost use Rattle.svc_relay.specs.Passing.{Passing, IsCounted, passing};
+
+    ghost Value = { Passing };
+
+    ghost view = { λ r. passing r.receiver r.earlier r.here r.waiting r.put (O.bytes r.outlet) (O.failures r.outlet) };
+
+    ghost invariant = { λ r. IsCounted r.receiver r.earlier r.here r.waiting r.put (O.bytes r.outlet) };
+}
+
+// Takes what letters there are, as far as there is room for a whole piece.
+fn gather<R: Wait>(rt: &R, receiver: &mut Receiver<Piece>, waiting: &mut Block)
+    ensures same { IsSameReceiver receiver.old receiver.new }
+    ensures bytes { Gathers receiver.old receiver.new waiting.old waiting.new }
+{
+    while waiting.room() >= MOST {
+        let Some(letter) = receiver.take(rt) else {
+            return;
+        };
+        waiting.push(letter.item.as_slice());
+    }
+}
+
+// Takes what letters there are, and tells whether there were any.
+fn fill<R: Wait>(rt: &R, receiver: &mut Receiver<Piece>, waiting: &mut Block) -> bool
+    requires { waiting.old ≡ [] }
+    ensures same { IsSameReceiver receiver.old receiver.new }
+    ensures bytes { Gathers receiver.old receiver.new waiting.old waiting.new }
+    ensures some { result ≡ true → 0 < length waiting.new }
+    ensures none { result ≡ false → (waiting.new ≡ []) × (taken_by receiver.new ≡ taken_by receiver.old) }
+    ensures empty { result ≡ false → WasEmpty receiver.old }
+{
+    match receiver.take(rt) {
+        Some(first) => {
+            waiting.push(first.item.as_slice());
+            gather(rt, receiver, waiting);
+            true
+        }
+        None => false,
+    }
+}
+
+// Puts bytes, until all are put or the outlet fails, and answers how many were put, and whether it failed.
+fn put_all<O: Outlet>(outlet: &mut O, bytes: &[u8]) -> (usize, bool)
+    ensures within { result.0 ≤ length bytes.now }
+    ensures front { O.bytes outlet.new ≡ append_known (O.bytes outlet.old) (take result.0 bytes.now) }
+    ensures all { result.1 ≡ false → result.0 ≡ length bytes.now }
+    ensures works { result.1 ≡ false → O.failures outlet.new ≡ O.failures outlet.old }
+    ensures broken { result.1 ≡ true → result.0 < length bytes.now }
+    ensures failed { result.1 ≡ true → Rose (O.failures outlet.old) (O.failures outlet.new) }
+{
+    let mut at = 0;
+    while at < bytes.len() {
+        match outlet.put(&bytes[at..]) {
+            Ok(count) => at += count,
+            Err(OutletFault) => return (at, true),
+        }
+    }
+    (at, false)
+}
+
+impl<O: Outlet> Relay<O> {
+    ghost use Rattle.std.specs.Prelude.{◌≡◌, ◌<◌, [], true, false, length, IfSome};
+    ghost use Rattle.svc_mail.specs.Ends.{taken_by, IsSameReceiver};
+    ghost use Rattle.svc_relay.specs.Passing.{HadNone, IsRelay, IsRelayTurn, beginning, next_life};
+
+    /// A relay that begins. The receiver took nothing yet, and nothing was put into the outlet. It takes no memory.
+    pub fn new(receiver: Receiver<Piece>, outlet: O) -> Relay<O>
+        requires taken { taken_by receiver ≡ [] }
+        requires put { IfSome (O.bytes outlet) (λ bytes. bytes ≡ []) }
+        ensures { result ≡ beginning receiver (O.bytes outlet) (O.failures outlet) }
+    {
+        Relay {
+            receiver,
+            outlet,
+            waiting: Block::new(),
+            put: 0,
+            earlier: 0,
+            here: 0,
+        }
+    }
+
+    /// Puts the bytes that are kept, and takes nothing; or else takes what pieces there are, up to 32,768 bytes, and
+    /// puts these. It takes no memory. It may wait: as `Receiver::take` may, and for the outlet.
+    ///
+    /// `Idle` only where nothing was kept and no piece was there. `Broken`, and the bytes not put are kept, only where
+    /// the outlet failed; a further turn tries the same outlet again.
+    pub fn turn<R: Wait>(&mut self, rt: &R) -> RelayTurn
+        ensures same { IsSameReceiver self.old.receiver self.new.receiver }
+        ensures earlier { self.new.earlier ≡ self.old.earlier }
+        ensures bytes { IsRelay self.new }
+        ensures kept { 0 < length self.old.kept → self.new.receiver ≡ self.old.receiver }
+        ensures turned { IsRelayTurn self.old result self.new }
+    {
+        if self.refill(rt) {
+            self.put()
+        } else {
+            RelayTurn::Idle
+        }
+    }
+
+    /// Begins the logger's next life with an outlet into which nothing was put, and hands the old one back. The bytes
+    /// that are kept go on where the old life ended.
+    pub fn replace(&mut self, outlet: O) -> O
+        requires { IfSome (O.bytes outlet) (λ bytes. bytes ≡ []) }
+        ensures next { self.new ≡ next_life self.old (O.bytes outlet) (O.failures outlet) }
+        ensures old { (O.bytes result ≡ self.old.told) × (O.failures result ≡ self.old.failures) }
+        ensures bytes { IsRelay self.new }
+    {
+        self.earlier += self.here;
+        self.here = 0;
+        std::mem::replace(&mut self.outlet, outlet)
+    }
+
+    /// How many bytes were put into the earlier lives of the logger.
+    pub fn earlier(&self) -> u128
+        ensures count { result ≡ length self.now.earlier }
+        ensures bytes { IsRelay self.now }
+    {
+        self.earlier
+    }
+
+    // There is something to put: what is kept, or else what pieces there are, which then are kept.
+    fn refill<R: Wait>(&mut self, rt: &R) -> bool
+        ensures same { IsSameReceiver self.old.receiver self.new.receiver }
+        ensures earlier { self.new.earlier ≡ self.old.earlier }
+        ensures here { self.new.here ≡ self.old.here }
+        ensures outlet { (self.new.told ≡ self.old.told) × (self.new.failures ≡ self.old.failures) }
+        ensures kept { 0 < length self.old.kept → self.new.receiver ≡ self.old.receiver }
+        ensures some { result ≡ true → 0 < length self.new.kept }
+        ensures none { result ≡ false → HadNone self.old self.new × IsRelay self.new }
+    {
+        if self.put < self.waiting.as_slice().len() {
+            return true;
+        }
+        self.waiting.clear();
+        self.put = 0;
+        fill(rt, &mut self.receiver, &mut self.waiting)
+    }
+
+    // Puts what is kept.
+    fn put(&mut self) -> RelayTurn
+        requires { 0 < length self.old.kept }
+        ensures earlier { self.new.earlier ≡ self.old.earlier }
+        ensures same { self.new.receiver ≡ self.old.receiver }
+        ensures bytes { IsRelay self.new }
+        ensures turned { IsRelayTurn self.old result self.new }
+    {
+        let (count, broken) = put_all(&mut self.outlet, &self.waiting.as_slice()[self.put..]);
+        self.put += count;
+        self.here += count as u128;
+        if broken {
+            RelayTurn::Broken
+        } else {
+            RelayTurn::Moved(count as u64)
+        }
+    }
+}
+
+impl<O: Outlet + Drop> Relay<O> {
+    ghost use Rattle.std.specs.Prelude.{◌≡◌};
+    ghost use Rattle.svc_relay.specs.Passing.{IsRelay};
+
+    /// Its receiver. Bytes that are kept are dropped, and so is the outlet.
+    pub fn receiver(self) -> Receiver<Piece>
+        ensures receiver { result ≡ self.receiver }
+        ensures bytes { IsRelay self }
+    {
+        let Relay {
+            receiver,
+            outlet: _outlet,
+            waiting: _waiting,
+            put: _,
+            earlier: _,
+            here: _,
+        } = self;
+        receiver
+    }
+}

@@ -1,0 +1,222 @@
+#!/usr/bin/env bash
+# What no contract can say of multilog: that the machine's own folders are what the program takes them for. Runs the
+# program that the first word names over real folders, prints each check that fails, and ends with how many did not.
+# The wanted values are those of the multilog page of daemontools and of docs/FORMATS.md.
+set -u
+program=$(realpath "$1")
+room=$(mktemp -d)
+mounted=
+trap '[ -n "$mounted" ] && umount "$room/small" 2>/dev/null; rm -rf "$room"' EXIT
+cd "$room" || exit 1
+umask 022
+checked=0
+failed=0
+
+# is NAME WANTED GOT
+is() {
+  checked=$((checked + 1))
+  [ "$2" = "$3" ] && return
+  failed=$((failed + 1))
+  printf 'FAILED %s\n  wanted %q\n  got    %q\n' "$1" "$2" "$3"
+}
+
+# ended NAME STATUS TOLD WORDS..: multilog over the file `in`: its status, and what it tells
+ended() {
+  local name=$1 status=$2 told=$3
+  shift 3
+  timeout 20 "$program" multilog "$@" <in >out 2>told
+  is "$name: status" "$status" "$?"
+  is "$name: told" "$told" "$(cat told)"
+  is "$name: printed" '' "$(cat out)"
+}
+
+# as COUNT: so many `a` and a newline
+as() {
+  head -c "$1" /dev/zero | tr '\0' a
+  echo
+}
+
+size() {
+  stat -c %s "$1"
+}
+
+olds() {
+  find "$1" -name '@*' | wc -l
+}
+
+# Scripts that are refused: nothing is made.
+: >in
+for row in '100|word 1: SizeRange|s4095' '100|word 1: CountRange|n1' '100|word 2: StampNotFirst|e t' \
+  '100|word 2: SameLogTwice|./no ./no' '100|word 1: BadNumber|s0x2000' '100|word 1: Processor|!cat' \
+  '100|word 1: UnknownAction|tx' '100|word 1: Pattern|-a**b' '100|word 2: UnknownAction|./no ='; do
+  IFS='|' read -r status told words <<<"$row"
+  # shellcheck disable=SC2086
+  ended "refused: $words" "$status" "multilog: $told" $words
+done
+is 'refused: still none' no "$([ -e no ] && echo yes || echo no)"
+
+# No words; empty input; modes.
+printf 'x\ny' >in
+ended 'no words' 0 ''
+: >in
+ended 'empty input' 0 '' t '-*' '+* fatal: *' ./empty
+is 'empty input: current' 0 "$(size empty/current)"
+is 'empty input: names' 'current lock' "$(ls empty | tr '\n' ' ' | sed 's/ $//')"
+is 'mode of the folder' 755 "$(stat -c %a empty)"
+is 'mode of current' 644 "$(stat -c %a empty/current)"
+(umask 077 && ended 'umask' 0 '' ./closed)
+is 'umask: folder' 700 "$(stat -c %a closed)"
+is 'umask: current' 600 "$(stat -c %a closed/current)"
+
+# A stamped line without its newline.
+printf 'fatal: x' >in
+ended 'stamped' 0 '' t '-*' '+* fatal: *' ./stamped
+is 'stamped: length' 35 "$(size stamped/current)"
+is 'stamped: text' ' fatal: x' "$(tail -c +26 stamped/current)"
+is 'stamped: label' 1 "$(grep -c -E '^@[0-9a-f]{24} fatal: x$' stamped/current)"
+
+# Patterns see the first 1000 bytes.
+{ head -c 999 /dev/zero | tr '\0' a; echo b; head -c 1000 /dev/zero | tr '\0' a; echo b; } >in
+ended 'first 1000 bytes' 0 '' '-*' '+*b' ./front
+is 'first 1000 bytes' 1001 "$(size front/current)"
+
+# A status file; alerts.
+as 1000 >in
+ended 'a status of 1000' 0 '' =st
+is 'a status of 1000' "$(md5sum <in)" "$(md5sum <st)"
+cp in wanted
+as 1001 >in
+ended 'a status of 1001' 0 '' =st
+is 'a status of 1001' "$(md5sum <wanted)" "$(md5sum <st)"
+is 'a status: mode' 644 "$(stat -c %a st)"
+is 'a status: no other file' no "$([ -e st.new ] && echo yes || echo no)"
+printf 'short\n' >in
+ended 'a short status' 0 '' =st
+is 'a short status' '1001 996' "$(size st) $(tr -dc '\n' <st | wc -c)"
+head -c 201 /dev/zero | tr '\0' x >in
+ended 'an alert' 0 "$(head -c 200 /dev/zero | tr '\0' x)" e
+ended 'a status that has no folder' 111 'multilog: Store' =nosuch/st
+
+# Where a file is full.
+as 2094 >in
+ended 'not full' 0 '' s4096 n2 ./edge
+is 'not full' '2095 0' "$(size edge/current) $(olds edge)"
+rm -r edge
+as 2095 >in
+ended 'full' 0 '' s4096 n2 ./edge
+is 'full' '0 1' "$(size edge/current) $(olds edge)"
+is 'full: old file' 2096 "$(stat -c %s edge/@*)"
+is 'full: name' 1 "$(ls edge | grep -c -E '^@[0-9a-f]{24}\.s$')"
+is 'full: mode' 644 "$(stat -c %a edge/@*)"
+rm -r edge
+as 5000 >in
+ended 'cut' 0 '' s4096 n2 ./edge
+is 'cut' '905 4096' "$(size edge/current) $(stat -c %s edge/@*)"
+
+# A current file of 5000 bytes is finished by the next selected line alone.
+mkdir found
+head -c 5000 /dev/zero | tr '\0' f >found/current
+: >in
+ended 'found: no line' 0 '' s4096 ./found
+is 'found: no line' '5000 0' "$(size found/current) $(olds found)"
+echo y >in
+ended 'found' 0 '' s4096 ./found
+is 'found' '2 5000' "$(size found/current) $(stat -c %s found/@*)"
+
+# A line of 1,000,000 bytes: nine old files stay.
+as 1000000 >in
+ended 'a long line' 0 '' s4096 ./long
+is 'a long line' '577 9' "$(size long/current) $(olds long)"
+is 'a long line: old files' 4096 "$(stat -c %s long/@* | sort -u)"
+
+# Names that others wrote count, and the smallest goes first.
+mkdir names
+: >"names/@aaaaaaaaaaaaaaaaaaaaaaaa"
+: >"names/@0000000000000000000000000"
+: >names/@short
+: >names/other
+as 2095 >in
+ended 'names' 0 '' s4096 n3 ./names
+is 'names' no "$([ -e names/@0000000000000000000000000 ] && echo yes || echo no)"
+is 'names: others stay' 'yes yes yes' "$(for f in @aaaaaaaaaaaaaaaaaaaaaaaa @short other; do [ -e names/$f ] && echo yes; done | tr '\n' ' ' | sed 's/ $//')"
+
+# The greatest label of all is spent.
+mkdir spent
+: >spent/@7fffffffffffffff3b9ac9ff.s
+ended 'labels spent' 111 'multilog: LabelsSpent' s4096 ./spent
+is 'labels spent: appended' 2096 "$(size spent/current)"
+
+# Folders that can't be opened: the first is told, and those before it are opened, no more.
+: >file
+echo x >in
+ended 'a file for a folder' 111 'multilog: unable to open ./file' ./before ./file ./after
+is 'before' 'current lock 0' "$(ls before | tr '\n' ' ')$(size before/current)"
+is 'after' no "$([ -e after ] && echo yes || echo no)"
+ended 'a folder without a parent' 111 'multilog: unable to open ./no/such' ./no/such
+mkdir notext
+: >"notext/$(printf '\377')"
+ended 'a name that is no text' 111 'multilog: unable to open ./notext' ./notext
+ended 'one folder by two names' 111 'multilog: unable to open ./a/' ./a ./a/
+
+# A second multilog is refused and harms nothing.
+mkfifo pipe
+exec 3<>pipe
+timeout 20 "$program" multilog t ./shared <pipe 2>first 3>&- &
+first=$!
+echo one >&3
+for _ in $(seq 100); do [ -s shared/current ] && break; sleep 0.05; done
+is 'what was read is appended' 1 "$(wc -l <shared/current)"
+before=$(md5sum <shared/current)
+ended 'a second one' 111 'multilog: unable to open ./shared' t ./shared
+is 'a second one: no harm' "$before" "$(md5sum <shared/current)"
+echo two >&3
+exec 3>&-
+wait "$first"
+is 'the first goes on' '0 2' "$? $(wc -l <shared/current)"
+
+# Killed in mid-stream and started again, again and again: no line that was in current is lost, no old file changes.
+mkdir -p killed
+: >seen
+lost=0
+changed=0
+for round in 1 2 3 4 5 6 7 8; do
+  (i=0; while :; do i=$((i + 1)); echo "round $round line $i ...................................................."; done) 2>/dev/null |
+    "$program" multilog s4096 n100000 ./killed 2>/dev/null &
+  pid=$!
+  sleep 0.1$round
+  kill -KILL "$pid" 2>/dev/null
+  wait "$pid" 2>/dev/null
+  cat killed/@* killed/current 2>/dev/null >now
+  head -c "$(size seen)" now | cmp -s - seen || lost=$((lost + 1))
+  cp now seen
+  if [ -e sums ]; then md5sum --quiet -c sums >/dev/null 2>&1 || changed=$((changed + 1)); fi
+  ls killed/@* >/dev/null 2>&1 && md5sum killed/@* >sums
+done
+is 'killed: lines lost' 0 "$lost"
+is 'killed: old files changed' 0 "$changed"
+is 'killed: lines were written' true "$([ "$(size seen)" -gt 10000 ] && echo true)"
+: >in
+ended 'killed: started again' 0 '' s4096 n100000 ./killed
+
+# A limit on the size of a file, and a full disk: what stands is a front of the input.
+yes 'a line of text' | head -n 200000 >in
+(
+  trap '' XFSZ
+  ulimit -f 40
+  timeout 20 "$program" multilog s16777215 ./limited <in 2>told
+  is 'a limit' 111 "$?"
+  is 'a limit: told' 'multilog: Store' "$(cat told)"
+  cmp -s <(head -c "$(size limited/current)" in) limited/current
+  is 'a limit: a front' '0 true' "$? $([ "$(size limited/current)" -ge 40000 ] && echo true)"
+  [ "$failed" = 0 ]
+) || failed=$((failed + 1))
+mkdir small
+if mount -t tmpfs -o size=64k none small 2>/dev/null; then
+  mounted=yes
+  ended 'a full disk' 111 'multilog: Store' s16777215 ./small/log
+  cmp -s <(head -c "$(size small/log/current)" in) small/log/current
+  is 'a full disk: a front' 0 "$?"
+fi
+
+echo "multilog: $checked checks, $failed failed"
+[ "$failed" = 0 ]
