@@ -7,7 +7,7 @@ COMMANDS = multilog tai64n envdir readproctitle
 # What a check says as it goes, but for the lines on the libraries that it has read.
 SHOWN = sed -u -n -e '/^fn .*: proved/p' -e '/^rt: waiting/p' -e '/: error/p' -e 's/^logic=\([a-z-]*\) functions=\([0-9]*\).*/$(1): \1, \2 functions/p'
 # The libraries that the program is made of, as crates.txt names them, and those that a crate stands on.
-LIBRARIES := $(filter-out dtools dtools_tests,$(shell sed -n 's/^\([a-z_]*\):.*/\1/p' crates.txt))
+LIBRARIES := $(filter-out dtools dtools_tests svc_tests test_base,$(shell sed -n 's/^\([a-z_]*\):.*/\1/p' crates.txt))
 below = $(filter $(LIBRARIES),$(shell sed -n 's/^$(1)://p' crates.txt))
 
 .PHONY: build test install program $(LIBRARIES)

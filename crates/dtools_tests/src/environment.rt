@@ -1,7 +1,7 @@
-use crate::memory::region;
 use bumpalo::Bump;
 use env_title::{Env, EnvFault, EnvFile, Title, TitleFault, apply};
 use std::test::Fail;
+use test_base::region;
 
 /// Each growth of an environment is refused in turn.
 #[test]

@@ -1,5 +1,3 @@
-use crate::slow::Slow;
-use crate::tight::Tight;
 use bumpalo::Bump;
 use cmd_filters::{run_readproctitle, run_tai64n};
 use std::cell::Cell;
@@ -7,6 +5,7 @@ use std::io;
 use std::io::{Read, Write};
 use std::test::Fail;
 use tai_status::{Counted, Label, TimeSource};
+use test_base::{Slow, Tight};
 
 /// A reader of one byte a read, a writer and a clock that share one count. A read adds 1 to it and a
 /// write 100, and the clock gives the second that it stands at.
@@ -127,4 +126,12 @@ fn tells_why_there_is_no_title(rt: HostRuntime) {
         assert_eq!(rt; writer.into_device().held(), held.as_bytes());
         assert_eq!(rt; faults.into_device().as_slice(), told.as_bytes());
     }
+}
+
+/// A full writer takes no byte, and none is a fault.
+#[test]
+fn nothing_to_write_is_no_fault(rt: HostRuntime) {
+    let mut writer = Counted::new(Tight::refusing(rt.alloc(), 0));
+    assert_eq!(rt; writer.write(b""), Ok(0));
+    assert_eq!(rt; writer.faults(), 0);
 }

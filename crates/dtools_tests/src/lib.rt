@@ -1,5 +1,5 @@
-//! Tests of what no contract can say, no case and no script can show: that memory serves where it is ample, what stands
-//! where it, or a device, fails at each place in turn, and that letters and publications cross threads.
+//! Tests of what no contract can say, no case and no script can show: that memory serves where it is ample, and what
+//! stands where it, or a device, fails at each place in turn.
 #![tactic(auto)]
 
 #[cfg(test)]
@@ -11,21 +11,13 @@ mod faulty;
 #[cfg(test)]
 mod filters;
 #[cfg(test)]
-mod house;
-#[cfg(test)]
 mod kept;
 #[cfg(test)]
 mod logs;
 #[cfg(test)]
-mod mail;
-#[cfg(test)]
-mod memory;
-#[cfg(test)]
 mod multilog;
 #[cfg(test)]
 mod patterns;
-#[cfg(test)]
-mod relay;
 #[cfg(test)]
 mod scan;
 #[cfg(test)]
@@ -33,13 +25,7 @@ mod scripts;
 #[cfg(test)]
 mod sim;
 #[cfg(test)]
-mod slow;
-#[cfg(test)]
-mod station;
-#[cfg(test)]
 mod suite;
-#[cfg(test)]
-mod tight;
 #[cfg(test)]
 mod trace;
 #[cfg(test)]

@@ -1,11 +1,11 @@
 use crate::faulty::{Call, Faulty};
-use crate::slow::Slow;
 use mlog_core::{Counts, RunFault, run};
 use mlog_files::{LogFiles, MemoryStore, StatusFile};
 use mlog_script::Script;
 use std::alloc::Global;
 use std::test::Fail;
 use tai_status::{Counted, Label, TimeSource};
+use test_base::Slow;
 
 /// A clock that stands.
 #[derive(Drop)]

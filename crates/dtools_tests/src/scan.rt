@@ -1,10 +1,10 @@
-use crate::memory::leave;
 use bumpalo::Bump;
 use scan_table::{DirRow, MAX_SLOTS, PartId, Role, ScanFault, ScanTable};
 use std::alloc::{AllocError, Allocator, Global};
 use std::ops::Range;
 use std::test::Fail;
 use tai_status::Name;
+use test_base::leave;
 
 /// An entry of the folder by its flags, `d` for a directory and `l` for one with a log, and its name.
 fn row<A: Allocator>(alloc: A, flags: &str, name: &str) -> Result<DirRow<A>, AllocError> {

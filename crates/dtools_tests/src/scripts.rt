@@ -1,6 +1,6 @@
-use crate::memory::region;
 use mlog_script::{Choices, Script, ScriptFault, ScriptFaultKind};
 use std::test::Fail;
+use test_base::region;
 
 /// A word that is no script alone, and what is wrong with it, by hand.
 const ROWS: [(&[u8], ScriptFaultKind); 14] = [

@@ -1,12 +1,10 @@
-use crate::memory::leave;
-use crate::slow::Slow;
-use crate::tight::Tight;
 use bumpalo::Bump;
 use cmd_sim::run_sim;
 use std::alloc::{AllocError, Global};
 use std::io::Read;
 use std::test::Fail;
 use tai_status::Counted;
+use test_base::{Slow, Tight, leave};
 
 /// One service that is begun, started, brought down and dead, and what is answered.
 const SERVICE: &[u8] = b"begin up @400000000000000a00000000

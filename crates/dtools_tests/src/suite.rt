@@ -1,7 +1,6 @@
 ghost use Rattle.std.specs.Prelude.{IfOk};
 ghost use Rattle.suite_core.specs.Suite.{IsSuiteEvent};
 
-use crate::memory::leave;
 use bumpalo::Bump;
 use scan_table::{DirRow, PartId, Role};
 use std::alloc::{AllocError, Allocator};
@@ -10,6 +9,7 @@ use suite_core::{StepFault, Suite, SuiteFault};
 use suite_lines::{Rows, SuiteEvent};
 use sup_core::{Event, Phase};
 use tai_status::{Label, Name};
+use test_base::leave;
 
 /// The second of TAI64 that is 10 after 1970, and this many more.
 fn label(seconds: u32) -> Label {

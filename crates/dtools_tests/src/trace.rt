@@ -1,7 +1,7 @@
-use crate::tight::Tight;
 use bumpalo::Bump;
 use cmd_trace::trace_bytes;
 use tai_status::Counted;
+use test_base::Tight;
 
 /// A service that was started and sent `d`, of which the last entry is kept, by hand.
 const TRACE: &[u8] = b"dtools-trace 1

@@ -1,7 +1,7 @@
-use crate::memory::region;
 use std::test::Fail;
 use svc_words::{SvcFault, assemble, stat_line};
 use tai_status::{Label, View, Want};
+use test_base::region;
 
 /// Each growth of an order is refused in turn.
 #[test]

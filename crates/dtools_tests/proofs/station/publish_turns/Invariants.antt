@@ -1,5 +1,0 @@
-use Rattle.svc_station.specs.Parking.{GoesOn, writer_in}
-use Rattle.dtools_tests.proofs.station.publish_turns.Given as goal
-
-abbrev pub invariant-loop-turn : goal.invariant-loop-turn
-invariant-loop-turn g l = GoesOn (writer_in l.fn.parked) l.writer
