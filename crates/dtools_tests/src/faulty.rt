@@ -15,7 +15,8 @@ pub enum Call {
     Alert,
 }
 
-/// A store in memory that takes few bytes an append, and fails at one call.
+/// A store in memory that takes few bytes an append, and fails at one call. What it holds is looked at by the tests, and
+/// not told to contracts.
 #[derive(Drop)]
 pub struct Faulty {
     store: MemoryStore,
@@ -26,7 +27,9 @@ pub struct Faulty {
 
 impl Faulty {
     /// A store that takes at most so many bytes an append, and fails at each call of this kind.
-    pub fn new(store: MemoryStore, most: usize, failing: Call) -> Faulty {
+    pub fn new(store: MemoryStore, most: usize, failing: Call) -> Faulty
+        ensures { result.store ≡ store }
+    {
         Faulty {
             store,
             most: most.max(1),
@@ -53,15 +56,12 @@ impl Faulty {
 
 impl LogStore for Faulty {
     ghost use Rattle.std.specs.Prelude.{length};
-    ghost use Rattle.mlog_files.specs.Memory.{told_of};
 
     ghost logs = { λ faulty. length faulty.store.logs };
 
     ghost status_files = { λ faulty. length faulty.store.statuses };
 
     ghost failures = { λ faulty. faulty.failures };
-
-    ghost told = { λ faulty. told_of faulty.store };
 
     fn append(&mut self, log: usize, piece: &[u8]) -> Result<usize, StoreFault> {
         if self.failing == Call::Append {
