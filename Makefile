@@ -1,5 +1,7 @@
 # build: proves the crates, as many side by side as there are processors, and builds the program. test: the gate.
 # install: copies the program to PREFIX/bin, with a wrapper for each command of daemontools that is there.
+SHELL = bash
+.SHELLFLAGS = -o pipefail -c
 PREFIX ?= /usr/local
 JOBS ?= $(shell nproc)
 PROGRAM = crates/dtools/out/dtools
@@ -11,7 +13,7 @@ SHOWN = awk '/^== / { crate = $$2 } /: error|^rt: / { print } /^logic=/ { gsub(/
 
 build:
 	@echo "Proving the crates, lowest first, $(JOBS) side by side. Each line is a crate."
-	@bash -o pipefail -c "rt all check --jobs $(JOBS) 2>&1 | $(SHOWN)"
+	@rt all check --jobs $(JOBS) 2>&1 | $(SHOWN)
 	@cd crates/dtools && rt run -- sim table >/dev/null
 	@echo "Built $(PROGRAM)."
 
