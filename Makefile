@@ -3,7 +3,7 @@
 PREFIX ?= /usr/local
 JOBS ?= $(shell nproc)
 PROGRAM = crates/dtools/out/dtools
-COMMANDS = multilog tai64n envdir readproctitle
+COMMANDS = svc svstat svok multilog tai64n envdir readproctitle
 # What a check says as it goes, but for the lines on the libraries that it has read.
 SHOWN = sed -u -n -e '/^fn .*: proved/p' -e '/^rt: waiting/p' -e '/: error/p' -e 's/^logic=\([a-z-]*\) functions=\([0-9]*\).*/$(1): \1, \2 functions/p'
 # The libraries that the program is made of, as crates.txt names them, and those that a crate stands on.
