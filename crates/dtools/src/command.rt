@@ -9,16 +9,18 @@ use cmd_envdir::{Launcher, Surroundings, run_envdir};
 use cmd_filters::{run_readproctitle, run_tai64n};
 use cmd_multilog::{FolderStore, LogDisk, run_multilog};
 use cmd_sim::run_sim;
+use cmd_svc::{Services, run_svc, run_svok, run_svstat};
 use cmd_trace::run_trace;
 use std::io::{Read, Write};
 use tai_status::TimeSource;
 
 /// Runs the command of this name over words, and answers its status. A name of no command is
 /// `dtools: usage`, 100.
-fn run_command<R, L, K, D, W, E, C>(
+fn run_command<R, L, K, S, D, W, E, C>(
     rt: &R,
     launcher: &mut L,
     store: &mut FolderStore<K>,
+    services: &mut S,
     name: &str,
     words: &[&str],
     devices: &mut Devices<D, W, E, C>,
@@ -27,6 +29,7 @@ where
     R: FileSource + Surroundings + AllocGlobal,
     L: Launcher,
     K: LogDisk + Drop,
+    S: Services,
     D: Read,
     W: Write,
     E: Write,
@@ -35,7 +38,8 @@ where
     requires no_files { store.old.statuses ≡ [] }
     ensures ends { CommandEnds name.now (map (λ word. word.now) words.now) result
         (machine (R.file_at rt.now) (around (R.folder_at rt.now) (R.known_variables rt.now)) (L.launched launcher.old)
-        store.old) (L.launched launcher.new) store.new devices.old devices.new }
+        store.old (S.calls services.old)) (L.launched launcher.new) store.new (S.calls services.new)
+        devices.old devices.new }
 {
     let Devices {
         reader,
@@ -48,6 +52,9 @@ where
         "tai64n" => return run_tai64n(words, reader, writer, faults, clock),
         "readproctitle" => return run_readproctitle(rt.alloc(), words, reader, writer, faults),
         "multilog" => return run_multilog(rt.alloc(), store, words, reader, faults, clock),
+        "svc" => return run_svc(rt.alloc(), services, words, faults),
+        "svstat" => return run_svstat(rt.alloc(), services, words, writer, faults, clock),
+        "svok" => return run_svok(services, words),
         "envdir" => return run_envdir(rt, launcher, rt.alloc(), words, faults),
         "trace" => return run_trace(rt, rt.alloc(), words, writer, faults),
         _ => return usage(faults),
@@ -56,10 +63,11 @@ where
 
 /// Runs the command that the first word names, over the words after it, and answers its status. No
 /// word, or one that names no command, is `dtools: usage`, 100.
-pub fn run<R, L, K, D, W, E, C>(
+pub fn run<R, L, K, S, D, W, E, C>(
     rt: &R,
     launcher: &mut L,
     store: &mut FolderStore<K>,
+    services: &mut S,
     words: &[&str],
     devices: &mut Devices<D, W, E, C>,
 ) -> u8
@@ -67,6 +75,7 @@ where
     R: FileSource + Surroundings + AllocGlobal,
     L: Launcher,
     K: LogDisk + Drop,
+    S: Services,
     D: Read,
     W: Write,
     E: Write,
@@ -75,10 +84,11 @@ where
     requires no_files { store.old.statuses ≡ [] }
     ensures ends { ProgramEnds (map (λ word. word.now) words.now) result
         (machine (R.file_at rt.now) (around (R.folder_at rt.now) (R.known_variables rt.now)) (L.launched launcher.old)
-        store.old) (L.launched launcher.new) store.new devices.old devices.new }
+        store.old (S.calls services.old)) (L.launched launcher.new) store.new (S.calls services.new)
+        devices.old devices.new }
 {
     match words {
-        [name, words @ ..] => run_command(rt, launcher, store, name, words, devices),
+        [name, words @ ..] => run_command(rt, launcher, store, services, name, words, devices),
         [] => usage(&mut devices.faults),
     }
 }

@@ -8,6 +8,7 @@ mod devices;
 use cmd_base::{SystemClock, TROUBLE, report, usage};
 use cmd_envdir::SystemLauncher;
 use cmd_multilog::{FolderStore, MachineDisk};
+use cmd_svc::MachineServices;
 use command::run;
 use devices::Devices;
 use std::env;
@@ -46,6 +47,7 @@ fn run_arguments<D: Read, W: Write, E: Write, C: TimeSource>(
             rt,
             &mut SystemLauncher::new(rt),
             &mut store,
+            &mut MachineServices::new(rt),
             &words,
             devices,
         ),

@@ -1,0 +1,10 @@
+use Rattle.std.proofs.Common.{take, map}
+use Rattle.cmd_svc.specs.Turns.{InTurn}
+use Rattle.cmd_svc.specs.Svstat.{scene, Shows}
+use Rattle.cmd_svc.proofs.svstat.show_all.Given as goal
+
+-- the services so far are shown
+abbrev pub invariant-loop-folder : goal.invariant-loop-folder
+invariant-loop-folder g l = InTurn Shows (map (λ word. word.now) (take l.folder-index l.folders))
+    (scene (g.S.Services.calls l.fn.services) (g.C.TimeSource.readings l.fn.clock) l.fn.writer)
+    (scene (g.S.Services.calls l.services) (g.C.TimeSource.readings l.clock) l.writer)

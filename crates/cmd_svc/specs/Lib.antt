@@ -1,0 +1,5 @@
+pub mod Calls
+pub mod Turns
+pub mod Svc
+pub mod Svstat
+pub mod Svok

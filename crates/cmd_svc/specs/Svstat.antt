@@ -1,0 +1,139 @@
+-- What `svstat` writes, and how it ends (cr.yp.to/daemontools/svstat.html).
+use Rattle.std.specs.Prelude.{◌≡◌, ◌⊎◌, ℕ, Bool, true, false, not, List, [], ◌∷◌, ◌++◌, codes, Option, Some, None, Ok, Err}
+use Rattle.tai_status.specs.Label.{Tai64n}
+use Rattle.tai_status.specs.Lines.{Gave}
+use Rattle.tai_status.specs.Counted.{Device, Fails, Tells, Works, Wrote, WroteFront}
+use Rattle.tai_status.specs.Decoding.{status_from}
+use Rattle.tai_status.specs.Record.{Status}
+use Rattle.tai_status.specs.declared.record.RecordFault.{RecordFault}
+use Rattle.tai_status.specs.declared.record.RecordFault.TheVariants as fault
+use Rattle.svc_words.specs.Line.{status_line}
+use Rattle.cmd_svc.specs.Calls.{Call, Asked, ReadStatus, SoughtDown, Called}
+use Rattle.cmd_svc.specs.Turns.{InTurn}
+use Rattle.cmd_svc.specs.declared.look.Look.{Look}
+use Rattle.cmd_svc.specs.declared.look.Look.TheVariants as look
+use Rattle.cmd_svc.specs.declared.svstat.SvstatFault.{SvstatFault}
+use Rattle.cmd_svc.specs.declared.svstat.SvstatFault.TheVariants as why
+
+-- What a look at services does: the calls that were made, and what the clock gave.
+pub record Sight : Type 0 where
+  pub calls : Option (List Call)
+  pub readings : Option (List Tai64n)
+
+abbrev pub sight : (calls : Option (List Call)) (readings : Option (List Tai64n)) → Sight
+sight calls readings = record { calls = calls; readings = readings }
+
+-- What `svstat` works with: that, and what it writes to.
+pub record Scene : Type 0 where
+  pub sight : Sight
+  pub writer : Device
+
+abbrev pub scene : (calls : Option (List Call)) (readings : Option (List Tai64n)) (writer : Device) → Scene
+scene calls readings writer = record { sight = sight calls readings; writer = writer }
+
+-- A look at a service
+
+-- A service that is not supervised is asked nothing more.
+pub record FindsDeserted (folder : List ℕ) (old new : Sight) : Type 0 where
+  pub asked : Called old.calls new.calls (Asked folder false ∷ [])
+  pub unread : new.readings ≡ old.readings
+
+-- Its status could not be read.
+pub record FindsUnread (folder : List ℕ) (old new : Sight) : Type 0 where
+  pub asked : Called old.calls new.calls (Asked folder true ∷ ReadStatus folder None ∷ [])
+  pub unread : new.readings ≡ old.readings
+
+-- The bytes that were read are no record, for this fault.
+pub record FindsBad (folder : List ℕ) (cause : RecordFault) (old new : Sight) : Type 0 where
+  pub bytes : List ℕ
+  pub refused : status_from bytes ≡ Err cause
+  pub asked : Called old.calls new.calls (Asked folder true ∷ ReadStatus folder (Some bytes) ∷ [])
+  pub unread : new.readings ≡ old.readings
+
+-- The bytes that were read are the record of this status. The service is normally up where no file `down` was found, and
+-- the clock was read once.
+pub record FindsStatus (folder : List ℕ) (status : Status) (normally_up : Bool) (now : Tai64n) (old new : Sight)
+    : Type 0 where
+  pub bytes : List ℕ
+  pub is : status_from bytes ≡ Ok status
+  pub asked : Called old.calls new.calls
+      (Asked folder true ∷ ReadStatus folder (Some bytes) ∷ SoughtDown folder (not normally_up) ∷ [])
+  pub read : Gave old.readings new.readings (now ∷ [])
+
+-- What a look at the service in a folder found
+abbrev pub Finds : (folder : List ℕ) → Look → (old new : Sight) → Type 0
+Finds folder look.Deserted old new = FindsDeserted folder old new
+Finds folder look.Unread old new = FindsUnread folder old new
+Finds folder (look.Bad cause) old new = FindsBad folder cause old new
+Finds folder (look.Standing status normally_up now) old new = FindsStatus folder status normally_up now old new
+
+-- Lines
+
+abbrev pub fault_name : RecordFault → List ℕ
+fault_name fault.Length = codes "Length"
+fault_name fault.BadLabel = codes "BadLabel"
+fault_name fault.PausedFlag = codes "PausedFlag"
+fault_name fault.PausedNoProcess = codes "PausedNoProcess"
+fault_name fault.WantByte = codes "WantByte"
+
+-- the line of a look at the service in a folder, without a newline
+abbrev pub look_line : (folder : List ℕ) → Look → List ℕ
+look_line folder look.Deserted = folder ++ codes ": supervise not running"
+look_line folder look.Unread = folder ++ codes ": unable to read status"
+look_line folder (look.Bad cause) = folder ++ codes ": bad status record: " ++ fault_name cause
+look_line folder (look.Standing status normally_up now) = status_line folder status normally_up now
+
+-- The service in a folder was looked at, and then the line of that was written.
+pub record Shows (folder : List ℕ) (old new : Scene) : Type 0 where
+  pub look : Look
+  pub finds : Finds folder look old.sight new.sight
+  pub wrote : Wrote old.writer new.writer (look_line folder look ++ 10 ∷ [])
+  pub works : Works old.writer new.writer
+
+-- Faults
+
+-- A line was not written: there was no memory for it, or the writer failed after a front of it.
+abbrev pub WritesNot : SvstatFault → (line : List ℕ) → (old new : Device) → Type 0
+WritesNot why.OutOfMemory line old new = new ≡ old
+WritesNot why.Write line old new = WroteFront old new line × Fails old new
+
+-- The service in a folder was looked at, and the line of that was not written.
+pub record ShowsNot (folder : List ℕ) (cause : SvstatFault) (old new : Scene) : Type 0 where
+  pub look : Look
+  pub finds : Finds folder look old.sight new.sight
+  pub unwritten : WritesNot cause (look_line folder look ++ 10 ∷ []) old.writer new.writer
+
+-- The words before one have their lines, and that one has not. The words after it are not looked at.
+pub record ShowsUpTo (words : List (List ℕ)) (cause : SvstatFault) (old new : Scene) : Type 0 where
+  pub before : List (List ℕ)
+  pub folder : List ℕ
+  pub after : List (List ℕ)
+  pub words_are : words ≡ before ++ folder ∷ after
+  pub middle : Scene
+  pub shown : InTurn Shows before old middle
+  pub fails : ShowsNot folder cause middle new
+
+-- what is told of a fault
+abbrev pub svstat_told : SvstatFault → List ℕ
+svstat_told why.OutOfMemory = codes "svstat: OutOfMemory" ++ 10 ∷ []
+svstat_told why.Write = codes "svstat: write fault" ++ 10 ∷ []
+
+-- Ends
+
+-- Each word has its line, and nothing is told.
+pub record ShowsAll (words : List (List ℕ)) (status : ℕ) (old new : Scene) (faults tells : Device) : Type 0 where
+  pub status_is : status ≡ 0
+  pub shown : InTurn Shows words old new
+  pub untold : tells ≡ faults
+
+-- A line could not be written, and it is told why.
+pub record Stops (words : List (List ℕ)) (status : ℕ) (old new : Scene) (faults tells : Device) : Type 0 where
+  pub cause : SvstatFault
+  pub stops : ShowsUpTo words cause old new
+  pub status_is : status ≡ 111
+  pub told : Tells faults tells (svstat_told cause)
+
+-- `svstat`, by its words
+abbrev pub SvstatEnds : (words : List (List ℕ)) (status : ℕ) (old new : Scene) (faults tells : Device) → Type 0
+SvstatEnds words status old new faults tells =
+    ShowsAll words status old new faults tells ⊎ Stops words status old new faults tells

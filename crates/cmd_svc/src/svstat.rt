@@ -1,0 +1,127 @@
+//! The command `svstat`.
+ghost use Rattle.std.specs.Prelude.{◌≡◌, ◌∷◌, [], ◌++◌, map, string_bytes, OnOk, IfOk, IfErr};
+ghost use Rattle.tai_status.specs.Counted.{Wrote, Works};
+ghost use Rattle.cmd_svc.specs.Turns.{InTurn};
+ghost use Rattle.cmd_svc.specs.Svstat.{scene, look_line, Shows, ShowsNot, ShowsUpTo, SvstatEnds, WritesNot, svstat_told};
+
+use crate::look::{Look, look_at, look_line};
+use crate::services::Services;
+use cmd_base::{DONE, TROUBLE, report};
+use std::alloc::{AllocError, Allocator};
+use std::io::Write;
+use tai_status::{Output, TimeSource};
+
+/// Why the line of a service is not written.
+#[derive(Clone, Copy, Debug, PartialEq, Eq)]
+pub enum SvstatFault {
+    /// There is no memory for it.
+    OutOfMemory,
+    /// The writer failed.
+    Write,
+}
+
+/// The line of a look at the service in a folder, with its newline.
+fn whole_line<A: Allocator + Clone>(
+    alloc: &A,
+    folder: &str,
+    look: &Look,
+) -> Result<String<A>, AllocError>
+    ensures { IfOk result (λ line. string_bytes line ≡ look_line folder.now look.now ++ 10 ∷ []) }
+{
+    let mut line = look_line(alloc.clone()?, folder, look)?;
+    line.push_str("\n")?;
+    Ok(line)
+}
+
+/// Writes the line of a look at the service in a folder.
+fn write_line<A: Allocator + Clone, W: Write>(
+    alloc: &A,
+    folder: &str,
+    look: &Look,
+    writer: &mut Output<W>,
+) -> Result<(), SvstatFault>
+    ensures ok { OnOk result (Wrote writer.old writer.new (look_line folder.now look.now ++ 10 ∷ [])) }
+    ensures works { OnOk result (Works writer.old writer.new) }
+    ensures err { IfErr result (λ cause.
+        WritesNot cause (look_line folder.now look.now ++ 10 ∷ []) writer.old writer.new) }
+{
+    let Ok(line) = whole_line(alloc, folder, look) else {
+        return Err(SvstatFault::OutOfMemory);
+    };
+    match writer.write_all(line.as_bytes()) {
+        Ok(()) => Ok(()),
+        Err(_) => Err(SvstatFault::Write),
+    }
+}
+
+/// Looks at the service in a folder, and writes the line of that.
+fn show<S: Services, A: Allocator + Clone, W: Write, C: TimeSource>(
+    alloc: &A,
+    services: &mut S,
+    folder: &str,
+    writer: &mut Output<W>,
+    clock: &mut C,
+) -> Result<(), SvstatFault>
+    ensures ok { OnOk result (Shows folder.now (scene (S.calls services.old) (C.readings clock.old) writer.old)
+        (scene (S.calls services.new) (C.readings clock.new) writer.new)) }
+    ensures err { IfErr result (λ cause. ShowsNot folder.now cause
+        (scene (S.calls services.old) (C.readings clock.old) writer.old)
+        (scene (S.calls services.new) (C.readings clock.new) writer.new)) }
+{
+    let look = look_at(services, clock, folder);
+    write_line(alloc, folder, &look, writer)
+}
+
+/// Shows the services in folders, one after the other, up to the first whose line can't be written.
+fn show_all<S: Services, A: Allocator + Clone, W: Write, C: TimeSource>(
+    alloc: &A,
+    services: &mut S,
+    folders: &[&str],
+    writer: &mut Output<W>,
+    clock: &mut C,
+) -> Result<(), SvstatFault>
+    ensures ok { OnOk result (InTurn Shows (map (λ word. word.now) folders.now)
+        (scene (S.calls services.old) (C.readings clock.old) writer.old)
+        (scene (S.calls services.new) (C.readings clock.new) writer.new)) }
+    ensures err { IfErr result (λ cause. ShowsUpTo (map (λ word. word.now) folders.now) cause
+        (scene (S.calls services.old) (C.readings clock.old) writer.old)
+        (scene (S.calls services.new) (C.readings clock.new) writer.new)) }
+{
+    for folder in folders {
+        show(alloc, services, folder, writer, clock)?;
+    }
+    Ok(())
+}
+
+/// What is told of a fault.
+fn fault_text(fault: SvstatFault) -> &'static [u8]
+    ensures { result.now ≡ svstat_told fault }
+{
+    match fault {
+        SvstatFault::OutOfMemory => b"svstat: OutOfMemory\n",
+        SvstatFault::Write => b"svstat: write fault\n",
+    }
+}
+
+/// The command `svstat`: writes a line for the service in each folder that its words name, in order
+/// (<https://cr.yp.to/daemontools/svstat.html>): how it stands, or that it is not supervised, that its status can't be
+/// read, or that this is no status record. It is looked at when its line comes, and the clock is read once for it.
+/// Answers the status: 0, whatever the lines say; 111 for a fault of the writer and for want of memory, and then the
+/// services after that one are not looked at.
+pub fn run_svstat<S: Services, A: Allocator + Clone, W: Write, E: Write, C: TimeSource>(
+    alloc: A,
+    services: &mut S,
+    words: &[&str],
+    writer: &mut Output<W>,
+    faults: &mut Output<E>,
+    clock: &mut C,
+) -> u8
+    ensures ends { SvstatEnds (map (λ word. word.now) words.now) result
+        (scene (S.calls services.old) (C.readings clock.old) writer.old)
+        (scene (S.calls services.new) (C.readings clock.new) writer.new) faults.old faults.new }
+{
+    match show_all(&alloc, services, words, writer, clock) {
+        Ok(()) => DONE,
+        Err(fault) => report(faults, fault_text(fault), TROUBLE),
+    }
+}

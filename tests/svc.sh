@@ -1,0 +1,226 @@
+#!/usr/bin/env bash
+# What no contract can say of svc, svstat and svok: that the machine's own sockets and files are what the program takes
+# them for. Runs the program that the first word names against real sockets, prints each check that fails, and ends with
+# how many did not. The wanted values are those of the daemontools pages and of docs/FORMATS.md. It needs python3, for
+# sockets to listen at.
+set -u
+program=$(realpath "$1")
+command -v python3 >/dev/null || { echo 'svc: python3 is missing'; exit 1; }
+room=$(mktemp -d)
+cd "$room" || exit 1
+umask 022
+checked=0
+failed=0
+listeners=()
+
+leave() {
+  for pid in "${listeners[@]}"; do kill "$pid" 2>/dev/null; done
+  rm -rf "$room"
+}
+trap leave EXIT
+
+# is NAME WANTED GOT
+is() {
+  checked=$((checked + 1))
+  [ "$2" = "$3" ] && return
+  failed=$((failed + 1))
+  printf 'FAILED %s\n  wanted %q\n  got    %q\n' "$1" "$2" "$3"
+}
+
+# ended NAME STATUS PRINTED TOLD COMMAND WORDS..
+ended() {
+  local name=$1 status=$2 printed=$3 told=$4
+  shift 4
+  timeout 5 "$program" "$@" >out 2>told </dev/null
+  is "$name: status" "$status" "$?"
+  is "$name: printed" "$printed" "$(cat out)"
+  is "$name: told" "$told" "$(cat told)"
+}
+
+# A listener in a folder: it binds sockets below supervise there, and writes what each connection brings as a line of the
+# file `heard`: folder, socket, a space, the bytes.
+cat >listener.py <<'END'
+import os, selectors, socket, sys
+heard = open(sys.argv[1], "ab", 0)
+os.chdir(sys.argv[2])
+choice = selectors.DefaultSelector()
+for name in sys.argv[3:]:
+    door = socket.socket(socket.AF_UNIX)
+    door.bind("supervise/" + name)
+    door.listen(16)
+    choice.register(door, selectors.EVENT_READ, name)
+open("supervise/ready", "w").close()
+while True:
+    for key, _ in choice.select():
+        guest, _ = key.fileobj.accept()
+        guest.settimeout(5)
+        bytes = b""
+        while piece := guest.recv(4096):
+            bytes += piece
+        heard.write(f"{sys.argv[2]}/{key.data} ".encode() + bytes + b"\n")
+END
+
+# listen FOLDER SOCKETS..: starts a listener, and waits until it listens.
+listen() {
+  local folder=$1
+  mkdir -p "$folder/supervise"
+  python3 listener.py heard "$@" &
+  listeners+=($!)
+  for _ in $(seq 100); do [ -e "$folder/supervise/ready" ] && return; sleep 0.02; done
+  echo "svc: nobody listens in $folder"
+  exit 1
+}
+
+# arrived NAME LINES..: what the listeners heard since, once so many lines are there. Those of two listeners may come in
+# any order.
+arrived() {
+  local name=$1
+  shift
+  for _ in $(seq 100); do [ "$(wc -l <heard)" -ge $# ] && break; sleep 0.02; done
+  is "$name" "$(printf '%s\n' "$@" | sort)" "$(sort heard)"
+  : >heard
+}
+
+# bytes DIGITS: the bytes of these hexadecimal digits
+bytes() {
+  printf "$(printf '%s' "$1" | sed 's/../\\x&/g')"
+}
+
+: >heard
+listen s control ok
+listen ./-x control ok
+mkdir -p dead/supervise none empty/supervise
+python3 -c 'import socket; s = socket.socket(socket.AF_UNIX); s.bind("dead/supervise/control")'
+python3 -c 'import socket; s = socket.socket(socket.AF_UNIX); s.bind("dead/supervise/ok")'
+long=$(printf 'n%.0s' $(seq 200))
+listen "$long" control ok
+
+# svc: which bytes arrive, in which order.
+ended 'one letter' 0 '' '' svc -d s
+arrived 'one letter' 's/control d'
+ended 'letters' 0 '' '' svc -du -t -- s
+arrived 'letters' 's/control dut'
+ended 'two services, one with a dash' 0 '' '' svc -du -t -- -x s
+arrived 'two services, one with a dash' './-x/control dut' 's/control dut'
+ended 'a letter twice' 0 '' '' svc -uu s
+arrived 'a letter twice' 's/control u'
+ended 'all letters' 0 '' '' svc -udopchaitkx s
+arrived 'all letters' 's/control udopchaitkx'
+ended 'a service twice' 0 '' '' svc -h s s
+arrived 'a service twice' 's/control h' 's/control h'
+ended 'no letter' 0 '' '' svc s nosuch
+ended 'a lone dash is a service' 0 '' 'svc: warning: unable to control -' svc -d - s
+arrived 'no letter, and a lone dash' 's/control d'
+
+# svc: a letter that is unknown, and nobody hears anything.
+ended 'an unknown letter' 100 '' 'svc: unknown letter 7a' svc -uz s
+ended 'the first unknown letter' 100 '' 'svc: unknown letter 2d' svc -d --zx s
+ended 'a letter beyond ASCII' 100 '' 'svc: unknown letter c3' svc -$'\xc3\xa9' s
+ended 'an unknown letter, no service' 100 '' 'svc: unknown letter 7a' svc -z
+ended 'words that are no text' 100 '' 'dtools: usage' svc $'\xff' s
+is 'refused: nothing was sent' '' "$(cat heard)"
+ended 'no words' 0 '' '' svc
+ended 'no service' 0 '' '' svc -d
+
+# svc: services that can't be reached are told, and the others are served.
+warning='svc: warning: unable to control'
+ended 'others are served' 0 '' "$warning nosuch
+$warning none
+$warning empty
+$warning dead
+$warning listener.py" svc -u nosuch s none empty dead listener.py -x
+arrived 'others are served' 's/control u' './-x/control u'
+ended 'a long path' 0 '' '' svc -t "$long"
+arrived 'a long path' "$long/control t"
+ended 'a longer path' 0 '' '' svc -t "$room/$long"
+arrived 'a longer path' "$long/control t"
+ended 'a path beyond all' 0 '' "$warning $(printf '/%.0s' $(seq 5000))" svc -t "$(printf '/%.0s' $(seq 5000))"
+ended 'a slash behind' 0 '' '' svc -t s/
+arrived 'a slash behind' 's/control t'
+
+# A socket whose queue is full: svc does not wait for ever.
+mkdir -p full/supervise
+python3 - <<'END' &
+import socket, time
+door = socket.socket(socket.AF_UNIX)
+door.bind("full/supervise/control")
+door.listen(0)
+first = socket.socket(socket.AF_UNIX)
+first.connect("full/supervise/control")
+open("full/supervise/ready", "w").close()
+time.sleep(20)
+END
+listeners+=($!)
+for _ in $(seq 100); do [ -e full/supervise/ready ] && break; sleep 0.02; done
+ended 'a full queue' 0 '' "$warning full" svc -t full
+
+# svok: silent.
+ended 'supervised' 0 '' '' svok s
+ended 'supervised: a long path' 0 '' '' svok "$room/$long"
+ended 'no such folder' 100 '' '' svok nosuch
+ended 'no socket' 100 '' '' svok empty
+ended 'a dead socket' 100 '' '' svok dead
+ended 'no folder' 100 '' '' svok
+ended 'two folders' 100 '' '' svok s s
+: >heard
+
+# svstat: records that are written here. The label is that of the first second of 2001, 978307200 of Unix; so the seconds
+# since are those of the clock.
+label=400000003a4fc88a00000000
+since=978307200
+stat() {
+  local name=$1 hex=$2 line=$3
+  bytes "$hex" >s/supervise/status
+  local before after
+  before=$(date +%s)
+  timeout 5 "$program" svstat s >out 2>told </dev/null
+  is "$name: status" 0 "$?"
+  after=$(date +%s)
+  is "$name: told" '' "$(cat told)"
+  local found=no second
+  for second in $(seq "$before" "$after"); do
+    [ "$(cat out)" = "${line/SECONDS_SINCE/$((second - since))}" ] && found=yes
+  done
+  is "$name: $(cat out)" yes "$found"
+}
+stat 'up' "${label}671200000075" 's: up (pid 4711) SECONDS_SINCE seconds'
+stat 'paused' "${label}671200000164" 's: up (pid 4711) SECONDS_SINCE seconds, paused, want down'
+stat 'down' "${label}000000000064" 's: down SECONDS_SINCE seconds, normally up'
+stat 'once' "${label}000000000000" 's: down SECONDS_SINCE seconds, normally up'
+stat 'want up' "${label}000000000075" 's: down SECONDS_SINCE seconds, normally up, want up'
+: >s/down
+stat 'up: down file' "${label}671200000075" 's: up (pid 4711) SECONDS_SINCE seconds, normally down'
+stat 'paused: down file' "${label}671200000164" \
+  's: up (pid 4711) SECONDS_SINCE seconds, normally down, paused, want down'
+stat 'down: down file' "${label}000000000064" 's: down SECONDS_SINCE seconds'
+rm s/down
+stat 'in the future' 7fffffffffffffff00000000671200000075 's: up (pid 4711) 0 seconds'
+for row in "Length|" "Length|${label}6712000000" "Length|${label}67120000007500" "Length|$(printf '41%.0s' $(seq 300))" \
+  "BadLabel|400000003a4fc88a3b9aca00671200000075" "PausedFlag|${label}671200000275" \
+  "PausedNoProcess|${label}000000000175" "WantByte|${label}671200000078"; do
+  IFS='|' read -r kind hex <<<"$row"
+  stat "a bad record: $kind" "$hex" "s: bad status record: $kind"
+done
+rm s/supervise/status
+ended 'no status' 0 's: unable to read status' '' svstat s
+mkfifo s/supervise/status
+ended 'a status that is a pipe' 0 's: unable to read status' '' svstat s
+rm s/supervise/status
+mkdir s/supervise/status
+ended 'a status that is a folder' 0 's: unable to read status' '' svstat s
+rmdir s/supervise/status
+ended 'not supervised' 0 'nosuch: supervise not running
+dead: supervise not running' '' svstat nosuch dead
+bytes "${label}671200000078" >"$long/supervise/status"
+ended 'in order' 0 "nosuch: supervise not running
+$long: bad status record: WantByte
+s: unable to read status
+nosuch: supervise not running" '' svstat nosuch "$long" s nosuch
+ended 'a word with a dash' 0 '-x: unable to read status' '' svstat -x
+ended 'svstat without words' 0 '' '' svstat
+timeout 5 "$program" svstat nosuch >/dev/full 2>told </dev/null
+is 'a full device: status' 111 "$?"
+is 'a full device: told' 'svstat: write fault' "$(cat told)"
+
+echo "svc: $checked checks, $failed failed"
+[ "$failed" = 0 ]
