@@ -1,3 +1,4 @@
+pub mod Paths
 pub mod Calls
 pub mod Turns
 pub mod Svc

@@ -50,8 +50,8 @@ pub record FindsBad (folder : List ℕ) (cause : RecordFault) (old new : Sight) 
   pub asked : Called old.calls new.calls (Asked folder true ∷ ReadStatus folder (Some bytes) ∷ [])
   pub unread : new.readings ≡ old.readings
 
--- The bytes that were read are the record of this status. The service is normally up where no file `down` was found, and
--- the clock was read once.
+-- The bytes that were read are the record of this status. The service is normally up where no file `down` was found,
+-- and the clock was read once.
 pub record FindsStatus (folder : List ℕ) (status : Status) (normally_up : Bool) (now : Tai64n) (old new : Sight)
     : Type 0 where
   pub bytes : List ℕ

@@ -1,4 +1,7 @@
 //! The machine's own folders of services.
+ghost use Rattle.std.specs.Prelude.{◌≡◌, ◌≤◌, ◌<◌, ◌+◌, ◌++◌, length, IfOk, OnErr};
+ghost use Rattle.cmd_svc.specs.Paths.{path_by_descriptor};
+
 use crate::services::{STATUS_FRONT, Services, StatusFront};
 use arrayvec::ArrayString;
 use cmd_base::push_number;
@@ -29,12 +32,28 @@ impl<R: Files<File = File> + Net + Drop> MachineServices<R> {
 }
 
 /// The path of something in a folder. One that is longer than any path of this machine is a fault.
-fn path_in(folder: &str, rest: &str) -> io::Result<ArrayString<PATH_BYTES>> {
+fn path_in(folder: &str, rest: &str) -> io::Result<ArrayString<PATH_BYTES>>
+    ensures ok { IfOk result (λ path. path.bytes ≡ folder.now ++ rest.now) }
+    ensures err { OnErr result (4096 < length folder.now + length rest.now) }
+{
     let mut path = ArrayString::new();
     if path.try_push_str(folder).is_err() || path.try_push_str(rest).is_err() {
         return Err(Error::from(ErrorKind::InvalidInput));
     }
     Ok(path)
+}
+
+/// The path of a name in the folder that is open under a descriptor.
+fn path_by_descriptor(descriptor: u32, name: &str) -> ArrayString<SOCKET_BYTES>
+    requires { length name.now ≤ 7 }
+    ensures { result.bytes ≡ path_by_descriptor descriptor name.now }
+{
+    let mut path = ArrayString::new();
+    path.push_str("/proc/self/fd/");
+    push_number(&mut path, u64::from(descriptor));
+    path.push_str("/");
+    path.push_str(name);
+    path
 }
 
 /// Connects to a socket of the service in a folder, without waiting. One whose path is too long for a socket is reached
@@ -43,19 +62,16 @@ fn connect<R: Files<File = File> + Net>(
     runtime: &R,
     folder: &str,
     name: &str,
-) -> io::Result<UnixStream> {
+) -> io::Result<UnixStream>
+    requires { length name.now ≤ 7 }
+{
     let mut path = path_in(folder, "/supervise/")?;
     if path.len() + name.len() <= SOCKET_BYTES {
         path.push_str(name);
         return UnixStream::connect(runtime, path.as_str());
     }
     let held = fs::open(runtime, path.as_str())?;
-    let mut short = ArrayString::<SOCKET_BYTES>::new();
-    short.push_str("/proc/self/fd/");
-    push_number(&mut short, u64::from(held.as_raw_fd().unsigned_abs()));
-    if short.try_push_str("/").is_err() || short.try_push_str(name).is_err() {
-        return Err(Error::from(ErrorKind::InvalidInput));
-    }
+    let short = path_by_descriptor(held.as_raw_fd().unsigned_abs(), name);
     UnixStream::connect(runtime, short.as_str())
 }
 

@@ -8,8 +8,8 @@ pub const STATUS_FRONT: usize = 19;
 /// The first bytes of a status file.
 pub type StatusFront = ArrayVec<u8, STATUS_FRONT>;
 
-/// The folders of services, as a client reaches them. Contracts see which calls were made and what came of them, where it
-/// keeps that.
+/// The folders of services, as a client reaches them. Contracts see which calls were made and what came of them, where
+/// it keeps that.
 pub trait Services {
     ghost use Rattle.std.specs.Prelude.{◌∷◌, [], Option, Some, None, List, is_ok, IfOk, OnErr};
     ghost use Rattle.cmd_svc.specs.Calls.{Call, Sent, Asked, ReadStatus, SoughtDown, Called};

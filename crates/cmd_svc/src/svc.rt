@@ -76,10 +76,11 @@ fn serve_all<S: Services, A: Allocator, E: Write>(
     }
 }
 
-/// The command `svc`: sends the letters of its option words, as control bytes, to each service that its other words name,
-/// in order (<https://cr.yp.to/daemontools/svc.html>). Each letter is sent once. A service that can't be reached is told
-/// as `svc: warning: unable to control DIR`, and the others are served. Answers the status: 0, also after such warnings;
-/// 100 for an unknown letter, and 111 for want of memory: then nothing is sent to anybody.
+/// The command `svc`: sends the letters of its option words, as control bytes, to each service that its other words
+/// name, in order (<https://cr.yp.to/daemontools/svc.html>). Each letter is sent once. A service that can't be reached
+/// is told as `svc: warning: unable to control DIR`, and the others are served. No letters, or no services: nothing is
+/// done. Answers the status: 0, also after such warnings; 100 for an unknown letter, and 111 for want of memory: then
+/// nothing is sent to anybody.
 pub fn run_svc<S: Services, A: Allocator + Clone, E: Write>(
     alloc: A,
     services: &mut S,

@@ -2,7 +2,8 @@
 ghost use Rattle.std.specs.Prelude.{◌≡◌, ◌∷◌, [], ◌++◌, map, string_bytes, OnOk, IfOk, IfErr};
 ghost use Rattle.tai_status.specs.Counted.{Wrote, Works};
 ghost use Rattle.cmd_svc.specs.Turns.{InTurn};
-ghost use Rattle.cmd_svc.specs.Svstat.{scene, look_line, Shows, ShowsNot, ShowsUpTo, SvstatEnds, WritesNot, svstat_told};
+ghost use Rattle.cmd_svc.specs.Svstat.{scene, look_line, Shows, ShowsNot, ShowsUpTo};
+ghost use Rattle.cmd_svc.specs.Svstat.{SvstatEnds, WritesNot, svstat_told};
 
 use crate::look::{Look, look_at, look_line};
 use crate::services::Services;
