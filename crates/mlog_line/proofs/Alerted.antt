@@ -155,3 +155,7 @@ padded_is f few =
 pub match_ok : {T E R : Type 0} (r : Result T E) (P : T → Type 0) (Q : E → Type 0) → ((x : T) → P x → R) → MatchResult r P Q → OnOk r R
 match_ok (Ok x) P Q f p = f x p
 match_ok (Err e) P Q f p = tt
+
+-- As many bytes as patterns see.
+pub front_taken : (f : List ℕ) (n : ℕ) → n ≡ min (length f) 1000 → take n f ≡ take 1000 f
+front_taken f n few = ap (λ (m : ℕ). take m f) (few ∙ min_swap (length f) 1000) ∙ take_min 1000 f

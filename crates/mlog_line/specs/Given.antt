@@ -1,5 +1,5 @@
 -- What lines give to the logs, the alerts and the status files of a script.
-use Rattle.std.specs.Prelude.{ℕ, ◌==◌, nat_le, if◌then◌else◌, List, [], ◌∷◌, ◌++◌, length, Bool}
+use Rattle.std.specs.Prelude.{ℕ, ◌==◌, nat_lt, nat_le, map, if◌then◌else◌, List, [], ◌∷◌, ◌++◌, length, Bool}
 use Rattle.std.specs.List.{flat_map}
 use Rattle.tai_status.specs.Label.{Tai64n}
 use Rattle.tai_status.specs.Lines.{Sent, sent}
@@ -74,3 +74,11 @@ of_chosen script label front = record {
   alerts = alerts_for (chosen script front).alerts front;
   files = λ file. if flag_at (chosen script front).files file then padded front ∷ [] else [];
 }
+
+-- a text put into each log below a number
+abbrev pub to_first : ℕ → List Sent → Given
+to_first count text = record { logs = λ log. if nat_lt log count then text else []; alerts = []; files = λ file. [] }
+
+-- the bytes of a text
+abbrev pub bytes_of : List Sent → List ℕ
+bytes_of text = map (λ s. s.byte) text

@@ -1,13 +1,15 @@
 //! Where a line is handed out.
-ghost use Rattle.std.specs.Prelude.{◌≡◌, ◌≤◌, ◌<◌, ◌++◌, ◌∷◌, [], ℕ, List, true, false, length, count_by, OnOk, IfOk, IfErr};
+ghost use Rattle.std.specs.Prelude.{◌≡◌, ◌≤◌, ◌<◌, ◌++◌, ◌∷◌, [], ℕ, List, true, false, length, take, count_by, OnOk, IfOk, IfErr};
+ghost use Rattle.std.specs.List.{list_all};
+ghost use Rattle.tai_status.specs.Lines.{Sent};
 ghost use Rattle.mlog_script.specs.Script.{is_log, is_file};
 ghost use Rattle.mlog_script.specs.Selection.{chosen, Fits};
-ghost use Rattle.mlog_line.specs.Given.{nothing, of_line, of_front, of_chosen, so_far, to_logs};
+ghost use Rattle.mlog_line.specs.Given.{nothing, of_line, of_front, of_chosen, so_far, to_logs, to_first, bytes_of};
 ghost use Rattle.mlog_line.specs.Outputs.{outputs, Takes, Stops, Grows, StopsAt};
-ghost use Rattle.mlog_line.specs.Desk.{AreOpened, IsAt, IsWritten, Serves, total_finished, total_removed};
+ghost use Rattle.mlog_line.specs.Desk.{AreOpened, IsAt, IsWritten, IsBare, HaveRoom, Serves, total_finished, total_removed};
 
 use crate::alerts::alert_chosen;
-use crate::logs::{flush_all, open_all, put_chosen};
+use crate::logs::{flush_all, open_all, put_all_within, put_chosen, room_in_all};
 use crate::statuses::replace_chosen;
 use mlog_files::{LogFault, LogStore, Tail};
 use mlog_script::{Choices, Script};
@@ -17,6 +19,13 @@ use tai_status::{Block, Label, text};
 
 /// How many bytes of a line patterns see.
 const FRONT: usize = 1000;
+
+/// Whether all flags are set.
+fn are_all_set(flags: &[bool]) -> bool
+    ensures { result ≡ list_all (λ flag. flag) flags.now }
+{
+    flags.iter().all(|is_set| *is_set)
+}
 
 /// Where the lines of an input are handed out to the logs, alerts and status files of a script.
 #[derive(Drop)]
@@ -236,6 +245,49 @@ impl<A: Allocator + Clone> Desk<A> {
     {
         self.decide(script, store, label)?;
         put_chosen(&mut self.tails, self.choices.logs(), store, label, b"\n")
+    }
+
+    /// How many bytes of whole lines [`Desk::put_for_all`] takes: none where lines are stamped, alerted or put into status
+    /// files, and else as many as can fill no file of a log, whatever they are, but at most a block.
+    pub fn room<B: Allocator + Clone>(&self, script: &Script<B>) -> usize
+        ensures bare { 0 < result → IsBare script.now }
+        ensures room { HaveRoom result self.now.tails }
+    {
+        if script.stamps() || script.alerts() > 0 || script.files() > 0 {
+            return 0;
+        }
+        room_in_all(&self.tails)
+    }
+
+    /// Whether a line, which is without its newline, is selected at all logs.
+    pub fn is_for_all<B: Allocator + Clone>(&mut self, script: &Script<B>, line: &[u8]) -> bool
+        requires { Fits self.old.chosen script.now }
+        ensures all { result ≡ list_all (λ flag. flag) (chosen script.now (take 1000 line.now)).logs }
+        ensures tails { self.new.tails ≡ self.old.tails }
+        ensures fits { Fits self.new.chosen script.now }
+    {
+        let len = line.len().min(FRONT);
+        self.choices.choose(script, &line[..len]);
+        are_all_set(self.choices.logs())
+    }
+
+    /// Puts whole lines that are selected at all logs into all logs, as they are. Up to a block of them may wait.
+    ///
+    /// After a fault the desk goes no further.
+    pub fn put_for_all<S: LogStore>(&mut self, store: &mut S, bytes: &[u8]) -> Result<(), LogFault>
+        requires room { HaveRoom (length bytes.now) self.old.tails }
+        requires logs { length self.old.tails ≤ S.logs store.old }
+        ensures takes { OnOk result ((text : List Sent) → bytes_of text ≡ bytes.now
+            → Takes (outputs self.old.tails (S.told store.old) (S.failures store.old))
+            (outputs self.new.tails (S.told store.new) (S.failures store.new)) (to_first (length self.old.tails) text)) }
+        ensures stopped { IfErr result (λ why. (text : List Sent) → bytes_of text ≡ bytes.now
+            → Stops (outputs self.old.tails (S.told store.old) (S.failures store.old))
+            (outputs self.new.tails (S.told store.new) (S.failures store.new))
+            (to_first (length self.old.tails) text) why) }
+        ensures same { (length self.new.tails ≡ length self.old.tails) × (self.new.chosen ≡ self.old.chosen) }
+        ensures counts { (S.logs store.new ≡ S.logs store.old) × (S.status_files store.new ≡ S.status_files store.old) }
+    {
+        put_all_within(&mut self.tails, store, bytes)
     }
 
     /// Appends what waits in memory.
