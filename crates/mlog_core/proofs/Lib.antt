@@ -1,5 +1,6 @@
 mod Parts
 mod Lines
 mod Going
+mod Alike
 mod Coming
 mod Telling

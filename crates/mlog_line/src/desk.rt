@@ -262,7 +262,8 @@ impl<A: Allocator + Clone> Desk<A> {
     /// Whether a line, which is without its newline, is selected at all logs.
     pub fn is_for_all<B: Allocator + Clone>(&mut self, script: &Script<B>, line: &[u8]) -> bool
         requires { Fits self.old.chosen script.now }
-        ensures all { result ≡ list_all (λ flag. flag) (chosen script.now (take 1000 line.now)).logs }
+        ensures chosen { self.new.chosen ≡ chosen script.now (take 1000 line.now) }
+        ensures all { result ≡ list_all (λ flag. flag) self.new.chosen.logs }
         ensures tails { self.new.tails ≡ self.old.tails }
         ensures fits { Fits self.new.chosen script.now }
     {
