@@ -3,4 +3,5 @@ mod Lines
 mod Going
 mod Alike
 mod Coming
+mod Counted
 mod Telling

@@ -1,7 +1,7 @@
 mod Places
 pub mod Doing
 pub mod Goings
-mod Counting
+pub mod Counting
 pub mod Putting
 mod Cutting
 mod Kept
