@@ -1,10 +1,10 @@
 -- Texts that go to all logs.
-use Rattle.std.proofs.Common.{◌≡◌, ◌≢◌, ℕ, zero, suc, ◌+◌, ◌-◌, ◌<◌, ◌≤◌, ◌==◌, nat_lt, if◌then◌else◌, min, Bool, true, false, List, [], ◌∷◌, ◌++◌, length, map, take, set, get_or, Option, Some, None, refl, sym, subst, ap, ◌∙◌, arith, append-nil, inl, inr}
+use Rattle.std.proofs.Common.{◌≡◌, ℕ, zero, suc, ◌+◌, ◌<◌, ◌≤◌, ◌==◌, nat_lt, if◌then◌else◌, Bool, true, false, List, [], ◌∷◌, ◌++◌, length, take, set, Option, Some, None, refl, sym, subst, ap, ◌∙◌, arith, append-nil, inl, inr}
 use Rattle.std.proofs.lemmas.Bool.{cases_lt}
-use Rattle.std.specs.Prelude.{slice_get, ⊤}
+use Rattle.std.specs.Prelude.{slice_get}
 use Rattle.tai_status.specs.Counted.{Rose}
 use Rattle.tai_status.specs.Lines.{Sent}
-use Rattle.mlog_files.specs.Files.{Files, Step, Append, append_steps, appends}
+use Rattle.mlog_files.specs.Files.{Step, Append, append_steps, appends}
 use Rattle.mlog_files.specs.Going.{Standing}
 use Rattle.mlog_files.specs.Store.{Told, Reaches, DoesFront, Goes}
 use Rattle.mlog_files.specs.Tails.{size_of, keep_of, waiting_in, standing, room_in, longer}

@@ -4,7 +4,7 @@ ghost use Rattle.std.specs.List.{list_all};
 ghost use Rattle.tai_status.specs.Lines.{Sent};
 ghost use Rattle.mlog_script.specs.Script.{is_log, is_file};
 ghost use Rattle.mlog_script.specs.Selection.{chosen, Fits};
-ghost use Rattle.mlog_line.specs.Given.{nothing, of_line, of_front, of_chosen, so_far, to_logs, to_first, bytes_of};
+ghost use Rattle.mlog_line.specs.Given.{nothing, of_line, of_put, so_far, to_logs, to_first, bytes_of};
 ghost use Rattle.mlog_line.specs.Outputs.{outputs, Takes, Stops, Grows, StopsAt};
 ghost use Rattle.mlog_line.specs.Desk.{AreOpened, IsAt, IsWritten, IsBare, HaveRoom, Serves, total_finished, total_removed};
 
@@ -152,7 +152,7 @@ impl<A: Allocator + Clone> Desk<A> {
             return Ok(());
         }
         self.held.push(&bytes[..room]);
-        self.decide(script, store, label)?;
+        self.decide(script, store, label, b"")?;
         put_chosen(
             &mut self.tails,
             self.choices.logs(),
@@ -162,22 +162,25 @@ impl<A: Allocator + Clone> Desk<A> {
         )
     }
 
-    // Decides where the line with the held front is selected: it is alerted, put into status files and into logs.
+    // Decides where the line with the held front is selected: it is alerted, put into status files and, with what its end
+    // is, into logs.
     fn decide<B: Allocator + Clone, S: LogStore>(
         &mut self,
         script: &Script<B>,
         store: &mut S,
         label: &Label,
+        end: &[u8],
     ) -> Result<(), LogFault>
         requires serves { Serves script.now self.old (S.logs store.old) (S.status_files store.old) }
+        requires end { length end.now ≤ 1 }
         ensures decided { OnOk result (self.new.decided ≡ true) }
         ensures chosen { self.new.chosen ≡ chosen script.now self.old.front }
         ensures takes { OnOk result (Takes (outputs self.old.tails (S.told store.old) (S.failures store.old))
             (outputs self.new.tails (S.told store.new) (S.failures store.new))
-            (of_chosen script.now label.now self.old.front)) }
+            (of_put script.now label.now self.old.front (self.old.front ++ end.now))) }
         ensures stopped { IfErr result (Stops (outputs self.old.tails (S.told store.old) (S.failures store.old))
             (outputs self.new.tails (S.told store.new) (S.failures store.new))
-            (of_chosen script.now label.now self.old.front)) }
+            (of_put script.now label.now self.old.front (self.old.front ++ end.now))) }
         ensures serves { Serves script.now self.new (S.logs store.new) (S.status_files store.new) }
         ensures counts { (S.logs store.new ≡ S.logs store.old) × (S.status_files store.new ≡ S.status_files store.old) }
     {
@@ -192,7 +195,11 @@ impl<A: Allocator + Clone> Desk<A> {
             Ok(()) => {}
             Err(_) => return Err(LogFault::Store),
         }
-        put_chosen(&mut self.tails, self.choices.logs(), store, label, front)
+        self.held.push(end);
+        let text = self.held.as_slice();
+        let put = put_chosen(&mut self.tails, self.choices.logs(), store, label, text);
+        self.held.clear();
+        put
     }
 
     /// Ends the line. It gets its newline in the logs at which it is selected.
@@ -243,8 +250,7 @@ impl<A: Allocator + Clone> Desk<A> {
         ensures serves { Serves script.now self.new (S.logs store.new) (S.status_files store.new) }
         ensures counts { (S.logs store.new ≡ S.logs store.old) × (S.status_files store.new ≡ S.status_files store.old) }
     {
-        self.decide(script, store, label)?;
-        put_chosen(&mut self.tails, self.choices.logs(), store, label, b"\n")
+        self.decide(script, store, label, b"\n")
     }
 
     /// How many bytes of whole lines [`Desk::put_for_all`] takes: none where lines are stamped, alerted or put into status

@@ -1,4 +1,4 @@
-use Rattle.std.proofs.Common.{ap, ◌∙◌, Bool}
+use Rattle.std.proofs.Common.{ap, ◌∙◌}
 use Rattle.mlog_script.specs.Selection.{chosen}
 use Rattle.mlog_line.proofs.Alerted.{front_taken}
 use Rattle.mlog_line.proofs.desk.Desk.is_for_all.Goals as goal
