@@ -1,5 +1,5 @@
 -- Lines that go to all logs alone.
-use Rattle.std.proofs.Common.{◌≡◌, ℕ, zero, suc, ◌+◌, ◌-◌, ◌<◌, ◌≤◌, nat_lt, if◌then◌else◌, Bool, true, false, List, [], ◌∷◌, ◌++◌, length, map, take, drop, count_by, Option, Some, None, refl, sym, subst, ap, ◌∙◌, arith, append-nil, length-append}
+use Rattle.std.proofs.Common.{◌≡◌, ℕ, zero, suc, ◌+◌, ◌-◌, ◌<◌, ◌≤◌, nat_lt, if◌then◌else◌, Bool, true, false, List, [], ◌∷◌, ◌++◌, length, take, drop, count_by, Option, None, refl, sym, subst, ap, ◌∙◌, arith, append-nil, length-append}
 use Rattle.std.specs.Prelude.{Result, Ok, Err, IfOk}
 use Rattle.std.specs.List.{list_all}
 use Rattle.std.proofs.lemmas.List.{map-append, take_rest, take-append-drop, length-take}
@@ -9,8 +9,8 @@ use Rattle.tai_status.specs.Lines.{texts_of, Sent, sent, Gave}
 use Rattle.tai_status.specs.LineReader.{IsPlain}
 use Rattle.tai_status.proofs.Stamped.{Gave-then, Gave-none}
 use Rattle.tai_status.proofs.Texts.{texts_of-line}
-use Rattle.mlog_script.specs.Script.{Act, is_alert, is_log, is_file}
-use Rattle.mlog_script.specs.Selection.{Chosen, Fits, stamps, shown, chosen, chosen_line, flag_at, to_log, to_alerts, to_file, alert, padded, is_whole}
+use Rattle.mlog_script.specs.Script.{Act, is_log}
+use Rattle.mlog_script.specs.Selection.{Chosen, Fits, stamps, shown, chosen, chosen_line, flag_at, alert, padded}
 use Rattle.mlog_script.proofs.Texts.{texts-append}
 use Rattle.mlog_files.specs.Store.{Told}
 use Rattle.mlog_files.specs.declared.tail.LogFault.{LogFault}
@@ -18,7 +18,7 @@ use Rattle.mlog_line.specs.Desk.{Place, IsBare}
 use Rattle.mlog_line.specs.Given.{Given, nothing, joined, of_line, of_text, to_first, bytes_of}
 use Rattle.mlog_line.specs.Outputs.{outputs, Takes, Stops, SameGiven, StopsAt}
 use Rattle.mlog_line.proofs.Taking.{Takes-same, Stops-same}
-use Rattle.mlog_line.proofs.Growing.{Same-then, Same-sym, Same-joined, Same-behind, StopsAt-more}
+use Rattle.mlog_line.proofs.Growing.{Same-then, Same-joined, Same-behind, StopsAt-more}
 use Rattle.mlog_core.specs.Scene.{Scene, scene, IsIn, Went, WentUpTo, AreAlike}
 use Rattle.mlog_core.proofs.Going.{Went-then, WentUpTo-then}
 use Rattle.mlog_core.proofs.Lines.{whole_end, whole_both, cut_one, first_line, text_turn}

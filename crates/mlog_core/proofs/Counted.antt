@@ -1,15 +1,15 @@
 -- The counts of all logs.
-use Rattle.std.proofs.Common.{◌≡◌, ℕ, zero, suc, ◌+◌, ◌-◌, ◌^◌, ◌<◌, ◌≤◌, min, count_by, fold, List, [], ◌∷◌, length, Option, Some, None, refl, sym, subst, ap, ◌∙◌, arith}
-use Rattle.std.specs.Prelude.{slice_get, IfSome, ⊤}
+use Rattle.std.proofs.Common.{◌≡◌, ℕ, suc, ◌+◌, ◌-◌, ◌^◌, ◌<◌, min, count_by, fold, List, [], ◌∷◌, length, Option, Some, None, subst, ap, ◌∙◌, arith}
+use Rattle.std.specs.Prelude.{slice_get, IfSome}
 use Rattle.tai_status.specs.Label.{Tai64n}
 use Rattle.tai_status.specs.Lines.{Sent}
 use Rattle.mlog_script.specs.Script.{Act, Plan, log_plans}
 use Rattle.mlog_script.specs.Selection.{log_text}
-use Rattle.mlog_files.specs.Files.{Step, is_finish, is_remove}
+use Rattle.mlog_files.specs.Files.{is_finish, is_remove}
 use Rattle.mlog_files.specs.Going.{Standing}
 use Rattle.mlog_files.specs.Laws.{CountsSteps}
 use Rattle.mlog_files.proofs.Counting.{text_counts}
-use Rattle.mlog_core.specs.Run.{planned_steps, log_steps, IsEnd, all_finished, all_removed}
+use Rattle.mlog_core.specs.Run.{planned_steps, log_steps, IsEnd}
 use Rattle.mlog_core.specs.Laws.{total_below, CountsAllSteps}
 
 -- Each of some standings has a count.

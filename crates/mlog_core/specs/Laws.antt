@@ -3,7 +3,7 @@ use Rattle.std.specs.Prelude.{◌≡◌, ℕ, zero, suc, ◌+◌, ◌-◌, ◌^�
 use Rattle.tai_status.specs.Label.{Tai64n}
 use Rattle.mlog_script.specs.Script.{Act, log_plans}
 use Rattle.mlog_script.specs.Selection.{log_text}
-use Rattle.mlog_files.specs.Files.{Step, is_finish, is_remove}
+use Rattle.mlog_files.specs.Files.{is_finish, is_remove}
 use Rattle.mlog_files.specs.Going.{Standing}
 use Rattle.mlog_core.specs.Run.{log_steps, IsEnd, all_finished, all_removed}
 

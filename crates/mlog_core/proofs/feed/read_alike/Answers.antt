@@ -1,4 +1,4 @@
-use Rattle.std.proofs.Common.{sym, ◌∙◌, arith, refl, length, drop, take, ◌-◌}
+use Rattle.std.proofs.Common.{sym, ◌∙◌, arith, refl}
 use Rattle.std.proofs.lemmas.Grind.{common_steps}
 use Rattle.mlog_core.proofs.Alike.{alike_none, alike_further}
 use Rattle.mlog_core.proofs.Lines.{not_false}
