@@ -1,10 +1,10 @@
 -- The counts of a log's finishes and removals.
-use Rattle.std.proofs.Common.{◌≡◌, ℕ, ◌+◌, ◌-◌, ◌^◌, ◌<◌, ◌≤◌, ◌==◌, nat_le, if◌then◌else◌, min, cond, count_by, Bool, true, false, List, [], ◌∷◌, ◌++◌, length, Option, Some, None, refl, sym, subst, ap, ◌∙◌, arith, append_assoc}
+use Rattle.std.proofs.Common.{◌≡◌, ℕ, ◌+◌, ◌^◌, ◌<◌, ◌==◌, nat_le, if◌then◌else◌, cond, count_by, Bool, true, false, List, [], ◌∷◌, ◌++◌, Option, Some, None, refl, sym, subst, ap, ◌∙◌, arith, append_assoc}
 use Rattle.std.proofs.lemmas.List.Sums.{sum_by-append}
 use Rattle.tai_status.specs.Label.{Tai64n}
 use Rattle.tai_status.specs.Lines.{Sent}
 use Rattle.mlog_files.specs.Cut.{fills}
-use Rattle.mlog_files.specs.Files.{Step, Append, Finish, Remove, is_finish, is_remove}
+use Rattle.mlog_files.specs.Files.{Step, Append, is_finish, is_remove}
 use Rattle.mlog_files.specs.Steps.{Marks, label_given, finish_steps, marks_after}
 use Rattle.mlog_files.specs.Going.{Standing, begun, finish_under, stands_under, finish_at, finished_at, byte_steps, after_byte, first_steps, ready, steps_on, standing_on}
 use Rattle.mlog_files.specs.Laws.{CountsSteps}

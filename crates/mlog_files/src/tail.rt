@@ -330,7 +330,9 @@ impl Tail {
     pub fn room(&self) -> usize
         ensures { result ≡ room_in self.now }
     {
-        (self.size - SLACK).saturating_sub(self.count).saturating_sub(1)
+        (self.size - SLACK)
+            .saturating_sub(self.count)
+            .saturating_sub(1)
     }
 
     /// Puts bytes that can't fill a file behind the log's text, of whatever lines they are. They may wait as those of
