@@ -271,6 +271,7 @@ impl<A: Allocator + Clone> Desk<A> {
         ensures chosen { self.new.chosen ≡ chosen script.now (take 1000 line.now) }
         ensures all { result ≡ list_all (λ flag. flag) self.new.chosen.logs }
         ensures tails { self.new.tails ≡ self.old.tails }
+        ensures same { (self.new.front ≡ self.old.front) × (self.new.decided ≡ self.old.decided) }
         ensures fits { Fits self.new.chosen script.now }
     {
         let len = line.len().min(FRONT);
@@ -291,7 +292,8 @@ impl<A: Allocator + Clone> Desk<A> {
             → Stops (outputs self.old.tails (S.told store.old) (S.failures store.old))
             (outputs self.new.tails (S.told store.new) (S.failures store.new))
             (to_first (length self.old.tails) text) why) }
-        ensures same { (length self.new.tails ≡ length self.old.tails) × (self.new.chosen ≡ self.old.chosen) }
+        ensures same { (length self.new.tails ≡ length self.old.tails) × (self.new.chosen ≡ self.old.chosen)
+            × (self.new.front ≡ self.old.front) × (self.new.decided ≡ self.old.decided) }
         ensures counts { (S.logs store.new ≡ S.logs store.old) × (S.status_files store.new ≡ S.status_files store.old) }
     {
         put_all_within(&mut self.tails, store, bytes)
