@@ -211,6 +211,9 @@ fn feed_lines<A: Allocator + Clone, B: Allocator + Clone, S: LogStore, C: TimeSo
     ensures counts { (S.logs store.new ≡ S.logs store.old) × (S.status_files store.new ≡ S.status_files store.old) }
     ensures begun { IfOk result (λ fed. fed.begun ≤ fed.len) }
 {
+    if desk.room(script) == 0 {
+        return feed_part(desk, script, store, clock, None, bytes);
+    }
     let lines = feed_alike(desk, script, store, clock, bytes)?;
     if lines.len == 0 {
         return feed_part(desk, script, store, clock, None, bytes);
