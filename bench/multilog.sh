@@ -1,6 +1,6 @@
 #!/usr/bin/env bash
 # Feeds 100 MB to `dtools multilog` over folders on a tmpfs, on one core, and prints MB a second and the peak memory, with
-# `cat > file` beside it. The program is built first: make build.
+# `cat > file` beside it. Each line is 98 `a`, a `b` and a newline, so that a pattern `*b` reads it whole. The program is built first: make build.
 set -euo pipefail
 cd "$(dirname "$0")/.."
 program=${1:-$PWD/crates/dtools/out/dtools}
@@ -8,7 +8,7 @@ program=${1:-$PWD/crates/dtools/out/dtools}
 folder=$(mktemp -d -p /dev/shm)
 trap 'rm -rf "$folder"' EXIT
 megabytes=100
-yes "$(head -c 99 /dev/zero | tr '\0' a)" | head -c "${megabytes}000000" > "$folder/lines" || true
+yes "$(head -c 98 /dev/zero | tr '\0' a)b" | head -c "${megabytes}000000" > "$folder/lines" || true
 head -c "${megabytes}000000" /dev/zero | tr '\0' a > "$folder/line"
 core() { if command -v taskset >/dev/null; then taskset -c 0 "$@"; else "$@"; fi; }
 
@@ -41,7 +41,7 @@ rm copy
 measure "./log" lines ./log
 measure "t ./log" lines t ./log
 measure "8 patterns, none matches" lines '-*b1' '-*b2' '-*b3' '-*b4' '-*b5' '-*b6' '-*b7' '-*b8' ./log
-measure "8 patterns, one matches" lines '-*' '+*b2' '+*b3' '+*b4' '+*b5' '+*b6' '+*b7' '+*a' ./log
-measure "8 patterns, all match" lines '-*a' '+*a' '-*a' '+*a' '-*a' '+*a' '-*a' '+*a' ./log
+measure "8 patterns, one matches" lines '-*' '+*b2' '+*b3' '+*b4' '+*b5' '+*b6' '+*b7' '+*b' ./log
+measure "8 patterns, all match" lines '-*b' '+*b' '-*b' '+*b' '-*b' '+*b' '-*b' '+*b' ./log
 measure "1,000 old files" lines t s4096 n1000 ./log
 measure "one line" line ./log

@@ -1,11 +1,12 @@
 use crate::faulty::{Call, Faulty};
+use bumpalo::Bump;
 use mlog_core::{Counts, RunFault, run};
 use mlog_files::{LogFiles, MemoryStore, StatusFile};
 use mlog_script::Script;
 use std::alloc::Global;
 use std::test::Fail;
 use tai_status::{Counted, Label, TimeSource};
-use test_base::Slow;
+use test_base::{Slow, leave};
 
 /// A clock that stands.
 #[derive(Drop)]
@@ -224,5 +225,58 @@ fn stands_at_a_front_where_the_store_fails(rt: HostRuntime) -> Result<(), Fail> 
     let alert = run_faulty(rt.alloc(), &alerts, b"x\n", 3, Call::Alert)?;
     assert_eq!(rt; alert.answer.err(), Some(RunFault::Store));
     assert!(rt; alert.alerts.is_empty());
+    Ok(())
+}
+
+/// Runs a script of an alert, a log and a status file over a line, where so many bytes of memory are left.
+fn run_within(alloc: Global, left: usize) -> Result<(Result<Counts, RunFault>, u64), Fail> {
+    let words: [&[u8]; 3] = [b"e", b"=st", b"./log"];
+    let Ok(script) = Script::read(alloc, &words) else {
+        return Err("a script")?;
+    };
+    if script.logs() > 1 || script.files() > 1 {
+        return Err("one log and one status file")?;
+    }
+    let mut logs = Vec::new(alloc);
+    logs.push(LogFiles {
+        current: Vec::new(alloc),
+        olds: Vec::new(alloc),
+    })?;
+    let mut statuses = Vec::new(alloc);
+    statuses.push(StatusFile {
+        bytes: Vec::new(alloc),
+    })?;
+    let mut store = MemoryStore::new(alloc, logs, statuses);
+    let mut clock = Still {
+        label: Label::from_unix(0, 0).ok_or("a label")?,
+    };
+    let mut reader = Counted::new(Slow::ending(b"x\n", 7));
+    let bump = Bump::try_with_capacity(alloc, 65_536)?;
+    leave(&bump, left)?;
+    let answer = run(&bump, &script, &mut reader, &mut store, &mut clock);
+    Ok((answer, reader.reads()))
+}
+
+/// The memory of a run is a block and some marks for the log, and a byte each for the alert, the log and the status file.
+#[test]
+fn reads_nothing_where_memory_is_short(rt: HostRuntime) -> Result<(), Fail> {
+    let mut refused = 0_u32;
+    for left in 32_768..33_024 {
+        match run_within(rt.alloc(), left)? {
+            (Ok(counts), reads) => {
+                assert_eq!(rt; counts.lines, 1);
+                assert!(rt; reads > 0);
+                break;
+            }
+            (Err(why), reads) => {
+                assert_eq!(rt; why, RunFault::OutOfMemory);
+                assert_eq!(rt; reads, 0);
+                refused = refused.saturating_add(1);
+            }
+        }
+    }
+    // The block does not fit without its marks; then one byte, two and three are wanting.
+    assert!(rt; refused > 3);
+    assert!(rt; refused < 256);
     Ok(())
 }

@@ -1,3 +1,4 @@
 pub mod Scene
 pub mod Run
 pub mod Story
+pub mod Laws

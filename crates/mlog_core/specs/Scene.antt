@@ -1,15 +1,15 @@
 -- How far a run has come. No public contract speaks of it.
-use Rattle.std.specs.Prelude.{◌≡◌, ℕ, ◌<◌, Bool, true, false, List, [], ◌∷◌, ◌++◌, length, Option, Some, None}
+use Rattle.std.specs.Prelude.{◌≡◌, ℕ, ◌<◌, Bool, true, false, List, [], ◌∷◌, ◌++◌, length, count_by, Option, Some, None}
 use Rattle.tai_status.specs.Label.{Tai64n}
-use Rattle.tai_status.specs.Lines.{texts_of, Gave}
+use Rattle.tai_status.specs.Lines.{texts_of, Sent, Gave}
 use Rattle.tai_status.specs.LineReader.{IsPlain}
-use Rattle.mlog_script.specs.Script.{Act}
+use Rattle.mlog_script.specs.Script.{Act, is_log}
 use Rattle.mlog_script.specs.Selection.{is_whole}
 use Rattle.mlog_files.specs.Store.{Told}
 use Rattle.mlog_files.specs.declared.tail.LogFault.{LogFault}
 use Rattle.mlog_line.specs.Desk.{Place, IsAt}
-use Rattle.mlog_line.specs.Given.{Given, nothing, joined, of_line, of_text, so_far}
-use Rattle.mlog_line.specs.Outputs.{Outputs, outputs, Grows, StopsAt}
+use Rattle.mlog_line.specs.Given.{Given, nothing, joined, of_line, of_text, so_far, to_first, bytes_of}
+use Rattle.mlog_line.specs.Outputs.{Outputs, outputs, SameGiven, Grows, StopsAt}
 
 -- The label of the line that has begun, where one has; the desk; the store; and what the clock gave.
 pub record Scene : Type 0 where
@@ -88,3 +88,14 @@ pub record LineEnded (script : List Act) (old new : Outputs) (label : Tai64n) (l
 abbrev pub left_of : Tai64n → Bool → Option Tai64n
 left_of label true = None
 left_of label false = Some label
+
+-- Whole lines that go to all logs alone, as they are, with a reading of the clock for each.
+pub record AreAlike (script : List Act) (old new : Option (List Tai64n)) (bytes : List ℕ) (count : ℕ) : Type 0 where
+  pub labels : List Tai64n
+  pub gave : Gave old new labels
+  pub count_is : count ≡ length labels
+  pub lines : is_whole bytes ≡ true
+  pub each : length labels ≡ length (texts_of bytes)
+  pub text : List Sent
+  pub bytes_are : bytes_of text ≡ bytes
+  pub same : SameGiven (to_first (count_by is_log script) text) (of_text script labels bytes)

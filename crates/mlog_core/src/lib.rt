@@ -6,7 +6,9 @@
 #![tactic(auto)]
 
 mod feed;
+mod laws;
 mod part;
 mod stream;
 
+pub use laws::counts_of_a_run;
 pub use stream::{Counts, RunFault, run};

@@ -6,8 +6,9 @@ use Rattle.std.proofs.Math.Seq.{take-add}
 use Rattle.tai_status.specs.Label.{Tai64n}
 use Rattle.tai_status.specs.Lines.{Sent, sent}
 use Rattle.mlog_files.specs.Cut.{fills}
-use Rattle.mlog_files.specs.Files.{Step, Append, append_steps}
+use Rattle.mlog_files.specs.Files.{Step, Append, append_steps, appends}
 use Rattle.mlog_files.specs.Steps.{Marks, label_given}
+use Rattle.mlog_files.specs.Tails.{longer}
 use Rattle.mlog_files.specs.Going.{Standing, begun, stands_under, finish_at, finished_at, byte_steps, after_byte, first_steps, ready, steps_on, standing_on}
 
 pub steps_on-none : (size keep : ℕ) (log : Option Standing) → steps_on size keep log [] ≡ []
@@ -211,3 +212,33 @@ pub sent-rest : (reading : Tai64n) (bytes : List ℕ) (at : ℕ)
 sent-rest reading bytes at =
     ap (sent reading) (sym (take-append-drop at bytes) ∙ ap (λ (t : List ℕ). take at bytes ++ t) (sym (take_rest bytes at)))
     ∙ sent-append reading (take at bytes) (take (length bytes - at) (drop at bytes))
+
+-- A text that can't fill the current file, whatever its bytes are.
+not_full : (size count : ℕ) (ends : Bool) → count < size - 2000 → fills size count ends ≡ false
+not_full size count ends room =
+    let a : nat_le size count ≡ false = grind (arith, room) in
+    let b : nat_le (size - 2000) count ≡ false = grind (arith, room) in
+    rw (a, b) refl
+
+pub text_within : (size keep : ℕ) (log : Standing) (text : List Sent) → log.count + length text < size - 2000
+    → (steps_on size keep (Some log) text ≡ appends text)
+    × (standing_on size keep (Some log) text ≡ Some (longer log (length text)))
+text_within size keep log [] room =
+    let same : log.count ≡ log.count + 0 = omega arith in
+    (refl, ap (λ (n : ℕ). Some (record { count = n; marks = log.marks })) same)
+text_within size keep log (s ∷ text) room =
+    let now : Standing = record { count = log.count + 1; marks = log.marks } in
+    let one = byte_open size keep log s text (omega (arith, room)) (not_full size (log.count + 1) (s.byte == 10) (omega (arith, room))) in
+    let later = text_within size keep now text (omega (arith, room)) in
+    let sum : log.count + 1 + length text ≡ log.count + suc (length text) = omega arith in (
+      one.0 ∙ ap (λ (t : List Step). Append s.byte ∷ t) later.0,
+      one.1 ∙ later.1 ∙ ap (λ (n : ℕ). Some (record { count = n; marks = log.marks })) sum,
+    )
+
+pub text_in_room : (size keep : ℕ) (log : Standing) (text : List Sent) → length text ≤ size - 2000 - log.count - 1
+    → (steps_on size keep (Some log) text ≡ appends text)
+    × (standing_on size keep (Some log) text ≡ Some (longer log (length text)))
+text_in_room size keep log [] room =
+    let same : log.count ≡ log.count + 0 = omega arith in
+    (refl, ap (λ (n : ℕ). Some (record { count = n; marks = log.marks })) same)
+text_in_room size keep log (s ∷ text) room = text_within size keep log (s ∷ text) (omega (arith, room))

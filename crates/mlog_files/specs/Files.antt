@@ -1,5 +1,5 @@
 -- The files of a log, and what is done to them.
-use Rattle.std.specs.Prelude.{ℕ, if◌then◌else◌, List, [], ◌∷◌, ◌++◌, map, drop, codes}
+use Rattle.std.specs.Prelude.{ℕ, Bool, true, false, if◌then◌else◌, List, [], ◌∷◌, ◌++◌, map, drop, codes}
 use Rattle.std.specs.Cmp.Lexicographic.{slice_cmp}
 use Rattle.std.specs.Ordering.{is_lt, nat_cmp}
 use Rattle.tai_status.specs.Label.{Tai64n, label_text}
@@ -21,6 +21,16 @@ pub data Step : Type 0 where
   Append : ℕ → Step
   Finish : Tai64n → Step
   Remove : Step
+
+abbrev pub is_finish : Step → Bool
+is_finish (Append byte) = false
+is_finish (Finish label) = true
+is_finish Remove = false
+
+abbrev pub is_remove : Step → Bool
+is_remove (Append byte) = false
+is_remove (Finish label) = false
+is_remove Remove = true
 
 -- the name of the old file of a label: its text, and `.s`
 abbrev pub old_name : Tai64n → List ℕ

@@ -1,8 +1,9 @@
 -- What is true of how texts go on.
-use Rattle.std.specs.Prelude.{◌≡◌, ℕ, ◌<◌, ◌≤◌, List, ◌∷◌, ◌++◌, Option, Some}
+use Rattle.std.specs.Prelude.{◌≡◌, ℕ, ◌+◌, ◌-◌, ◌^◌, ◌<◌, ◌≤◌, min, count_by, List, ◌∷◌, ◌++◌, Option, Some}
 use Rattle.tai_status.specs.Lines.{Sent}
 use Rattle.mlog_files.specs.Cut.{IsCut}
-use Rattle.mlog_files.specs.Steps.{steps_of}
+use Rattle.mlog_files.specs.Files.{Step, is_finish, is_remove}
+use Rattle.mlog_files.specs.Steps.{Marks, steps_of}
 use Rattle.mlog_files.specs.Going.{Standing, finish_at, finished_at, steps_on, standing_on}
 
 -- a cut of a text
@@ -34,3 +35,14 @@ GoesInTurn = (size keep : ℕ) (log : Option Standing) (xs ys : List Sent)
     → (steps_on size keep log (xs ++ ys)
     ≡ steps_on size keep log xs ++ steps_on size keep (standing_on size keep log xs) ys)
     × (standing_on size keep log (xs ++ ys) ≡ standing_on size keep (standing_on size keep log xs) ys)
+
+-- The marks count the finishes and the removals among some steps, up to where a count stops.
+pub record CountsSteps (old new : Marks) (steps : List Step) : Type 0 where
+  pub finished : new.finished ≡ min (2 ^ 64 - 1) (old.finished + count_by is_finish steps)
+  pub removed : new.removed ≡ min (2 ^ 64 - 1) (old.removed + count_by is_remove steps)
+
+-- Where a log stands after a text, its marks count the steps of the text.
+abbrev pub CountsItsSteps : Type 0
+CountsItsSteps = (size keep : ℕ) (log end : Standing) (text : List Sent) → log.marks.finished < 2 ^ 64 → log.marks.removed < 2 ^ 64
+    → standing_on size keep (Some log) text ≡ Some end
+    → CountsSteps log.marks end.marks (steps_on size keep (Some log) text)

@@ -1,5 +1,5 @@
 -- Where a log's end stands.
-use Rattle.std.specs.Prelude.{ℕ, List, length, Option, Some}
+use Rattle.std.specs.Prelude.{ℕ, ◌+◌, ◌-◌, List, length, Option, Some}
 use Rattle.tai_status.specs.Label.{Tai64n}
 use Rattle.tai_status.specs.Lines.{sent}
 use Rattle.mlog_files.specs.Files.{Files, Step}
@@ -47,3 +47,11 @@ steps_at tail reading bytes = steps_on tail.size tail.keep (Some (standing tail)
 -- where the log stands after them; nowhere where there was no label for an old file
 abbrev pub after_at : Tail → Tai64n → List ℕ → Option Standing
 after_at tail reading bytes = standing_on tail.size tail.keep (Some (standing tail)) (sent reading bytes)
+
+-- how many bytes can come, whatever they are, before the current file can be full
+abbrev pub room_in : Tail → ℕ
+room_in tail = tail.size - 2000 - tail.count - 1
+
+-- where a log stands whose current file has so many bytes more
+abbrev pub longer : Standing → ℕ → Standing
+longer log more = record { count = log.count + more; marks = log.marks }

@@ -5,7 +5,7 @@ ghost use Rattle.memchr.specs.Find.{IsFirst, Passes, is_byte};
 use memchr::memchr;
 
 /// How far below its size a file is full that ends in a newline.
-const SLACK: usize = 2000;
+pub const SLACK: usize = 2000;
 
 /// How many bytes still go into a file, and whether it is full with them.
 #[derive(Clone, Copy, Debug)]

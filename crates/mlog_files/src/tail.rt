@@ -5,7 +5,7 @@ ghost use Rattle.mlog_files.specs.Files.{append_steps};
 ghost use Rattle.mlog_files.specs.Steps.{label_given};
 ghost use Rattle.mlog_files.specs.Store.{Does, DoesFront, Goes};
 
-use crate::cut::first_cut;
+use crate::cut::{SLACK, first_cut};
 use crate::store::{LogStore, StoreFault, append_all};
 use tai_status::{BLOCK, Block, Label};
 use thiserror::Error;
@@ -112,7 +112,7 @@ impl Tail {
     ghost use Rattle.mlog_files.specs.Going.{begun, finish_at, finished_at};
     ghost use Rattle.mlog_files.specs.Store.{Does, DoesFront, Goes};
     ghost use Rattle.mlog_files.specs.Tails.{size_of, keep_of, waiting_in, marks_at, standing, found};
-    ghost use Rattle.mlog_files.specs.Tails.{steps_at, after_at};
+    ghost use Rattle.mlog_files.specs.Tails.{steps_at, after_at, room_in, longer};
     ghost use Rattle.mlog_files.specs.declared.tail.LogFault.TheVariants as fault;
 
     /// The end of a log as the store holds it.
@@ -324,6 +324,45 @@ impl Tail {
             at += self.put_part(store, log, reading, &bytes[at..])?;
         }
         Ok(())
+    }
+
+    /// How many bytes can come, whatever they are, before the current file can be full.
+    pub fn room(&self) -> usize
+        ensures { result ≡ room_in self.now }
+    {
+        (self.size - SLACK)
+            .saturating_sub(self.count)
+            .saturating_sub(1)
+    }
+
+    /// Puts bytes that can't fill a file behind the log's text, of whatever lines they are. They may wait as those of
+    /// [`Tail::put`]. After a fault the log goes no further.
+    pub fn put_within<S: LogStore>(
+        &mut self,
+        store: &mut S,
+        log: usize,
+        bytes: &[u8],
+    ) -> Result<(), LogFault>
+        requires log { log < S.logs store.old }
+        requires room { length bytes.now ≤ room_in self.old }
+        ensures done { OnOk result
+            (Goes (S.told store.old) (S.told store.new) log (waiting_in self.old) (waiting_in self.new)
+            (append_steps bytes.now)) }
+        ensures stands { OnOk result (standing self.new ≡ longer (standing self.old) (length bytes.now)) }
+        ensures same { (size_of self.new ≡ size_of self.old) × (keep_of self.new ≡ keep_of self.old) }
+        ensures stopped { OnErr result (DoesFront (S.told store.old) (S.told store.new) log
+            (append_steps (waiting_in self.old) ++ append_steps bytes.now)) }
+        ensures store { IfErr result (λ why. (why ≡ fault.Store) × Rose (S.failures store.old) (S.failures store.new)) }
+        ensures steady { S.failures store.old ≤ S.failures store.new }
+        ensures counts { (S.logs store.new ≡ S.logs store.old) × (S.status_files store.new ≡ S.status_files store.old) }
+    {
+        match hold(&mut self.waiting, store, log, bytes) {
+            Ok(()) => {
+                self.count += bytes.len();
+                Ok(())
+            }
+            Err(_) => Err(LogFault::Store),
+        }
     }
 
     /// Appends what waits in memory.

@@ -1,5 +1,6 @@
 -- Alerts and status files, one after another.
 use Rattle.std.proofs.Common.{◌≡◌, ◌≢◌, ℕ, suc, ◌+◌, ◌-◌, min, replicate, ◌<◌, ◌≤◌, ◌==◌, if◌then◌else◌, Bool, true, false, List, [], ◌∷◌, ◌++◌, length, take, drop, get_or, Option, Some, None, refl, sym, subst, ap, ◌∙◌, arith, append-nil}
+use Rattle.std.specs.Prelude.{Result, Ok, Err, OnOk, MatchResult}
 use Rattle.std.proofs.lemmas.List.{take_more, take_all, take_min, take-append-drop, length-take, drop-replicate}
 use Rattle.std.proofs.Math.Seq.{take-append-add}
 use Rattle.std.proofs.lemmas.List.Concat.{flat_map-append}
@@ -150,3 +151,11 @@ pub padded_is : (f : List ℕ) → length f ≤ 1000 → f ++ drop (length f) (r
 padded_is f few =
     let whole = take_all 1000 f few in
     ap (λ (t : List ℕ). f ++ t) (drop_same (length f) 1001) ∙ ap (λ (t : List ℕ). t ++ replicate (1001 - length t) 10) (sym whole)
+
+pub match_ok : {T E R : Type 0} (r : Result T E) (P : T → Type 0) (Q : E → Type 0) → ((x : T) → P x → R) → MatchResult r P Q → OnOk r R
+match_ok (Ok x) P Q f p = f x p
+match_ok (Err e) P Q f p = tt
+
+-- As many bytes as patterns see.
+pub front_taken : (f : List ℕ) (n : ℕ) → n ≡ min (length f) 1000 → take n f ≡ take 1000 f
+front_taken f n few = ap (λ (m : ℕ). take m f) (few ∙ min_swap (length f) 1000) ∙ take_min 1000 f

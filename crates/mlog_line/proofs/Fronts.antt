@@ -10,7 +10,7 @@ use Rattle.mlog_files.proofs.Goings.{sent-append}
 use Rattle.mlog_files.specs.declared.tail.LogFault.{LogFault}
 use Rattle.mlog_script.specs.Script.{Act}
 use Rattle.mlog_script.specs.Selection.{Chosen, stamps, shown, chosen, chosen_line, flag_at, alert, padded, to_alerts, to_file}
-use Rattle.mlog_line.specs.Given.{Given, nothing, joined, of_line, of_front, of_chosen, so_far, to_logs}
+use Rattle.mlog_line.specs.Given.{Given, nothing, joined, of_line, of_front, of_chosen, of_put, so_far, to_logs}
 use Rattle.mlog_line.specs.Outputs.{Outputs, Takes, Stops, SameGiven, Grows, StopsAt}
 use Rattle.mlog_line.proofs.Growing.{Grows-none, StopsAt-more}
 
@@ -210,3 +210,36 @@ end_undecided o n script label line front why is few k =
     StopsAt-more o n (so_far script label line) (of_front script label line) (to_logs (chosen_line script label line).logs label (10 ∷ [])) (of_line script label line) why
     (decides_stopped o n script label line front line front why is few is (omega (arith, few)) k)
     (line_ends script label line)
+
+-- What is given for a line that is put whole, with its newline.
+line_is_ended : (script : List Act) (label : Tai64n) (line front : List ℕ) → front ≡ shown script label line → length front ≤ 1000
+    → SameGiven (of_put script label front (front ++ 10 ∷ [])) (of_line script label line)
+unfolding alerted_as file_as
+line_is_ended script label line front is few =
+    let same = front_chosen script label line front is few in
+    record {
+      logs = λ log. ap (λ (c : Chosen). if flag_at c.logs log then sent label (front ++ 10 ∷ []) else []) same
+          ∙ ap (λ (t : List ℕ). if flag_at (chosen_line script label line).logs log then sent label (t ++ 10 ∷ []) else []) is;
+      alerts = ap (alerted_as (alert front)) same ∙ ap (λ (t : List ℕ). alerted_as (alert t) (chosen_line script label line)) is;
+      files = λ file. ap (file_as file (padded front)) same ∙ ap (λ (t : List ℕ). file_as file (padded t) (chosen_line script label line)) is;
+    }
+
+pub ends_whole : (o n : Outputs) (script : List Act) (label : Tai64n) (line front : List ℕ) → front ≡ shown script label line → length front < 1000
+    → Takes o n (of_put script label front (front ++ 10 ∷ [])) → Grows o n (so_far script label line) (of_line script label line)
+ends_whole o n script label line front is few k =
+    subst (λ (g : Given). Grows o n g (of_line script label line)) (held_so_far script label line front is few)
+    (record {
+      more = of_put script label front (front ++ 10 ∷ []);
+      whole = from_nothing (of_put script label front (front ++ 10 ∷ [])) (of_line script label line) (line_is_ended script label line front is (omega (arith, few)));
+      takes = k;
+    })
+
+pub stops_whole : (o n : Outputs) (script : List Act) (label : Tai64n) (line front : List ℕ) (why : LogFault) → front ≡ shown script label line → length front < 1000
+    → Stops o n (of_put script label front (front ++ 10 ∷ [])) why → StopsAt o n (so_far script label line) (of_line script label line) why
+stops_whole o n script label line front why is few k =
+    subst (λ (g : Given). StopsAt o n g (of_line script label line) why) (held_so_far script label line front is few)
+    (record {
+      more = of_put script label front (front ++ 10 ∷ []);
+      whole = from_nothing (of_put script label front (front ++ 10 ∷ [])) (of_line script label line) (line_is_ended script label line front is (omega (arith, few)));
+      stops = k;
+    })

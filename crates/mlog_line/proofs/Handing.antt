@@ -7,11 +7,11 @@ use Rattle.mlog_script.specs.Script.{Act}
 use Rattle.mlog_script.specs.Selection.{Chosen, stamps, shown, chosen, chosen_line}
 use Rattle.mlog_files.specs.declared.tail.Tail.{Tail}
 use Rattle.mlog_files.specs.declared.tail.LogFault.{LogFault}
-use Rattle.mlog_line.specs.Given.{Given, of_line, of_front, of_chosen, so_far, to_logs}
+use Rattle.mlog_line.specs.Given.{Given, of_line, of_front, of_put, of_chosen, so_far, to_logs}
 use Rattle.mlog_line.specs.Outputs.{Outputs, Takes, Stops, Grows, StopsAt}
 use Rattle.mlog_line.specs.Desk.{Place, IsAt, IsHeldOrDecided}
 use Rattle.mlog_line.proofs.Growing.{Grows-then, StopsAt-then, StopsAt-more}
-use Rattle.mlog_line.proofs.Fronts.{shown-append, front_chosen, same_chosen, line_goes_on, held_on, decides_at, decides_stopped, goes_at, stops_at, long_on, decided_so_far, decided_goes, decided_stops, ends_at, end_stops, end_undecided}
+use Rattle.mlog_line.proofs.Fronts.{shown-append, front_chosen, same_chosen, line_goes_on, held_on, decides_at, decides_stopped, goes_at, stops_at, long_on, decided_so_far, decided_goes, decided_stops, ends_at, end_stops, ends_whole, stops_whole}
 
 place : List Tail → Chosen → List ℕ → Bool → Place
 place tails c front decided = record { tails = tails; chosen = c; front = front; decided = decided }
@@ -75,6 +75,14 @@ is_whole_front script p label line first rest bytes front is at made long cut =
       long = let e = ap length here in omega (arith, long, e);
       all = append_assoc line first rest ∙ ap (λ (t : List ℕ). line ++ t) cut;
     }
+
+-- A front that is put with nothing behind it.
+pub plain_takes : {o n : Outputs} (script : List Act) (label : Tai64n) (front : List ℕ) → Takes o n (of_put script label front (front ++ [])) → Takes o n (of_chosen script label front)
+plain_takes {o} {n} script label front k = subst (λ (t : List ℕ). Takes o n (of_put script label front t)) (append-nil front) k
+
+pub plain_stops : {o n : Outputs} {why : LogFault} (script : List Act) (label : Tai64n) (front : List ℕ) → Stops o n (of_put script label front (front ++ [])) why
+    → Stops o n (of_chosen script label front) why
+plain_stops {o} {n} {why} script label front k = subst (λ (t : List ℕ). Stops o n (of_put script label front t) why) (append-nil front) k
 
 pub full_stopped : (script : List Act) (p : Place) (label : Tai64n) (line first rest bytes front : List ℕ) (o o1 n : Outputs) (why : LogFault) → p.decided ≡ false → o1 ≡ o
     → front ≡ p.front ++ first → length front ≡ 1000 → first ++ rest ≡ bytes → Stops o1 n (of_chosen script label front) why
@@ -148,32 +156,15 @@ end_stopped script p label line o o1 n flags why is same sf k at =
     subst (λ (g : Given). StopsAt o n g (of_line script label line) why) (decided_so_far script label line a.1)
     (end_stops o n script label line flags why (sf ∙ ap (λ (c : Chosen). c.logs) a.0) (subst (λ (t : Outputs). Stops t n (to_logs flags label (10 ∷ [])) why) same k))
 
-pub held_end_undecided : (script : List Act) (p : Place) (label : Tai64n) (line : List ℕ) (o n : Outputs) (why : LogFault) → p.decided ≡ false
-    → Stops o n (of_chosen script label p.front) why → IsAt script p label line → StopsAt o n (so_far script label line) (of_line script label line) why
-held_end_undecided script p label line o n why is k at =
-    let a = at_held script p label line is at in end_undecided o n script label line p.front why a.0 a.1 k
+pub held_end_grows : (script : List Act) (p : Place) (label : Tai64n) (line : List ℕ) (o n : Outputs) → p.decided ≡ false
+    → Takes o n (of_put script label p.front (p.front ++ 10 ∷ [])) → IsAt script p label line → Grows o n (so_far script label line) (of_line script label line)
+held_end_grows script p label line o n is k at =
+    let a = at_held script p label line is at in ends_whole o n script label line p.front a.0 a.1 k
 
-pub held_end_grows : (script : List Act) (p : Place) (label : Tai64n) (line : List ℕ) (o m m1 n : Outputs) (c : Chosen) (flags : List Bool) → p.decided ≡ false → m1 ≡ m
-    → Takes o m (of_chosen script label p.front) → c ≡ chosen script p.front → flags ≡ c.logs → Takes m1 n (to_logs flags label (10 ∷ []))
-    → IsAt script p label line → Grows o n (so_far script label line) (of_line script label line)
-held_end_grows script p label line o m m1 n c flags is same k ic sf l at =
-    let a = at_held script p label line is at in
-    let few : length p.front ≤ 1000 = let b = a.1 in omega (arith, b) in
-    Grows-then o m n (so_far script label line) (of_front script label line) (of_line script label line)
-    (decides_at o m script label line p.front line p.front a.0 a.1 a.0 few k)
-    (ends_at m n script label line flags (sf ∙ ap (λ (c : Chosen). c.logs) (ic ∙ front_chosen script label line p.front a.0 few))
-    (subst (λ (t : Outputs). Takes t n (to_logs flags label (10 ∷ []))) same l))
-
-pub held_end_stopped : (script : List Act) (p : Place) (label : Tai64n) (line : List ℕ) (o m m1 n : Outputs) (c : Chosen) (flags : List Bool) (why : LogFault) → p.decided ≡ false → m1 ≡ m
-    → Takes o m (of_chosen script label p.front) → c ≡ chosen script p.front → flags ≡ c.logs → Stops m1 n (to_logs flags label (10 ∷ [])) why
-    → IsAt script p label line → StopsAt o n (so_far script label line) (of_line script label line) why
-held_end_stopped script p label line o m m1 n c flags why is same k ic sf l at =
-    let a = at_held script p label line is at in
-    let few : length p.front ≤ 1000 = let b = a.1 in omega (arith, b) in
-    StopsAt-then o m n (so_far script label line) (of_front script label line) (of_line script label line) why
-    (decides_at o m script label line p.front line p.front a.0 a.1 a.0 few k)
-    (end_stops m n script label line flags why (sf ∙ ap (λ (c : Chosen). c.logs) (ic ∙ front_chosen script label line p.front a.0 few))
-    (subst (λ (t : Outputs). Stops t n (to_logs flags label (10 ∷ [])) why) same l))
+pub held_end_stopped : (script : List Act) (p : Place) (label : Tai64n) (line : List ℕ) (o n : Outputs) (why : LogFault) → p.decided ≡ false
+    → Stops o n (of_put script label p.front (p.front ++ 10 ∷ [])) why → IsAt script p label line → StopsAt o n (so_far script label line) (of_line script label line) why
+held_end_stopped script p label line o n why is k at =
+    let a = at_held script p label line is at in stops_whole o n script label line p.front why a.0 a.1 k
 
 -- A line that begins behind a stamp.
 pub stamped_front : (script : List Act) (label : Tai64n) (front text : List ℕ) → stamps script ≡ true → text ≡ label_text label → front ≡ text ++ 32 ∷ [] → length text ≡ 25

@@ -1,11 +1,11 @@
 -- Where lines are handed out to the outputs of a script.
 use Rattle.std.specs.Prelude.{◌≡◌, ℕ, ◌+◌, ◌-◌, ◌^◌, min, ◌<◌, ◌≤◌, Bool, true, false, List, [], length, fold, count_by, slice_get, Option, Some, None, IfSome, ⊤}
 use Rattle.tai_status.specs.Label.{Tai64n}
-use Rattle.mlog_script.specs.Script.{Act, Plan, is_log, is_file, log_plans}
-use Rattle.mlog_script.specs.Selection.{Chosen, Fits, shown, chosen_line}
+use Rattle.mlog_script.specs.Script.{Act, Plan, is_alert, is_log, is_file, log_plans}
+use Rattle.mlog_script.specs.Selection.{Chosen, Fits, stamps, shown, chosen_line}
 use Rattle.mlog_files.specs.Files.{Files}
 use Rattle.mlog_files.specs.Store.{Told}
-use Rattle.mlog_files.specs.Tails.{size_of, keep_of, waiting_in, marks_at, standing, found}
+use Rattle.mlog_files.specs.Tails.{size_of, keep_of, waiting_in, marks_at, standing, found, room_in}
 use Rattle.mlog_files.specs.declared.tail.Tail.{Tail}
 
 -- The ends of the logs, where the line is selected once that is decided, and its first bytes until then.
@@ -68,3 +68,17 @@ total_finished tails = fold (λ total tail. min (2 ^ 64 - 1) (total + (marks_at 
 
 abbrev pub total_removed : List Tail → ℕ
 total_removed tails = fold (λ total tail. min (2 ^ 64 - 1) (total + (marks_at tail).removed)) 0 tails
+
+-- Lines go to logs alone, as they are.
+pub record IsBare (script : List Act) : Type 0 where
+  pub unstamped : stamps script ≡ false
+  pub unalerted : count_by is_alert script ≡ 0
+  pub unfiled : count_by is_file script ≡ 0
+
+-- Each log has room for so many bytes, whatever they are.
+abbrev pub HasRoomAt : ℕ → Option Tail → Type 0
+HasRoomAt count None = ⊤
+HasRoomAt count (Some tail) = count ≤ room_in tail
+
+abbrev pub HaveRoom : ℕ → List Tail → Type 0
+HaveRoom count tails = (log : ℕ) → HasRoomAt count (slice_get tails log)

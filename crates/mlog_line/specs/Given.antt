@@ -1,5 +1,5 @@
 -- What lines give to the logs, the alerts and the status files of a script.
-use Rattle.std.specs.Prelude.{ℕ, ◌==◌, nat_le, if◌then◌else◌, List, [], ◌∷◌, ◌++◌, length, Bool}
+use Rattle.std.specs.Prelude.{ℕ, ◌==◌, nat_lt, nat_le, map, if◌then◌else◌, List, [], ◌∷◌, ◌++◌, length, Bool}
 use Rattle.std.specs.List.{flat_map}
 use Rattle.tai_status.specs.Label.{Tai64n}
 use Rattle.tai_status.specs.Lines.{Sent, sent}
@@ -67,10 +67,22 @@ to_one log text = record { logs = λ other. if other == log then text else []; a
 abbrev pub alerts_for : List Bool → List ℕ → List ℕ
 alerts_for chosen line = flat_map (λ flag. if flag then alert line else []) chosen
 
--- what a line gives whose front is decided on, as far as the front goes
-abbrev pub of_chosen : List Act → Tai64n → List ℕ → Given
-of_chosen script label front = record {
-  logs = λ log. if flag_at (chosen script front).logs log then sent label front else [];
+-- what a line gives whose front is decided on, of which this is put into logs
+abbrev pub of_put : List Act → Tai64n → List ℕ → List ℕ → Given
+of_put script label front text = record {
+  logs = λ log. if flag_at (chosen script front).logs log then sent label text else [];
   alerts = alerts_for (chosen script front).alerts front;
   files = λ file. if flag_at (chosen script front).files file then padded front ∷ [] else [];
 }
+
+-- the same, as far as the front goes
+abbrev pub of_chosen : List Act → Tai64n → List ℕ → Given
+of_chosen script label front = of_put script label front front
+
+-- a text put into each log below a number
+abbrev pub to_first : ℕ → List Sent → Given
+to_first count text = record { logs = λ log. if nat_lt log count then text else []; alerts = []; files = λ file. [] }
+
+-- the bytes of a text
+abbrev pub bytes_of : List Sent → List ℕ
+bytes_of text = map (λ s. s.byte) text

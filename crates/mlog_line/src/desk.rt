@@ -1,13 +1,15 @@
 //! Where a line is handed out.
-ghost use Rattle.std.specs.Prelude.{◌≡◌, ◌≤◌, ◌<◌, ◌++◌, ◌∷◌, [], ℕ, List, true, false, length, count_by, OnOk, IfOk, IfErr};
+ghost use Rattle.std.specs.Prelude.{◌≡◌, ◌≤◌, ◌<◌, ◌++◌, ◌∷◌, [], ℕ, List, true, false, length, take, count_by, OnOk, IfOk, IfErr};
+ghost use Rattle.std.specs.List.{list_all};
+ghost use Rattle.tai_status.specs.Lines.{Sent};
 ghost use Rattle.mlog_script.specs.Script.{is_log, is_file};
 ghost use Rattle.mlog_script.specs.Selection.{chosen, Fits};
-ghost use Rattle.mlog_line.specs.Given.{nothing, of_line, of_front, of_chosen, so_far, to_logs};
+ghost use Rattle.mlog_line.specs.Given.{nothing, of_line, of_put, so_far, to_logs, to_first, bytes_of};
 ghost use Rattle.mlog_line.specs.Outputs.{outputs, Takes, Stops, Grows, StopsAt};
-ghost use Rattle.mlog_line.specs.Desk.{AreOpened, IsAt, IsWritten, Serves, total_finished, total_removed};
+ghost use Rattle.mlog_line.specs.Desk.{AreOpened, IsAt, IsWritten, IsBare, HaveRoom, Serves, total_finished, total_removed};
 
 use crate::alerts::alert_chosen;
-use crate::logs::{flush_all, open_all, put_chosen};
+use crate::logs::{flush_all, open_all, put_all_within, put_chosen, room_in_all};
 use crate::statuses::replace_chosen;
 use mlog_files::{LogFault, LogStore, Tail};
 use mlog_script::{Choices, Script};
@@ -17,6 +19,13 @@ use tai_status::{Block, Label, text};
 
 /// How many bytes of a line patterns see.
 const FRONT: usize = 1000;
+
+/// Whether all flags are set.
+fn are_all_set(flags: &[bool]) -> bool
+    ensures { result ≡ list_all (λ flag. flag) flags.now }
+{
+    flags.iter().all(|is_set| *is_set)
+}
 
 /// Where the lines of an input are handed out to the logs, alerts and status files of a script.
 #[derive(Drop)]
@@ -143,7 +152,7 @@ impl<A: Allocator + Clone> Desk<A> {
             return Ok(());
         }
         self.held.push(&bytes[..room]);
-        self.decide(script, store, label)?;
+        self.decide(script, store, label, b"")?;
         put_chosen(
             &mut self.tails,
             self.choices.logs(),
@@ -153,22 +162,25 @@ impl<A: Allocator + Clone> Desk<A> {
         )
     }
 
-    // Decides where the line with the held front is selected: it is alerted, put into status files and into logs.
+    // Decides where the line with the held front is selected: it is alerted, put into status files and, with what its end
+    // is, into logs.
     fn decide<B: Allocator + Clone, S: LogStore>(
         &mut self,
         script: &Script<B>,
         store: &mut S,
         label: &Label,
+        end: &[u8],
     ) -> Result<(), LogFault>
         requires serves { Serves script.now self.old (S.logs store.old) (S.status_files store.old) }
+        requires end { length end.now ≤ 1 }
         ensures decided { OnOk result (self.new.decided ≡ true) }
         ensures chosen { self.new.chosen ≡ chosen script.now self.old.front }
         ensures takes { OnOk result (Takes (outputs self.old.tails (S.told store.old) (S.failures store.old))
             (outputs self.new.tails (S.told store.new) (S.failures store.new))
-            (of_chosen script.now label.now self.old.front)) }
+            (of_put script.now label.now self.old.front (self.old.front ++ end.now))) }
         ensures stopped { IfErr result (Stops (outputs self.old.tails (S.told store.old) (S.failures store.old))
             (outputs self.new.tails (S.told store.new) (S.failures store.new))
-            (of_chosen script.now label.now self.old.front)) }
+            (of_put script.now label.now self.old.front (self.old.front ++ end.now))) }
         ensures serves { Serves script.now self.new (S.logs store.new) (S.status_files store.new) }
         ensures counts { (S.logs store.new ≡ S.logs store.old) × (S.status_files store.new ≡ S.status_files store.old) }
     {
@@ -183,7 +195,11 @@ impl<A: Allocator + Clone> Desk<A> {
             Ok(()) => {}
             Err(_) => return Err(LogFault::Store),
         }
-        put_chosen(&mut self.tails, self.choices.logs(), store, label, front)
+        self.held.push(end);
+        let text = self.held.as_slice();
+        let put = put_chosen(&mut self.tails, self.choices.logs(), store, label, text);
+        self.held.clear();
+        put
     }
 
     /// Ends the line. It gets its newline in the logs at which it is selected.
@@ -234,8 +250,53 @@ impl<A: Allocator + Clone> Desk<A> {
         ensures serves { Serves script.now self.new (S.logs store.new) (S.status_files store.new) }
         ensures counts { (S.logs store.new ≡ S.logs store.old) × (S.status_files store.new ≡ S.status_files store.old) }
     {
-        self.decide(script, store, label)?;
-        put_chosen(&mut self.tails, self.choices.logs(), store, label, b"\n")
+        self.decide(script, store, label, b"\n")
+    }
+
+    /// How many bytes of whole lines [`Desk::put_for_all`] takes: none where lines are stamped, alerted or put into status
+    /// files, and else as many as can fill no file of a log, whatever they are, but at most a block.
+    pub fn room<B: Allocator + Clone>(&self, script: &Script<B>) -> usize
+        ensures bare { 0 < result → IsBare script.now }
+        ensures room { HaveRoom result self.now.tails }
+    {
+        if script.stamps() || script.alerts() > 0 || script.files() > 0 {
+            return 0;
+        }
+        room_in_all(&self.tails)
+    }
+
+    /// Whether a line, which is without its newline, is selected at all logs.
+    pub fn is_for_all<B: Allocator + Clone>(&mut self, script: &Script<B>, line: &[u8]) -> bool
+        requires { Fits self.old.chosen script.now }
+        ensures chosen { self.new.chosen ≡ chosen script.now (take 1000 line.now) }
+        ensures all { result ≡ list_all (λ flag. flag) self.new.chosen.logs }
+        ensures tails { self.new.tails ≡ self.old.tails }
+        ensures same { (self.new.front ≡ self.old.front) × (self.new.decided ≡ self.old.decided) }
+        ensures fits { Fits self.new.chosen script.now }
+    {
+        let len = line.len().min(FRONT);
+        self.choices.choose(script, &line[..len]);
+        are_all_set(self.choices.logs())
+    }
+
+    /// Puts whole lines that are selected at all logs into all logs, as they are. Up to a block of them may wait.
+    ///
+    /// After a fault the desk goes no further.
+    pub fn put_for_all<S: LogStore>(&mut self, store: &mut S, bytes: &[u8]) -> Result<(), LogFault>
+        requires room { HaveRoom (length bytes.now) self.old.tails }
+        requires logs { length self.old.tails ≤ S.logs store.old }
+        ensures takes { OnOk result ((text : List Sent) → bytes_of text ≡ bytes.now
+            → Takes (outputs self.old.tails (S.told store.old) (S.failures store.old))
+            (outputs self.new.tails (S.told store.new) (S.failures store.new)) (to_first (length self.old.tails) text)) }
+        ensures stopped { IfErr result (λ why. (text : List Sent) → bytes_of text ≡ bytes.now
+            → Stops (outputs self.old.tails (S.told store.old) (S.failures store.old))
+            (outputs self.new.tails (S.told store.new) (S.failures store.new))
+            (to_first (length self.old.tails) text) why) }
+        ensures same { (length self.new.tails ≡ length self.old.tails) × (self.new.chosen ≡ self.old.chosen)
+            × (self.new.front ≡ self.old.front) × (self.new.decided ≡ self.old.decided) }
+        ensures counts { (S.logs store.new ≡ S.logs store.old) × (S.status_files store.new ≡ S.status_files store.old) }
+    {
+        put_all_within(&mut self.tails, store, bytes)
     }
 
     /// Appends what waits in memory.

@@ -1,15 +1,15 @@
 //! The ends of the logs of a script.
-ghost use Rattle.std.specs.Prelude.{◌≡◌, ◌≤◌, ◌<◌, ◌+◌, [], length, count_by, if◌then◌else◌, OnOk, IfOk, OnErr, IfErr};
-ghost use Rattle.tai_status.specs.Lines.{sent};
+ghost use Rattle.std.specs.Prelude.{◌≡◌, ◌≤◌, ◌<◌, ◌+◌, [], ℕ, List, length, count_by, slice_get, if◌then◌else◌, OnOk, IfOk, OnErr, IfErr};
+ghost use Rattle.tai_status.specs.Lines.{Sent, sent};
 ghost use Rattle.mlog_script.specs.Script.{is_log};
-ghost use Rattle.mlog_line.specs.Given.{nothing, to_one, to_logs};
+ghost use Rattle.mlog_line.specs.Given.{nothing, to_one, to_logs, to_first, bytes_of};
 ghost use Rattle.mlog_line.specs.Outputs.{outputs, Takes, Stops};
-ghost use Rattle.mlog_line.specs.Desk.{AreOpened, IsWritten, IsWrittenUpTo};
+ghost use Rattle.mlog_line.specs.Desk.{AreOpened, IsWritten, IsWrittenUpTo, HasRoomAt, HaveRoom};
 
 use mlog_files::{LogFault, LogStore, Tail};
 use mlog_script::Script;
 use std::alloc::{AllocError, Allocator};
-use tai_status::Label;
+use tai_status::{BLOCK, Label};
 
 /// The ends of the logs of a script, as the store holds them.
 pub fn open_all<A: Allocator + Clone, B: Allocator + Clone, S: LogStore>(
@@ -77,6 +77,65 @@ pub fn put_chosen<A: Allocator, S: LogStore>(
 {
     for (log, is_chosen) in chosen.iter().enumerate() {
         put_one(tails, log, *is_chosen, store, label, bytes)?;
+    }
+    Ok(())
+}
+
+/// How many bytes can come, whatever they are, before a file of one of the logs can be full: at most a block.
+pub fn room_in_all(tails: &[Tail]) -> usize
+    ensures { HaveRoom result tails.now }
+{
+    let mut room = BLOCK;
+    for tail in tails {
+        room = room.min(tail.room());
+    }
+    room
+}
+
+/// Puts bytes that can fill no file, of whatever lines, into one log.
+fn put_one_within<A: Allocator, S: LogStore>(
+    tails: &mut Vec<Tail, A>,
+    log: usize,
+    store: &mut S,
+    bytes: &[u8],
+) -> Result<(), LogFault>
+    requires log { log < length tails.old.items }
+    requires logs { length tails.old.items ≤ S.logs store.old }
+    requires room { HasRoomAt (length bytes.now) (slice_get tails.old.items log) }
+    ensures ok { OnOk result ((text : List Sent) → bytes_of text ≡ bytes.now
+        → Takes (outputs tails.old.items (S.told store.old) (S.failures store.old))
+        (outputs tails.new.items (S.told store.new) (S.failures store.new)) (to_one log text)) }
+    ensures stopped { IfErr result (λ why. (text : List Sent) → bytes_of text ≡ bytes.now
+        → Stops (outputs tails.old.items (S.told store.old) (S.failures store.old))
+        (outputs tails.new.items (S.told store.new) (S.failures store.new)) (to_one log text) why) }
+    ensures others { (n : ℕ) → log < n → slice_get tails.new.items n ≡ slice_get tails.old.items n }
+    ensures length { length tails.new.items ≡ length tails.old.items }
+    ensures counts { (S.logs store.new ≡ S.logs store.old) × (S.status_files store.new ≡ S.status_files store.old) }
+{
+    tails[log].put_within(store, log, bytes)
+}
+
+/// Puts bytes that can fill no file, of whatever lines, into each log.
+pub fn put_all_within<A: Allocator, S: LogStore>(
+    tails: &mut Vec<Tail, A>,
+    store: &mut S,
+    bytes: &[u8],
+) -> Result<(), LogFault>
+    requires logs { length tails.old.items ≤ S.logs store.old }
+    requires room { HaveRoom (length bytes.now) tails.old.items }
+    ensures ok { OnOk result ((text : List Sent) → bytes_of text ≡ bytes.now
+        → Takes (outputs tails.old.items (S.told store.old) (S.failures store.old))
+        (outputs tails.new.items (S.told store.new) (S.failures store.new)) (to_first (length tails.old.items) text)) }
+    ensures stopped { IfErr result (λ why. (text : List Sent) → bytes_of text ≡ bytes.now
+        → Stops (outputs tails.old.items (S.told store.old) (S.failures store.old))
+        (outputs tails.new.items (S.told store.new) (S.failures store.new))
+        (to_first (length tails.old.items) text) why) }
+    ensures length { length tails.new.items ≡ length tails.old.items }
+    ensures counts { (S.logs store.new ≡ S.logs store.old) × (S.status_files store.new ≡ S.status_files store.old) }
+{
+    let count = tails.len();
+    for log in 0..count {
+        put_one_within(tails, log, store, bytes)?;
     }
     Ok(())
 }

@@ -1,7 +1,8 @@
 //! Status files of a line.
-ghost use Rattle.std.specs.Prelude.{◌≡◌, ◌≤◌, length, OnOk, OnErr};
+ghost use Rattle.std.specs.Prelude.{◌≡◌, ◌≤◌, ◌<◌, length, OnOk, OnErr};
 ghost use Rattle.tai_status.specs.Counted.{Rose};
 ghost use Rattle.mlog_script.specs.Selection.{padded};
+ghost use Rattle.mlog_files.specs.Store.{Replaces};
 ghost use Rattle.mlog_line.specs.Several.{Replaced, OnlyStatuses};
 
 use mlog_files::{LogStore, StoreFault};
@@ -23,28 +24,25 @@ pub fn replace_chosen<S: LogStore>(
     ensures steady { S.failures store.old ≤ S.failures store.new }
     ensures counts { (S.logs store.new ≡ S.logs store.old) × (S.status_files store.new ≡ S.status_files store.old) }
 {
-    let mut content = [b'\n'; CONTENT];
-    content[..front.len()].copy_from_slice(front);
-    replace_each(store, chosen, &content)
+    for (file, is_chosen) in chosen.iter().enumerate() {
+        if *is_chosen {
+            replace_one(store, file, front)?;
+        }
+    }
+    Ok(())
 }
 
-/// Gives the content to each status file whose flag is set.
-fn replace_each<S: LogStore>(
-    store: &mut S,
-    chosen: &[bool],
-    content: &[u8],
-) -> Result<(), StoreFault>
-    requires files { length chosen.now ≤ S.status_files store.old }
-    ensures ok { OnOk result (Replaced (S.told store.old) (S.told store.new) chosen.now content.now) }
+/// Gives the content for a line with this front to a status file.
+fn replace_one<S: LogStore>(store: &mut S, file: usize, front: &[u8]) -> Result<(), StoreFault>
+    requires file { file < S.status_files store.old }
+    requires front { length front.now ≤ 1000 }
+    ensures ok { OnOk result (Replaces (S.told store.old) (S.told store.new) file (padded front.now)) }
     ensures err { OnErr result (OnlyStatuses (S.told store.old) (S.told store.new)) }
     ensures fault { OnErr result (Rose (S.failures store.old) (S.failures store.new)) }
     ensures steady { S.failures store.old ≤ S.failures store.new }
     ensures counts { (S.logs store.new ≡ S.logs store.old) × (S.status_files store.new ≡ S.status_files store.old) }
 {
-    for (file, is_chosen) in chosen.iter().enumerate() {
-        if *is_chosen {
-            store.replace_status(file, content)?;
-        }
-    }
-    Ok(())
+    let mut content = [b'\n'; CONTENT];
+    content[..front.len()].copy_from_slice(front);
+    store.replace_status(file, &content)
 }
