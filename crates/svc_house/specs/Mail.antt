@@ -1,7 +1,9 @@
--- What an inbox over a mailbox gives.
+-- What an inbox over a mailbox gives, and by which sender a caller posts.
 use Rattle.std.specs.Prelude.{ℕ, List, map}
 use Rattle.svc_mail.specs.declared.letter.Letter.{Letter}
 use Rattle.svc_mail.specs.declared.receiver.Receiver.{Receiver}
+use Rattle.svc_mail.specs.declared.sender.Sender.{Sender}
+use Rattle.svc_house.specs.declared.caller.Caller.{Caller}
 use Rattle.svc_house.specs.declared.mail_inbox.MailInbox.{MailInbox}
 
 -- the items of letters, in order
@@ -11,3 +13,7 @@ items_of letters = map (λ letter. letter.item) letters
 -- the receiver whose letters it gives
 abbrev pub receiver_in : {A : Type 0} → MailInbox A → Receiver ℕ A
 receiver_in inbox = inbox.receiver
+
+-- the sender by which it posts
+abbrev pub sender_in : {A : Type 0} → Caller A → Sender ℕ A
+sender_in caller = caller.sender

@@ -10,7 +10,9 @@
 #![tactic(auto)]
 
 mod audit;
+mod bell;
 mod call;
+mod caller;
 mod find;
 mod gate;
 mod hand;
@@ -23,7 +25,9 @@ mod wind;
 mod world;
 
 pub use audit::last_reading;
+pub use bell::Bell;
 pub use call::{Call, StartAnswer};
+pub use caller::Caller;
 pub use gate::{Gate, OpenGate};
 pub use hand::Hand;
 pub use house::House;
