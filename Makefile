@@ -5,7 +5,7 @@ SHELL = bash
 PREFIX ?= /usr/local
 JOBS ?= $(shell nproc)
 PROGRAM = crates/dtools/out/dtools
-COMMANDS = svc svstat svok multilog tai64n envdir readproctitle
+COMMANDS = svscan svc svstat svok multilog tai64n envdir readproctitle
 # Of what the checks say, a line for each crate as it is proved, and each error.
 SHOWN = awk '/^== / { crate = $$2 } /: error/ || /^rt: / && !/quick pass/ { print } /^logic=/ { gsub(/[a-z]*=/, ""); print crate ": " $$1 ", " $$2 " functions"; fflush() }'
 

@@ -9,11 +9,13 @@ use cmd_base::{SystemClock, TROUBLE, report, usage};
 use cmd_envdir::SystemLauncher;
 use cmd_multilog::{FolderStore, MachineDisk};
 use cmd_svc::MachineServices;
+use cmd_svscan::{FolderKeeper, Keeper, MachineHost, Order, obey};
 use command::run;
 use devices::Devices;
 use std::env;
 use std::io::{ErrorKind, Read, Write};
 use std::process::ExitCode;
+use std::sync::Wait;
 use tai_status::{Counted, Output, TimeSource};
 
 fn main(rt: HostRuntime) -> ExitCode {
@@ -23,14 +25,22 @@ fn main(rt: HostRuntime) -> ExitCode {
         faults: Counted::new(rt.stderr()),
         clock: SystemClock::new(rt),
     };
-    ExitCode::from(run_arguments(&rt, &mut devices))
+    let alloc = rt.alloc();
+    let mut host: Option<MachineHost<HostRuntime>> = None;
+    let keeping = |order: Order| obey(rt, rt, alloc, &mut host, order);
+    let mut keeper = FolderKeeper::new(alloc, keeping);
+    ExitCode::from(run_arguments(&rt, &rt, &mut keeper, &mut devices))
 }
 
 /// Runs the program's words, but for its own name.
-fn run_arguments<D: Read, W: Write, E: Write, C: TimeSource>(
+fn run_arguments<V: Wait, P: Keeper, D: Read, W: Write, E: Write, C: TimeSource>(
     rt: &HostRuntime,
+    waiting: &V,
+    keeper: &mut P,
     devices: &mut Devices<D, W, E, C>,
-) -> u8 {
+) -> u8
+    requires { P.ready keeper.old }
+{
     let texts = match arguments(rt) {
         Ok(texts) => texts,
         Err(fault) => return refuse_words(fault, &mut devices.faults),
@@ -48,6 +58,8 @@ fn run_arguments<D: Read, W: Write, E: Write, C: TimeSource>(
             &mut SystemLauncher::new(rt),
             &mut store,
             &mut MachineServices::new(rt),
+            keeper,
+            waiting,
             &words,
             devices,
         ),

@@ -1,0 +1,26 @@
+-- Calls and lines, one after the other.
+use Rattle.std.proofs.Common.{ℕ, List, [], ◌∷◌, ◌++◌, Option, Some, None, refl, sym, ap, ◌∙◌, subst, append_assoc, append-nil}
+use Rattle.tai_status.specs.Counted.{Device, Tells}
+use Rattle.cmd_svscan.specs.Calls.{Call, Called}
+use Rattle.cmd_svscan.specs.Rounds.{TellsAll}
+
+-- calls after calls
+pub called-then : (a b c : Option (List Call)) (first rest : List Call) → Called a b first → Called b c rest → Called a c (first ++ rest)
+called-then None b c first rest h k = tt
+called-then (Some a) None c first rest h k = absurd h
+called-then (Some a) (Some b) None first rest h k = absurd k
+called-then (Some a) (Some b) (Some c) first rest h k =
+    k ∙ ap (λ (t : List Call). t ++ rest) h ∙ append_assoc a first rest
+
+pub called-none : (a : Option (List Call)) → Called a a []
+called-none None = tt
+called-none (Some a) = sym (append-nil a)
+
+-- lines after lines
+pub tells-then : (first rest : List (List ℕ)) (a b c : Device) → TellsAll first a b → TellsAll rest b c → TellsAll (first ++ rest) a c
+tells-then [] rest a b c h k = subst (λ (d : Device). TellsAll rest d c) h k
+tells-then (line ∷ lines) rest a b c h k = (h.0, (h.1.0, tells-then lines rest h.0 b c h.1.1 k))
+
+-- one line
+pub tells-one : (line : List ℕ) (a b : Device) → Tells a b line → TellsAll (line ∷ []) a b
+tells-one line a b h = (b, (h, refl))

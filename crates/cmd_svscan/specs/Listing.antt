@@ -1,0 +1,23 @@
+-- The rows of a folder, of what it says of its names.
+use Rattle.std.specs.Prelude.{◌≡◌, ⊤, ℕ, List, Option, Some, None, IsSorted, All}
+use Rattle.scan_table.specs.Slots.{Row, name_order}
+use Rattle.cmd_svscan.specs.declared.rows.Entry.{Entry}
+
+-- No name is smaller than the one before, in the byte order of names.
+abbrev pub AreInOrder : List (List ℕ) → Type 0
+AreInOrder names = IsSorted name_order names
+
+-- the row of a name and what is said of it
+abbrev pub row_of : (name : List ℕ) → Entry → Row
+row_of name entry = record {
+  name = name;
+  is_dir = entry.is_dir;
+  has_log = entry.has_log;
+  down = entry.down;
+  log_down = entry.log_down;
+}
+
+-- Each row is as the folder says of its name, where that is known.
+abbrev pub AreAsSaid : Option (List ℕ → Entry) → List Row → Type 0
+AreAsSaid None rows = ⊤
+AreAsSaid (Some says) rows = All (λ row. row ≡ row_of row.name (says row.name)) rows

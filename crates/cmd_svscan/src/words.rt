@@ -1,0 +1,46 @@
+//! The words of `svscan`.
+ghost use Rattle.std.specs.Prelude.{◌≡◌, ℕ, map, MatchOption};
+ghost use Rattle.cmd_svscan.specs.Words.{TellsRounds, Asks, AskNothing};
+
+use sup_core::read_number;
+
+/// What the words ask for.
+#[derive(Clone, Copy)]
+pub struct Order<'a> {
+    pub folder: &'a str,
+    /// How many rounds. None: without an end.
+    pub rounds: Option<u32>,
+}
+
+/// The number of rounds that a word tells.
+fn read_rounds(word: &str) -> Option<u32>
+    ensures { MatchOption result ((number : ℕ) → TellsRounds word.now number → ⊥) (λ number. TellsRounds word.now number) }
+{
+    let number = read_number(word.as_bytes())?;
+    if number == 0 {
+        return None;
+    }
+    u32::try_from(number).ok()
+}
+
+/// What words ask for: `[DIR [N]]`.
+pub fn read_words<'a>(words: &'a [&'a str]) -> Option<Order<'a>>
+    ensures { MatchOption result (AskNothing (map (λ word. word.now) words.entry.now))
+        (λ order. Asks (map (λ word. word.now) words.entry.now) order.folder.now order.rounds) }
+{
+    match words {
+        [] => Some(Order {
+            folder: ".",
+            rounds: None,
+        }),
+        [folder] => Some(Order {
+            folder,
+            rounds: None,
+        }),
+        [folder, number] => Some(Order {
+            folder,
+            rounds: Some(read_rounds(number)?),
+        }),
+        _ => None,
+    }
+}

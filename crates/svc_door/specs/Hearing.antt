@@ -1,0 +1,28 @@
+-- What a read of a connection comes to.
+use Rattle.std.specs.Prelude.{ℕ, ◌<◌, ◌≤◌, ◌==◌, if◌then◌else◌, List, length, take, Option, Some, None, Result, Ok, Err}
+use Rattle.std.specs.declared.io.ErrorKind.{ErrorKind}
+use Rattle.std.specs.declared.io.ErrorKind.TheVariants.{Interrupted, WouldBlock}
+use Rattle.std.specs.declared.io.Error.{Error}
+use Rattle.std.specs.IoError.{error_kind}
+use Rattle.std.specs.Io.KnownBytes.{Consumes, Keeps, IsAtEnd}
+use Rattle.svc_door.specs.declared.guest.Heard.{Heard}
+use Rattle.svc_door.specs.declared.guest.Heard.TheVariants.{Bytes, Nothing, End, Fault}
+
+-- what an error of a read tells: that it would wait is no fault, and one that was interrupted tells nothing
+abbrev pub heard_at : ErrorKind → Option Heard
+heard_at Interrupted = None
+heard_at WouldBlock = Some Nothing
+heard_at _ = Some Fault
+
+-- what an answer of a read tells, where the buffer had room: no bytes are the end
+abbrev pub heard_of : Result ℕ Error → Option Heard
+heard_of (Ok count) = if count == 0 then Some End else Some (Bytes count)
+heard_of (Err fault) = heard_at (error_kind fault)
+
+-- What a connection said, by the bytes that it had left and has left, and the buffer: it gave so many bytes, 1 at least,
+-- which are at the buffer's front; or none, and at its end none is left.
+abbrev pub Hears : (old new : Option (List ℕ)) → Heard → List ℕ → Type 0
+Hears old new (Bytes count) into = (0 < count) × (count ≤ length into) × Consumes old new (take count into)
+Hears old new Nothing into = Keeps old new
+Hears old new End into = Keeps old new × IsAtEnd new
+Hears old new Fault into = Keeps old new

@@ -1,0 +1,4 @@
+pub mod Hearing
+pub mod Rests
+pub mod Sitting
+pub mod Visiting

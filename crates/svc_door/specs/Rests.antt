@@ -1,0 +1,42 @@
+-- When something at the door is looked at again. Times are milliseconds of a clock that runs on; None is never.
+use Rattle.std.specs.Prelude.{ℕ, ◌+◌, ◌-◌, ◌^◌, min, nat_le, Bool, true, false, if◌then◌else◌, Option, Some, None}
+use Rattle.std.specs.declared.io.ErrorKind.{ErrorKind}
+use Rattle.std.specs.declared.io.ErrorKind.TheVariants.{Interrupted, WouldBlock, ConnectionAborted}
+use Rattle.svc_door.specs.declared.visit.Turn.{Turn}
+use Rattle.svc_door.specs.declared.visit.Turn.TheVariants.{Waits, Full, Ended}
+
+-- the sooner of two times
+abbrev pub sooner_of : Option ℕ → Option ℕ → Option ℕ
+sooner_of None other = other
+sooner_of (Some one) None = Some one
+sooner_of (Some one) (Some other) = Some (min one other)
+
+-- so much after a time, which stops at its end
+abbrev pub after : (time wait : ℕ) → ℕ
+after time wait = min (time + wait) (2 ^ 64 - 1)
+
+-- A listener that gave no connection: it has none, and an event will tell of the next; or the call was for nothing, and
+-- is made again; or there are no descriptors or no memory for it, and it is tried again after 100 ms.
+abbrev pub refused_until : ErrorKind → (now : ℕ) → Option ℕ
+refused_until WouldBlock now = None
+refused_until Interrupted now = Some now
+refused_until ConnectionAborted now = Some now
+refused_until _ now = Some (after now 100)
+
+-- when a connection spoke last: now, where it gave bytes or some of its bytes still wait for the post
+abbrev pub spoke_at : Turn → (gave : Bool) → (spoke now : ℕ) → ℕ
+spoke_at Full gave spoke now = now
+spoke_at Waits gave spoke now = if gave then now else spoke
+spoke_at Ended gave spoke now = if gave then now else spoke
+
+-- the end of its silence; before that, after 100 ms, where no event tells of it
+abbrev pub awaited_until : (watched : Bool) → (spoke now : ℕ) → ℕ
+awaited_until true spoke now = after spoke 5000
+awaited_until false spoke now = min (after spoke 5000) (after now 100)
+
+-- When a connection is looked at again. Never: it is over, or was silent for 5 s.
+abbrev pub looked_at : Turn → (watched : Bool) → (spoke now : ℕ) → Option ℕ
+looked_at Full watched spoke now = Some (after now 1)
+looked_at Ended watched spoke now = None
+looked_at Waits watched spoke now =
+    if nat_le (after spoke 5000) now then None else Some (awaited_until watched spoke now)

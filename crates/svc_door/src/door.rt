@@ -1,0 +1,138 @@
+//! The door's thread, and the handle to it.
+use crate::part::Part;
+use crate::post::Post;
+use crate::table::{Table, WAKER};
+use mio::net::UnixListener;
+use mio::{Events, Poll, Registry, Waker};
+use std::alloc::Global;
+use std::net::Net;
+use std::sync::{Arc, Mutex, Wait};
+use std::thread::{Builder, JoinHandle, Threads};
+use std::time::{Clock, Duration};
+use std::{io, thread};
+
+/// How many events one poll tells of at most.
+const EVENTS: usize = 256;
+
+/// How many milliseconds the thread rests where a poll failed.
+const FAILED: u64 = 100;
+
+// What the handle and the thread share.
+#[derive(Drop)]
+struct Desk<P: Post> {
+    table: Mutex<Table<P>>,
+    registry: Registry,
+    waker: Waker,
+}
+
+/// The door: a thread that answers at the control and ok sockets of all parts that are admitted.
+///
+/// A door that is dropped, and not closed, goes on with its parts for as long as the process runs.
+#[derive(Drop)]
+pub struct Door<P: Post> {
+    desk: Arc<Desk<P>, Global>,
+    keeper: JoinHandle<()>,
+}
+
+impl<P: Post + Send + Drop + 'static> Door<P> {
+    /// Opens a door with no part, and starts its thread.
+    pub fn open<R>(rt: &R, alloc: Global) -> io::Result<Door<P>>
+    where
+        R: Net + Threads + Wait + Clock + Copy + Send + Drop + 'static,
+    {
+        let poll = Poll::new(rt)?;
+        let events = Events::with_capacity(alloc, EVENTS)?;
+        let desk = Arc::new(
+            alloc,
+            Desk {
+                table: Mutex::new(Table::new(alloc)),
+                registry: poll.registry().try_clone()?,
+                waker: Waker::new(poll.registry(), WAKER)?,
+            },
+        )?;
+        let theirs = Arc::try_clone(&desk)?;
+        let keeper = start(*rt, poll, events, theirs)?;
+        Ok(Door { desk, keeper })
+    }
+
+    /// Answers at the sockets of a part from now on. `number`, which no other part at the door has, names it.
+    ///
+    /// At a fault, as want of memory, nothing of the part is at the door, and both listeners are closed.
+    pub fn admit<R: Wait>(
+        &self,
+        rt: &R,
+        number: u64,
+        post: P,
+        control: UnixListener,
+        ok: UnixListener,
+    ) -> io::Result<()> {
+        let part = Part::new(number, post, control, ok);
+        self.desk.table.lock(rt).admit(part, &self.desk.registry)
+    }
+
+    /// Closes the listeners and the connection of a part, and hands its post back: nothing is posted by it any more.
+    /// None: no part of this number is at the door.
+    pub fn dismiss<R: Wait>(&self, rt: &R, number: u64) -> Option<P> {
+        self.desk.table.lock(rt).dismiss(number)
+    }
+
+    /// Ends the thread, joins it, and closes all listeners and connections.
+    pub fn close<R: Wait + Threads>(self, rt: &R) {
+        let Door { desk, keeper } = self;
+        desk.table.lock(rt).ends = true;
+        let _ = desk.waker.wake();
+        keeper.join(rt)
+    }
+}
+
+/// The running clock, in milliseconds.
+fn time(clock: &impl Clock) -> u64 {
+    match clock.monotonic() {
+        Ok(time) => u64::try_from(time.as_millis()).unwrap_or(u64::MAX),
+        Err(_) => 0,
+    }
+}
+
+/// Starts the door's thread.
+fn start<R, P>(
+    rt: R,
+    poll: Poll,
+    events: Events<Global>,
+    desk: Arc<Desk<P>, Global>,
+) -> io::Result<JoinHandle<()>>
+where
+    R: Threads + Wait + Clock + Copy + Send + Drop + 'static,
+    P: Post + Send + Drop + 'static,
+{
+    Builder::new()
+        .stack_size(1)
+        .spawn(&rt, move || keep(&rt, poll, events, &desk))
+}
+
+/// What the door's thread does.
+fn keep<R: Wait + Clock, P: Post + Drop>(
+    rt: &R,
+    mut poll: Poll,
+    mut events: Events<Global>,
+    desk: &Desk<P>,
+) {
+    let mut due: Option<u64> = None;
+    for _ in rt.forever() {
+        let limit = match due {
+            Some(due) => Some(Duration::from_millis(due.saturating_sub(time(rt)))),
+            None => None,
+        };
+        if poll.poll(&mut events, limit).is_err() {
+            thread::sleep(rt, Duration::from_millis(FAILED));
+        }
+        let mut table = desk.table.lock(rt);
+        if table.ends {
+            return;
+        }
+        let now = time(rt);
+        for event in events.iter() {
+            table.wake(event.token(), now);
+        }
+        due = table.turns(rt, poll.registry(), now);
+    }
+}

@@ -1,0 +1,64 @@
+//! When something at the door is looked at again. Times are milliseconds of a clock that runs on.
+ghost use Rattle.std.specs.Prelude.{◌≡◌};
+ghost use Rattle.std.specs.IoError.{error_kind};
+ghost use Rattle.svc_door.specs.Rests.{sooner_of, spoke_at, looked_at, refused_until};
+
+use crate::visit::Turn;
+use std::io;
+use std::io::ErrorKind;
+
+/// How long a byte that was refused waits.
+const RETRY: u64 = 1;
+
+/// How long a connection waits for which there are no descriptors or no memory.
+const SHORTAGE: u64 = 100;
+
+/// How long a connection may be silent.
+const SILENCE: u64 = 5000;
+
+/// The sooner of two times. None is never.
+pub fn sooner(one: Option<u64>, other: Option<u64>) -> Option<u64>
+    ensures { result ≡ sooner_of one other }
+{
+    match (one, other) {
+        (Some(one), Some(other)) => Some(one.min(other)),
+        (Some(one), None) => Some(one),
+        (None, other) => other,
+    }
+}
+
+/// When a listener is looked at again that gave no connection.
+pub fn after_refusal(fault: &io::Error, now: u64) -> Option<u64>
+    ensures { result ≡ refused_until (error_kind fault.now) now }
+{
+    match fault.kind() {
+        ErrorKind::WouldBlock => None,
+        ErrorKind::Interrupted | ErrorKind::ConnectionAborted => Some(now),
+        _ => Some(now.saturating_add(SHORTAGE)),
+    }
+}
+
+/// When a connection spoke last, after a turn in which it gave bytes or none.
+pub fn spoken(turn: Turn, gave: bool, spoke: u64, now: u64) -> u64
+    ensures { result ≡ spoke_at turn gave spoke now }
+{
+    match turn {
+        Turn::Full => now,
+        Turn::Waits | Turn::Ended if gave => now,
+        Turn::Waits | Turn::Ended => spoke,
+    }
+}
+
+/// When a connection is looked at again after a turn. None: it is over, or was silent for too long.
+pub fn next_look(turn: Turn, watched: bool, spoke: u64, now: u64) -> Option<u64>
+    ensures { result ≡ looked_at turn watched spoke now }
+{
+    let end = spoke.saturating_add(SILENCE);
+    match turn {
+        Turn::Full => Some(now.saturating_add(RETRY)),
+        Turn::Ended => None,
+        Turn::Waits if end <= now => None,
+        Turn::Waits if watched => Some(end),
+        Turn::Waits => Some(end.min(now.saturating_add(SHORTAGE))),
+    }
+}

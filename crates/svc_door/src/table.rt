@@ -1,0 +1,108 @@
+//! The parts at the door.
+use crate::part::Part;
+use crate::post::Post;
+use crate::rests::sooner;
+use mio::{Registry, Token};
+use slab::Slab;
+use std::alloc::{AllocError, Global};
+use std::sync::Wait;
+
+/// The token of the door's own waker. A part has the number of its slot, which is less.
+pub const WAKER: Token = Token(usize::MAX);
+
+/// The parts, each in a slot, and the slots of those that are to have a turn without an event.
+#[derive(Drop)]
+pub struct Table<P: Post> {
+    pub ends: bool,
+    parts: Slab<Part<P>>,
+    // Each such slot once. There is room for all.
+    open: Vec<usize>,
+}
+
+impl<P: Post + Drop> Table<P> {
+    /// A table with no part.
+    pub fn new(alloc: Global) -> Table<P> {
+        Table {
+            ends: false,
+            parts: Slab::new(alloc),
+            open: Vec::new(alloc),
+        }
+    }
+
+    /// Puts a part into a slot, and has the registry report it.
+    pub fn admit(&mut self, part: Part<P>, registry: &Registry) -> std::io::Result<()> {
+        let lacking = self
+            .parts
+            .len()
+            .saturating_add(1)
+            .saturating_sub(self.open.len());
+        self.open.reserve(lacking)?;
+        let slot = self.parts.insert(part).map_err(AllocError::from)?;
+        let Some(part) = self.parts.get_mut(slot) else {
+            return Ok(());
+        };
+        let registered = part.register(registry, Token(slot));
+        if registered.is_err() {
+            self.parts.try_remove(slot);
+        }
+        registered
+    }
+
+    /// Takes the part of a life out of its slot.
+    pub fn dismiss(&mut self, number: u64) -> Option<P> {
+        let slot = self.slot_of(number)?;
+        self.open.retain(|open| *open != slot);
+        self.parts.try_remove(slot)?.post()
+    }
+
+    fn slot_of(&self, number: u64) -> Option<usize> {
+        for (slot, part) in self.parts.iter() {
+            if part.number == number {
+                return Some(slot);
+            }
+        }
+        None
+    }
+
+    /// An event tells of a token.
+    pub fn wake(&mut self, token: Token, now: u64) {
+        let Some(part) = self.parts.get_mut(token.0) else {
+            return;
+        };
+        if part.due.is_none() && self.open.push(token.0).is_err() {
+            return;
+        }
+        part.due = Some(now);
+    }
+
+    /// Each part that is due has one turn. Answers when the next one is due.
+    pub fn turns<R: Wait>(&mut self, rt: &R, registry: &Registry, now: u64) -> Option<u64> {
+        let Table {
+            ends: _,
+            parts,
+            open,
+        } = self;
+        let mut soonest = None;
+        open.retain(|slot| {
+            let due = turn(rt, parts, registry, *slot, now);
+            soonest = sooner(soonest, due);
+            due.is_some()
+        });
+        soonest
+    }
+}
+
+// Gives a part its turn, where that is due, and answers when it is to have the next one.
+fn turn<R: Wait, P: Post + Drop>(
+    rt: &R,
+    parts: &mut Slab<Part<P>>,
+    registry: &Registry,
+    slot: usize,
+    now: u64,
+) -> Option<u64> {
+    let part = parts.get_mut(slot)?;
+    if part.due? <= now {
+        part.turn(rt, registry, Token(slot), now);
+    }
+    part.due
+}

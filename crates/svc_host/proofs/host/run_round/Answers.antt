@@ -1,0 +1,20 @@
+use Rattle.std.proofs.Common.{◌≡◌, ◌++◌, sym, ap, ◌∙◌, subst}
+use Rattle.svc_host.specs.Rounds.{AreBegun, after_ends, staying}
+use Rattle.svc_host.proofs.Beginning.{begun_as}
+use Rattle.svc_host.proofs.Causes.{cause}
+use Rattle.svc_host.proofs.host.run_round.Goals as goal
+
+pub returns-in-Err-clause-cause : goal.returns-in-Err-clause-cause
+returns-in-Err-clause-cause g c = cause c.collect.new.table c.args.rows.now _ (sym c.in-Err.ensures.exact)
+
+pub returns-clause-round : goal.returns-clause-round
+returns-clause-round g c = record {
+  middle = record { table = c.collect.new.table; seats = c.collect.new.seats.items };
+  collected = c.collect.ensures;
+  scan = c.in-Ok.ensures.scan;
+  table = c.end_all.ensures ∙ ap (λ l. after_ends l c.in-Ok.found.table) (c.deref-2.ensures.value ∙ sym c.from_vec.ensures)
+      ∙ ap (after_ends c.from_vec.result) c.in-Ok.ensures.table;
+  begun = begun_as _ _ c.args.rows.now c.args.label _ _ _ _ c.begin_all.new.seats.items _ _ c.begin_all.ensures
+      (ap (λ table. table.slots) c.in-Ok.ensures.table) (c.deref.ensures.value ∙ c.in-Ok.ensures.parts)
+      (c.take_away.ensures.seats ∙ ap (staying c.in-Ok.found.scan) c.scan.ensures.seats) (sym c.from_vec.ensures);
+}

@@ -1,0 +1,35 @@
+-- How a part that a round begins stands at first.
+use Rattle.std.specs.Prelude.{◌≡◌, Bool, false, List, [], Option, Some, None}
+use Rattle.sup_core.specs.History.{History, Begin, state_of}
+use Rattle.tai_status.specs.Label.{Tai64n}
+use Rattle.scan_table.specs.declared.part.Role.{Role}
+use Rattle.scan_table.specs.declared.part.Role.TheVariants.{Main, Log}
+use Rattle.scan_table.specs.declared.part.PartId.{PartId}
+use Rattle.scan_table.specs.Slots.{Row, SlotState}
+use Rattle.scan_table.specs.Order.{row_of}
+use Rattle.scan_table.specs.Table.{slot_at}
+use Rattle.svc_host.specs.Seats.{SeatState}
+
+-- whether the row has the `down` file of a part of this role
+abbrev pub is_down : Role → Row → Bool
+is_down Main row = row.down
+is_down Log row = row.log_down
+
+-- the row of a slot
+abbrev pub row_at : List Row → Option SlotState → Option Row
+row_at rows None = None
+row_at rows (Some slot) = row_of rows slot.name
+
+-- A part that was just begun: its station was opened with the machine of this beginning, and nothing was posted to it.
+pub record IsBegun (part : PartId) (beginning : History) (seat : SeatState) : Type 0 where
+  pub is : seat.part ≡ part
+  pub opening : seat.station.opening ≡ state_of beginning
+  pub known : seat.known ≡ []
+  pub posted : seat.posted ≡ []
+  pub has_ended : seat.has_ended ≡ false
+
+-- It begins with or without its `down` file, as the row of its slot says, at the label of the round.
+pub record BeginsByRow (slots : List SlotState) (rows : List Row) (label : Tai64n) (seat : SeatState) : Type 0 where
+  pub row : Row
+  pub found : row_at rows (slot_at slots seat.part.slot) ≡ Some row
+  pub begun : IsBegun seat.part (Begin (is_down seat.part.role row) label) seat

@@ -1,0 +1,11 @@
+-- How long the thread of a service rests while it settles.
+use Rattle.std.specs.Prelude.{ℕ, ◌+◌, ◌-◌, ◌*◌, ◌^◌, min}
+use Rattle.tai_status.specs.Label.{Tai64n}
+
+-- the nanoseconds from the first of all labels to this one
+abbrev pub nanoseconds : Tai64n → ℕ
+nanoseconds label = label.sec * 10 ^ 9 + label.nano
+
+-- the nanoseconds from one label to a later one, but at most a second
+abbrev pub rest_before : Tai64n → Tai64n → ℕ
+rest_before now until = min (nanoseconds until - nanoseconds now) (10 ^ 9)

@@ -1,0 +1,98 @@
+-- What a round of a host does to its table and to the parts that are there.
+use Rattle.std.specs.Prelude.{◌≡◌, ◌⊎◌, Bool, true, false, not, ℕ, List, [], ◌∷◌, ◌++◌, map, length, Option, Some, None}
+use Rattle.std.specs.List.{filter, All}
+use Rattle.tai_status.specs.Label.{Tai64n}
+use Rattle.scan_table.specs.declared.fault.ScanFault.{ScanFault}
+use Rattle.scan_table.specs.declared.fault.ScanFault.TheVariants as fault
+use Rattle.scan_table.specs.declared.part.PartId.{PartId}
+use Rattle.scan_table.specs.declared.table.ScanOut.{ScanOut}
+use Rattle.scan_table.specs.Slots.{Row, SlotState}
+use Rattle.scan_table.specs.Order.{scan_refusal}
+use Rattle.scan_table.specs.Scan.{starts, restarts, drops, refused}
+use Rattle.scan_table.specs.Table.{TableState, after_end, scanned}
+use Rattle.svc_host.specs.declared.host.HostOut.{HostOut}
+use Rattle.svc_host.specs.Seats.{SeatState, GoOn, IsSeat, stays}
+use Rattle.svc_host.specs.Begun.{BeginsByRow}
+
+-- the table of slots, and the parts that are there
+pub record HostState : Type 0 where
+  pub table : TableState
+  pub seats : List SeatState
+
+abbrev pub host_of : TableState → List SeatState → HostState
+host_of table seats = record { table = table; seats = seats }
+
+-- a table after these parts have ended
+abbrev pub after_ends : List PartId → TableState → TableState
+after_ends [] table = table
+after_ends (part ∷ parts) table = after_ends parts (after_end table part)
+
+-- a part that was there and ran
+abbrev pub Ran : List SeatState → PartId → Type 0
+Ran seats part = (seat : SeatState) × IsSeat part seats seat × (seat.has_ended ≡ false)
+
+-- Threads were joined, of parts that ran, and the table was told that these have ended.
+pub record AreCollected (old : TableState) (olds : List SeatState) (new : TableState) (news : List SeatState)
+    : Type 0 where
+  pub joined : List PartId
+  pub ran : All (Ran olds) joined
+  pub table : new ≡ after_ends joined old
+  pub seats : GoOn olds news
+
+abbrev pub Collected : HostState → HostState → Type 0
+Collected old new = AreCollected old.table old.seats new.table new.seats
+
+-- what a scan of a table answers
+pub record IsScan {A : Type 0} (table : TableState) (rows : List Row) (out : ScanOut A) : Type 0 where
+  pub starts : out.starts ≡ starts table.slots table.next rows
+  pub restarts : out.restarts ≡ restarts table.slots table.next rows
+  pub drops : out.drops ≡ drops table.slots rows
+  pub refused : out.refused ≡ refused table.slots rows
+
+-- the parts that stay at a scan
+abbrev pub staying : {A : Type 0} → ScanOut A → List SeatState → List SeatState
+staying out seats = filter (λ (seat : SeatState). stays out.drops out.restarts seat.part) seats
+
+-- the items whose flags are set
+abbrev pub chosen : {A : Type 0} → List Bool → List A → List A
+chosen (true ∷ flags) (x ∷ xs) = x ∷ chosen flags xs
+chosen (false ∷ flags) (x ∷ xs) = chosen flags xs
+chosen flags xs = []
+
+-- Each of these stands in one of the two lists, in order.
+pub record IsParted {A : Type 0} (all ones others : List A) : Type 0 where
+  pub flags : List Bool
+  pub each : length flags ≡ length all
+  pub set : ones ≡ chosen flags all
+  pub not_set : others ≡ chosen (map not flags) all
+
+-- Of the parts that a scan began each is there now, begun by its row, or failed.
+pub record AreBegun (slots : List SlotState) (rows : List Row) (label : Tai64n) (parts : List PartId)
+    (old new : List SeatState) (failed : List PartId) : Type 0 where
+  pub begun : List SeatState
+  pub seats : new ≡ old ++ begun
+  pub each : All (BeginsByRow slots rows label) begun
+  pub parted : IsParted parts (map (λ (seat : SeatState). seat.part) begun) failed
+
+-- One part is there now, begun by its row, or it failed.
+abbrev pub IsBegunOne : List SlotState → List Row → Tai64n → PartId
+    → List SeatState → List PartId → List SeatState → List PartId → Type 0
+IsBegunOne slots rows label part olds old news new =
+    ((seat : SeatState) × (seat.part ≡ part) × BeginsByRow slots rows label seat
+    × (news ≡ olds ++ seat ∷ []) × (new ≡ old))
+    ⊎ ((news ≡ olds) × (new ≡ old ++ part ∷ []))
+
+-- A round: threads are joined, the rows are scanned, and each part that starts or restarts is there now, begun by its
+-- row, or failed, and then it has ended. Of the other parts those are there that stay.
+pub record IsRound (old : HostState) (rows : List Row) (label : Tai64n) (out : HostOut) (new : HostState) : Type 0 where
+  pub middle : HostState
+  pub collected : Collected old middle
+  pub scan : IsScan middle.table rows out.scan
+  pub table : new.table ≡ after_ends out.failed (scanned middle.table rows)
+  pub begun : AreBegun (scanned middle.table rows).slots rows label (out.scan.starts ++ out.scan.restarts)
+      (staying out.scan middle.seats) new.seats out.failed
+
+-- Why a round is refused: what the scan says, and memory only where nothing else is wrong.
+abbrev pub IsCause : TableState → List Row → ScanFault → Type 0
+IsCause table rows fault.OutOfMemory = scan_refusal table rows ≡ None
+IsCause table rows why = scan_refusal table rows ≡ Some why

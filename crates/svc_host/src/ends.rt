@@ -1,0 +1,73 @@
+//! The ends of mailboxes and stations that were just opened.
+ghost use Rattle.std.specs.Prelude.{◌≡◌, ◌≤◌, ◌<◌, [], IfSome};
+ghost use Rattle.svc_mail.specs.Ends.{posted, taken_by};
+ghost use Rattle.svc_station.specs.Ends.{known_to, opening_of, published, reader_station, station};
+
+use crate::running::{Eye, eye_of};
+use std::alloc::Global;
+use std::sync::Wait;
+use sup_core::Machine;
+use svc_mail::mailbox::Mailbox;
+use svc_mail::receiver::Receiver;
+use svc_mail::sender::Sender;
+use svc_station::station::Station;
+use svc_station::writer::Writer;
+
+/// The ends of a mailbox of one sender.
+pub(crate) fn open_box<T: Copy + Drop>(
+    alloc: Global,
+    capacity: usize,
+) -> Option<(Sender<T>, Receiver<T>)>
+    requires { 0 < capacity }
+    ensures unposted { IfSome result (λ ends. posted ends.0 ≡ []) }
+    ensures untaken { IfSome result (λ ends. taken_by ends.1 ≡ []) }
+{
+    let Ok((_mailbox, mut senders, receiver)) = Mailbox::open(alloc, capacity, 1) else {
+        return None;
+    };
+    let Some(sender) = senders.pop() else {
+        return None;
+    };
+    Some((sender, receiver))
+}
+
+/// The ends of the mailbox of a service: the host's sender, one for outside, and the receiver.
+pub(crate) fn open_mailbox(
+    alloc: Global,
+    capacity: usize,
+) -> Option<(Sender<u8>, Sender<u8>, Receiver<u8>)>
+    requires { 0 < capacity }
+    ensures unposted { IfSome result (λ ends. posted ends.0 ≡ []) }
+    ensures untaken { IfSome result (λ ends. taken_by ends.2 ≡ []) }
+{
+    let Ok((_mailbox, mut senders, receiver)) = Mailbox::open(alloc, capacity, 2) else {
+        return None;
+    };
+    let Some(inside) = senders.pop() else {
+        return None;
+    };
+    let Some(outside) = senders.pop() else {
+        return None;
+    };
+    Some((inside, outside, receiver))
+}
+
+/// The writer and the reader of a station over a machine, with a trace of so many entries.
+pub(crate) fn open_station<R: Wait>(
+    rt: &R,
+    alloc: Global,
+    machine: Machine,
+    room: usize,
+) -> Option<(Writer, Eye)>
+    requires { (0 < room) × (room ≤ 65536) }
+    ensures opening { IfSome result (λ ends. opening_of ends.0 ≡ machine) }
+    ensures unpublished { IfSome result (λ ends. published ends.0 ≡ []) }
+    ensures reader { IfSome result (λ ends. reader_station ends.1.reader ≡ station ends.0) }
+    ensures known { IfSome result (λ ends. known_to ends.1.reader ≡ []) }
+{
+    let Ok((writer, readers)) = Station::open(rt, alloc, machine, room, 1) else {
+        return None;
+    };
+    let eye = eye_of(readers, &writer);
+    Some((writer, eye))
+}

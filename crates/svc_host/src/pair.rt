@@ -1,0 +1,165 @@
+//! The two threads that carry a pair's output to its logger.
+ghost use Rattle.std.specs.Prelude.{◌≡◌, ◌<◌, [], IfSome};
+ghost use Rattle.svc_mail.specs.Ends.{posted, taken_by};
+
+use crate::ends::open_box;
+use crate::line::PairLine;
+use crate::maker::{Maker, Outlets};
+use std::alloc::{AllocError, Global};
+use std::io::Read;
+use std::sync::{Arc, Wait};
+use std::thread::{Builder, Threads};
+use svc_mail::receiver::Receiver;
+use svc_mail::sender::Sender;
+use svc_relay::intake::Intake;
+use svc_relay::outlet::Outlet;
+use svc_relay::piece::Piece;
+use svc_relay::relay::Relay;
+use svc_relay::turn::{IntakeTurn, RelayTurn};
+use tai_status::Input;
+
+/// The room of a stack: a relay gathers 32 KiB in it.
+const STACK: usize = 256 * 1024;
+
+/// What the thread of an intake is given: a sender that posted nothing.
+#[derive(Drop)]
+struct Taking<D: Read + Drop> {
+    output: D,
+    sender: Sender<Piece>,
+    line: Arc<PairLine, Global>,
+    ghost unposted: { posted sender ≡ [] },
+}
+
+/// What the thread of a relay is given: a receiver that took nothing.
+#[derive(Drop)]
+struct Putting<S: Drop> {
+    receiver: Receiver<Piece>,
+    outlets: S,
+    line: Arc<PairLine, Global>,
+    ghost untaken: { taken_by receiver ≡ [] },
+}
+
+/// Reads a pair's output until it ends.
+fn take_in<D: Read + Drop, R: Wait>(rt: &R, task: Taking<D>) {
+    let Taking {
+        output,
+        sender,
+        line,
+    } = task;
+    let mut intake = Intake::new(Input::new(output), sender);
+    for _ in rt.forever() {
+        match intake.turn(rt) {
+            Ok(IntakeTurn::Moved(_)) => line.filled.ring(),
+            Ok(IntakeTurn::Idle) => {
+                if line.leaves() {
+                    return;
+                }
+                line.emptied.rest(rt, None);
+            }
+            Ok(IntakeTurn::Ended) | Err(_) => return,
+        }
+    }
+}
+
+/// The logger's next input, once there is one, or none where the pair leaves.
+fn next_outlet<O: Outlet + Drop, S: Outlets<O>, R: Wait>(
+    rt: &R,
+    outlets: &mut S,
+    line: &PairLine,
+) -> Option<O>
+    ensures { IfSome result (λ outlet. IfSome (O.bytes outlet) (λ bytes. bytes ≡ [])) }
+{
+    for _ in rt.forever() {
+        if let Some(outlet) = outlets.next() {
+            return Some(outlet);
+        }
+        if line.leaves() {
+            return None;
+        }
+        line.filled.rest(rt, None);
+    }
+    unreachable!()
+}
+
+/// Puts a pair's output into its logger, from life to life, until the pair leaves.
+fn put_out<O: Outlet + Drop, S: Outlets<O> + Drop, R: Wait>(rt: &R, task: Putting<S>) {
+    let Putting {
+        receiver,
+        mut outlets,
+        line,
+    } = task;
+    let Some(first) = next_outlet::<O, S, R>(rt, &mut outlets, &line) else {
+        return;
+    };
+    let mut relay = Relay::new(receiver, first);
+    for _ in rt.forever() {
+        match relay.turn(rt) {
+            RelayTurn::Moved(_) => line.emptied.ring(),
+            RelayTurn::Idle => {
+                if line.leaves() {
+                    return;
+                }
+                line.filled.rest(rt, None);
+            }
+            RelayTurn::Broken => match next_outlet::<O, S, R>(rt, &mut outlets, &line) {
+                Some(outlet) => drop(relay.replace(outlet)),
+                None => return,
+            },
+        }
+    }
+}
+
+/// A pair whose threads stand.
+#[derive(Drop)]
+pub(crate) struct Pair {
+    pub(crate) slot: u64,
+    line: Arc<PairLine, Global>,
+}
+
+impl Pair {
+    /// Starts the two threads of a pair, or none.
+    pub(crate) fn start<M: Maker, R: Threads + Wait + Copy + Drop + Send + 'static>(
+        rt: R,
+        alloc: Global,
+        maker: &mut M,
+        slot: u64,
+        capacity: usize,
+    ) -> Option<Pair>
+        requires { 0 < capacity }
+    {
+        let line = Arc::new(alloc, PairLine::new(alloc).ok()?).ok()?;
+        let (sender, receiver) = open_box(alloc, capacity)?;
+        let (output, outlets) = maker.pair(slot, Arc::try_clone(&line.filled).ok()?)?;
+        let taking = Taking {
+            output,
+            sender,
+            line: Arc::try_clone(&line).ok()?,
+        };
+        let putting = Putting {
+            receiver,
+            outlets,
+            line: Arc::try_clone(&line).ok()?,
+        };
+        let pair = Pair { slot, line };
+        Builder::new()
+            .stack_size(STACK)
+            .spawn(
+                &rt,
+                move || put_out::<M::Outlet, M::Outlets, R>(&rt, putting),
+            )
+            .ok()?;
+        let reading = Builder::new()
+            .stack_size(STACK)
+            .spawn(&rt, move || take_in(&rt, taking));
+        if reading.is_err() {
+            pair.leave();
+            return None;
+        }
+        Some(pair)
+    }
+
+    /// Both threads end.
+    pub(crate) fn leave(&self) {
+        self.line.leave();
+    }
+}

@@ -1,0 +1,180 @@
+-- The parts of services that stand on folders, and what each call of their maker does.
+use Rattle.std.specs.Prelude.{◌≡◌, ◌≢◌, ◌<◌, ◌⊎◌, ⊤, ℕ, Bool, true, false, List, [], ◌∷◌, ◌++◌, codes, length}
+use Rattle.std.specs.Prelude.{remove, slice_index_or, Option, Some, None, is_none, MatchOption}
+use Rattle.std.specs.List.{All}
+use Rattle.std.specs.declared.io.PipeReader.{PipeReader}
+use Rattle.std.specs.declared.io.PipeWriter.{PipeWriter}
+use Rattle.scan_table.specs.declared.part.PartId.{PartId}
+use Rattle.scan_table.specs.declared.part.Role.{Role}
+use Rattle.scan_table.specs.declared.part.Role.TheVariants.{Main, Log}
+use Rattle.svc_house.specs.Calls.{Grew}
+use Rattle.svc_world.specs.declared.folder.FolderFault.TheVariants.{Locked}
+use Rattle.svc_maker.specs.Deeds.{Deed, MadePipe, Opened, MadeWorld, Admitted, Dismissed, KeptTrace}
+use Rattle.svc_maker.specs.Pipes.{pipes_of, pipes_without, input_of, output_of}
+use Rattle.svc_maker.specs.declared.pipes.PairOutlets.{PairOutlets}
+use Rattle.svc_maker.specs.declared.pipes.PairPipes.{PairPipes}
+use Rattle.svc_maker.specs.declared.set_up.Miss.{Miss}
+use Rattle.svc_maker.specs.declared.set_up.Miss.TheVariants as miss
+
+-- A part that stands, and the path by which its folder was opened.
+pub record Holding : Type 0 where
+  pub part : PartId
+  pub path : List ℕ
+
+-- What a maker knows: what it asked of the machine, where that is kept; the path of the folder that is scanned; the
+-- parts that stand, in the order of their making; the pipes of the slots that are pairs; and the names that were found
+-- locked since they were last told.
+pub record Making : Type 0 where
+  pub deeds : Option (List Deed)
+  pub folder : List ℕ
+  pub held : List Holding
+  pub pipes : List PairPipes
+  pub locked : List (List ℕ)
+
+-- Parts
+
+-- what stands behind the name of a service in the path of a part: a logger is the service in its folder `log`
+abbrev pub behind : Role → List ℕ
+behind Main = []
+behind Log = codes "/log"
+
+-- a part's name, as it is told
+abbrev pub part_name : (name : List ℕ) → Role → List ℕ
+part_name name role = name ++ behind role
+
+-- the path of a part's folder
+abbrev pub part_path : (folder name : List ℕ) → Role → List ℕ
+part_path folder name role = folder ++ (47 ∷ part_name name role)
+
+-- What a part is set up with: the path of its folder, the name by which it is told, its number at the door, and the
+-- ends of pipes that its children have as standard input and output.
+pub record Plan : Type 0 where
+  pub path : List ℕ
+  pub name : List ℕ
+  pub number : ℕ
+  pub input : Option PipeReader
+  pub output : Option PipeWriter
+
+-- a part is admitted under the number of its life, and its children have the pipes of its slot
+abbrev pub plan_at : (path name : List ℕ) → PartId → List PairPipes → Plan
+plan_at path name part pipes = record {
+  path = path;
+  name = name;
+  number = part.life;
+  input = input_of part.role (pipes_of part.slot pipes);
+  output = output_of part.role (pipes_of part.slot pipes);
+}
+
+-- the plan for a part of the service of this name
+abbrev pub plan_of : Making → (name : List ℕ) → PartId → Plan
+plan_of making name part =
+    plan_at (part_path making.folder name part.role) (part_name name part.role) part making.pipes
+
+-- How a part is set up: its folder is opened, its world is made, and it is admitted to the door. Where one of these
+-- fails, the next is not tried; one that was not admitted is dismissed, with its sockets; and for want of memory none
+-- is tried at all.
+abbrev pub deeds_of : Option Miss → Plan → List Deed
+deeds_of None plan =
+    Opened plan.path None ∷ MadeWorld plan.path plan.name plan.input plan.output true
+    ∷ Admitted plan.number plan.path true ∷ []
+deeds_of (Some miss.NoRoom) plan = []
+deeds_of (Some (miss.Unopened fault)) plan = Opened plan.path (Some fault) ∷ []
+deeds_of (Some miss.NoWorld) plan =
+    Opened plan.path None ∷ MadeWorld plan.path plan.name plan.input plan.output false ∷ []
+deeds_of (Some miss.NotAdmitted) plan =
+    Opened plan.path None ∷ MadeWorld plan.path plan.name plan.input plan.output true
+    ∷ Admitted plan.number plan.path false ∷ Dismissed plan.number plan.path ∷ []
+
+-- the parts that stand, after this one was set up or missed
+abbrev pub held_after : Option Miss → Holding → List Holding → List Holding
+held_after None holding held = held ++ holding ∷ []
+held_after (Some miss) holding held = held
+
+-- the names found locked, after this one was set up or missed
+abbrev pub locked_after : Option Miss → (name : List ℕ) → List (List ℕ) → List (List ℕ)
+locked_after (Some (miss.Unopened Locked)) name locked = locked ++ name ∷ []
+locked_after missed name locked = locked
+
+-- A part of the service of this name was set up or missed, in the folder of its role. It stands where it was set up; a
+-- name that was found locked is noted; nothing else changed.
+pub record SetsUp (name : List ℕ) (part : PartId) (missed : Option Miss) (old new : Making) : Type 0 where
+  pub deeds : Grew old.deeds new.deeds (deeds_of missed (plan_of old name part))
+  pub stands : new ≡ record old {
+    deeds = new.deeds;
+    held = held_after missed (record { part = part; path = part_path old.folder name part.role }) old.held;
+    locked = locked_after missed (part_name name part.role) old.locked;
+  }
+
+-- A part was to be made. It stands exactly where it was set up.
+pub record MakesPart (name : List ℕ) (part : PartId) (stands : Bool) (old new : Making) : Type 0 where
+  pub missed : Option Miss
+  pub answer : stands ≡ is_none missed
+  pub sets_up : SetsUp name part missed old new
+
+-- Pairs
+
+-- The pipes of a pair were made: what the service writes is read at this end, and what this outlet takes the logger
+-- reads. They stand in the place of those that the slot had.
+pub record JoinsPair (slot : ℕ) (read : PipeReader) (outlets : PairOutlets) (old new : Making) : Type 0 where
+  pub output : PipeWriter
+  pub input : PipeReader
+  pub written : PipeWriter
+  pub outlet : outlets.outlet ≡ Some written
+  pub deeds : Grew old.deeds new.deeds (MadePipe (Some (read, output)) ∷ MadePipe (Some (input, written)) ∷ [])
+  pub stands : new ≡ record old {
+    deeds = new.deeds;
+    pipes = pipes_without slot old.pipes ++ record { slot = slot; output = output; input = input } ∷ [];
+  }
+
+-- Two pipes were missed: for want of memory none was tried, or the first or the second one was refused.
+abbrev pub AreMissed : List Deed → Type 0
+AreMissed [] = ⊤
+AreMissed (MadePipe None ∷ []) = ⊤
+AreMissed (MadePipe (Some ends) ∷ MadePipe None ∷ []) = ⊤
+AreMissed deeds = ⊥
+
+-- The pipes of a pair were missed, and nothing else came of it: a pipe that was made is let go.
+pub record MissesPair (old new : Making) : Type 0 where
+  pub tried : List Deed
+  pub missed : AreMissed tried
+  pub deeds : Grew old.deeds new.deeds tried
+  pub stands : new ≡ record old { deeds = new.deeds }
+
+-- The pipes of a pair were to be made.
+abbrev pub MakesPair : (slot : ℕ) → Option (PipeReader × PairOutlets) → (old new : Making) → Type 0
+MakesPair slot made old new =
+    MatchOption made (MissesPair old new) (λ ends. JoinsPair slot ends.0 ends.1 old new)
+
+-- Traces and ends
+
+-- No such part stands.
+abbrev pub IsNowhere : PartId → List Holding → Type 0
+IsNowhere part held = All (λ (holding : Holding). holding.part ≢ part) held
+
+-- At this place stands the part.
+pub record IsPlace (part : PartId) (held : List Holding) (place : ℕ) : Type 0 where
+  pub within : place < length held
+  pub here : (d : Holding) → (slice_index_or held place d).part ≡ part
+
+-- A part that stands ended: it is dismissed, once, and stands no more.
+pub record Dismisses (part : PartId) (old new : Making) : Type 0 where
+  pub place : ℕ
+  pub is_place : IsPlace part old.held place
+  pub deeds : (d : Holding) →
+      Grew old.deeds new.deeds (Dismissed part.life (slice_index_or old.held place d).path ∷ [])
+  pub stands : new ≡ record old { deeds = new.deeds; held = remove old.held place }
+
+-- A part ended. Of one that does not stand nothing is asked.
+abbrev pub EndsPart : PartId → (old new : Making) → Type 0
+EndsPart part old new = (IsNowhere part old.held × (new ≡ old)) ⊎ Dismisses part old new
+
+-- The trace of a part that stands is kept in its folder, once.
+pub record Keeps (part : PartId) (text : List ℕ) (old new : Making) : Type 0 where
+  pub place : ℕ
+  pub is_place : IsPlace part old.held place
+  pub deeds : (d : Holding) → Grew old.deeds new.deeds (KeptTrace (slice_index_or old.held place d).path text ∷ [])
+  pub stands : new ≡ record old { deeds = new.deeds }
+
+-- A trace is to be kept. Of a part that does not stand none is.
+abbrev pub KeepsTrace : PartId → (text : List ℕ) → (old new : Making) → Type 0
+KeepsTrace part text old new = (IsNowhere part old.held × (new ≡ old)) ⊎ Keeps part text old new

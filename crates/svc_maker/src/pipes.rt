@@ -1,0 +1,84 @@
+//! The pipes between a service and its logger.
+//!
+//! A pair has two, and both live as long as its slot. What the service writes, in all its lives, is read from the
+//! first; what all lives of the logger read is written to the second. So what a logger that died had not read waits for
+//! the next one.
+ghost use Rattle.std.specs.Prelude.{◌≡◌, ◌≤◌, option_copied, vec_capacity, vec_len};
+ghost use Rattle.svc_maker.specs.Pipes.{input_of, output_of, pipes_of, pipes_without};
+
+use scan_table::Role;
+use std::io::{PipeReader, PipeWriter};
+use svc_host::Outlets;
+use tai_status::{Counted, Output};
+
+/// The ends of a pair's pipes that its children get.
+#[derive(Drop)]
+pub(crate) struct PairPipes {
+    pub(crate) slot: u64,
+    /// Standard output of the service.
+    pub(crate) output: PipeWriter,
+    /// Standard input of its logger.
+    pub(crate) input: PipeReader,
+}
+
+/// The input of a pair's logger: one pipe for all its lives.
+#[derive(Drop)]
+pub struct PairOutlets {
+    pub(crate) outlet: Option<PipeWriter>,
+}
+
+impl Outlets<Output<PipeWriter>> for PairOutlets {
+    ghost use Rattle.std.specs.Prelude.{◌≡◌, None, is_some};
+
+    /// The pipe, once.
+    fn next(&mut self) -> Option<Output<PipeWriter>>
+        ensures there { is_some result ≡ is_some self.old.outlet }
+        ensures once { self.new.outlet ≡ None }
+    {
+        match self.outlet.take() {
+            Some(outlet) => Some(Counted::new(outlet)),
+            None => None,
+        }
+    }
+}
+
+/// The pipes of a slot, where it is a pair.
+pub(crate) fn pipes_of(pipes: &[PairPipes], slot: u64) -> Option<&PairPipes>
+    ensures { option_copied result ≡ pipes_of slot pipes.now }
+{
+    for pair in pipes {
+        if pair.slot == slot {
+            return Some(pair);
+        }
+    }
+    None
+}
+
+/// Lets the pipes of a slot go.
+pub(crate) fn leave_pipes(pipes: &mut Vec<PairPipes>, slot: u64)
+    ensures pipes { pipes.new.items ≡ pipes_without slot pipes.old.items }
+    ensures fewer { vec_len pipes.new ≤ vec_len pipes.old }
+    ensures room { vec_capacity pipes.new ≡ vec_capacity pipes.old }
+{
+    pipes.retain(|pair| pair.slot != slot);
+}
+
+/// What the children of a part have as standard input. None: svscan's own.
+pub(crate) fn input_of(pair: Option<&PairPipes>, role: Role) -> Option<&PipeReader>
+    ensures { option_copied result ≡ input_of role (option_copied pair.entry) }
+{
+    match (role, pair) {
+        (Role::Log, Some(pair)) => Some(&pair.input),
+        _ => None,
+    }
+}
+
+/// What the children of a part have as standard output. None: svscan's own.
+pub(crate) fn output_of(pair: Option<&PairPipes>, role: Role) -> Option<&PipeWriter>
+    ensures { option_copied result ≡ output_of role (option_copied pair.entry) }
+{
+    match (role, pair) {
+        (Role::Main, Some(pair)) => Some(&pair.output),
+        _ => None,
+    }
+}

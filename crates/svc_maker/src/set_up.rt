@@ -1,0 +1,103 @@
+//! How a part is set up.
+ghost use Rattle.std.specs.Prelude.{◌≡◌, ◌≢◌, ◌++◌, ◌∷◌, [], Some, string_bytes, IfOk};
+ghost use Rattle.std.specs.Result.{result_err};
+ghost use Rattle.svc_maker.specs.declared.set_up.Miss.{Miss};
+ghost use Rattle.svc_host.specs.Answers.{answered};
+ghost use Rattle.svc_house.specs.Calls.{Grew};
+ghost use Rattle.svc_maker.specs.Making.{behind, deeds_of, part_name, plan_at};
+
+use crate::held::HeldFolder;
+use crate::pipes::{PairPipes, input_of, output_of, pipes_of};
+use crate::site::Site;
+use scan_table::{PartId, Role};
+use std::alloc::{AllocError, Global};
+use std::sync::Arc;
+use svc_house::{Bell, Caller};
+use svc_world::FolderFault;
+
+/// Why a part was not set up.
+#[derive(Clone, Copy, Debug, PartialEq, Eq)]
+pub(crate) enum Miss {
+    /// There was no memory. Nothing was asked.
+    NoRoom,
+    /// Its folder was not opened.
+    Unopened(FolderFault),
+    /// Its world was not made.
+    NoWorld,
+    /// It was not admitted to the door.
+    NotAdmitted,
+}
+
+/// What a part that was set up has.
+#[derive(Drop)]
+pub(crate) struct Setting<S: Site> {
+    pub(crate) folder: S::Folder,
+    pub(crate) world: S::World,
+    pub(crate) attendant: S::Attendant,
+}
+
+/// What stands behind the name of a service in the path of a part.
+pub(crate) fn behind(role: Role) -> &'static str
+    ensures { result.now ≡ behind role }
+{
+    match role {
+        Role::Main => "",
+        Role::Log => "/log",
+    }
+}
+
+/// A part's name, as it is told.
+pub(crate) fn part_name(alloc: Global, name: &str, role: Role) -> Result<String, AllocError>
+    ensures { IfOk result (λ text. string_bytes text ≡ part_name name.now role) }
+{
+    let mut text = String::from_str(alloc, name)?;
+    text.push_str(behind(role))?;
+    Ok(text)
+}
+
+/// The path of a part's folder.
+pub(crate) fn part_path(alloc: Global, folder: &str, name: &str) -> Result<String, AllocError>
+    ensures { IfOk result (λ text. string_bytes text ≡ folder.now ++ (47 ∷ name.now)) }
+{
+    let mut text = String::from_str(alloc, folder)?;
+    text.push_str("/")?;
+    text.push_str(name)?;
+    Ok(text)
+}
+
+/// Sets a part up: its folder is opened, its world is made, and it is admitted to the door.
+pub(crate) fn set_up<S: Site>(
+    site: &mut S,
+    path: String,
+    name: &str,
+    part: PartId,
+    pipes: &[PairPipes],
+    caller: Caller,
+    bell: Arc<Bell, Global>,
+) -> Result<Setting<S>, Miss>
+    ensures deeds { Grew (S.deeds site.old) (S.deeds site.new)
+        (deeds_of (result_err result) (plan_at (string_bytes path) name.now part pipes.now)) }
+    ensures path { IfOk result (λ setting. S.Folder.path setting.folder ≡ string_bytes path) }
+    ensures fresh { IfOk result (λ setting. answered (S.World.calls setting.world) ≡ []) }
+    ensures asked { result_err result ≢ Some Miss.NoRoom }
+{
+    let folder = match site.open(path) {
+        Ok(folder) => folder,
+        Err(fault) => return Err(Miss::Unopened(fault)),
+    };
+    let pair = pipes_of(pipes, part.slot);
+    let input = input_of(pair, part.role);
+    let output = output_of(pair, part.role);
+    let Some((world, attendant)) = site.world(&folder, name, input, output, bell) else {
+        return Err(Miss::NoWorld);
+    };
+    if !site.admit(part.life, &folder, caller) {
+        site.dismiss(part.life, &folder);
+        return Err(Miss::NotAdmitted);
+    }
+    Ok(Setting {
+        folder,
+        world,
+        attendant,
+    })
+}

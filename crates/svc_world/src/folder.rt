@@ -1,0 +1,285 @@
+//! The folder of a service on this machine.
+ghost use Rattle.std.specs.Prelude.{◌≡◌, ◌≤◌, length};
+ghost use Rattle.svc_world.specs.Commands.{path_by_descriptor, path_of_process, process_in};
+
+use arrayvec::{ArrayString, ArrayVec};
+use cmd_base::push_number;
+use mio::net::UnixListener;
+use std::fs::{DirBuilder, File, Files, OpenOptions, Permissions, TryLockError};
+use std::io::{Error, ErrorKind, Read, Write};
+use std::net::Net;
+use std::os::fd::AsRawFd;
+use std::os::unix::fs::{DirBuilderExt, MetadataExt, OpenOptionsExt, PermissionsExt};
+use std::{fs, io};
+use tai_status::decode;
+use thiserror::Error;
+
+/// The modes of what is made, whatever the umask.
+const FOLDER_MODE: u32 = 0o700;
+
+const FILE_MODE: u32 = 0o600;
+
+/// How long the path of a name in a folder is at most, by descriptor.
+const PATH_BYTES: usize = 64;
+
+/// How many bytes of a status file are read at most.
+const STATUS_FRONT: usize = 19;
+
+/// The first bytes of a status file.
+type StatusFront = ArrayVec<u8, STATUS_FRONT>;
+
+/// A path by descriptor.
+pub(crate) type ShortPath = ArrayString<PATH_BYTES>;
+
+/// Why a folder is not held.
+#[derive(Clone, Copy, Debug, PartialEq, Eq, Error)]
+pub enum FolderFault {
+    /// Its lock is held elsewhere.
+    #[error("unable to lock")]
+    Locked,
+    /// It is no folder, or something in it could not be opened or made.
+    #[error("unable to open")]
+    NotOpened,
+}
+
+/// The folder of a service, with its lock. It is held by descriptor, so that it is reached whatever becomes of its
+/// path, and however long that is. It tells contracts nothing.
+///
+/// It has the runtime itself for its files, and not a type parameter, so that it may be used in any thread.
+#[derive(Drop)]
+pub struct ServiceFolder {
+    files: HostRuntime,
+    service: File,
+    _lock: File,
+}
+
+/// The path of a name in the folder that is open under a descriptor.
+fn path_by_descriptor(descriptor: u32, name: &str) -> ShortPath
+    requires { length name.now ≤ 23 }
+    ensures { result.bytes ≡ path_by_descriptor descriptor name.now }
+{
+    let mut path = ArrayString::new();
+    path.push_str("/proc/self/fd/");
+    push_number(&mut path, u64::from(descriptor));
+    path.push_str("/");
+    path.push_str(name);
+    path
+}
+
+/// The path of a name in an open folder.
+fn path_in(folder: &File, name: &str) -> ShortPath
+    requires { length name.now ≤ 23 }
+{
+    path_by_descriptor(folder.as_raw_fd().unsigned_abs(), name)
+}
+
+/// The path that leads to the folder that a process is in.
+fn path_of_process(pid: u32) -> ShortPath
+    ensures { result.bytes ≡ path_of_process pid }
+{
+    let mut path = ArrayString::new();
+    path.push_str("/proc/");
+    push_number(&mut path, u64::from(pid));
+    path.push_str("/cwd");
+    path
+}
+
+/// Opens a folder.
+fn open_folder<R: Files<File = File>>(runtime: &R, path: &str) -> io::Result<File> {
+    if !fs::metadata(runtime, path)?.is_dir() {
+        return Err(Error::from(ErrorKind::NotADirectory));
+    }
+    fs::open(runtime, path)
+}
+
+/// Makes a folder that is its owner's alone. One that is there becomes so.
+fn make_private<R: Files<File = File>>(runtime: &R, path: &str) -> io::Result<()> {
+    let mut how = DirBuilder::new();
+    how.mode(FOLDER_MODE);
+    match how.create(runtime, path) {
+        Ok(()) => {}
+        Err(fault) if fault.kind() == ErrorKind::AlreadyExists => {}
+        Err(fault) => return Err(fault),
+    }
+    fs::set_permissions(runtime, path, Permissions::from_mode(FOLDER_MODE))
+}
+
+/// Opens a file for appending, which is its owner's alone, and makes it where it is missing.
+fn open_lock<R: Files<File = File>>(runtime: &R, path: &str) -> io::Result<File> {
+    let mut how = OpenOptions::new();
+    how.append(true).create(true).mode(FILE_MODE);
+    let file = how.open(runtime, path)?;
+    file.set_permissions(Permissions::from_mode(FILE_MODE))?;
+    Ok(file)
+}
+
+/// Makes a file of this content, which is its owner's alone.
+fn write_private<R: Files<File = File>>(runtime: &R, path: &str, content: &[u8]) -> io::Result<()> {
+    let mut how = OpenOptions::new();
+    how.write(true).create(true).truncate(true).mode(FILE_MODE);
+    let mut file = how.open(runtime, path)?;
+    file.set_permissions(Permissions::from_mode(FILE_MODE))?;
+    file.write_all(content)
+}
+
+/// Removes a file, where it is there.
+fn remove<R: Files<File = File>>(runtime: &R, path: &str) -> io::Result<()> {
+    match fs::remove_file(runtime, path) {
+        Err(fault) if fault.kind() != ErrorKind::NotFound => Err(fault),
+        _ => Ok(()),
+    }
+}
+
+/// The first bytes of a file, one more than a record has at most, which tells a longer file.
+fn read_front<R: Files<File = File>>(runtime: &R, path: &str) -> io::Result<StatusFront> {
+    if !fs::metadata(runtime, path)?.is_file() {
+        return Err(Error::from(ErrorKind::InvalidInput));
+    }
+    let mut bytes = StatusFront::new();
+    io::copy(
+        &mut fs::open(runtime, path)?.take(STATUS_FRONT as u64),
+        &mut bytes,
+    )?;
+    Ok(bytes)
+}
+
+/// The process that a status record names. None where it names none, or these bytes are no record.
+fn process_in(bytes: &[u8]) -> Option<u32>
+    ensures { result ≡ process_in bytes.now }
+{
+    match decode(bytes) {
+        Ok(view) if view.pid > 0 => Some(view.pid),
+        _ => None,
+    }
+}
+
+impl ServiceFolder {
+    /// Opens the folder at a path, makes its folder `supervise`, and takes the lock in that, without waiting for
+    /// another that has it. The lock is held until this is let go.
+    pub fn open(files: HostRuntime, path: &str) -> Result<ServiceFolder, FolderFault> {
+        let Ok(service) = open_folder(&files, path) else {
+            return Err(FolderFault::NotOpened);
+        };
+        if make_private(&files, path_in(&service, "supervise").as_str()).is_err() {
+            return Err(FolderFault::NotOpened);
+        }
+        let Ok(lock) = open_lock(&files, path_in(&service, "supervise/lock").as_str()) else {
+            return Err(FolderFault::NotOpened);
+        };
+        match lock.try_lock() {
+            Ok(()) => Ok(ServiceFolder {
+                files,
+                service,
+                _lock: lock,
+            }),
+            Err(TryLockError::WouldBlock) => Err(FolderFault::Locked),
+            Err(TryLockError::Error(_)) => Err(FolderFault::NotOpened),
+        }
+    }
+
+    /// The path of a name in the folder, which holds in this process and in its children as they start.
+    pub(crate) fn path(&self, name: &str) -> ShortPath
+        requires { length name.now ≤ 23 }
+    {
+        path_in(&self.service, name)
+    }
+
+    /// Listens at a socket of this name. An old file of the name is removed first.
+    fn listen<R: Files + Net>(&self, rt: &R, name: &str) -> io::Result<UnixListener>
+        requires { length name.now ≤ 23 }
+    {
+        let path = self.path(name);
+        remove(&self.files, path.as_str())?;
+        let listener = UnixListener::bind(rt, path.as_str())?;
+        fs::set_permissions(
+            &self.files,
+            path.as_str(),
+            Permissions::from_mode(FILE_MODE),
+        )?;
+        Ok(listener)
+    }
+
+    /// Listens at the socket that takes control bytes.
+    pub fn control<R: Files + Net>(&self, rt: &R) -> io::Result<UnixListener> {
+        self.listen(rt, "supervise/control")
+    }
+
+    /// Listens at the socket that tells that the service is supervised.
+    pub fn ok<R: Files + Net>(&self, rt: &R) -> io::Result<UnixListener> {
+        self.listen(rt, "supervise/ok")
+    }
+
+    /// Removes both sockets, where they are there.
+    pub fn remove_sockets(&self) -> io::Result<()> {
+        let control = remove(&self.files, self.path("supervise/control").as_str());
+        let ok = remove(&self.files, self.path("supervise/ok").as_str());
+        control.and(ok)
+    }
+
+    /// Puts this content in the place of a file, as a whole.
+    fn replace(&self, file: &str, new: &str, content: &[u8]) -> io::Result<()>
+        requires file { length file.now ≤ 23 }
+        requires new { length new.now ≤ 23 }
+    {
+        let new = self.path(new);
+        write_private(&self.files, new.as_str(), content)?;
+        fs::rename(&self.files, new.as_str(), self.path(file).as_str())
+    }
+
+    /// Puts these bytes in the place of the status record. After a fault the old ones stand there.
+    pub fn replace_status(&self, bytes: &[u8; 18]) -> io::Result<()> {
+        self.replace("supervise/status", "supervise/status.new", bytes)
+    }
+
+    /// Puts this text in the place of the trace. After a fault the old one stands there.
+    pub fn replace_trace(&self, text: &[u8]) -> io::Result<()> {
+        self.replace("supervise/trace", "supervise/trace.new", text)
+    }
+
+    /// The process that the record in a file names, while it runs in this folder, with that record.
+    fn process_of(&self, file: &str) -> Option<(u32, StatusFront)>
+        requires { length file.now ≤ 23 }
+    {
+        let record = read_front(&self.files, self.path(file).as_str()).ok()?;
+        let pid = process_in(record.as_slice())?;
+        if self.is_running(pid) {
+            Some((pid, record))
+        } else {
+            None
+        }
+    }
+
+    /// The process that an earlier svscan left running in this folder. The status record that stands there names it.
+    /// Since that record is soon replaced, a copy is kept as `supervise/earlier` while the process runs, and names it
+    /// to the next svscan too. None where no such process runs.
+    pub fn earlier(&self) -> Option<u32> {
+        if let Some((pid, _kept)) = self.process_of("supervise/earlier") {
+            return Some(pid);
+        }
+        match self.process_of("supervise/status") {
+            Some((pid, record)) => {
+                let _ = self.replace(
+                    "supervise/earlier",
+                    "supervise/earlier.new",
+                    record.as_slice(),
+                );
+                Some(pid)
+            }
+            None => {
+                let _ = remove(&self.files, self.path("supervise/earlier").as_str());
+                None
+            }
+        }
+    }
+
+    /// Whether a process runs in this folder.
+    pub fn is_running(&self, pid: u32) -> bool {
+        match (
+            fs::metadata(&self.files, path_of_process(pid).as_str()),
+            self.service.metadata(),
+        ) {
+            (Ok(there), Ok(here)) => there.dev() == here.dev() && there.ino() == here.ino(),
+            _ => false,
+        }
+    }
+}

@@ -1,0 +1,188 @@
+//! The world of one service, over its children.
+ghost use Rattle.std.specs.Prelude.{◌≡◌, ◌<◌, IfSome};
+ghost use Rattle.svc_house.specs.Calls.{IsAnswer};
+ghost use Rattle.svc_world.specs.Watch.{answer_of, child_of};
+
+use crate::begin::{Begin, LastChild};
+use crate::children::Children;
+use std::marker::Model;
+use sup_core::Sig;
+use svc_house::{StartAnswer, World};
+use tai_status::Label;
+
+/// The world of one service. Contracts see it as `Watch` (specs/Watch).
+///
+/// A service that an earlier svscan left running is not started a second time, and a signal goes to the child that was
+/// made last, while its death is not known. A status record that can't be written is counted, and the service goes on.
+#[derive(Drop)]
+pub struct ChildWorld<C: Children + Drop> {
+    children: C,
+    earlier: Option<u32>,
+    answer: Option<StartAnswer>,
+    child: LastChild,
+    unwritten: u64,
+}
+
+impl<C: Children + Drop> Model for ChildWorld<C> {
+    ghost use Rattle.std.specs.Option.{ForSome};
+    ghost use Rattle.svc_house.specs.Calls.{IsAnswer};
+    ghost use Rattle.svc_world.specs.Watch.{Watch};
+
+    ghost Value = { Watch };
+
+    ghost view = { λ w. record {
+      deeds = C.deeds w.children;
+      earlier = w.earlier;
+      answer = w.answer;
+      child = w.child;
+      unwritten = w.unwritten;
+    } };
+
+    ghost invariant = { λ w. ForSome w.answer IsAnswer };
+}
+
+/// How a start ended that made this child, or none.
+fn answer_of(child: Option<u32>, label: Label) -> StartAnswer
+    requires { IfSome child (λ pid. 0 < pid) }
+    ensures answer { result ≡ answer_of child label }
+    ensures process { IsAnswer result }
+{
+    match child {
+        Some(pid) => StartAnswer::Started { pid, label },
+        None => StartAnswer::Failed { label },
+    }
+}
+
+/// The child that was spawned last, after a start that made this one, or none.
+fn child_of(child: Option<u32>) -> LastChild
+    ensures { result ≡ child_of child }
+{
+    match child {
+        Some(pid) => LastChild::Alive(pid),
+        None => LastChild::Gone,
+    }
+}
+
+impl<C: Children + Drop> ChildWorld<C> {
+    ghost use Rattle.std.specs.Prelude.{◌≡◌, ◌++◌, Bool, None};
+    ghost use Rattle.svc_house.specs.Calls.{Grew};
+    ghost use Rattle.svc_world.specs.declared.begin.LastChild.TheVariants.{Gone};
+    ghost use Rattle.svc_world.specs.Watch.{Watch, search_for, begin_beside, left_of};
+
+    /// The world over these children. `earlier` is the process that the status record names which was found at the
+    /// opening, if it names one.
+    pub fn new(children: C, earlier: Option<u32>) -> ChildWorld<C>
+        ensures { result ≡ record {
+          deeds = C.deeds children;
+          earlier = earlier;
+          answer = None;
+          child = Gone;
+          unwritten = 0;
+        } }
+    {
+        ChildWorld {
+            children,
+            earlier,
+            answer: None,
+            child: LastChild::Gone,
+            unwritten: 0,
+        }
+    }
+
+    /// How many status records could not be written. The count stands still at its end.
+    pub fn unwritten(&self) -> u64
+        ensures { result ≡ self.now.unwritten }
+    {
+        self.unwritten
+    }
+
+    // How a start is to be begun.
+    fn begin(&mut self) -> Begin
+        ensures { (runs : Bool) × Grew self.old.deeds self.new.deeds (search_for self.old.earlier runs)
+            × (result ≡ begin_beside self.old.earlier runs)
+            × (self.new ≡ record self.old { deeds = self.new.deeds; earlier = left_of self.old.earlier runs }) }
+    {
+        match self.earlier {
+            None => Begin::Run,
+            Some(pid) if self.children.is_running(pid) => Begin::StillRuns(pid),
+            Some(_gone) => {
+                self.earlier = None;
+                Begin::Run
+            }
+        }
+    }
+}
+
+impl<C: Children + Drop> World for ChildWorld<C> {
+    ghost use Rattle.std.specs.Prelude.{◌≡◌, ◌≢◌, ◌<◌, None, IfSome};
+    ghost use Rattle.svc_house.specs.Calls.{IsAnswer};
+    ghost use Rattle.svc_world.specs.declared.begin.LastChild.TheVariants.{Alive};
+    ghost use Rattle.svc_world.specs.Watch.{Watch, Starts, SignalsChild, PollsDeath, Records, ReadsClock};
+
+    /// Sends a signal to the child that was spawned last and whose death is not known. Its death is sought just before,
+    /// and one that is found keeps the signal back. To any other process nothing is sent.
+    fn signal(&mut self, sig: Sig, pid: u32)
+        requires { 0 < pid }
+        ensures child { self.old.child ≡ Alive pid → SignalsChild sig pid self.old self.new }
+        ensures other { self.old.child ≢ Alive pid → self.new ≡ self.old }
+    {
+        if !matches!(self.child, LastChild::Alive(number) if number == pid) {
+            return;
+        }
+        match self.children.death() {
+            Some(label) => self.child = LastChild::Dead(label),
+            None => self.children.signal(sig, pid),
+        }
+    }
+
+    /// Spawns a child, once. While a process of an earlier svscan still runs, it is one that says so and fails. The
+    /// clock is read just before, so that no child dies before its start, as long as the clock is not set back.
+    fn start(&mut self)
+        ensures { Starts self.old self.new }
+    {
+        let begin = self.begin();
+        let label = self.children.now();
+        let child = self.children.spawn(begin);
+        self.answer = Some(answer_of(child, label));
+        self.child = child_of(child);
+    }
+
+    /// Replaces the status record.
+    fn write(&mut self, bytes: &[u8; 18])
+        ensures { Records bytes.now self.old self.new }
+    {
+        if self.children.replace_status(bytes).is_err() {
+            self.unwritten = self.unwritten.saturating_add(1);
+        }
+    }
+
+    /// How the last start ended. It is told once.
+    fn poll_start(&mut self) -> Option<StartAnswer>
+        ensures told { result ≡ self.old.answer }
+        ensures once { self.new ≡ record self.old { answer = None } }
+        ensures process { IfSome result IsAnswer }
+    {
+        self.answer.take()
+    }
+
+    /// When the child that was spawned last died, once it has. It is told once.
+    fn poll_death(&mut self) -> Option<Label>
+        ensures { PollsDeath self.old.child result self.old self.new }
+    {
+        let death = match self.child {
+            LastChild::Alive(_) => self.children.death(),
+            LastChild::Gone | LastChild::Dead(_) => self.child.untold(),
+        };
+        if death.is_some() {
+            self.child = LastChild::Gone;
+        }
+        death
+    }
+
+    /// The time.
+    fn clock(&mut self) -> Label
+        ensures { ReadsClock result self.old self.new }
+    {
+        self.children.now()
+    }
+}

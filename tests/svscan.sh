@@ -1,0 +1,989 @@
+#!/usr/bin/env bash
+# What no contract can say of svscan: that real services in real folders are started, kept, told, logged and ended. Runs
+# the program that the first word names over folders of its own, a scenario for each matter and all side by side, prints
+# each check that fails, and ends with how many did not. The wanted values are those of the daemontools pages and of
+# docs/FORMATS.md. It needs python3, for clients that send what svc never does.
+set -u
+program=$(realpath "$1")
+command -v python3 >/dev/null || { echo 'svscan: python3 is missing'; exit 1; }
+room=$(realpath "$(mktemp -d)")
+cd "$room" || exit 1
+export LC_ALL=C
+umask 022
+checked=0
+failed=0
+under=()
+
+# Kills what the svscans of a scenario started: each of them with its services is a process group, and so is a scenario.
+# The numbers of the groups stand in a file.
+kill_groups() {
+  local group
+  while read -r group; do kill -KILL -- "-$group" 2>/dev/null; done <"$1"
+}
+
+leave() {
+  local list mount
+  for list in "$room"/*.groups; do [ -e "$list" ] && kill_groups "$list"; done
+  for list in "$room"/*.mounts; do
+    [ -e "$list" ] && while read -r mount; do umount "$mount" 2>/dev/null; done <"$list"
+  done
+  for _ in 1 2 3 4 5; do rm -rf "$room" 2>/dev/null && break; sleep 0.2; done
+}
+trap leave EXIT
+trap 'exit 1' INT TERM HUP
+
+# is NAME WANTED GOT
+is() {
+  checked=$((checked + 1))
+  [ "$2" = "$3" ] && return
+  failed=$((failed + 1))
+  printf 'FAILED %s: %s\n  wanted %q\n  got    %q\n' "${scenario:-svscan}" "$1" "$2" "$3"
+}
+
+# until_true SECONDS COMMAND..: tries the command each 50 ms, until it succeeds or the time is over
+until_true() {
+  local end=$((${EPOCHREALTIME/[.,]/} + $1 * 1000000))
+  shift
+  until "$@"; do
+    [ "${EPOCHREALTIME/[.,]/}" -lt "$end" ] || return 1
+    sleep 0.05
+  done
+}
+
+# so NAME COMMAND..: the command succeeds
+so() {
+  local name=$1
+  shift
+  is "$name ($*)" yes "$("$@" >/dev/null 2>&1 && echo yes)"
+}
+
+# soon NAME SECONDS COMMAND..: the command succeeds within that time
+soon() {
+  local name=$1 seconds=$2
+  shift 2
+  is "$name (within $seconds s: $*)" yes "$(until_true "$seconds" "$@" >/dev/null 2>&1 && echo yes)"
+}
+
+# lies NAME LEAST MOST GOT: a number lies between two others
+lies() {
+  is "$1: $4 in $2 to $3" yes "$([ "$2" -le "$4" ] && [ "$4" -le "$3" ] && echo yes)"
+}
+
+not() {
+  ! "$@"
+}
+
+# ended NAME STATUS TOLD WORDS..: svscan with these words ends by itself, with this status, and tells this
+ended() {
+  local name=$1 status=$2 told=$3
+  shift 3
+  timeout -k 1 30 "$program" svscan "$@" >ended.out 2>ended.told </dev/null
+  is "$name: status" "$status" "$?"
+  is "$name: told" "$told" "$(cat ended.told)"
+  is "$name: printed" '' "$(cat ended.out)"
+}
+
+# start TOLD WORDS..: starts svscan with these words, by the command `under` if there is one. What it tells is added to
+# the file TOLD, and its number is left in svscan. By job control it gets a process group of its own, which has the
+# signals as they are by default.
+start() {
+  local told=$1
+  shift
+  set -m
+  "${under[@]}" "$program" svscan "$@" </dev/null >>"$told.out" 2>>"$told" &
+  svscan=$!
+  disown
+  set +m
+  echo "$svscan" >>"$room/$scenario.groups"
+}
+
+# service FOLDER: makes a service, whose run is a script of sh from standard input. The folder appears with all it has:
+# svscan passes over names that begin with a dot.
+service() {
+  local made
+  made=$(dirname "$1")/.made
+  mkdir -p "$made"
+  { echo '#!/bin/sh'; cat; } >"$made/run"
+  chmod 755 "$made/run"
+  mv "$made" "$1"
+}
+
+# sleeper FOLDER: a service that notes each start with its number, and sleeps
+sleeper() {
+  service "$1" <<'END'
+echo $$ >>starts
+exec sleep 1000
+END
+}
+
+# logger FOLDER: a service that logs its standard input into the folder main in it
+logger() {
+  service "$1" <<END
+echo \$\$ >>starts
+exec '$program' multilog s16777215 n100 ./main
+END
+}
+
+# What the commands of dtools say of a service, and what its status record holds.
+svc() { timeout 10 "$program" svc "$@"; }
+is_served() { timeout 10 "$program" svok "$1"; }
+stat_line() { timeout 10 "$program" svstat "$1" | sed -E 's/ [0-9]+ seconds/ N seconds/'; }
+process() { od -An -tu4 -j12 -N4 --endian=little "$1/supervise/status" 2>/dev/null | tr -d ' '; }
+wants() { [ "$(tail -c 1 "$2/supervise/status" 2>/dev/null | tr '\0' o)" = "$1" ]; }
+is_up() { [ "0$(process "$1")" -gt 0 ]; }
+is_down() { [ "$(process "$1")" = 0 ]; }
+# down for good, and not only between two lives
+is_put_down() { wants d "$1" && is_down "$1"; }
+# up, and the second after the start is over
+is_settled() {
+  local up=': up \(pid [0-9]+\) ([0-9]+) seconds'
+  [[ $(timeout 10 "$program" svstat "$1") =~ $up ]] && [ "${BASH_REMATCH[1]}" -ge 2 ]
+}
+is_another() { is_up "$1" && [ "$(process "$1")" != "$2" ]; }
+count() { local lines=0; [ -e "$1" ] && lines=$(wc -l <"$1"); echo "$lines"; }
+has_lines() { [ "$(count "$2")" -ge "$1" ]; }
+state() { sed 's/.*) //; s/ .*//' "/proc/$1/stat" 2>/dev/null; }
+descriptors() { find "/proc/$1/fd" -type l | wc -l; }
+lives() { [[ $(state "$1") =~ [RSDTt] ]]; }
+live() { lives "$1" && lives "$2"; }
+is_stopped() { [ "$(state "$1")" = T ]; }
+holds() { grep -q -e "$1" "$2"; }
+sockets() { find -L "$@" -type s 2>/dev/null | wc -l; }
+
+# One service through its life, by each letter.
+life() {
+  service d/web <<'END'
+trap 'echo TERM >>signals; exit 0' TERM
+for name in HUP ALRM INT; do trap "echo $name >>signals" $name; done
+echo $$ >pid
+while :; do sleep 0.1; done
+END
+  under=(bash -c 'umask 000; exec "$@"' bash)
+  start told d
+  under=()
+  soon 'up' 5 is_settled d/web
+  local first
+  first=$(cat d/web/pid)
+  is 'up' "d/web: up (pid $first) N seconds" "$(stat_line d/web)"
+  soon 'a trace is kept' 8 test -s d/web/supervise/trace
+  is 'modes' '700 600 600 600 600 600' "$(modes d/web)"
+  is 'sockets' 2 "$(sockets d/web)"
+  is 'the record has 18 bytes' 18 "$(stat -c %s d/web/supervise/status)"
+  is 'svok' 0 "$(is_served d/web; echo $?)"
+  svc -d d/web
+  soon 'd' 3 is_put_down d/web
+  is 'd' 'd/web: down N seconds, normally up' "$(stat_line d/web)"
+  is 'd: TERM' TERM "$(cat d/web/signals)"
+  so 'd: the process is gone' not lives "$first"
+  svc -u d/web
+  soon 'u' 3 is_settled d/web
+  is 'u: another process' "d/web: up (pid $(cat d/web/pid)) N seconds" "$(stat_line d/web)"
+  so 'u: not the first one' is_another d/web "$first"
+  local letter
+  for letter in h:HUP a:ALRM i:INT; do
+    svc "-${letter%:*}" d/web
+    soon "${letter%:*}" 3 holds "${letter#*:}" d/web/signals
+  done
+  first=$(process d/web)
+  svc -t d/web
+  soon 't: TERM' 3 has_lines 5 d/web/signals
+  soon 't: it starts again' 4 is_another d/web "$first"
+  soon 't: up' 4 is_settled d/web
+  is 'signals' 'TERM HUP ALRM INT TERM' "$(paste -sd ' ' d/web/signals)"
+  first=$(process d/web)
+  svc -p d/web
+  soon 'p' 3 is_stopped "$first"
+  soon 'p: the line' 3 has_line "d/web: up (pid $first) N seconds, paused"
+  svc -c d/web
+  soon 'c' 3 not is_stopped "$first"
+  soon 'c: the line' 3 has_line "d/web: up (pid $first) N seconds"
+  svc -k d/web
+  soon 'k: it starts again' 4 is_another d/web "$first"
+  soon 'the trace has d' 8 trace_has d/web 'byte d: took TERM:'
+  soon 'the trace has k' 8 trace_has d/web 'byte k: took KILL:'
+  is 'the trace ends with a state' 1 "$("$program" trace d/web/supervise/trace | tail -n 1 | grep -c '^state ')"
+  is 'nothing was told' '' "$(cat told told.out)"
+}
+
+has_line() {
+  [ "$(stat_line "${1%%:*}")" = "$1" ]
+}
+
+trace_has() {
+  timeout 10 "$program" trace "$1/supervise/trace" >trace.text && holds "$2" trace.text
+}
+
+# The modes of what is in a supervise folder
+modes() {
+  (cd "$1/supervise" && stat -c %a . control ok status lock trace | paste -sd ' ')
+}
+
+# A umask that forbids all changes no mode, and neither does what another program left in supervise.
+modes_kept() {
+  sleeper d/web
+  sleeper d/found
+  mkdir d/found/supervise
+  mkfifo d/found/supervise/control d/found/supervise/ok
+  : >d/found/supervise/lock
+  echo 'seventeen letters' >d/found/supervise/status
+  under=(bash -c 'umask 777; exec "$@"' bash)
+  start told d
+  under=()
+  soon 'up' 5 is_settled d/web
+  soon 'found: up' 5 is_settled d/found
+  soon 'a trace is kept' 8 test -e d/web/supervise/trace
+  is 'modes' '700 600 600 600 600 600' "$(modes d/web)"
+  is 'found: modes' '700 600 600 600 600 600' "$(modes d/found)"
+  is 'found: served' 0 "$(is_served d/found; echo $?)"
+  svc -d d/found
+  soon 'found: d' 3 is_put_down d/found
+  is 'nothing was told' '' "$(cat told told.out)"
+}
+
+# A service that exits at once.
+exits() {
+  service d/web <<'END'
+echo >>starts
+END
+  start told d
+  soon 'it starts' 5 test -s d/web/starts
+  local before after
+  before=$(count d/web/starts)
+  local descriptors
+  descriptors=$(descriptors "$svscan")
+  sleep 5
+  after=$(count d/web/starts)
+  lies 'starts in 5 s' 3 7 $((after - before))
+  svc -d d/web
+  soon 'd' 3 is_put_down d/web
+  lies 'no descriptor is left open' 0 $((descriptors + 2)) "$(descriptors "$svscan")"
+  before=$(count d/web/starts)
+  sleep 2.5
+  is 'd: it stays down' "$before" "$(count d/web/starts)"
+  svc -o d/web
+  soon 'o' 3 has_lines $((before + 1)) d/web/starts
+  sleep 2.5
+  is 'o: once' "$((before + 1)) down" "$(count d/web/starts) $(is_down d/web && echo down)"
+  before=$(count d/web/starts)
+  svc -u d/web
+  soon 'u' 6 has_lines $((before + 3)) d/web/starts
+  svc -o d/web
+  soon 'o while it is up' 3 wants o d/web
+  sleep 1.5
+  before=$(count d/web/starts)
+  sleep 2
+  is 'o while it is up: no more starts' "$before" "$(count d/web/starts)"
+  svc -x d/web
+  soon 'x while it is down: the next round starts it again' 8 has_lines $((before + 1)) d/web/starts
+  is 'nothing was told' '' "$(cat told told.out)"
+}
+
+# No run, one that can't be executed, and one that is no program.
+no_run() {
+  mkdir -p d/missing d/closed d/garbage
+  printf '#!/bin/sh\necho >>starts\nexec sleep 1000\n' >good
+  cp good d/closed/run
+  chmod 644 d/closed/run
+  head -c 4000 /dev/urandom | tr -d '\n' | { printf '\177ELF\n'; cat; } >d/garbage/run
+  chmod 755 d/garbage/run
+  sleeper d/sound
+  start told d
+  soon 'another one is up' 5 is_up d/sound
+  soon 'told of missing' 5 holds 'run: not found' told
+  soon 'told of closed' 5 holds 'run: Permission denied' told
+  local name
+  for name in missing closed garbage; do
+    is "$name is served" 0 "$(is_served d/$name; echo $?)"
+    svc -d d/$name
+    soon "$name: d" 3 is_put_down d/$name
+    svc -o d/$name
+    soon "$name: o" 3 wants o d/$name
+    svc -u d/$name
+    soon "$name: u" 3 wants u d/$name
+    cp good d/$name/good
+    chmod 755 d/$name/good
+    mv d/$name/good d/$name/run
+    soon "$name: starts once it is mended" 4 test -s d/$name/starts
+    soon "$name: up" 4 is_settled d/$name
+    is "$name: started once" 1 "$(count d/$name/starts)"
+  done
+  is 'the other one is as it was' 1 "$(count d/sound/starts)"
+}
+
+# Services whose links are taken away.
+links() {
+  mkdir d
+  sleeper real
+  sleeper pair
+  logger pair/log
+  ln -s ../real d/web
+  ln -s ../pair d/pair
+  start told d
+  soon 'up' 5 is_settled real
+  soon 'pair: up' 5 is_settled pair/log
+  local first
+  first=$(process real)
+  rm d/web d/pair
+  sleep 6
+  is 'it goes on' "$first" "$(process real)"
+  is 'it is still served' 0 "$(is_served real; echo $?)"
+  svc -dx real
+  soon 'dx: the process ends' 3 not lives "$first"
+  soon 'dx: svok' 3 not is_served real
+  is 'dx: svok' 100 "$(is_served real; echo $?)"
+  soon 'dx: no sockets' 3 test "$(sockets real)" = 0
+  is 'dx: sockets' 0 "$(sockets real)"
+  is 'dx: svc warns' 'svc: warning: unable to control real' "$(svc -u real 2>&1)"
+  is 'dx: svstat' 'real: supervise not running' "$(stat_line real)"
+  svc -dx pair pair/log
+  soon 'pair: no longer served' 3 not is_served pair
+  soon 'pair: the logger is no longer served' 3 not is_served pair/log
+  is 'pair: sockets' 0 "$(sockets pair)"
+  sleep 6
+  is 'neither starts again' '1 1 1' "$(count real/starts) $(count pair/starts) $(count pair/log/starts)"
+  ln -s ../real d/other
+  ln -s ../pair d/pair
+  soon 'a new link: it starts again' 8 has_lines 2 real/starts
+  soon 'a new link: the pair too' 8 has_lines 2 pair/log/starts
+  is 'nothing was told' '' "$(cat told told.out)"
+}
+
+# A service that passes over TERM.
+stubborn() {
+  service d/web <<'END'
+trap '' TERM
+echo $$ >>starts
+while :; do sleep 1; done
+END
+  start told d
+  soon 'up' 5 is_settled d/web
+  local first
+  first=$(process d/web)
+  svc -d d/web
+  soon 'd' 3 wants d d/web
+  sleep 1
+  is 'd: still up' "d/web: up (pid $first) N seconds, want down" "$(stat_line d/web)"
+  svc -k d/web
+  soon 'k' 3 is_down d/web
+  is 'k: down' 'd/web: down N seconds, normally up' "$(stat_line d/web)"
+  sleep 2
+  is 'k: it stays down' 1 "$(count d/web/starts)"
+  kill -KILL -- "-$svscan"
+  soon 'svscan is dead' 3 not lives "$svscan"
+  # The end of svscan waits for it.
+  start told d 1
+  soon 'one round: up' 5 is_settled d/web
+  soon 'one round: d was sent' 5 wants d d/web
+  so 'one round: svscan waits' lives "$svscan"
+  svc -k d/web
+  soon 'one round: k ends both' 4 not lives "$svscan"
+  is 'one round: down' 0 "$(process d/web)"
+  is 'one round: sockets' 0 "$(sockets d)"
+}
+
+# A service that is killed.
+killed_service() {
+  sleeper d/web
+  start told d
+  soon 'up' 5 is_settled d/web
+  local first
+  first=$(process d/web)
+  kill -KILL "$first"
+  soon 'it starts again' 3 is_another d/web "$first"
+  soon 'up again' 4 is_settled d/web
+  is 'by its own number' "$(tail -n 1 d/web/starts)" "$(process d/web)"
+  is 'once' 2 "$(count d/web/starts)"
+}
+
+# Loggers that are killed. The lines of flow run on while its logger is killed; calm writes when it is told to.
+killed_logger() {
+  service d/flow <<'END'
+i=0
+while [ $i -lt 40000 ]; do
+  i=$((i + 1))
+  echo "line $((100000000 + i)) of the stream"
+  [ $((i % 100)) = 0 ] && sleep 0.01
+done
+exec sleep 1000
+END
+  service d/calm <<'END'
+for step in 1 2 3; do
+  until [ -e go$step ]; do sleep 0.05; done
+  i=0
+  while [ $i -lt 20000 ]; do i=$((i + 1)); echo "step $step line $i"; done
+  : >done$step
+done
+exec sleep 1000
+END
+  logger d/flow/log
+  logger d/calm/log
+  start told d
+  soon 'calm: its logger is up' 5 is_settled d/calm/log
+  local kills=0 first
+  for _ in 1 2 3; do
+    first=$(process d/flow/log)
+    kill -KILL "$first" && kills=$((kills + 1))
+    soon "flow: another logger ($kills)" 4 is_another d/flow/log "$first"
+    sleep 1.1
+  done
+  : >d/calm/go1
+  soon 'calm: step 1' 10 ends_with 'step 1 line 20000' d/calm/log/main/current
+  first=$(process d/calm/log)
+  kill -KILL "$first"
+  soon 'calm: another logger' 4 is_another d/calm/log "$first"
+  : >d/calm/go2
+  soon 'calm: step 2' 10 ends_with 'step 2 line 20000' d/calm/log/main/current
+  soon 'calm: its logger is up again' 4 is_settled d/calm/log
+  first=$(process d/calm/log)
+  svc -p d/calm/log
+  soon 'calm: its logger is stopped' 3 is_stopped "$first"
+  : >d/calm/go3
+  sleep 1
+  kill -KILL "$first"
+  soon 'calm: a third logger' 4 is_another d/calm/log "$first"
+  soon 'calm: step 3' 10 ends_with 'step 3 line 20000' d/calm/log/main/current
+  for step in 1 2 3; do seq -f "step $step line %.0f" 20000; done >wanted
+  is 'calm: no line is lost, doubled or moved' same "$(cmp wanted d/calm/log/main/current 2>&1 && echo same)"
+  soon 'flow: its last line' 20 holds 'line 100040000 of the stream' d/flow/log/main/current
+  is 'flow: one life of the service' 1 "$(grep -c 'line 100000001 ' d/flow/log/main/current)"
+  is 'flow: order, and what may be missing' 'in order' "$(python3 ../stream.py d/flow/log/main/current "$kills")"
+}
+
+ends_with() {
+  [ "$(tail -n 1 "$2")" = "$1" ]
+}
+
+# What a killed logger had read and not written may be missing: at most one block of 32,768 bytes a kill, and one line a
+# kill may be torn by that. No line stands twice or before an earlier one.
+cat >stream.py <<'END'
+import re, sys
+kills = int(sys.argv[2])
+numbers, torn = [], []
+for line in open(sys.argv[1], "rb").read().split(b"\n")[:-1]:
+    found = re.fullmatch(rb"line 1(\d{8}) of the stream", line)
+    if found:
+        numbers.append(int(found[1]))
+    else:
+        torn.append(line)
+rises = all(a < b for a, b in zip(numbers, numbers[1:]))
+missing = 40000 - len(numbers)
+if not rises:
+    print("not in order")
+elif len(torn) > kills:
+    print("torn:", torn[:5])
+elif missing * 29 > kills * (32768 + 58):
+    print("missing:", missing)
+else:
+    print("in order")
+END
+
+# svscan itself is killed: what it started runs on, and the next svscan makes no second copy of that.
+killed_svscan() {
+  sleeper d/web
+  service d/pair <<'END'
+echo $$ >>starts
+echo "life $(wc -l <starts)"
+exec sleep 1000
+END
+  logger d/pair/log
+  start told1 d
+  soon 'up' 5 is_settled d/web
+  soon 'the pair is up' 5 is_settled d/pair/log
+  soon 'its line is logged' 5 has_lines 1 d/pair/log/main/current
+  local web pair
+  web=$(process d/web)
+  pair=$(process d/pair)
+  kill -KILL "$svscan"
+  soon 'svscan is dead' 3 not lives "$svscan"
+  so 'the service runs on' live "$web" "$pair"
+  is 'no longer served' 'd/web: supervise not running' "$(stat_line d/web)"
+  start told2 d
+  soon 'the second tells it' 8 holds "^svscan: web: process $web still runs$" told2
+  soon 'the second tells it of the pair' 8 holds "^svscan: pair: process $pair still runs$" told2
+  local before after
+  before=$(grep -c "^svscan: web: " told2)
+  sleep 4
+  after=$(grep -c "^svscan: web: " told2)
+  lies 'told in 4 s' 2 6 $((after - before))
+  svc -d d/web
+  soon 'd is heard' 3 is_put_down d/web
+  so 'd does not reach the old process' lives "$web"
+  svc -u d/web
+  # A third one, after TERM: that is no other end.
+  kill -TERM "$svscan"
+  soon 'TERM ends svscan' 3 not lives "$svscan"
+  start told3 d
+  soon 'the third tells it too' 8 holds "^svscan: web: process $web still runs$" told3
+  is 'no second copy' '1 1' "$(count d/web/starts) $(count d/pair/starts)"
+  so 'the old ones run' live "$web" "$pair"
+  kill -KILL "$web" "$pair"
+  soon 'then it starts' 4 has_lines 2 d/web/starts
+  soon 'then the pair starts' 4 has_lines 2 d/pair/starts
+  soon 'then it is up' 4 is_settled d/web
+  is 'by its own number' "$(tail -n 1 d/web/starts)" "$(process d/web)"
+  soon 'the logger has both lives' 4 has_lines 2 d/pair/log/main/current
+  is 'the logger has both lives' 'life 1 life 2' "$(paste -sd ' ' d/pair/log/main/current)"
+}
+
+# A logger that is down for a while.
+late_logger() {
+  service d/web <<'END'
+i=0
+while [ $i -lt 60000 ]; do i=$((i + 1)); echo "line $i of the first"; done
+: >done1
+until [ -e go2 ]; do sleep 0.05; done
+i=0
+while [ $i -lt 2000 ]; do i=$((i + 1)); echo "line $i of the second"; done
+: >done2
+exec sleep 1000
+END
+  logger d/web/log
+  : >d/web/log/down
+  start told d
+  soon 'the service is up' 5 is_settled d/web
+  is 'the logger is down' 'd/web/log: down N seconds' "$(stat_line d/web/log)"
+  so 'the service waits' test ! -e d/web/done1
+  so 'no log' test ! -e d/web/log/main
+  svc -u d/web/log
+  soon 'all is logged' 30 ends_with 'line 60000 of the first' d/web/log/main/current
+  is 'the logger is up' "d/web/log: up (pid $(process d/web/log)) N seconds, normally down" "$(stat_line d/web/log)"
+  svc -d d/web/log
+  soon 'd' 3 is_put_down d/web/log
+  : >d/web/go2
+  soon 'a little is kept' 5 test -e d/web/done2
+  svc -u d/web/log
+  soon 'it is logged too' 10 ends_with 'line 2000 of the second' d/web/log/main/current
+  { seq -f 'line %.0f of the first' 60000; seq -f 'line %.0f of the second' 2000; } >wanted
+  is 'no line is lost, doubled or moved' same "$(cmp wanted d/web/log/main/current 2>&1 && echo same)"
+}
+
+# Folders that come, get another name, and go, while svscan runs.
+changes() {
+  mkdir d elsewhere
+  sleeper d/first
+  sleeper d/.hidden
+  echo 'a file' >d/file
+  ln -s nosuch d/nowhere
+  service d/alone <<'END'
+echo a line
+exec sleep 1000
+END
+  echo 'no folder' >d/alone/log
+  start told d
+  soon 'up' 5 is_settled d/first
+  soon 'a file named log makes no pair' 3 holds 'a line' told.out
+  sleeper d/second
+  mkdir d/.later
+  cp d/second/run d/.later/run
+  : >d/.later/down
+  mv d/.later d/later
+  soon 'added: up' 8 is_up d/second
+  soon 'added with down' 8 is_put_down d/later
+  is 'added with down: down' 'd/later: down N seconds' "$(stat_line d/later)"
+  so 'a name with a dot is passed over' test ! -e d/.hidden/supervise
+  local first
+  first=$(process d/first)
+  mv d/first d/renamed
+  soon 'another name: told as locked' 8 holds '^svscan: renamed: unable to lock$' told
+  is 'another name: it goes on' "$first" "$(process d/renamed)"
+  svc -dx d/renamed
+  soon 'another name: ended' 3 not lives "$first"
+  soon 'another name: it starts again' 8 is_another d/renamed "$first"
+  first=$(process d/second)
+  mv d/second elsewhere/second
+  sleep 6
+  is 'moved away: it goes on' "$first" "$(process elsewhere/second)"
+  svc -dx elsewhere/second
+  soon 'moved away: ended' 3 not is_served elsewhere/second
+  sleep 6
+  is 'moved away: it does not start again' 1 "$(count elsewhere/second/starts)"
+  # A name that is no text: nothing is scanned, and what runs goes on.
+  first=$(process d/renamed)
+  : >"d/$(printf '\377')"
+  soon 'a name that is no text' 8 holds '^svscan: unable to list$' told
+  sleeper d/third
+  sleep 6
+  is 'a name that is no text: it goes on' "$first" "$(process d/renamed)"
+  so 'a name that is no text: nothing starts' test ! -e d/third/starts
+  rm "d/$(printf '\377')"
+  soon 'a name that is no text: gone' 8 is_up d/third
+  is 'nothing else was told' '' "$(grep -v -e '^svscan: renamed: unable to lock$' -e '^svscan: unable to list$' told)"
+}
+
+# Two svscans over one folder, and two links to one service.
+twice() {
+  mkdir d
+  sleeper real
+  ln -s ../real d/one
+  ln -s ../real d/two
+  sleeper d/pair
+  logger d/pair/log
+  start told d
+  soon 'up' 5 is_settled real
+  soon 'pair: up' 5 is_settled d/pair/log
+  soon 'two links: the other name is told' 5 holds '^svscan: two: unable to lock$' told
+  is 'two links: one service' 1 "$(count real/starts)"
+  rm d/two
+  sleep 6
+  local before told
+  before="$(process real) $(process d/pair) $(process d/pair/log)"
+  told=$(count told)
+  ended 'a second svscan' 0 "svscan: one: unable to lock
+svscan: pair: unable to lock
+svscan: pair/log: unable to lock
+svscan: one: unable to lock
+svscan: pair: unable to lock
+svscan: pair/log: unable to lock" d 2
+  is 'the first is as it was' "$before" "$(process real) $(process d/pair) $(process d/pair/log)"
+  is 'started once' '1 1 1' "$(count real/starts) $(count d/pair/starts) $(count d/pair/log/starts)"
+  is 'still served' '0 0 0' "$(for name in one pair pair/log; do is_served d/$name; echo $?; done | paste -sd ' ')"
+  is 'the first tells nothing of it' "$told" "$(count told)"
+  svc -d d/pair d/pair/log d/one
+  soon 'd is heard' 3 is_put_down real
+  soon 'd is heard by the pair' 3 is_put_down d/pair/log
+}
+
+# Long names, and names of other bytes than letters.
+names() {
+  local folder long name
+  folder=$(printf 'p%.0s' $(seq 200))
+  long=$(printf 'n%.0s' $(seq 255))
+  mkdir "$folder"
+  local all=("$long" 'with two  spaces' 'größe ✓' '-x' "quote'\"\$(x)" 'back\slash')
+  for name in "${all[@]}"; do
+    mkdir "$folder/$name"
+    cat >"$folder/$name/run" <<'END'
+#!/bin/sh
+echo $$ >>starts
+exec sleep 1000
+END
+    chmod 755 "$folder/$name/run"
+  done
+  mkdir "$folder/$long/log"
+  cat >"$folder/$long/log/run" <<END
+#!/bin/sh
+exec '$program' multilog ./main
+END
+  chmod 755 "$folder/$long/log/run"
+  start told "$room/names/$folder"
+  for name in "${all[@]}"; do
+    soon "up: $name" 5 is_settled "$folder/$name"
+    is "line: $name" "$folder/$name: up (pid $(cat "$folder/$name/starts")) N seconds" "$(stat_line "$folder/$name")"
+    svc -d "$folder/$name"
+    soon "down: $name" 3 is_put_down "$folder/$name"
+  done
+  soon 'the long name has a logger' 4 is_up "$folder/$long/log"
+  is 'nothing was told' '' "$(cat told told.out)"
+  # A service of any name is told as it is spelled.
+  svc -u "$folder/${all[4]}"
+  soon 'up again' 4 is_settled "$folder/${all[4]}"
+  kill -KILL "$svscan"
+  start told2 "$folder"
+  soon 'told by its name' 8 grep -q -F "svscan: ${all[4]}: process " told2
+}
+
+# Clients that connect and say nothing, 200 of them.
+cat >silent.py <<'END'
+import socket, sys, time
+held = []
+for _ in range(200):
+    guest = socket.socket(socket.AF_UNIX)
+    guest.settimeout(5)
+    try:
+        guest.connect(sys.argv[1])
+    except OSError:
+        break
+    held.append(guest)
+open(sys.argv[2], "w").write(f"{len(held)}\n")
+time.sleep(60)
+END
+
+silent() {
+  sleeper d/held
+  sleeper d/other
+  start told d
+  soon 'up' 5 is_settled d/held
+  soon 'the other one is up' 5 is_settled d/other
+  python3 ../silent.py d/held/supervise/control there &
+  local clients=$!
+  soon 'there are clients' 20 test -s there
+  lies 'clients' 100 200 "$(cat there)"
+  svc -d d/other
+  soon 'another service is served at once' 1 is_put_down d/other
+  svc -u d/other
+  soon 'and again' 1 wants u d/other
+  soon 'the same one is still told as served' 1 is_served d/held
+  soon 'the same one has a line' 1 is_up d/held
+  kill -KILL "$(process d/held)"
+  soon 'the same one starts again after a death' 3 has_lines 2 d/held/starts
+  kill "$clients"
+  wait "$clients" 2>/dev/null
+  soon 'once they are gone the same one is served' 3 hears_d d/held
+}
+
+# sends d until it is heard
+hears_d() {
+  svc -d "$1"
+  until_true 1 is_put_down "$1"
+}
+
+# Connects to the socket that the first word names, makes the file `connected`, sends each piece after it, and cuts the
+# connection. A piece is letters, or a letter, a star and how often it comes, or `wait:` and seconds.
+cat >say.py <<'END'
+import socket, sys, time
+guest = socket.socket(socket.AF_UNIX)
+guest.settimeout(5)
+guest.connect(sys.argv[1])
+open("connected", "w").close()
+for piece in sys.argv[2:]:
+    if piece.startswith("wait:"):
+        time.sleep(float(piece[5:]))
+        continue
+    letter, _, times = piece.partition("*")
+    try:
+        guest.sendall(letter.encode() * int(times or 1))
+    except OSError:
+        pass
+guest.close()
+END
+
+# What comes over one control connection.
+connections() {
+  service d/web <<'END'
+trap 'echo HUP >>signals' HUP
+trap 'echo ALRM >>signals' ALRM
+echo $$ >>starts
+while :; do sleep 0.1; done
+END
+  start told d
+  soon 'up' 5 is_settled d/web
+  local control=d/web/supervise/control first
+  first=$(process d/web)
+  python3 ../say.py $control 'z*4096' d
+  sleep 2
+  is '4096 bytes and d: no d' "d/web: up (pid $first) N seconds" "$(stat_line d/web)"
+  svc -h d/web
+  soon '4096 bytes and d: the next one is served' 3 holds HUP d/web/signals
+  python3 ../say.py $control 'z*4095' a
+  soon '4095 bytes and a' 3 holds ALRM d/web/signals
+  : >d/web/signals
+  python3 ../say.py $control ha
+  soon 'cut after two bytes: both are letters' 3 has_lines 2 d/web/signals
+  is 'cut after two bytes' 'ALRM HUP' "$(sort d/web/signals | paste -sd ' ')"
+  python3 ../say.py $control
+  python3 ../say.py $control h wait:1 a
+  soon 'in two pieces' 3 has_lines 4 d/web/signals
+  rm connected
+  python3 ../say.py $control wait:20 &
+  local waits=$!
+  soon 'a silent one: connected' 10 test -e connected
+  svc -d d/web
+  sleep 2
+  is 'a silent one: the next waits' up "$(is_up d/web && echo up)"
+  soon 'a silent one is dropped after 5 s' 5 is_put_down d/web
+  kill "$waits" 2>/dev/null
+  wait "$waits" 2>/dev/null
+  # ok takes no letters.
+  python3 ../say.py d/web/supervise/ok u
+  sleep 1
+  is 'ok takes no letters' down "$(is_put_down d/web && echo down)"
+  svc -u d/web
+  soon 'served in the end' 3 is_up d/web
+}
+
+# A supervise that can't be made.
+no_supervise() {
+  sleeper d/file
+  sleeper d/other
+  sleeper d/readonly
+  echo 'no folder' >d/file/supervise
+  local mounted=no
+  if mount --bind d/readonly d/readonly 2>/dev/null; then
+    echo "$PWD/d/readonly" >>"$room/$scenario.mounts"
+    mount -o remount,bind,ro d/readonly 2>/dev/null && mounted=yes
+  fi
+  start told d
+  soon 'another one is up' 5 is_settled d/other
+  sleep 6
+  so 'a file in its place: it does not start' test ! -e d/file/starts
+  is 'a file in its place: not served' 100 "$(is_served d/file; echo $?)"
+  [ $mounted = yes ] && so 'read-only: it does not start' test ! -e d/readonly/supervise
+  rm d/file/supervise
+  soon 'a file in its place: gone' 8 is_up d/file
+  if [ $mounted = yes ]; then
+    umount d/readonly
+    soon 'read-only: no more' 8 is_up d/readonly
+  fi
+  is 'the other one is as it was' 1 "$(count d/other/starts)"
+}
+
+# So many rounds, and the end of all; words that are refused; a folder that is not there.
+rounds() {
+  sleeper d/web
+  service d/web/log <<'END'
+echo $$ >>starts
+exec cat >>main
+END
+  service d/web.2 <<'END'
+trap 'echo TERM >>signals; exit 0' TERM
+echo $$ >>starts
+while :; do sleep 0.1; done
+END
+  service d/exits <<'END'
+echo $$ >>starts
+END
+  mkdir d/missing
+  sleeper d/down
+  : >d/down/down
+  local begin
+  begin=${EPOCHREALTIME/[.,]/}
+  timeout -k 1 40 "$program" svscan d 2 >out 2>told </dev/null
+  is 'two rounds: status' 0 "$?"
+  local took=$(((${EPOCHREALTIME/[.,]/} - begin) / 1000000))
+  lies 'two rounds: seconds' 5 12 $took
+  is 'two rounds: printed' '' "$(cat out)"
+  is 'two rounds: TERM' TERM "$(cat d/web.2/signals)"
+  local folder pid left=
+  for folder in d/*/ d/web/log/; do
+    [ -e "$folder/starts" ] || continue
+    while read -r pid; do lives "$pid" && left="$left $pid"; done <"$folder/starts"
+  done
+  is 'two rounds: no child is left' '' "$left"
+  is 'two rounds: no socket is left' 0 "$(sockets d)"
+  is 'two rounds: records' '0 0 0 0 0 0' \
+    "$(for folder in d/web d/web/log d/web.2 d/exits d/missing d/down; do process $folder; done | paste -sd ' ')"
+  is 'two rounds: started once' '1 1 1' "$(count d/web/starts) $(count d/web/log/starts) $(count d/web.2/starts)"
+  is 'two rounds: down was not started' 0 "$(count d/down/starts)"
+  is 'two rounds: traces are kept' 6 "$(find d -name trace -size +0 | wc -l)"
+  so 'two rounds: the trace has x' trace_has d/web 'byte x: took record:'
+  mkdir none
+  ended 'an empty folder' 0 '' none 1
+  local words
+  for words in 'd 0' 'd 00' 'd 01' 'd -1' 'd +1' 'd x' 'd 4294967296' 'a b c' 'd 1 1'; do
+    # shellcheck disable=SC2086
+    ended "usage: $words" 100 'dtools: usage' $words
+  done
+  ended 'usage: an empty number' 100 'dtools: usage' d ''
+  ended 'no such folder' 0 'svscan: unable to list' "$room/nonexistent" 1
+  ended 'no folder' 0 'svscan: unable to list' d/web/run 1
+  cd d || return
+  start ../told.inside
+  cd ..
+  soon 'the folder that it is in: up' 5 has_lines 2 d/web/starts
+}
+
+# What a service is given: its folder, its descriptors, its environment, its signals.
+child() {
+  local each
+  for each in d/s{1..20} d/pair d/pair/log; do
+    service "$each" <<'END'
+streams=$(readlink /proc/$$/fd/0 /proc/$$/fd/1 /proc/$$/fd/2)
+echo "$streams" >streams
+ls /proc/self/fd >fds
+pwd -P >folder
+tr '\0' '\n' </proc/$$/environ >environment
+while read -r key mask; do
+  case $key in SigBlk: | SigIgn:) echo $((0x$mask & 0x7fffffff)) >>masks;; esac
+done </proc/self/status
+: >ready
+exec sleep 1000
+END
+  done
+  under=(env -i A=1 'B=two words' PATH="$PATH" PWD="$PWD")
+  start told d
+  under=()
+  soon 'all are ready' 8 are_ready 22
+  # ls has one more open, the folder that it lists.
+  is 'descriptors' '22 0 22 1 22 2 22 3' "$(cat d/*/fds d/pair/log/fds | sort | uniq -c | xargs)"
+  is 'its folder' "$PWD/d/s1" "$(cat d/s1/folder)"
+  is 'its folder: a logger' "$PWD/d/pair/log" "$(cat d/pair/log/folder)"
+  is 'its environment' "A=1 B=two words PATH=$PATH PWD=$PWD" "$(sort d/s1/environment | paste -sd ' ')"
+  is 'its signals: none is blocked, none is passed over' '0 0' "$(paste -sd ' ' d/s1/masks)"
+  is 'its streams' "/dev/null $PWD/told.out $PWD/told" "$(paste -sd ' ' d/s1/streams)"
+  is 'its streams: a pair' "/dev/null pipe $PWD/told" "$(sed 's/:.*//' d/pair/streams | paste -sd ' ')"
+  is 'its streams: a logger' "pipe $PWD/told.out $PWD/told" "$(sed 's/:.*//' d/pair/log/streams | paste -sd ' ')"
+  is 'nothing was told' '' "$(cat told told.out)"
+}
+
+are_ready() {
+  [ "$(find d -name ready | wc -l)" = "$1" ]
+}
+
+# Few descriptors: svscan goes on with what it has.
+shortage() {
+  local each
+  for each in $(seq 20); do sleeper "d/s$each"; done
+  under=(bash -c 'ulimit -n 60; exec "$@"' bash)
+  start told d
+  under=()
+  sleep 7
+  so 'svscan lives' lives "$svscan"
+  local up=()
+  for each in d/s{1..20}; do is_served "$each" && is_up "$each" && up+=("$each"); done
+  lies 'some are up, and some are not' 1 19 ${#up[@]}
+  local before after
+  before=$(ticks "$svscan")
+  sleep 5
+  after=$(ticks "$svscan")
+  lies 'svscan does not spin: ticks in 5 s' 0 50 $((after - before))
+  so 'svscan lives on' lives "$svscan"
+  so 'the service too' lives "$(process "${up[0]}")"
+}
+
+ticks() {
+  sed 's/.*) //' "/proc/$1/stat" | { read -r -a field; echo $((field[11] + field[12])); }
+}
+
+# More names than there are places for. All begin down, so that nothing is started.
+many() {
+  local limit
+  limit=$(ulimit -Hn)
+  [ "$limit" = unlimited ] || [ "$limit" -ge 12000 ] || return
+  mkdir d
+  (cd d && seq -f 's%04.0f' 1001 | xargs mkdir && seq -f 's%04.0f/down' 1001 | xargs touch)
+  under=(bash -c 'ulimit -n $(ulimit -Hn); exec "$@"' bash)
+  "${under[@]}" timeout -k 1 90 "$program" svscan d 1 >out 2>told </dev/null
+  is 'status' 0 "$?"
+  under=()
+  is 'the last one is refused' 'svscan: s1001: TooMany' "$(cat told)"
+  is 'sockets' 0 "$(sockets d)"
+  is 'records' 1000 "$(find d -name status -size 18c | wc -l)"
+}
+
+# play SCENARIO: in a folder of its own
+play() {
+  scenario=$1
+  mkdir "$scenario"
+  cd "$scenario" || exit 1
+  "$scenario"
+  [ -e "$room/$scenario.groups" ] && kill_groups "$room/$scenario.groups"
+  echo "$checked $failed" >"$room/$scenario.count"
+}
+
+has_counts() {
+  local name
+  for name in "$@"; do [ -s "$room/$name.count" ] || return 1; done
+}
+
+scenarios=(life modes_kept exits no_run links stubborn killed_service killed_logger killed_svscan late_logger changes twice
+  names silent connections no_supervise rounds child shortage many)
+set -m
+for each in "${scenarios[@]}"; do
+  (play "$each") </dev/null &
+  echo $! >>"$room/scenarios.groups"
+  disown
+done
+set +m
+until_true 115 has_counts "${scenarios[@]}"
+for each in "${scenarios[@]}"; do
+  if ! read -r ran wrong 2>/dev/null <"$room/$each.count"; then
+    echo "FAILED $each: it did not end in time"
+    ran=1
+    wrong=1
+  fi
+  checked=$((checked + ran))
+  failed=$((failed + wrong))
+done
+
+echo "svscan: $checked checks, $failed failed"
+[ "$failed" = 0 ]
