@@ -147,6 +147,8 @@ descriptors() { find "/proc/$1/fd" -type l | wc -l; }
 lives() { [[ $(state "$1") =~ [RSDTt] ]]; }
 live() { lives "$1" && lives "$2"; }
 is_stopped() { [ "$(state "$1")" = T ]; }
+begins() { [[ $(timeout 10 "$program" svstat "$2") == "$1"* ]]; }
+ends() { [[ $(timeout 10 "$program" svstat "$2") == *"$1" ]]; }
 holds() { grep -q -e "$1" "$2"; }
 sockets() { find -L "$@" -type s 2>/dev/null | wc -l; }
 
@@ -872,6 +874,31 @@ END
   soon 'the folder that it is in: up' 5 has_lines 2 d/web/starts
 }
 
+# Two services over three rounds, each asked by the programs in turn, until the trace says how one of them ended.
+two_services() {
+  sleeper S
+  sleeper R
+  mkdir d
+  ln -s ../S ../R d
+  "$program" svscan d 3 >out 2>told </dev/null &
+  local svscan=$!
+  soon 'svok S' 10 is_served S
+  soon 'svok R' 10 is_served R
+  soon 'svstat S' 10 begins 'S: up (pid ' S
+  soon 'svstat R' 10 begins 'R: up (pid ' R
+  svc -p R
+  soon 'R is paused' 10 ends ', paused' R
+  so 'S is not' not ends ', paused' S
+  svc -dx S R
+  wait "$svscan"
+  is 'status' 0 "$?"
+  is 'told' '' "$(cat told)"
+  is 'svok after the end' 100 "$(is_served S; echo $?)"
+  is 'svstat after the end' 'S: supervise not running' "$(timeout 10 "$program" svstat S)"
+  is 'the trace breaks where S was gone' 'break ' \
+    "$(timeout 10 "$program" trace S/supervise/trace --break phase:gone | grep -o '^break ')"
+}
+
 # What a service is given: its folder, its descriptors, its environment, its signals.
 child() {
   local each
@@ -966,7 +993,7 @@ has_counts() {
 }
 
 scenarios=(life modes_kept exits no_run links stubborn killed_service killed_logger killed_svscan late_logger changes twice
-  names silent connections no_supervise rounds child shortage many)
+  names silent connections no_supervise rounds two_services child shortage many)
 set -m
 for each in "${scenarios[@]}"; do
   (play "$each") </dev/null &

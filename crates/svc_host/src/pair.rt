@@ -6,7 +6,7 @@ use crate::ends::open_box;
 use crate::line::PairLine;
 use crate::maker::{Maker, Outlets};
 use std::alloc::{AllocError, Global};
-use std::io::Read;
+use std::io::{BufReader, Read};
 use std::sync::{Arc, Wait};
 use std::thread::{Builder, Threads};
 use svc_mail::receiver::Receiver;
@@ -21,10 +21,13 @@ use tai_status::Input;
 /// The room of a stack: a relay gathers 32 KiB in it.
 const STACK: usize = 256 * 1024;
 
+/// How many bytes of a service's output are read at once.
+const BLOCK: usize = 32_768;
+
 /// What the thread of an intake is given: a sender that posted nothing.
 #[derive(Drop)]
 struct Taking<D: Read + Drop> {
-    output: D,
+    output: BufReader<D>,
     sender: Sender<Piece>,
     line: Arc<PairLine, Global>,
     ghost unposted: { posted sender ≡ [] },
@@ -131,7 +134,7 @@ impl Pair {
         let (sender, receiver) = open_box(alloc, capacity)?;
         let (output, outlets) = maker.pair(slot, Arc::try_clone(&line.filled).ok()?)?;
         let taking = Taking {
-            output,
+            output: BufReader::with_capacity(alloc, BLOCK, output).ok()?,
             sender,
             line: Arc::try_clone(&line).ok()?,
         };

@@ -33,9 +33,8 @@ loop-preserved g c =
     elim c.match-left.branch [
       | in-Some-left+else-number-eq1 w ↦ less-some c.args.rounds c.loop.left c.match-left.left w.in-Some-left.number w.in-Some-left.is w.left-is w.if-number-eq1.false
       | in_default w ↦ less-none c.args.rounds c.loop.left c.match-left.left w.in_default.is w.left-is
-    ] in
-    (
+    ] in (
       way_more c.args.folder.now c.args.rounds c.loop.left c.match-left.left (post (calls c.args.keeper.now) c.args.faults.now) (post (calls c.loop.keeper) c.loop.faults)
-    (post (calls c.take_round.new.keeper) c.take_round.new.faults) (post (calls c.rest.new.self) c.take_round.new.faults) made.0 c.loop.invariant.0 made.2 on c.rest.ensures.rested refl less,
+          (post (calls c.take_round.new.keeper) c.take_round.new.faults) (post (calls c.rest.new.self) c.take_round.new.faults) made.0 c.loop.invariant.0 made.2 on c.rest.ensures.rested refl less,
       c.rest.ensures.ready,
     )

@@ -1,0 +1,143 @@
+//! What a part stands on in a test: a world that answers at once, and loggers that keep what they take.
+use std::alloc::Global;
+use std::sync::atomic::{AtomicU64, Ordering};
+use std::sync::{Arc, Wait};
+use std::time::Clock;
+use sup_core::Sig;
+use svc_host::{Attendant, Outlets};
+use svc_house::{Bell, StartAnswer, World};
+use svc_relay::outlet::{Outlet, OutletFault};
+use tai_status::Label;
+
+/// A world whose process starts as soon as it is asked for and dies of TERM. Its start, its clock and its death have a
+/// second each, one after the other.
+#[derive(Drop)]
+pub(crate) struct Actor {
+    pub(crate) bell: Arc<Bell, Global>,
+    pub(crate) pid: u32,
+    pub(crate) start: Label,
+    pub(crate) clock: Label,
+    pub(crate) death: Label,
+    pub(crate) is_starting: bool,
+    pub(crate) is_dying: bool,
+}
+
+impl World for Actor {
+    fn signal(&mut self, sig: Sig, _pid: u32) {
+        if sig == Sig::Term {
+            self.is_dying = true;
+            self.bell.ring();
+        }
+    }
+
+    fn start(&mut self) {
+        self.is_starting = true;
+        self.bell.ring();
+    }
+
+    fn write(&mut self, _bytes: &[u8; 18]) {}
+
+    fn poll_start(&mut self) -> Option<StartAnswer> {
+        if !self.is_starting || self.pid == 0 {
+            return None;
+        }
+        self.is_starting = false;
+        Some(StartAnswer::Started {
+            pid: self.pid,
+            label: self.start,
+        })
+    }
+
+    fn poll_death(&mut self) -> Option<Label> {
+        if !self.is_dying {
+            return None;
+        }
+        self.is_dying = false;
+        Some(self.death)
+    }
+
+    fn clock(&mut self) -> Label {
+        self.clock
+    }
+}
+
+/// Nothing waits beside an actor.
+#[derive(Drop)]
+pub(crate) struct Nobody;
+
+impl Attendant for Nobody {
+    fn attend<R: Wait + Clock + Copy + Drop>(self, _rt: R) {}
+}
+
+/// What the loggers of a pair took, of which the last eight bytes are kept.
+#[derive(Drop)]
+pub(crate) struct Taken {
+    // The bytes in their order, as the digits of a number.
+    bytes: AtomicU64,
+}
+
+impl Taken {
+    pub(crate) const fn new() -> Taken {
+        Taken {
+            bytes: AtomicU64::new(0),
+        }
+    }
+
+    /// Whether these are the bytes that were taken, with zeros before them.
+    pub(crate) fn is(&self, bytes: [u8; 8]) -> bool {
+        self.bytes.load(Ordering::SeqCst) == u64::from_be_bytes(bytes)
+    }
+
+    fn add(&self, byte: u8) {
+        let bytes = self.bytes.load(Ordering::SeqCst);
+        self.bytes.store(bytes << 8 | byte as u64, Ordering::SeqCst);
+    }
+}
+
+/// One life of a logger: it takes so many bytes, one at a time, and then fails.
+#[derive(Drop)]
+pub(crate) struct Life {
+    taken: Arc<Taken, Global>,
+    room: usize,
+    failures: u64,
+}
+
+impl Outlet for Life {
+    ghost failures = { λ life. life.failures };
+
+    fn put(&mut self, piece: &[u8]) -> Result<usize, OutletFault> {
+        if piece.is_empty() {
+            return Ok(0);
+        }
+        if self.room == 0 {
+            self.failures = self.failures.saturating_add(1);
+            return Err(OutletFault);
+        }
+        self.room -= 1;
+        self.taken.add(piece[0]);
+        Ok(1)
+    }
+}
+
+/// The lives of a pair's logger: the first takes two bytes, the second all. There is no third.
+#[derive(Drop)]
+pub(crate) struct Lives {
+    pub(crate) taken: Arc<Taken, Global>,
+    pub(crate) given: u32,
+}
+
+impl Outlets<Life> for Lives {
+    fn next(&mut self) -> Option<Life> {
+        let room = match self.given {
+            0 => 2,
+            1 => usize::MAX,
+            _ => return None,
+        };
+        self.given += 1;
+        Some(Life {
+            taken: Arc::try_clone(&self.taken).ok()?,
+            room,
+            failures: 0,
+        })
+    }
+}

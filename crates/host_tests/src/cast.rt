@@ -1,0 +1,113 @@
+//! What makes the parts of a host in a test.
+use crate::actor::{Actor, Life, Lives, Nobody, Taken};
+use crate::meeting::{Flag, Meeting};
+use scan_table::PartId;
+use std::alloc::{AllocError, Global};
+use std::sync::Arc;
+use svc_host::{Gear, Maker};
+use svc_house::{Bell, Caller};
+use tai_status::Label;
+use test_base::Slow;
+
+/// Makes actors. The parts of the first slot get one gate, those of every other slot another.
+#[derive(Drop)]
+pub(crate) struct Cast {
+    pub(crate) first: Meeting,
+    pub(crate) second: Meeting,
+    /// What the loggers of the first slot and of the others took.
+    pub(crate) taken: [Arc<Taken, Global>; 2],
+    /// The slots that were forgotten.
+    pub(crate) forgotten: Vec<u64>,
+    pub(crate) next_pid: u32,
+}
+
+impl Cast {
+    pub(crate) fn new(alloc: Global, first: Meeting, second: Meeting) -> Result<Cast, AllocError> {
+        Ok(Cast {
+            first,
+            second,
+            taken: [
+                Arc::new(alloc, Taken::new())?,
+                Arc::new(alloc, Taken::new())?,
+            ],
+            forgotten: Vec::new(alloc),
+            next_pid: 1,
+        })
+    }
+
+    /// A cast whose gates stand open.
+    pub(crate) fn open(alloc: Global) -> Result<Cast, AllocError> {
+        let flag = Flag::new(alloc)?;
+        let gate = Meeting {
+            own: Arc::try_clone(&flag)?,
+            other: Arc::try_clone(&flag)?,
+            in_vain: Flag::new(alloc)?,
+        };
+        let first = gate.copy()?;
+        Cast::new(alloc, first, gate)
+    }
+}
+
+impl Maker for Cast {
+    type World = Actor;
+
+    type Gate = Meeting;
+
+    type Attendant = Nobody;
+
+    type Output = Slow<'static>;
+
+    type Outlet = Life;
+
+    type Outlets = Lives;
+
+    fn part(
+        &mut self,
+        _name: &str,
+        part: PartId,
+        _caller: Caller,
+        bell: Arc<Bell, Global>,
+    ) -> Option<Gear<Actor, Meeting, Nobody>> {
+        let gate = if part.slot == 0 {
+            &self.first
+        } else {
+            &self.second
+        };
+        let world = Actor {
+            bell,
+            pid: self.next_pid,
+            start: Label::from_unix(1, 0)?,
+            clock: Label::from_unix(2, 0)?,
+            death: Label::from_unix(3, 0)?,
+            is_starting: false,
+            is_dying: false,
+        };
+        self.next_pid = self.next_pid.saturating_add(1);
+        Some(Gear {
+            world,
+            gate: gate.copy().ok()?,
+            attendant: Nobody,
+        })
+    }
+
+    fn pair(&mut self, slot: u64, _bell: Arc<Bell, Global>) -> Option<(Slow<'static>, Lives)> {
+        let (text, taken) = if slot == 0 {
+            (b"abcdef", &self.taken[0])
+        } else {
+            (b"uvwxyz", &self.taken[1])
+        };
+        let lives = Lives {
+            taken: Arc::try_clone(taken).ok()?,
+            given: 0,
+        };
+        Some((Slow::ending(text, 4), lives))
+    }
+
+    fn keep_trace(&mut self, _part: PartId, _text: &[u8]) {}
+
+    fn ended(&mut self, _part: PartId) {}
+
+    fn forget(&mut self, slot: u64) {
+        let _ = self.forgotten.push(slot);
+    }
+}

@@ -1,0 +1,12 @@
+//! Tests of the host of all services, of what no contract can say: that each service runs in a thread of its own, and
+//! that a part's mailbox, station, world and output are joined to it and to no other.
+#![tactic(auto)]
+
+#[cfg(test)]
+mod actor;
+#[cfg(test)]
+mod cast;
+#[cfg(test)]
+mod meeting;
+#[cfg(test)]
+mod threads;
