@@ -1,5 +1,7 @@
 //! What a part stands on in a test: a world that answers at once, and loggers that keep what they take.
 use std::alloc::Global;
+use std::io;
+use std::io::Read;
 use std::sync::atomic::{AtomicU64, Ordering};
 use std::sync::{Arc, Wait};
 use std::time::Clock;
@@ -67,6 +69,23 @@ pub(crate) struct Nobody;
 
 impl Attendant for Nobody {
     fn attend<R: Wait + Clock + Copy + Drop>(self, _rt: R) {}
+}
+
+/// What a pair's service writes: six bytes, at most four of them a read.
+#[derive(Drop)]
+pub(crate) struct Said {
+    pub(crate) bytes: [u8; 6],
+    pub(crate) place: usize,
+}
+
+impl Read for Said {
+    fn read(&mut self, buf: &mut [u8]) -> io::Result<usize> {
+        let begin = self.place.min(6);
+        let count = (6 - begin).min(buf.len()).min(4);
+        buf[..count].copy_from_slice(&self.bytes[begin..begin + count]);
+        self.place = begin + count;
+        Ok(count)
+    }
 }
 
 /// What the loggers of a pair took, of which the last eight bytes are kept.

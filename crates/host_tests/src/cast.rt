@@ -1,5 +1,5 @@
 //! What makes the parts of a host in a test.
-use crate::actor::{Actor, Life, Lives, Nobody, Taken};
+use crate::actor::{Actor, Life, Lives, Nobody, Said, Taken};
 use crate::meeting::{Flag, Meeting};
 use scan_table::PartId;
 use std::alloc::{AllocError, Global};
@@ -7,7 +7,6 @@ use std::sync::Arc;
 use svc_host::{Gear, Maker};
 use svc_house::{Bell, Caller};
 use tai_status::Label;
-use test_base::Slow;
 
 /// Makes actors. The parts of the first slot get one gate, those of every other slot another.
 #[derive(Drop)]
@@ -55,7 +54,7 @@ impl Maker for Cast {
 
     type Attendant = Nobody;
 
-    type Output = Slow<'static>;
+    type Output = Said;
 
     type Outlet = Life;
 
@@ -69,9 +68,9 @@ impl Maker for Cast {
         bell: Arc<Bell, Global>,
     ) -> Option<Gear<Actor, Meeting, Nobody>> {
         let gate = if part.slot == 0 {
-            &self.first
+            self.first.copy()
         } else {
-            &self.second
+            self.second.copy()
         };
         let world = Actor {
             bell,
@@ -85,22 +84,18 @@ impl Maker for Cast {
         self.next_pid = self.next_pid.saturating_add(1);
         Some(Gear {
             world,
-            gate: gate.copy().ok()?,
+            gate: gate.ok()?,
             attendant: Nobody,
         })
     }
 
-    fn pair(&mut self, slot: u64, _bell: Arc<Bell, Global>) -> Option<(Slow<'static>, Lives)> {
-        let (text, taken) = if slot == 0 {
-            (b"abcdef", &self.taken[0])
+    fn pair(&mut self, slot: u64, _bell: Arc<Bell, Global>) -> Option<(Said, Lives)> {
+        let (bytes, taken) = if slot == 0 {
+            (*b"abcdef", Arc::try_clone(&self.taken[0]).ok()?)
         } else {
-            (b"uvwxyz", &self.taken[1])
+            (*b"uvwxyz", Arc::try_clone(&self.taken[1]).ok()?)
         };
-        let lives = Lives {
-            taken: Arc::try_clone(taken).ok()?,
-            given: 0,
-        };
-        Some((Slow::ending(text, 4), lives))
+        Some((Said { bytes, place: 0 }, Lives { taken, given: 0 }))
     }
 
     fn keep_trace(&mut self, _part: PartId, _text: &[u8]) {}
