@@ -21,7 +21,7 @@ pub(crate) struct Cast {
 }
 
 impl Cast {
-    pub(crate) fn new(alloc: Global, first: Meeting, second: Meeting) -> Result<Cast, AllocError> {
+    fn new(alloc: Global, first: Meeting, second: Meeting) -> Result<Cast, AllocError> {
         Ok(Cast {
             first,
             second,
@@ -34,16 +34,36 @@ impl Cast {
         })
     }
 
+    /// A cast with one gate, which sets the first flag and waits for the second.
+    pub(crate) fn gated(
+        alloc: Global,
+        own: &Arc<Flag, Global>,
+        other: &Arc<Flag, Global>,
+        in_vain: &Arc<Flag, Global>,
+    ) -> Result<Cast, AllocError> {
+        Cast::new(
+            alloc,
+            Meeting::new(own, other, in_vain)?,
+            Meeting::new(own, other, in_vain)?,
+        )
+    }
+
     /// A cast whose gates stand open.
     pub(crate) fn open(alloc: Global) -> Result<Cast, AllocError> {
         let flag = Flag::new(alloc)?;
-        let gate = Meeting {
-            own: Arc::try_clone(&flag)?,
-            other: Arc::try_clone(&flag)?,
-            in_vain: Flag::new(alloc)?,
-        };
-        let first = gate.copy()?;
-        Cast::new(alloc, first, gate)
+        let in_vain = Flag::new(alloc)?;
+        Cast::gated(alloc, &flag, &flag, &in_vain)
+    }
+
+    /// A cast with two gates that wait for one another.
+    pub(crate) fn crossed(alloc: Global, in_vain: &Arc<Flag, Global>) -> Result<Cast, AllocError> {
+        let left = Flag::new(alloc)?;
+        let right = Flag::new(alloc)?;
+        Cast::new(
+            alloc,
+            Meeting::new(&left, &right, in_vain)?,
+            Meeting::new(&right, &left, in_vain)?,
+        )
     }
 }
 

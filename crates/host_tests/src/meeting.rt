@@ -50,18 +50,26 @@ impl Flag {
 /// A gate that sets a flag and waits for another. It sets a third, where that does not come.
 #[derive(Drop)]
 pub(crate) struct Meeting {
-    pub(crate) own: Arc<Flag, Global>,
-    pub(crate) other: Arc<Flag, Global>,
-    pub(crate) in_vain: Arc<Flag, Global>,
+    own: Arc<Flag, Global>,
+    other: Arc<Flag, Global>,
+    in_vain: Arc<Flag, Global>,
 }
 
 impl Meeting {
-    pub(crate) fn copy(&self) -> Result<Meeting, AllocError> {
+    pub(crate) fn new(
+        own: &Arc<Flag, Global>,
+        other: &Arc<Flag, Global>,
+        in_vain: &Arc<Flag, Global>,
+    ) -> Result<Meeting, AllocError> {
         Ok(Meeting {
-            own: Arc::try_clone(&self.own)?,
-            other: Arc::try_clone(&self.other)?,
-            in_vain: Arc::try_clone(&self.in_vain)?,
+            own: Arc::try_clone(own)?,
+            other: Arc::try_clone(other)?,
+            in_vain: Arc::try_clone(in_vain)?,
         })
+    }
+
+    pub(crate) fn copy(&self) -> Result<Meeting, AllocError> {
+        Meeting::new(&self.own, &self.other, &self.in_vain)
     }
 }
 

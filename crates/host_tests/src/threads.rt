@@ -1,7 +1,9 @@
 //! The threads of services, and what is joined to each.
+ghost use Rattle.std.specs.Prelude.{◌<◌};
+
 use crate::actor::Taken;
 use crate::cast::Cast;
-use crate::meeting::{Flag, LOOKS, Meeting, rest};
+use crate::meeting::{Flag, LOOKS, rest};
 use scan_table::{DirRow, PartId, Role};
 use std::alloc::{AllocError, Global};
 use std::sync::{Arc, Wait};
@@ -58,6 +60,26 @@ impl Sight {
     }
 }
 
+/// A host over a cast after its first round, over these rows, where that started these parts.
+fn begin<R: Threads + Wait + Clock + Copy + Drop + Send + 'static>(
+    rt: R,
+    alloc: Global,
+    cast: Cast,
+    mail: usize,
+    rows: &[DirRow],
+    parts: &[PartId],
+) -> Option<Host<Cast, R>>
+    requires { 0 < mail }
+{
+    let label = Label::from_unix(0, 0)?;
+    let mut host = Host::new(rt, alloc, cast, mail, 16).ok()?;
+    let started = match host.round(rows, label) {
+        Ok(out) => out.failed.is_empty() && out.scan.starts.as_slice() == parts,
+        Err(_) => false,
+    };
+    if started { Some(host) } else { None }
+}
+
 /// Whether a part's status comes to show this.
 fn comes<R: Threads + Wait + Clock + Copy + Drop + Send + 'static>(
     rt: &R,
@@ -85,63 +107,86 @@ fn arrives<R: Wait>(rt: &R, taken: &Taken, bytes: &[u8; 8]) -> bool {
     false
 }
 
+/// Whether both come to have a process, and the second alone hears a letter to it.
+fn both_run<R: Threads + Wait + Clock + Copy + Drop + Send + 'static>(
+    rt: &R,
+    host: &mut Host<Cast, R>,
+    one: PartId,
+    other: PartId,
+) -> bool {
+    comes(rt, host, one, Sight::Process)
+        && comes(rt, host, other, Sight::Process)
+        && host.post(other, b'd').is_ok()
+        && comes(rt, host, other, Sight::WantsDown)
+        && host.status(one).is_some_and(|view| view.want == Want::Up)
+}
+
+/// How many services ended, of two that wait for one another at their starts. None: one of them waited in vain.
+fn run_two<R: Threads + Wait + Clock + Copy + Drop + Send + 'static>(
+    rt: R,
+    alloc: Global,
+    cast: Cast,
+) -> Option<u64> {
+    let (a, b) = (main_of(0, 1), main_of(2, 3));
+    let rows = rows(alloc, &["a", "b"], false).ok()?;
+    let mut host = begin(rt, alloc, cast, 4, &rows, &[a, b])?;
+    let ran = both_run(&rt, &mut host, a, b);
+    let count = host.finish();
+    if ran { Some(count) } else { None }
+}
+
 /// Two services wait for one another at their starts, so each is in a thread of its own.
 #[test]
 fn services_run_side_by_side(rt: HostRuntime) -> Result<(), Fail> {
-    let alloc = rt.alloc();
-    let (left, right, in_vain) = (Flag::new(alloc)?, Flag::new(alloc)?, Flag::new(alloc)?);
-    let first = Meeting {
-        own: Arc::try_clone(&left)?,
-        other: Arc::try_clone(&right)?,
-        in_vain: Arc::try_clone(&in_vain)?,
-    };
-    let second = Meeting {
-        own: right,
-        other: left,
-        in_vain: Arc::try_clone(&in_vain)?,
-    };
-    let mut host = Host::new(rt, alloc, Cast::new(alloc, first, second)?, 4, 16)?;
-    let rows = rows(alloc, &["a", "b"], false)?;
-    let begin = Label::from_unix(0, 0).ok_or("the first second has a label")?;
-    let out = host
-        .round(&rows, begin)
-        .ok()
-        .ok_or("the rows are in order")?;
-    let (a, b) = (main_of(0, 1), main_of(2, 3));
-    assert!(rt; out.scan.starts.as_slice() == [a, b].as_slice());
-    assert!(rt; out.failed.is_empty());
-    assert!(rt; comes(&rt, &mut host, a, Sight::Process));
-    assert!(rt; comes(&rt, &mut host, b, Sight::Process));
+    let in_vain = Flag::new(rt.alloc())?;
+    let cast = Cast::crossed(rt.alloc(), &in_vain)?;
+    assert_eq!(rt; run_two(rt, rt.alloc(), cast), Some(2));
     assert!(rt; !in_vain.is_set());
-    assert!(rt; host.post(b, b'd').is_ok());
-    assert!(rt; comes(&rt, &mut host, b, Sight::WantsDown));
-    assert!(rt; host.status(a).is_some_and(|view| view.want == Want::Up));
-    assert_eq!(rt; host.finish(), 2);
     Ok(())
+}
+
+/// Posts two letters to a service that is at its gate, and opens the gate then. Whether the second found no room, and
+/// the first was heard.
+fn fills<R: Threads + Wait + Clock + Copy + Drop + Send + 'static>(
+    rt: &R,
+    host: &mut Host<Cast, R>,
+    part: PartId,
+    at_the_gate: &Flag,
+    opens: &Flag,
+) -> bool {
+    let told = at_the_gate.comes(rt)
+        && host.post(part, b'd').is_ok()
+        && host.post(part, b'x') == Err(PostFault::Full);
+    opens.set();
+    told && comes(rt, host, part, Sight::WantsDown)
+}
+
+/// How many services ended, of one whose mailbox was filled. None: it was not told so.
+fn fill_one<R: Threads + Wait + Clock + Copy + Drop + Send + 'static>(
+    rt: R,
+    alloc: Global,
+    cast: Cast,
+    at_the_gate: &Flag,
+    opens: &Flag,
+) -> Option<u64> {
+    let part = main_of(0, 1);
+    let rows = rows(alloc, &["a"], false).ok()?;
+    let mut host = begin(rt, alloc, cast, 1, &rows, &[part])?;
+    let told = fills(&rt, &mut host, part, at_the_gate, opens);
+    let count = host.finish();
+    if told { Some(count) } else { None }
 }
 
 /// A mailbox with room for one letter takes one, while its service is at a closed gate.
 #[test]
 fn a_full_mailbox_is_told(rt: HostRuntime) -> Result<(), Fail> {
-    let alloc = rt.alloc();
-    let (at_the_gate, opens, in_vain) = (Flag::new(alloc)?, Flag::new(alloc)?, Flag::new(alloc)?);
-    let gate = Meeting {
-        own: Arc::try_clone(&at_the_gate)?,
-        other: Arc::try_clone(&opens)?,
-        in_vain: Arc::try_clone(&in_vain)?,
-    };
-    let mut host = Host::new(rt, alloc, Cast::new(alloc, gate.copy()?, gate)?, 1, 16)?;
-    let begin = Label::from_unix(0, 0).ok_or("the first second has a label")?;
-    let rows = rows(alloc, &["a"], false)?;
-    host.round(&rows, begin).ok().ok_or("the row is in order")?;
-    let part = main_of(0, 1);
-    assert!(rt; at_the_gate.comes(&rt));
-    assert!(rt; host.post(part, b'd').is_ok());
-    assert!(rt; host.post(part, b'x') == Err(PostFault::Full));
-    opens.set();
-    assert!(rt; comes(&rt, &mut host, part, Sight::WantsDown));
+    let in_vain = Flag::new(rt.alloc())?;
+    let at_the_gate = Flag::new(rt.alloc())?;
+    let opens = Flag::new(rt.alloc())?;
+    let cast = Cast::gated(rt.alloc(), &at_the_gate, &opens, &in_vain)?;
+    let count = fill_one(rt, rt.alloc(), cast, &at_the_gate, &opens);
+    assert_eq!(rt; count, Some(1));
     assert!(rt; !in_vain.is_set());
-    assert_eq!(rt; host.finish(), 1);
     Ok(())
 }
 
@@ -167,6 +212,11 @@ fn put_down<R: Threads + Wait + Clock + Copy + Drop + Send + 'static>(
     true
 }
 
+/// Whether these are two numbers, in any order.
+fn are_both(numbers: &[u64], one: u64, other: u64) -> bool {
+    numbers == [one, other].as_slice() || numbers == [other, one].as_slice()
+}
+
 /// What rounds did until there was nothing more to wait for.
 #[derive(Drop)]
 struct Rounds {
@@ -183,75 +233,140 @@ fn rounds_until<R: Threads + Wait + Clock + Copy + Drop + Send + 'static>(
     rows: &[DirRow],
     restarts: usize,
     drops: usize,
-) -> Result<Rounds, Fail> {
-    let label = Label::from_unix(5, 0).ok_or("a small second has a label")?;
+) -> Option<Rounds> {
+    let label = Label::from_unix(5, 0)?;
     let mut done = Rounds {
         starts: 0,
         restarts: Vec::new(alloc),
         drops: Vec::new(alloc),
     };
     for _ in 0..LOOKS {
-        let out = host.round(rows, label).ok().ok_or("the rows are in order")?;
+        let out = host.round(rows, label).ok()?;
         done.starts = done.starts.saturating_add(out.scan.starts.len());
         done.restarts
-            .extend_from_slice(out.scan.restarts.as_slice())?;
-        done.drops.extend_from_slice(out.scan.drops.as_slice())?;
+            .extend_from_slice(out.scan.restarts.as_slice())
+            .ok()?;
+        done.drops
+            .extend_from_slice(out.scan.drops.as_slice())
+            .ok()?;
         if done.restarts.len() >= restarts && done.drops.len() >= drops {
             break;
         }
         rest(rt);
     }
-    Ok(done)
+    Some(done)
 }
 
-/// Whether these are two numbers, in any order.
-fn is_either_order(numbers: &[u64], one: u64, other: u64) -> bool {
-    numbers == [one, other].as_slice() || numbers == [other, one].as_slice()
+/// Whether each of these parts comes to have a process.
+fn all_come<R: Threads + Wait + Clock + Copy + Drop + Send + 'static>(
+    rt: &R,
+    host: &mut Host<Cast, R>,
+    parts: &[PartId],
+) -> bool {
+    for part in parts {
+        if !comes(rt, host, *part, Sight::Process) {
+            return false;
+        }
+    }
+    true
 }
 
-/// Two pairs, from their start to their end: what each part is joined to is its own.
+/// Ends a part, and makes rounds until it comes back: whether it alone came back, in this life, and the old one is not
+/// there.
+fn comes_back<R: Threads + Wait + Clock + Copy + Drop + Send + 'static>(
+    rt: &R,
+    alloc: Global,
+    host: &mut Host<Cast, R>,
+    rows: &[DirRow],
+    part: PartId,
+    again: PartId,
+) -> bool {
+    if host.post(part, b'x').is_err() {
+        return false;
+    }
+    let came = match rounds_until(rt, alloc, host, rows, 1, 0) {
+        Some(done) => {
+            done.starts == 0
+                && done.drops.is_empty()
+                && done.restarts.as_slice() == [again].as_slice()
+        }
+        None => false,
+    };
+    came && host.post(part, b'u') == Err(PostFault::NoSuchPart)
+        && comes(rt, host, again, Sight::Process)
+}
+
+/// Ends these parts, and makes rounds over no rows until two slots went: whether they are these, and the maker was told
+/// to forget just these.
+fn are_dropped<R: Threads + Wait + Clock + Copy + Drop + Send + 'static>(
+    rt: &R,
+    alloc: Global,
+    host: &mut Host<Cast, R>,
+    parts: &[PartId],
+    slots: [u64; 2],
+) -> bool {
+    for part in parts {
+        if host.post(*part, b'x').is_err() {
+            return false;
+        }
+    }
+    let [one, other] = slots;
+    let went = match rounds_until(rt, alloc, host, &[], 0, 2) {
+        Some(done) => {
+            done.starts == 0 && done.restarts.is_empty() && are_both(&done.drops, one, other)
+        }
+        None => false,
+    };
+    went && host.ask_maker(|cast| are_both(&cast.forgotten, one, other))
+}
+
+/// Two pairs, from their first life to the end: what each part is joined to is its own.
+fn live<R: Threads + Wait + Clock + Copy + Drop + Send + 'static>(
+    rt: &R,
+    alloc: Global,
+    host: &mut Host<Cast, R>,
+    rows: &[DirRow],
+    parts: [PartId; 4],
+    taken: [&Taken; 2],
+) -> bool {
+    let again = main_of(0, 6);
+    all_come(rt, host, &parts)
+        && arrives(rt, taken[0], b"\0\0abcdef")
+        && arrives(rt, taken[1], b"\0\0uvwxyz")
+        && put_down(rt, host, &parts)
+        && comes_back(rt, alloc, host, rows, parts[0], again)
+        && host.post(again, b'd').is_ok()
+        && are_dropped(
+            rt,
+            alloc,
+            host,
+            &[again, parts[1], parts[2], parts[3]],
+            [0, 3],
+        )
+}
+
+/// How many services were left at the end of two pairs' lives. None: something went wrong.
+fn run_pairs<R: Threads + Wait + Clock + Copy + Drop + Send + 'static>(
+    rt: R,
+    alloc: Global,
+    cast: Cast,
+    taken: [&Taken; 2],
+) -> Option<u64> {
+    let parts = [main_of(0, 1), log_of(0, 2), main_of(3, 4), log_of(3, 5)];
+    let rows = rows(alloc, &["a", "b"], true).ok()?;
+    let mut host = begin(rt, alloc, cast, 4, &rows, &parts)?;
+    let lived = live(&rt, alloc, &mut host, &rows, parts, taken);
+    let count = host.finish();
+    if lived { Some(count) } else { None }
+}
+
+/// Two pairs: each part hears its own letters, shows its own state and comes back alone, and each pair's loggers get
+/// what its own service wrote, the second going on where the first failed.
 #[test]
 fn each_part_has_its_own(rt: HostRuntime) -> Result<(), Fail> {
-    let alloc = rt.alloc();
-    let cast = Cast::open(alloc)?;
-    let (left, right) = (
-        Arc::try_clone(&cast.taken[0])?,
-        Arc::try_clone(&cast.taken[1])?,
-    );
-    let mut host = Host::new(rt, alloc, cast, 4, 16)?;
-    let both = rows(alloc, &["a", "b"], true)?;
-    let begin = Label::from_unix(0, 0).ok_or("the first second has a label")?;
-    let out = host
-        .round(&both, begin)
-        .ok()
-        .ok_or("the rows are in order")?;
-    let parts = [main_of(0, 1), log_of(0, 2), main_of(3, 4), log_of(3, 5)];
-    assert!(rt; out.scan.starts.as_slice() == parts.as_slice());
-    for part in &parts {
-        assert!(rt; comes(&rt, &mut host, *part, Sight::Process));
-    }
-    assert!(rt; arrives(&rt, &left, b"\0\0abcdef"));
-    assert!(rt; arrives(&rt, &right, b"\0\0uvwxyz"));
-    assert!(rt; put_down(&rt, &mut host, &parts));
-
-    assert!(rt; host.post(parts[0], b'x').is_ok());
-    let done = rounds_until(&rt, alloc, &mut host, &both, 1, 0)?;
-    let again = main_of(0, 6);
-    assert_eq!(rt; done.starts, 0);
-    assert!(rt; done.restarts.as_slice() == [again].as_slice());
-    assert!(rt; done.drops.is_empty());
-    assert!(rt; host.post(parts[0], b'u') == Err(PostFault::NoSuchPart));
-
-    assert!(rt; comes(&rt, &mut host, again, Sight::Process));
-    assert!(rt; host.post(again, b'd').is_ok());
-    for part in [again, parts[1], parts[2], parts[3]] {
-        assert!(rt; host.post(part, b'x').is_ok());
-    }
-    let done = rounds_until(&rt, alloc, &mut host, &[], 0, 2)?;
-    assert_eq!(rt; done.starts, 0);
-    assert!(rt; done.restarts.is_empty());
-    assert!(rt; is_either_order(&done.drops, 0, 3));
-    assert!(rt; host.ask_maker(|cast| is_either_order(&cast.forgotten, 0, 3)));
-    assert_eq!(rt; host.finish(), 0);
+    let cast = Cast::open(rt.alloc())?;
+    let left = Arc::try_clone(&cast.taken[0])?;
+    let right = Arc::try_clone(&cast.taken[1])?;
+    assert_eq!(rt; run_pairs(rt, rt.alloc(), cast, [&left, &right]), Some(0));
     Ok(())
 }
