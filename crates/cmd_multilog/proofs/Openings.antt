@@ -4,8 +4,11 @@ use Rattle.std.proofs.Math.Seq.{take-suc}
 use Rattle.std.proofs.lemmas.List.{take_all, length-append}
 use Rattle.std.proofs.lemmas.Option.{slice_get-map, slice_get_within, get_or_from_slice_get, slice_get_cases}
 use Rattle.std.specs.Prelude.{slice_get, IfSome, ⊤}
-use Rattle.cmd_multilog.specs.Folder.{Folder, Status}
-use Rattle.cmd_multilog.specs.Shelf.{Shelf, IsBegunAt, OpensLog, AddsStatus, AddsNone}
+use Rattle.std.specs.IoError.{error_kind}
+use Rattle.std.specs.declared.io.Error.{Error}
+use Rattle.std.specs.declared.io.ErrorKind.TheVariants as error
+use Rattle.cmd_multilog.specs.Folder.{Folder, Status, Asked}
+use Rattle.cmd_multilog.specs.Shelf.{Shelf, IsBegunAt, OpensLog, AsksForOne, AddsStatus, AddsNone}
 use Rattle.std.specs.Option.{option_map}
 use Rattle.mlog_script.specs.Script.{Act, Plan, log_plans}
 use Rattle.cmd_multilog.specs.declared.fault.OpenFault.{OpenFault}
@@ -39,7 +42,21 @@ placed-more [] (f ∷ fs) path status all one = absurd all
 placed-more (p ∷ ps) [] path status all one = absurd all
 placed-more (p ∷ ps) (f ∷ fs) path status all one = (all.0, placed-more ps fs path status (all.1) one)
 
-pub opens-none : (a : Shelf) → Opens a a [] []
+asked-none : (a : Option (List (List ℕ))) → Asked a a []
+asked-none None = tt
+asked-none (Some past) = sym (append-nil past)
+
+asked-both : (a b c : Option (List (List ℕ))) (ps qs : List (List ℕ)) → Asked a b ps → Asked b c qs → Asked a c (ps ++ qs)
+asked-both None b c ps qs one two = tt
+asked-both (Some past) None c ps qs one two = absurd one
+asked-both (Some past) (Some now) None ps qs one two = absurd two
+asked-both (Some past) (Some now) (Some later) ps qs one two =
+    two ∙ ap (λ (t : List (List ℕ)). t ++ qs) one ∙ append_assoc past ps qs
+
+asked-same : (a b c : Option (List (List ℕ))) (ps : List (List ℕ)) → Asked a b ps → c ≡ b → Asked a c ps
+asked-same a b c ps one same = subst (λ (t : Option (List (List ℕ))). Asked a t ps) (sym same) one
+
+pub opens-none : (a : Shelf) → Opens a a [] [] []
 opens-none a = record {
   folders = [];
   placed = [];
@@ -48,13 +65,14 @@ opens-none a = record {
   logs = sym (append-nil a.logs);
   statuses = sym (append-nil a.statuses);
   alerts = refl;
+  asked_for = asked-none a.asked;
   failures = refl;
 }
 
-pub opens-log : (a b c : Shelf) (paths : List (List ℕ)) (n : ℕ) (path : List ℕ) → Opens a b (take n paths) [] → slice_get paths n ≡ Some path
-    → OpensLog b c path → Opens a c (take (n + 1) paths) []
+pub opens-log : (a b c : Shelf) (paths : List (List ℕ)) (n : ℕ) (path : List ℕ) → Opens a b (take n paths) [] (take n paths) → slice_get paths n ≡ Some path
+    → OpensLog b c path → Opens a c (take (n + 1) paths) [] (take (n + 1) paths)
 opens-log a b c paths n path o is l =
-    subst (λ (ps : List (List ℕ)). Opens a c ps []) (sym (one_further paths n path is)) (record {
+    subst (λ (ps : List (List ℕ)). Opens a c ps [] ps) (sym (one_further paths n path is)) (record {
       folders = o.folders ++ l.folder ∷ [];
       placed = o.placed;
       all_begun = begun-more (take n paths) o.folders path l.folder o.all_begun l.begun;
@@ -62,13 +80,14 @@ opens-log a b c paths n path o is l =
       logs = l.logs ∙ ap (λ (t : List (Option Folder)). t ++ l.folder ∷ []) o.logs ∙ append_assoc a.logs o.folders (l.folder ∷ []);
       statuses = l.statuses ∙ o.statuses;
       alerts = l.alerts ∙ o.alerts;
+      asked_for = asked-both a.asked b.asked c.asked (take n paths) (path ∷ []) o.asked_for l.asked;
       failures = l.failures ∙ o.failures;
     })
 
-pub opens-status : (a b c : Shelf) (paths : List (List ℕ)) (n : ℕ) (path : List ℕ) → Opens a b [] (take n paths) → slice_get paths n ≡ Some path
-    → AddsStatus b c path → Opens a c [] (take (n + 1) paths)
+pub opens-status : (a b c : Shelf) (paths : List (List ℕ)) (n : ℕ) (path : List ℕ) → Opens a b [] (take n paths) [] → slice_get paths n ≡ Some path
+    → AddsStatus b c path → Opens a c [] (take (n + 1) paths) []
 opens-status a b c paths n path o is l =
-    subst (λ (ps : List (List ℕ)). Opens a c [] ps) (sym (one_further paths n path is)) (record {
+    subst (λ (ps : List (List ℕ)). Opens a c [] ps []) (sym (one_further paths n path is)) (record {
       folders = o.folders;
       placed = o.placed ++ l.status ∷ [];
       all_begun = o.all_begun;
@@ -76,11 +95,13 @@ opens-status a b c paths n path o is l =
       logs = l.logs ∙ o.logs;
       statuses = l.statuses ∙ ap (λ (t : List (Option Status)). t ++ l.status ∷ []) o.statuses ∙ append_assoc a.statuses o.placed (l.status ∷ []);
       alerts = l.alerts ∙ o.alerts;
+      asked_for = asked-same a.asked b.asked c.asked [] o.asked_for l.asked;
       failures = l.failures ∙ o.failures;
     })
 
-pub opens-adds_none : (a b c : Shelf) (paths files : List (List ℕ)) → Opens a b paths files → AddsNone b c → Opens a c paths files
-opens-adds_none a b c paths files o l = record {
+pub opens-adds_none : (a b c : Shelf) (paths files asked more : List (List ℕ)) → Opens a b paths files asked → AddsNone b c
+    → Asked a.asked c.asked more → Opens a c paths files more
+opens-adds_none a b c paths files asked more o l asks = record {
   folders = o.folders;
   placed = o.placed;
   all_begun = o.all_begun;
@@ -88,14 +109,16 @@ opens-adds_none a b c paths files o l = record {
   logs = l.logs ∙ o.logs;
   statuses = l.statuses ∙ o.statuses;
   alerts = l.alerts ∙ o.alerts;
+  asked_for = asks;
   failures = l.failures ∙ o.failures;
 }
 
-pub opens-all-logs : (a b : Shelf) (paths : List (List ℕ)) (n : ℕ) → Opens a b (take n paths) [] → slice_get paths n ≡ None → Opens a b paths []
-opens-all-logs a b paths n o is = subst (λ (ps : List (List ℕ)). Opens a b ps []) (all_taken paths n is) o
+pub opens-all-logs : (a b : Shelf) (paths : List (List ℕ)) (n : ℕ) → Opens a b (take n paths) [] (take n paths) → slice_get paths n ≡ None
+    → Opens a b paths [] paths
+opens-all-logs a b paths n o is = subst (λ (ps : List (List ℕ)). Opens a b ps [] ps) (all_taken paths n is) o
 
-pub opens-all-files : (a b : Shelf) (paths : List (List ℕ)) (n : ℕ) → Opens a b [] (take n paths) → slice_get paths n ≡ None → Opens a b [] paths
-opens-all-files a b paths n o is = subst (λ (ps : List (List ℕ)). Opens a b [] ps) (all_taken paths n is) o
+pub opens-all-files : (a b : Shelf) (paths : List (List ℕ)) (n : ℕ) → Opens a b [] (take n paths) [] → slice_get paths n ≡ None → Opens a b [] paths []
+opens-all-files a b paths n o is = subst (λ (ps : List (List ℕ)). Opens a b [] ps []) (all_taken paths n is) o
 
 none_begun : (folders : List (Option Folder)) → AllBegun [] folders → folders ≡ []
 none_begun [] h = refl
@@ -106,8 +129,8 @@ none_placed [] h = refl
 none_placed (f ∷ fs) h = absurd h
 
 -- the logs, and then the status files
-pub opens-both : (a b c : Shelf) (paths files : List (List ℕ)) → Opens a b paths [] → Opens b c [] files → Opens a c paths files
-opens-both a b c paths files o l = record {
+pub opens-both : (a b c : Shelf) (paths files asked : List (List ℕ)) → Opens a b paths [] asked → Opens b c [] files [] → Opens a c paths files asked
+opens-both a b c paths files asked o l = record {
   folders = o.folders;
   placed = l.placed;
   all_begun = o.all_begun;
@@ -116,6 +139,8 @@ opens-both a b c paths files o l = record {
   statuses = l.statuses ∙ ap (λ (t : List (Option Status)). t ++ l.placed) (o.statuses
       ∙ ap (λ (t : List (Option Status)). a.statuses ++ t) (none_placed o.placed o.all_placed) ∙ append-nil a.statuses);
   alerts = l.alerts ∙ o.alerts;
+  asked_for = subst (λ (ps : List (List ℕ)). Asked a.asked c.asked ps) (append-nil asked)
+      (asked-both a.asked b.asked c.asked asked [] o.asked_for l.asked_for);
   failures = l.failures ∙ o.failures;
 }
 
@@ -134,21 +159,43 @@ no_folder_at script log found there is =
 pub longer : {X : Type 0} (old new : List X) (x : X) (n : ℕ) → new ≡ old ++ x ∷ [] → length old ≡ n → length new ≡ n + 1
 longer old new x n is len = ap length is ∙ length-append old (x ∷ []) ∙ ap (λ k. k + 1) len
 
+-- its folder was asked for
+one_more : (a b c : Shelf) (script : List Act) (log : ℕ) (path : List ℕ) → Opens a b (take log (folders_of script)) [] (take log (folders_of script))
+    → AddsNone b c → AsksForOne b c path → slice_get (folders_of script) log ≡ Some path
+    → Opens a c (take log (folders_of script)) [] (take (log + 1) (folders_of script))
+one_more a b c script log path o none one is =
+    let paths = take log (folders_of script) in
+    opens-adds_none a b c paths [] paths (take (log + 1) (folders_of script)) o none
+    (subst (λ (ps : List (List ℕ)). Asked a.asked c.asked ps) (sym (one_further (folders_of script) log path is))
+    (asked-both a.asked b.asked c.asked paths (path ∷ []) o.asked_for one))
+
+-- why a log was not opened: at a fault of its folder, or for want of memory before that was asked for
+abbrev pub Why : Error → Shelf → Shelf → List ℕ → Type 0
+Why fault b c path = AsksForOne b c path ⊎ ((c.asked ≡ b.asked) × (error_kind fault ≡ error.OutOfMemory))
+
 -- a log that is not opened
-pub unopened : (a b c : Shelf) (script : List Act) (log : ℕ) (path : List ℕ) (cause : OpenFault) → Opens a b (take log (folders_of script)) []
-    → AddsNone b c → slice_get (folders_of script) log ≡ Some path → (cause ≡ why.OutOfMemory) ⊎ (cause ≡ why.Unopened log) → OpensUpTo a c script cause
-unopened a b c script log path cause o none is (inl e) =
-    subst (λ (w : OpenFault). OpensUpTo a c script w) (sym e) (log, 0, opens-adds_none a b c (take log (folders_of script)) [] o none)
-unopened a b c script log path cause o none is (inr e) =
+pub unopened : (a b c : Shelf) (script : List Act) (log : ℕ) (path : List ℕ) (fault : Error) (cause : OpenFault)
+    → Opens a b (take log (folders_of script)) [] (take log (folders_of script)) → AddsNone b c → Why fault b c path
+    → slice_get (folders_of script) log ≡ Some path → (error_kind fault ≡ error.OutOfMemory → cause ≡ why.OutOfMemory)
+    → (cause ≡ why.OutOfMemory) ⊎ (cause ≡ why.Unopened log) → OpensUpTo a c script cause
+unopened a b c script log path fault cause o none (inl one) is memory (inl e) =
+    subst (λ (w : OpenFault). OpensUpTo a c script w) (sym e) (log, 0, log + 1, omega arith, one_more a b c script log path o none one is)
+unopened a b c script log path fault cause o none (inl one) is memory (inr e) =
     subst (λ (w : OpenFault). OpensUpTo a c script w) (sym e)
-    (slice_get_within (folders_of script) log path is, opens-adds_none a b c (take log (folders_of script)) [] o none)
+    (slice_get_within (folders_of script) log path is, one_more a b c script log path o none one is)
+unopened a b c script log path fault cause o none (inr (same, kind)) is memory either =
+    let paths = take log (folders_of script) in
+    subst (λ (w : OpenFault). OpensUpTo a c script w) (sym (memory kind))
+    (log, 0, log, omega arith, opens-adds_none a b c paths [] paths paths o none (asked-same a.asked b.asked c.asked paths o.asked_for same))
 
 -- status files that are not all placed
-pub not_placed : (a b c : Shelf) (paths all : List (List ℕ)) → Opens a b paths [] → ((files : ℕ) × Opens b c [] (take files all))
-    → (logs : ℕ) × (files : ℕ) × Opens a c (take logs paths) (take files all)
+pub not_placed : (a b c : Shelf) (paths all : List (List ℕ)) → Opens a b paths [] paths → ((files : ℕ) × Opens b c [] (take files all) [])
+    → (logs : ℕ) × (files : ℕ) × (asked : ℕ) × (asked ≤ logs + 1) × Opens a c (take logs paths) (take files all) (take asked paths)
 not_placed a b c paths all o (files, some) = (
   length paths,
   files,
-  subst (λ (ps : List (List ℕ)). Opens a c ps (take files all)) (sym (take_all (length paths) paths (omega arith)))
-      (opens-both a b c paths (take files all) o some),
+  length paths,
+  omega arith,
+  subst (λ (ps : List (List ℕ)). Opens a c ps (take files all) ps) (sym (take_all (length paths) paths (omega arith)))
+      (opens-both a b c paths (take files all) paths o some),
 )

@@ -111,7 +111,7 @@ pub record RunsOpened (script : List Act) (status : ℕ) (old new : Stage) : Typ
 -- The logs were opened, and then the script was run.
 pub record RunsScript (script : List Act) (status : ℕ) (old new : Stage) : Type 0 where
   pub opened : Shelf
-  pub opens : Opens old.store opened (folders_of script) (file_paths script)
+  pub opens : Opens old.store opened (folders_of script) (file_paths script) (folders_of script)
   pub runs : RunsOpened script status (stage opened old.reader old.readings old.faults) new
 
 abbrev pub ScriptEnds : List Act → ℕ → Stage → Stage → Type 0

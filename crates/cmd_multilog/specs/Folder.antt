@@ -165,8 +165,9 @@ Holds None (Some new) content = ⊥
 Holds (Some old) None content = ⊥
 Holds (Some old) (Some new) content = new ≡ record { path = old.path; content = content }
 
--- A disk was asked for the folder at a path. One that tells what it was asked for goes on telling it.
-abbrev pub Asked : Option (List (List ℕ)) → Option (List (List ℕ)) → List ℕ → Type 0
-Asked None now path = ⊤
-Asked (Some past) None path = ⊥
-Asked (Some past) (Some now) path = now ≡ past ++ path ∷ []
+-- A disk was asked for the folders at these paths, in order, and for no other. One that tells what it was asked for goes
+-- on telling it.
+abbrev pub Asked : Option (List (List ℕ)) → Option (List (List ℕ)) → List (List ℕ) → Type 0
+Asked None now paths = ⊤
+Asked (Some past) None paths = ⊥
+Asked (Some past) (Some now) paths = now ≡ past ++ paths

@@ -30,7 +30,7 @@ told_of shelf = record {
   alerts = shelf.alerts;
 }
 
--- The shelf without its logs, status files and what was asked is as before.
+-- The shelf is as before, but for what the disk was asked for.
 pub record AddsNone (old new : Shelf) : Type 0 where
   pub logs : new.logs ≡ old.logs
   pub statuses : new.statuses ≡ old.statuses
@@ -49,8 +49,12 @@ pub record OpensLog (old new : Shelf) (path : List ℕ) : Type 0 where
   pub logs : new.logs ≡ old.logs ++ folder ∷ []
   pub statuses : new.statuses ≡ old.statuses
   pub alerts : new.alerts ≡ old.alerts
-  pub asked : Asked old.asked new.asked path
+  pub asked : Asked old.asked new.asked (path ∷ [])
   pub failures : new.failures ≡ old.failures
+
+-- The disk was asked for the folder at a path.
+abbrev pub AsksForOne : Shelf → Shelf → List ℕ → Type 0
+AsksForOne old new path = Asked old.asked new.asked (path ∷ [])
 
 -- The status file at a path is the next.
 pub record AddsStatus (old new : Shelf) (path : List ℕ) : Type 0 where

@@ -87,7 +87,7 @@ pub trait LogDisk {
     /// The folder at a path. It is made where it is missing.
     fn folder(&mut self, path: &[u8]) -> io::Result<Self::Folder>
         ensures path { IfOk result (λ folder. IfSome (Self.Folder.folder folder) (λ f. f.path ≡ path.now)) }
-        ensures asked { Asked (asked self.old) (asked self.new) path.now }
+        ensures asked { Asked (asked self.old) (asked self.new) (path.now ∷ []) }
         ensures alerts { alerts self.new ≡ alerts self.old };
 
     /// The place of the status file at a path. Nothing is made yet.

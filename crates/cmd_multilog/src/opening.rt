@@ -30,7 +30,7 @@ fn open_logs<D: LogDisk + Drop, A: Allocator + Clone, B: Allocator + Clone>(
     script: &Script<B>,
 ) -> Result<(), OpenFault>
     requires none { store.old.logs ≡ [] }
-    ensures ok { OnOk result (Opens store.old store.new (folders_of script.now) []) }
+    ensures ok { OnOk result (Opens store.old store.new (folders_of script.now) [] (folders_of script.now)) }
     ensures enough { OnOk result (count_by is_log script.now ≤ length store.new.logs) }
     ensures err { IfErr result (λ why. OpensUpTo store.old store.new script.now why) }
 {
@@ -50,9 +50,9 @@ fn place_statuses<D: LogDisk + Drop, A: Allocator + Clone, B: Allocator + Clone>
     script: &Script<B>,
 ) -> Result<(), AllocError>
     requires none { store.old.statuses ≡ [] }
-    ensures ok { OnOk result (Opens store.old store.new [] (file_paths script.now)) }
+    ensures ok { OnOk result (Opens store.old store.new [] (file_paths script.now) []) }
     ensures enough { OnOk result (count_by is_file script.now ≤ length store.new.statuses) }
-    ensures err { OnErr result ((files : ℕ) × Opens store.old store.new [] (take files (file_paths script.now))) }
+    ensures err { OnErr result ((files : ℕ) × Opens store.old store.new [] (take files (file_paths script.now)) []) }
 {
     let mut file = 0;
     while let Some(path) = script.file(file) {
@@ -70,7 +70,8 @@ pub(crate) fn open_all<D: LogDisk + Drop, A: Allocator + Clone, B: Allocator + C
 ) -> Result<(), OpenFault>
     requires no_logs { store.old.logs ≡ [] }
     requires no_files { store.old.statuses ≡ [] }
-    ensures ok { OnOk result (Opens store.old store.new (folders_of script.now) (file_paths script.now)) }
+    ensures ok { OnOk result (Opens store.old store.new (folders_of script.now) (file_paths script.now)
+        (folders_of script.now)) }
     ensures logs { OnOk result (count_by is_log script.now ≤ length store.new.logs) }
     ensures files { OnOk result (count_by is_file script.now ≤ length store.new.statuses) }
     ensures err { IfErr result (λ why. OpensUpTo store.old store.new script.now why) }

@@ -6,6 +6,7 @@ use crate::folder_log::FolderLog;
 use mlog_files::{LogStore, StoreFault};
 use std::alloc::{AllocError, Allocator, Global};
 use std::io;
+use std::io::ErrorKind;
 use std::marker::Model;
 use tai_status::Label;
 
@@ -67,9 +68,10 @@ impl<D: LogDisk + Drop, A: Allocator> Model for FolderStore<D, A> {
 }
 
 impl<D: LogDisk + Drop, A: Allocator + Clone> FolderStore<D, A> {
-    ghost use Rattle.std.specs.Prelude.{◌≡◌, ◌<◌, ◌≤◌, ◌^◌, [], length, IfOk, OnOk, OnErr};
+    ghost use Rattle.std.specs.Prelude.{◌≡◌, ◌<◌, ◌≤◌, ◌^◌, ◌⊎◌, [], length, IfOk, IfErr, OnOk, OnErr};
+    ghost use Rattle.std.specs.IoError.{error_kind};
     ghost use Rattle.tai_status.specs.Counted.{Rose};
-    ghost use Rattle.cmd_multilog.specs.Shelf.{OpensLog, AddsStatus, AddsNone};
+    ghost use Rattle.cmd_multilog.specs.Shelf.{OpensLog, AsksForOne, AddsStatus, AddsNone};
 
     /// A store over a disk.
     pub fn new(disk: D, alloc: A) -> Result<FolderStore<D, A>, AllocError>
@@ -92,6 +94,8 @@ impl<D: LogDisk + Drop, A: Allocator + Clone> FolderStore<D, A> {
         ensures ok { OnOk result (OpensLog self.old self.new path.now) }
         ensures fits { OnOk result (length self.new.logs < 2 ^ 64) }
         ensures err { OnErr result (AddsNone self.old self.new) }
+        ensures asked { IfErr result (λ error. AsksForOne self.old self.new path.now
+            ⊎ ((self.new.asked ≡ self.old.asked) × (error_kind error ≡ ErrorKind.OutOfMemory))) }
     {
         self.logs.reserve(1)?;
         let folder = self.disk.folder(path)?;
@@ -105,6 +109,7 @@ impl<D: LogDisk + Drop, A: Allocator + Clone> FolderStore<D, A> {
         ensures ok { OnOk result (AddsStatus self.old self.new path.now) }
         ensures fits { OnOk result (length self.new.statuses < 2 ^ 64) }
         ensures err { OnErr result (AddsNone self.old self.new) }
+        ensures asked { self.new.asked ≡ self.old.asked }
     {
         let status = self.disk.status_file(path)?;
         self.statuses.push(PlacedStatus::new(status))?;

@@ -31,8 +31,8 @@ returns-in-Err-clause-err g c =
     let script = c.args.script.now in
     let path = c.plan.inside.folder.now in
     let is = folder_at script c.loop-log.log c.log.result c.in-Some.plan path c.log.ensures.plan c.in-Some.is (ap (λ (p : Plan). p.folder) c.plan.view_is) in
-    unopened c.args.store.now c.loop-log.store c.open_log.new.self script c.loop-log.log path c.fault_of.result c.loop-log.invariant.0
-    c.in-Err.ensures.err is c.fault_of.ensures.either
+    unopened c.args.store.now c.loop-log.store c.open_log.new.self script c.loop-log.log path c.in-Err.error c.fault_of.result
+    c.loop-log.invariant.0 c.in-Err.ensures.err c.in-Err.ensures.asked is c.fault_of.ensures.memory c.fault_of.ensures.either
 
 pub returns-clause-ok : goal.returns-clause-ok
 returns-clause-ok g c =

@@ -5,7 +5,7 @@ use Rattle.cmd_multilog.proofs.opening.place_statuses.Given as goal
 
 abbrev pub invariant-loop-file : goal.invariant-loop-file
 invariant-loop-file g l =
-    Opens l.fn.store l.store [] (take l.file (file_paths l.script)) × (length l.store.statuses ≡ l.file)
+    Opens l.fn.store l.store [] (take l.file (file_paths l.script)) [] × (length l.store.statuses ≡ l.file)
     × (l.file ≤ count_by is_file l.script)
 
 abbrev pub decreases-loop-file : goal.decreases-loop-file
