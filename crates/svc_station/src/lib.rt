@@ -5,8 +5,8 @@
 //! taken where it stands. `Writer::publish` adds an event to it. A reader answers what the events that it knows
 //! of make of that machine: a beginning of the history, which begins with all that it read before or learnt.
 //! `Writer::tell` tells the whole history, and a reader that learnt the note knows at least that:
-//! `audit::last_machine` rests on it. What was read and what was published never part, whoever told whom:
-//! of the two one begins the other, and `audit::was_published` says which.
+//! `audit::last_machine` rests on it. A reader is never ahead of its writer, whoever told whom: what it read begins what
+//! was published (`audit::was_published`).
 //!
 //! What no contract here says, and is only tested: that a reading finds the newest publication (one that looks nowhere
 //! and answers what the reader knows already meets the clauses), and that memory serves. A call that may wait owes no
@@ -17,6 +17,7 @@
 #![tactic(auto)]
 
 pub mod audit;
+mod author;
 mod desk;
 mod front;
 mod look;

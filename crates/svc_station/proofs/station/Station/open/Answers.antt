@@ -23,6 +23,7 @@ loop-number-preserved g c =
         room = ap (λ v. v.trace.capacity) made.same.1 ∙ i.desk.room;
         readers = ap (λ v. v.readers) made.same.1 ∙ i.desk.readers;
         published = ap (λ f. f.seen.log) made.same.0 ∙ i.desk.published;
+        added = ap (λ a. a.front.seen.log) made.author ∙ i.desk.added;
       };
       count = omega (arith, ap length items, length-append c.loop-number.ends.items (reader ∷ []));
       room = omega (arith, c.push_reserved.ensures.capacity, i.room);
