@@ -80,7 +80,7 @@ fn left(clock: &impl Clock, begin: Duration) -> Option<Duration> {
     if left.is_zero() { None } else { Some(left) }
 }
 
-/// Rests, and sees to each part that ends meanwhile.
+/// Rests, and sees to each part that ends meanwhile. What ends with the rest is the next round's.
 fn rest<M: Maker + Drop, R: Threads + Wait + Clock + Copy + Drop + Send + 'static>(
     rt: R,
     host: &mut Option<Host<M, R>>,
@@ -97,7 +97,9 @@ fn rest<M: Maker + Drop, R: Threads + Wait + Clock + Copy + Drop + Send + 'stati
             return;
         };
         host.rest(longest);
-        host.collect();
+        if left(&rt, begin).is_some() {
+            host.collect();
+        }
     }
 }
 
