@@ -1,10 +1,8 @@
 -- Parts whose events go on.
 use Rattle.std.proofs.Common.{◌≡◌, ℕ, zero, suc, ◌<◌, List, [], ◌∷◌, length, refl, sym, ap, ◌∙◌, subst, arith, slice_index_or, slice_set}
-use mathlib.Core.List.{IsPrefix}
 use Rattle.svc_station.proofs.Fronts.{prefix_self, prefix_trans}
-use Rattle.tai_status.specs.Record.{Status}
 use Rattle.sup_core.specs.State.{State}
-use Rattle.sup_core.specs.History.{state_of, status_of}
+use Rattle.sup_core.specs.History.{state_of}
 use Rattle.scan_table.specs.declared.part.PartId.{PartId}
 use Rattle.svc_host.specs.Seats.{SeatState, SeatGoesOn, HasPosted, GoOn, IsNowhere, IsPlace, IsPost, IsReading, IsStep, history_of}
 

@@ -1,5 +1,5 @@
 -- What a round of a host does to its table and to the parts that are there.
-use Rattle.std.specs.Prelude.{◌≡◌, ◌⊎◌, Bool, true, false, not, ℕ, List, [], ◌∷◌, ◌++◌, map, length, Option, Some, None}
+use Rattle.std.specs.Prelude.{◌≡◌, ◌⊎◌, Bool, true, false, not, List, [], ◌∷◌, ◌++◌, map, length, Some, None}
 use Rattle.std.specs.List.{filter, All}
 use Rattle.tai_status.specs.Label.{Tai64n}
 use Rattle.scan_table.specs.declared.fault.ScanFault.{ScanFault}

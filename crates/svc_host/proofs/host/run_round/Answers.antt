@@ -1,5 +1,5 @@
-use Rattle.std.proofs.Common.{◌≡◌, ◌++◌, sym, ap, ◌∙◌, subst}
-use Rattle.svc_host.specs.Rounds.{AreBegun, after_ends, staying}
+use Rattle.std.proofs.Common.{sym, ap, ◌∙◌}
+use Rattle.svc_host.specs.Rounds.{after_ends, staying}
 use Rattle.svc_host.proofs.Beginning.{begun_as}
 use Rattle.svc_host.proofs.Causes.{cause}
 use Rattle.svc_host.proofs.host.run_round.Goals as goal

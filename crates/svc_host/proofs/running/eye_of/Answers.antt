@@ -1,4 +1,4 @@
-use Rattle.std.proofs.Common.{rules, Some, ◌++◌, ap, ◌∙◌}
+use Rattle.std.proofs.Common.{rules, ◌++◌, ap, ◌∙◌}
 use Rattle.std.specs.Option.{option_to_list}
 use Rattle.svc_station.specs.Ends.{station}
 use Rattle.svc_host.proofs.OneReader.{opened_one}
