@@ -2,21 +2,8 @@
 # What no contract can say: that the machine's own files, folders, children, pipes and clock are what the program takes
 # them for. Runs the program that the first word names, prints each check that fails, and ends with how many did not.
 # The wanted values are those of the daemontools pages and of docs/FORMATS.md.
-set -u
-program=$(realpath "$1")
-room=$(mktemp -d)
+. "$(dirname "$0")/checks.sh" "$1"
 trap 'rm -rf "$room"' EXIT
-cd "$room" || exit 1
-checked=0
-failed=0
-
-# is NAME WANTED GOT
-is() {
-  checked=$((checked + 1))
-  [ "$2" = "$3" ] && return
-  failed=$((failed + 1))
-  printf 'FAILED %s\n  wanted %q\n  got    %q\n' "$1" "$2" "$3"
-}
 
 # ended NAME STATUS TOLD COMMAND..: the command's status, and what it tells; what it prints is left in out.
 ended() {
@@ -116,5 +103,4 @@ if [ -w /dev/full ]; then
   is 'a full device: told' 'sim: write fault' "$(cat told)"
 fi
 
-echo "machine: $checked checks, $failed failed"
-[ "$failed" = 0 ]
+counts machine

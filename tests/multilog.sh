@@ -2,23 +2,9 @@
 # What no contract can say of multilog: that the machine's own folders are what the program takes them for. Runs the
 # program that the first word names over real folders, prints each check that fails, and ends with how many did not.
 # The wanted values are those of the multilog page of daemontools and of docs/FORMATS.md.
-set -u
-program=$(realpath "$1")
-room=$(mktemp -d)
+. "$(dirname "$0")/checks.sh" "$1"
 mounted=
 trap '[ -n "$mounted" ] && umount "$room/small" 2>/dev/null; rm -rf "$room"' EXIT
-cd "$room" || exit 1
-umask 022
-checked=0
-failed=0
-
-# is NAME WANTED GOT
-is() {
-  checked=$((checked + 1))
-  [ "$2" = "$3" ] && return
-  failed=$((failed + 1))
-  printf 'FAILED %s\n  wanted %q\n  got    %q\n' "$1" "$2" "$3"
-}
 
 # ended NAME STATUS TOLD WORDS..: multilog over the file `in`: its status, and what it tells
 ended() {
@@ -218,5 +204,4 @@ if mount -t tmpfs -o size=64k none small 2>/dev/null; then
   is 'a full disk: a front' 0 "$?"
 fi
 
-echo "multilog: $checked checks, $failed failed"
-[ "$failed" = 0 ]
+counts multilog

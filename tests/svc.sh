@@ -3,14 +3,8 @@
 # them for. Runs the program that the first word names against real sockets, prints each check that fails, and ends with
 # how many did not. The wanted values are those of the daemontools pages and of docs/FORMATS.md. It needs python3, for
 # sockets to listen at.
-set -u
-program=$(realpath "$1")
 command -v python3 >/dev/null || { echo 'svc: python3 is missing'; exit 1; }
-room=$(mktemp -d)
-cd "$room" || exit 1
-umask 022
-checked=0
-failed=0
+. "$(dirname "$0")/checks.sh" "$1"
 listeners=()
 
 leave() {
@@ -18,14 +12,6 @@ leave() {
   rm -rf "$room"
 }
 trap leave EXIT
-
-# is NAME WANTED GOT
-is() {
-  checked=$((checked + 1))
-  [ "$2" = "$3" ] && return
-  failed=$((failed + 1))
-  printf 'FAILED %s\n  wanted %q\n  got    %q\n' "$1" "$2" "$3"
-}
 
 # ended NAME STATUS PRINTED TOLD COMMAND WORDS..
 ended() {
@@ -222,5 +208,4 @@ timeout 5 "$program" svstat nosuch >/dev/full 2>told </dev/null
 is 'a full device: status' 111 "$?"
 is 'a full device: told' 'svstat: write fault' "$(cat told)"
 
-echo "svc: $checked checks, $failed failed"
-[ "$failed" = 0 ]
+counts svc

@@ -3,15 +3,9 @@
 # the program that the first word names over folders of its own, a scenario for each matter and all side by side, prints
 # each check that fails, and ends with how many did not. The wanted values are those of the daemontools pages and of
 # docs/FORMATS.md. It needs python3, for clients that send what svc never does.
-set -u
-program=$(realpath "$1")
 command -v python3 >/dev/null || { echo 'svscan: python3 is missing'; exit 1; }
-room=$(realpath "$(mktemp -d)")
-cd "$room" || exit 1
+. "$(dirname "$0")/checks.sh" "$1"
 export LC_ALL=C
-umask 022
-checked=0
-failed=0
 under=()
 
 # Kills what the svscans of a scenario started: each of them with its services is a process group, and so is a scenario.
@@ -31,14 +25,6 @@ leave() {
 }
 trap leave EXIT
 trap 'exit 1' INT TERM HUP
-
-# is NAME WANTED GOT
-is() {
-  checked=$((checked + 1))
-  [ "$2" = "$3" ] && return
-  failed=$((failed + 1))
-  printf 'FAILED %s: %s\n  wanted %q\n  got    %q\n' "${scenario:-svscan}" "$1" "$2" "$3"
-}
 
 # until_true SECONDS COMMAND..: tries the command each 50 ms, until it succeeds or the time is over
 until_true() {
@@ -1012,5 +998,4 @@ for each in "${scenarios[@]}"; do
   failed=$((failed + wrong))
 done
 
-echo "svscan: $checked checks, $failed failed"
-[ "$failed" = 0 ]
+counts svscan

@@ -1,0 +1,23 @@
+# What the scripts in this folder share. Each sources it with the program's path, and stands then in an empty folder of its
+# own, `room`, which it takes away as it leaves.
+set -u
+program=$(realpath "$1")
+room=$(realpath "$(mktemp -d)")
+cd "$room" || exit 1
+umask 022
+checked=0
+failed=0
+
+# is NAME WANTED GOT: counts a check, and prints it where it fails, behind its scenario where there is one
+is() {
+  checked=$((checked + 1))
+  [ "$2" = "$3" ] && return
+  failed=$((failed + 1))
+  printf 'FAILED %s%s\n  wanted %q\n  got    %q\n' "${scenario:+$scenario: }" "$1" "$2" "$3"
+}
+
+# counts NAME: how many checks there were, and how many failed; fails where one did
+counts() {
+  echo "$1: $checked checks, $failed failed"
+  [ "$failed" = 0 ]
+}
