@@ -101,6 +101,7 @@ impl Author {
     pub(crate) fn open() -> Option<Author>
         ensures { IfSome result (λ author. author.front.seen.log ≡ []) }
     {
+        // No event, and the two cells of a new book.
         let (seen, mut first, _second) = Seen::open(Start::alone(), 2, 0);
         let head = Word::tracked(2, &mut first);
         let pen = next_pen(&head, &seen, 2)?;
@@ -125,6 +126,7 @@ impl Author {
         if front.count >= MOST {
             return (Author { head, pen, front }, false);
         }
+        // So many events, and so many cells and three: the two of a new book, and the one that this pen is of.
         let sum = 2 * front.count + 3;
         let Some(next) = next_pen(&head, &front.seen, sum) else {
             return (Author { head, pen, front }, false);
