@@ -173,7 +173,7 @@ fn publish_beside<R: Threads + Wait + Abort + Copy + Drop + Send + 'static>(
     }
 }
 
-/// Measured so, on one core each, over 100,000 calls, when a publication exchanged one word of its book and not two: it
+/// Measured so, on one core each, over 100,000 calls, when a publication exchanged its book's word once and not twice: it
 /// takes 0.5 microseconds with two readers at rest, and 1.9 while one of them reads without a pause; a status takes 0.1
 /// microseconds, and 0.35 while the writer publishes without a pause.
 #[test]
