@@ -48,7 +48,26 @@ pub enum Answer {
     Done,
 }
 
-/// One round over the rows of a folder.
+/// The rows of a folder, after the threads of what ended are joined. The services of which every part runs are left out: a
+/// scan needs no row of them, and what ends from now on is the next round's.
+fn list<
+    S: Files,
+    M: FolderHolder + Drop,
+    R: Threads + Wait + Clock + Copy + Drop + Send + 'static,
+>(
+    files: &S,
+    alloc: Global,
+    host: &mut Option<Host<M, R>>,
+    folder: &str,
+) -> Result<Vec<DirRow>, ListFault> {
+    let Some(host) = host else {
+        return list_folder(files, alloc, folder, &|_name: &str| true);
+    };
+    host.collect();
+    list_folder(files, alloc, folder, &|name: &str| !host.is_whole(name))
+}
+
+/// One scan of the rows of a folder.
 fn round<M: FolderHolder + Drop, R: Threads + Wait + Clock + Copy + Drop + Send + 'static>(
     rt: R,
     host: &mut Option<Host<M, R>>,
@@ -62,7 +81,7 @@ fn round<M: FolderHolder + Drop, R: Threads + Wait + Clock + Copy + Drop + Send 
         return Err(ScanFault::OutOfMemory);
     }
     let label = SystemClock::new(rt).now();
-    match host.round(rows, label) {
+    match host.scan(rows, label) {
         Ok(out) => Ok(RoundOut {
             refused: out.scan.refused,
             locked: host.ask_maker(|maker| maker.take_locked()),
@@ -131,7 +150,7 @@ where
     R: Threads + Wait + Clock + Copy + Send + Sync + Drop + 'static,
 {
     match order {
-        Order::List(folder) => Answer::Rows(list_folder(&rt, alloc, folder.as_str())),
+        Order::List(folder) => Answer::Rows(list(&rt, alloc, host, folder.as_str())),
         Order::Round { folder, rows } => {
             if host.is_none() {
                 *host = open_host(rt, files, alloc).ok();

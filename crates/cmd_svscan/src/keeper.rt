@@ -31,7 +31,8 @@ pub trait Keeper {
     // Whether it may be called.
     ghost ready: { Self → Type 0 } = { λ _. ⊤ };
 
-    /// The rows of a folder, in the byte order of their names.
+    /// The rows of a folder, in the byte order of their names. It may leave out services of which every part runs: the
+    /// round after it does the same without.
     fn list(&mut self, folder: &str) -> Result<Vec<DirRow>, ListFault>
         requires { ready self.old }
         ensures ready { ready self.new }

@@ -59,18 +59,37 @@ fn fault_of(fault: &io::Error) -> ListFault {
     }
 }
 
-fn names<R: Files>(rt: &R, alloc: Global, path: &str) -> io::Result<Vec<String>> {
+/// The names in a folder that are wanted.
+fn names<R: Files, F: Fn(&str) -> bool>(
+    rt: &R,
+    alloc: Global,
+    path: &str,
+    is_wanted: &F,
+) -> io::Result<Vec<String>>
+    requires { F.IsAlwaysCallable is_wanted.now }
+{
     let mut names = Vec::new(alloc);
     for entry in fs::read_dir(&(rt, &alloc), path)? {
         let entry = entry?;
-        names.push(String::from_str(alloc, entry.file_name())?)?;
+        let name = entry.file_name();
+        if is_wanted(name) {
+            names.push(String::from_str(alloc, name)?)?;
+        }
     }
     Ok(names)
 }
 
-/// The rows of a folder on this machine, in the byte order of their names.
-pub fn list_folder<R: Files>(rt: &R, alloc: Global, path: &str) -> Result<Vec<DirRow>, ListFault> {
-    let names = match names(rt, alloc, path) {
+/// The rows of those names in a folder on this machine that are wanted, in the byte order of the names. Nothing else in the
+/// folder is looked at.
+pub fn list_folder<R: Files, F: Fn(&str) -> bool>(
+    rt: &R,
+    alloc: Global,
+    path: &str,
+    is_wanted: &F,
+) -> Result<Vec<DirRow>, ListFault>
+    requires { F.IsAlwaysCallable is_wanted.now }
+{
+    let names = match names(rt, alloc, path, is_wanted) {
         Ok(names) => names,
         Err(fault) => return Err(fault_of(&fault)),
     };

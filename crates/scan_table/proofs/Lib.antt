@@ -8,4 +8,5 @@ pub mod Placed
 pub mod Given
 mod Dropped
 mod Rows
+pub mod Whole
 pub mod After

@@ -1,5 +1,5 @@
 -- What a search by halves finds among rows.
-use Rattle.std.proofs.Common.{◌≡◌, ◌≢◌, ℕ, ◌+◌, ◌<◌, ◌≤◌, Bool, true, false, ◌&&◌, ◌||◌, List, [], ◌∷◌, length, get_or, drop, sym, ap, ◌∙◌, refl, arith, inl, inr, if◌then◌else◌, Option, Some, None, zero, suc, ◌-◌}
+use Rattle.std.proofs.Common.{◌≡◌, ◌≢◌, ℕ, ◌+◌, ◌<◌, ◌≤◌, Bool, true, false, ◌&&◌, ◌||◌, List, [], ◌∷◌, length, get_or, drop, sym, ap, ◌∙◌, refl, arith, inl, inr, if◌then◌else◌, Some, None, zero, suc, ◌-◌}
 use Rattle.std.specs.List.{list_any, filter, AllPairs, AllAdjacentBelow}
 use Rattle.std.specs.Ordering.{ordering_reverse}
 use Rattle.std.specs.declared.cmp.Ordering.{Ordering}

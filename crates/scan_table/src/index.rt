@@ -2,6 +2,7 @@
 ghost use Rattle.std.specs.Prelude.{◌≡◌, ◌+◌, ◌<◌, ◌≤◌, length, vec_len, vec_capacity, option_copied};
 ghost use Rattle.scan_table.specs.Scan.{slot_of};
 ghost use Rattle.scan_table.specs.Index.{names_of, IsIndex, IsSearched, ArePassed, AreDistinct};
+ghost use Rattle.scan_table.specs.Whole.{slot_named};
 
 use crate::row::DirRow;
 use crate::slot::Slot;
@@ -75,6 +76,22 @@ pub(crate) fn slot_of<'a, A: Allocator>(
             *at = place;
             None
         }
+    }
+}
+
+/// The slot of a name, by an index of all slots.
+pub(crate) fn slot_named<'a, A: Allocator>(
+    slots: &'a [Slot<A>],
+    index: &[usize],
+    name: &str,
+) -> Option<&'a Slot<A>>
+    requires index { IsIndex (names_of slots.now) index.now }
+    requires whole { length index.now ≡ length slots.now }
+    ensures { option_copied result ≡ slot_named slots.now name.now }
+{
+    match search(slots, index, name) {
+        Ok(place) => Some(&slots[index[place]]),
+        Err(_) => None,
     }
 }
 

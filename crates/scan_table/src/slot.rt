@@ -36,6 +36,7 @@ impl<A: Allocator> Model for Slot<A> {
 impl<A: Allocator> Slot<A> {
     ghost use Rattle.scan_table.specs.Slots.{all_ended, ended_roles};
     ghost use Rattle.scan_table.specs.Table.{slot_ended, has_running, renewed};
+    ghost use Rattle.scan_table.specs.Whole.{none_ended};
 
     /// The slot's number.
     pub(crate) fn number(&self) -> u64
@@ -58,6 +59,16 @@ impl<A: Allocator> Slot<A> {
         match self.log {
             None => self.main.has_ended,
             Some(log) => self.main.has_ended && log.has_ended,
+        }
+    }
+
+    /// Whether no part has ended.
+    pub(crate) fn none_ended(&self) -> bool
+        ensures { result ≡ none_ended self.now }
+    {
+        match self.log {
+            None => !self.main.has_ended,
+            Some(log) => !self.main.has_ended && !log.has_ended,
         }
     }
 

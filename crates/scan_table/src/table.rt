@@ -6,9 +6,10 @@ ghost use Rattle.scan_table.specs.Scan.{AreRising, is_exhausted, starts, restart
 ghost use Rattle.scan_table.specs.Table.{new_table, scanned, after_end, is_running, slot_ended, has_running, renewed, slot_at, has_log, name_of, AreFresh};
 ghost use Rattle.scan_table.specs.Order.{fault_of, scan_refusal};
 ghost use Rattle.scan_table.specs.Index.{IsBefore, IsTable, AreDistinct, names_of, IsIndex};
+ghost use Rattle.scan_table.specs.Whole.{is_whole, WholeNeedNoRow};
 
 use crate::fault::ScanFault;
-use crate::index::index_all;
+use crate::index::{index_all, slot_named};
 use crate::part::{Numbers, PartId, Parts};
 use crate::place::{end_part, restart_all, slot_at};
 use crate::plan::{Gifts, Plan, check_scan, keep, plan_scan};
@@ -170,6 +171,24 @@ impl<A: Allocator + Clone> ScanTable<A> {
             Some(slot) => slot.log.is_some(),
             None => false,
         }
+    }
+
+    /// Whether there is a service of this name, and no part of it has ended.
+    pub fn is_whole(&self, name: &str) -> bool
+        ensures { result ≡ is_whole self.now.slots name.now }
+    {
+        match slot_named(&self.slots, &self.index, name) {
+            Some(slot) => slot.none_ended(),
+            None => false,
+        }
+    }
+
+    /// A law: a scan does the same without the rows of the services of which no part has ended. So who lists a folder need
+    /// not look at these.
+    pub fn whole_need_no_row(&self)
+        ensures { WholeNeedNoRow self.now }
+    {
+        let _count = self.slots.len();
     }
 
     /// Tells the table that a part has ended: whether it is there and had not ended. No other part changes.

@@ -82,17 +82,21 @@ IsBegunOne slots rows label part olds old news new =
     × (news ≡ olds ++ seat ∷ []) × (new ≡ old))
     ⊎ ((news ≡ olds) × (new ≡ old ++ part ∷ []))
 
--- A round: threads are joined, the rows are scanned, and each part that starts or restarts is there now, begun by its
--- row, or failed, and then it has ended. Of the other parts those are there that stay.
+-- A scan: the rows are scanned, and each part that starts or restarts is there now, begun by its row, or failed, and then
+-- it has ended. Of the other parts those are there that stay.
+pub record IsScanned (old : HostState) (rows : List Row) (label : Tai64n) (out : HostOut) (new : HostState) : Type 0 where
+  pub scan : IsScan old.table rows out.scan
+  pub table : new.table ≡ after_ends out.failed (scanned old.table rows)
+  pub begun : AreBegun (scanned old.table rows).slots rows label (out.scan.starts ++ out.scan.restarts)
+      (staying out.scan old.seats) new.seats out.failed
+
+-- A round: threads are joined, and then the rows are scanned.
 pub record IsRound (old : HostState) (rows : List Row) (label : Tai64n) (out : HostOut) (new : HostState) : Type 0 where
   pub middle : HostState
-  pub collected : Collected old middle
-  pub scan : IsScan middle.table rows out.scan
-  pub table : new.table ≡ after_ends out.failed (scanned middle.table rows)
-  pub begun : AreBegun (scanned middle.table rows).slots rows label (out.scan.starts ++ out.scan.restarts)
-      (staying out.scan middle.seats) new.seats out.failed
+  pub joins : Collected old middle
+  pub scans : IsScanned middle rows label out new
 
--- Why a round is refused: what the scan says, and memory only where nothing else is wrong.
+-- Why a scan is refused: what the table says, and memory only where nothing else is wrong.
 abbrev pub IsCause : TableState → List Row → ScanFault → Type 0
 IsCause table rows fault.OutOfMemory = scan_refusal table rows ≡ None
 IsCause table rows why = scan_refusal table rows ≡ Some why

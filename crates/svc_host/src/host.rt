@@ -5,7 +5,7 @@ ghost use Rattle.scan_table.specs.Scan.{AreRising};
 ghost use Rattle.scan_table.specs.Order.{scan_refusal};
 ghost use Rattle.scan_table.specs.Table.{after_end, scanned};
 ghost use Rattle.svc_host.specs.Seats.{SeatState, IsStep};
-ghost use Rattle.svc_host.specs.Rounds.{AreBegun, AreCollected, IsBegunOne, IsCause, IsRound, IsScan};
+ghost use Rattle.svc_host.specs.Rounds.{AreBegun, AreCollected, IsBegunOne, IsCause, IsScan, IsScanned};
 ghost use Rattle.svc_host.specs.Rounds.{after_ends, host_of, staying};
 
 use crate::maker::Maker;
@@ -222,20 +222,20 @@ fn collect<M: Maker + Drop, R: Threads + Wait + Clock + Copy + Drop + Send + 'st
     }
 }
 
-/// One round of a host.
-fn run_round<M: Maker + Drop, R: Threads + Wait + Clock + Copy + Drop + Send + 'static>(
+/// One scan of a host.
+fn run_scan<M: Maker + Drop, R: Threads + Wait + Clock + Copy + Drop + Send + 'static>(
     workshop: &mut Workshop<M, R>,
     table: &mut ScanTable,
     seats: &mut Vec<Seat<R>>,
     rows: &[DirRow],
     label: Label,
 ) -> Result<HostOut, ScanFault>
-    ensures round { IfOk result (λ out.
-        IsRound (host_of table.old seats.old.items) rows.now label out (host_of table.new seats.new.items)) }
-    ensures refused { OnErr result (AreCollected table.old seats.old.items table.new seats.new.items) }
+    ensures scanned { IfOk result (λ out.
+        IsScanned (host_of table.old seats.old.items) rows.now label out (host_of table.new seats.new.items)) }
+    ensures table { OnErr result (table.new ≡ table.old) }
+    ensures seats { OnErr result (seats.new.items ≡ seats.old.items) }
     ensures cause { IfErr result (λ fault. IsCause table.new rows.now fault) }
 {
-    collect(workshop, table, seats);
     if let Err(fault) = table.check(rows) {
         return Err(fault);
     }
@@ -262,7 +262,8 @@ impl<M: Maker + Drop, R: Threads + Wait + Clock + Copy + Drop + Send + 'static> 
     ghost use Rattle.std.specs.Prelude.{◌≡◌, ◌↔◌, ◌<◌, ◌≤◌, [], Err, IfOk, IfErr, OnErr, MatchOption};
     ghost use Rattle.scan_table.specs.Table.{new_table};
     ghost use Rattle.svc_host.specs.Seats.{GoOn, IsNowhere, IsPost, IsReading, count_running};
-    ghost use Rattle.svc_host.specs.Rounds.{Collected, HostState, IsCause, IsRound};
+    ghost use Rattle.svc_host.specs.Rounds.{Collected, HostState, IsCause, IsRound, IsScanned};
+    ghost use Rattle.scan_table.specs.Whole.{is_whole};
 
     /// A host without parts, over a maker. Each part gets a mailbox with room for so many control bytes and a trace of
     /// so many entries, and each pair a box of as many pieces as a mailbox has room for bytes.
@@ -335,24 +336,42 @@ impl<M: Maker + Drop, R: Threads + Wait + Clock + Copy + Drop + Send + 'static> 
         collect(&mut self.workshop, &mut self.table, &mut self.seats);
     }
 
-    /// One round. The threads of the parts that have ended are joined; then the rows of the folder are scanned; then
-    /// what goes is forgotten, and what starts or restarts is made and gets its thread. A part that can't be made has
-    /// ended.
+    /// Whether there is a service of this name, and no part of it has ended, as far as threads were joined. Then a scan
+    /// needs no row of it (`ScanTable::whole_need_no_row`).
+    pub fn is_whole(&self, name: &str) -> bool
+        ensures { result ≡ is_whole self.now.table.slots name.now }
+    {
+        self.table.is_whole(name)
+    }
+
+    /// Scans the rows of the folder: what goes is forgotten, and what starts or restarts is made and gets its thread. A
+    /// part that can't be made has ended.
     ///
-    /// At a fault of the scan the joins stand, and nothing was started, restarted or dropped. `OutOfMemory` only where
-    /// nothing else is wrong.
-    pub fn round(&mut self, rows: &[DirRow], label: Label) -> Result<HostOut, ScanFault>
-        ensures round { IfOk result (λ out. IsRound self.old rows.now label out self.new) }
-        ensures refused { OnErr result (Collected self.old self.new) }
+    /// At a fault nothing was started, restarted or dropped. `OutOfMemory` only where nothing else is wrong.
+    pub fn scan(&mut self, rows: &[DirRow], label: Label) -> Result<HostOut, ScanFault>
+        ensures scanned { IfOk result (λ out. IsScanned self.old rows.now label out self.new) }
+        ensures refused { OnErr result (self.new ≡ self.old) }
         ensures cause { IfErr result (λ fault. IsCause self.new.table rows.now fault) }
     {
-        run_round(
+        run_scan(
             &mut self.workshop,
             &mut self.table,
             &mut self.seats,
             rows,
             label,
         )
+    }
+
+    /// One round. The threads of the parts that have ended are joined, and then the rows of the folder are scanned.
+    ///
+    /// At a fault of the scan the joins stand.
+    pub fn round(&mut self, rows: &[DirRow], label: Label) -> Result<HostOut, ScanFault>
+        ensures round { IfOk result (λ out. IsRound self.old rows.now label out self.new) }
+        ensures refused { OnErr result (Collected self.old self.new) }
+        ensures cause { IfErr result (λ fault. IsCause self.new.table rows.now fault) }
+    {
+        self.collect();
+        self.scan(rows, label)
     }
 
     /// Ends all services: each is sent `d` and `x`, and once all have ended, their threads are joined. It answers how

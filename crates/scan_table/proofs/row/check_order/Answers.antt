@@ -1,4 +1,4 @@
-use Rattle.std.proofs.Common.{◌≡◌, sym, arith}
+use Rattle.std.proofs.Common.{sym, arith}
 use Rattle.std.specs.declared.cmp.Ordering.TheVariants.{Less, Equal, Greater}
 use Rattle.scan_table.proofs.Rows.{order-told, order-more, order-none, rising-more}
 use Rattle.scan_table.proofs.row.check_order.Goals as goal

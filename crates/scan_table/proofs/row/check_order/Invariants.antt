@@ -1,4 +1,4 @@
-use Rattle.std.proofs.Common.{◌≡◌, ℕ, ◌<◌, ◌≤◌, ◌-◌, length, drop, get_or}
+use Rattle.std.proofs.Common.{◌≡◌, ◌<◌, ◌-◌, length, drop, get_or}
 use Rattle.std.specs.List.{AllAdjacentBelow}
 use Rattle.scan_table.specs.Slots.{Row}
 use Rattle.scan_table.specs.Scan.{IsBelow}

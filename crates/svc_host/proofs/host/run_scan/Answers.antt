@@ -2,15 +2,13 @@ use Rattle.std.proofs.Common.{sym, ap, ◌∙◌}
 use Rattle.svc_host.specs.Rounds.{after_ends, staying}
 use Rattle.svc_host.proofs.Beginning.{begun_as}
 use Rattle.svc_host.proofs.Causes.{cause}
-use Rattle.svc_host.proofs.host.run_round.Goals as goal
+use Rattle.svc_host.proofs.host.run_scan.Goals as goal
 
 pub returns-in-Err-clause-cause : goal.returns-in-Err-clause-cause
-returns-in-Err-clause-cause g c = cause c.collect.new.table c.args.rows.now _ (sym c.in-Err.ensures.exact)
+returns-in-Err-clause-cause g c = cause c.args.table.now c.args.rows.now _ (sym c.in-Err.ensures.exact)
 
-pub returns-clause-round : goal.returns-clause-round
-returns-clause-round g c = record {
-  middle = record { table = c.collect.new.table; seats = c.collect.new.seats.items };
-  collected = c.collect.ensures;
+pub returns-clause-scanned : goal.returns-clause-scanned
+returns-clause-scanned g c = record {
   scan = c.in-Ok.ensures.scan;
   table = c.end_all.ensures ∙ ap (λ l. after_ends l c.in-Ok.found.table) (c.deref-2.ensures.value ∙ sym c.from_vec.ensures)
       ∙ ap (after_ends c.from_vec.result) c.in-Ok.ensures.table;
