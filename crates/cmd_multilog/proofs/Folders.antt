@@ -1,6 +1,6 @@
 -- Folders of logs: what calls in turn do.
-use Rattle.std.proofs.Common.{◌≡◌, ℕ, ◌+◌, ◌<◌, ◌≤◌, Bool, true, false, List, [], ◌∷◌, ◌++◌, length, map, drop, get_or, Option, Some, None, refl, sym, ap, ◌∙◌, arith, subst, append_assoc, append-nil}
-use Rattle.std.specs.Prelude.{IfSome, MatchOption, unwrap_or, bytes_eq, if◌then◌else◌, ⊤, take, Result, Ok, Err, OnOk, OnErr}
+use Rattle.std.proofs.Common.{◌≡◌, ℕ, ◌+◌, ◌<◌, true, false, List, [], ◌∷◌, ◌++◌, length, map, drop, get_or, Option, Some, None, refl, sym, ap, ◌∙◌, arith, subst, append_assoc, append-nil}
+use Rattle.std.specs.Prelude.{IfSome, MatchOption, unwrap_or, take, Result, Ok, Err, OnOk, OnErr}
 use Rattle.std.specs.Option.{option_map}
 use Rattle.std.proofs.lemmas.Slice.Eq.{bytes_eq-Decides}
 use Rattle.std.proofs.lemmas.List.{length-append}
@@ -8,7 +8,7 @@ use Rattle.tai_status.specs.Label.{Tai64n}
 use Rattle.mlog_files.specs.Files.{Old, Files, Step, Finish, Remove, files_after, append_steps, old_name, with_old}
 use Rattle.mlog_files.specs.Store.{Reaches}
 use Rattle.cmd_multilog.specs.Names.{old_names, with_name}
-use Rattle.cmd_multilog.specs.Folder.{Folder, Changes, Locks, Opens, Extends, Syncs, has_old, Renames, without, Removes, Begins, files_in, files_of, IsKept, HasLength, HasNames, StaysAt}
+use Rattle.cmd_multilog.specs.Folder.{Folder, Changes, Locks, Opens, Extends, Syncs, Renames, without, Removes, Begins, files_in, files_of, IsKept, HasLength, HasNames, StaysAt}
 use Rattle.cmd_multilog.proofs.Naming.{names-with_old}
 
 -- the files of a folder with this current file

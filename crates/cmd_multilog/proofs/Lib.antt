@@ -3,3 +3,4 @@ pub mod Folders
 pub mod Shelves
 pub mod Openings
 pub mod Running
+pub mod Ordered

@@ -1,5 +1,5 @@
 -- Stores over folders.
-use Rattle.std.proofs.Common.{◌≡◌, ℕ, List, Option, Some, None, ap}
+use Rattle.std.proofs.Common.{ℕ, List, Option, Some, None, ap}
 use Rattle.mlog_files.specs.Store.{IsNow}
 use Rattle.cmd_multilog.specs.Folder.{Status, content_of, Holds}
 

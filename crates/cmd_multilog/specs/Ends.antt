@@ -3,7 +3,6 @@ use Rattle.std.specs.Prelude.{◌≡◌, ◌⊎◌, ⊤, ℕ, List, [], map, sli
 use Rattle.tai_status.specs.Label.{Tai64n}
 use Rattle.tai_status.specs.Counted.{Device, Fails, IsRead, Rose, Tells}
 use Rattle.mlog_script.specs.Script.{Act, said, first_fault, file_paths}
-use Rattle.mlog_script.specs.declared.fault.ScriptFault.{ScriptFault}
 use Rattle.mlog_script.specs.declared.fault.ScriptFaultKind.TheVariants as kind
 use Rattle.mlog_core.specs.Run.{World, world, RunsAll, RunsLines, RunsUpTo}
 use Rattle.mlog_core.specs.declared.stream.Counts.{Counts}

@@ -1,5 +1,5 @@
 -- Names in the folder of a log, which are lists of bytes.
-use Rattle.std.specs.Prelude.{ℕ, nat_le, ◌==◌, Bool, false, ◌&&◌, if◌then◌else◌, List, [], ◌∷◌, fold, length, Option, None}
+use Rattle.std.specs.Prelude.{ℕ, nat_le, ◌==◌, Bool, false, ◌&&◌, if◌then◌else◌, List, [], ◌∷◌, fold, length, Option, None, IsSorted}
 use Rattle.std.specs.Cmp.Lexicographic.{slice_cmp}
 use Rattle.std.specs.Ordering.{is_lt, nat_cmp}
 use Rattle.tai_status.specs.Label.{Tai64n}
@@ -18,6 +18,10 @@ abbrev pub with_name : List ℕ → List (List ℕ) → List (List ℕ)
 with_name name [] = name ∷ []
 with_name name (first ∷ names) =
     if is_lt (slice_cmp nat_cmp first name) then first ∷ with_name name names else name ∷ first ∷ names
+
+-- Names are in byte order: none is smaller than the one before it.
+abbrev pub AreInOrder : List (List ℕ) → Type 0
+AreInOrder names = IsSorted (slice_cmp nat_cmp) names
 
 -- the names of old files among these, in byte order
 abbrev pub old_names : List (List ℕ) → List (List ℕ)

@@ -1,8 +1,8 @@
 -- How the logs and status files of a script are opened.
-use Rattle.std.specs.Prelude.{◌≡◌, ℕ, ◌<◌, ◌≤◌, ◌+◌, ⊤, List, [], ◌∷◌, ◌++◌, take, map, length, Option, Some, None, IfSome}
+use Rattle.std.specs.Prelude.{◌≡◌, ℕ, ◌<◌, ◌≤◌, ◌+◌, ⊤, List, [], ◌∷◌, ◌++◌, take, map, length, Option, IfSome}
 use Rattle.mlog_script.specs.Script.{Act, log_plans, file_paths}
 use Rattle.cmd_multilog.specs.Folder.{Folder, Status, Asked}
-use Rattle.cmd_multilog.specs.Shelf.{Shelf, IsBegunAt, AddsNone}
+use Rattle.cmd_multilog.specs.Shelf.{Shelf, IsBegunAt}
 use Rattle.cmd_multilog.specs.declared.fault.OpenFault.{OpenFault}
 use Rattle.cmd_multilog.specs.declared.fault.OpenFault.TheVariants as why
 

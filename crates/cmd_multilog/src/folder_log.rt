@@ -2,7 +2,7 @@
 ghost use Rattle.std.specs.Prelude.{◌≡◌};
 
 use crate::disk::LogFolder;
-use crate::names::{FileName, greatest_in, insert, old_names};
+use crate::names::{FileName, OldNames, greatest_in, old_names};
 use std::alloc::{AllocError, Allocator, Global};
 use std::io;
 use std::io::{Error, ErrorKind};
@@ -14,7 +14,7 @@ use tai_status::Label;
 #[derive(Drop)]
 pub struct FolderLog<F: LogFolder + Drop, A: Allocator = Global> {
     folder: F,
-    names: Vec<FileName<A>, A>,
+    olds: OldNames<A>,
     length: u64,
 }
 
@@ -26,7 +26,7 @@ impl<F: LogFolder + Drop, A: Allocator> Model for FolderLog<F, A> {
 
     ghost view = { λ log. F.folder log.folder };
 
-    ghost invariant = { λ log. IsKept (F.folder log.folder) log.names.items log.length };
+    ghost invariant = { λ log. IsKept (F.folder log.folder) log.olds.names.items log.length };
 }
 
 impl<F: LogFolder + Drop, A: Allocator + Clone> FolderLog<F, A> {
@@ -45,10 +45,10 @@ impl<F: LogFolder + Drop, A: Allocator + Clone> FolderLog<F, A> {
         folder.open_current()?;
         let length = folder.length()?;
         let names = folder.names(alloc)?;
-        let names = old_names(alloc, names)?;
+        let olds = old_names(alloc, names)?;
         Ok(FolderLog {
             folder,
-            names,
+            olds,
             length,
         })
     }
@@ -76,12 +76,12 @@ impl<F: LogFolder + Drop, A: Allocator + Clone> FolderLog<F, A> {
         ensures err { OnErr result (Reaches (files_of self.old) (files_of self.new) []) }
         ensures stays { StaysAt self.old self.new }
     {
-        let name = FileName::of_label(self.names.allocator().clone()?, label)?;
-        self.names.reserve(1)?;
+        let name = FileName::of_label(self.olds.names.allocator().clone()?, label)?;
+        self.olds.names.reserve(1)?;
         self.folder.sync()?;
         self.folder.rename(name.as_slice())?;
         self.length = 0;
-        match insert(&mut self.names, name) {
+        match self.olds.insert(name) {
             Ok(()) => self.folder.open_current(),
             Err(_) => unreachable!(),
         }
@@ -93,11 +93,11 @@ impl<F: LogFolder + Drop, A: Allocator + Clone> FolderLog<F, A> {
         ensures err { OnErr result (self.new ≡ self.old) }
         ensures stays { StaysAt self.old self.new }
     {
-        if self.names.is_empty() {
+        if self.olds.names.is_empty() {
             return Ok(());
         }
-        self.folder.remove(self.names[0].as_slice())?;
-        self.names.remove(0);
+        self.folder.remove(self.olds.names[0].as_slice())?;
+        self.olds.names.remove(0);
         Ok(())
     }
 
@@ -112,13 +112,13 @@ impl<F: LogFolder + Drop, A: Allocator + Clone> FolderLog<F, A> {
     pub(crate) fn old_count(&self) -> u64
         ensures { IfSome (files_of self.now) (λ files. result ≡ length files.olds) }
     {
-        self.names.len() as u64
+        self.olds.names.len() as u64
     }
 
     /// The greatest label in the names of the old files.
     pub(crate) fn last_label(&self) -> Option<Label>
         ensures { IfSome (files_of self.now) (λ files. result ≡ greatest_label files.olds) }
     {
-        greatest_in(&self.names)
+        greatest_in(&self.olds.names)
     }
 }

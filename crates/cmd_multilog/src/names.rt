@@ -4,7 +4,7 @@ ghost use Rattle.std.specs.Cmp.Lexicographic.{slice_cmp};
 ghost use Rattle.std.specs.Ordering.{is_lt, nat_cmp};
 ghost use Rattle.mlog_files.specs.Files.{old_name};
 ghost use Rattle.mlog_files.specs.Named.{label_in, later_of};
-ghost use Rattle.cmd_multilog.specs.Names.{begins_with_at, is_old_name, with_name, old_names, greatest_in};
+ghost use Rattle.cmd_multilog.specs.Names.{begins_with_at, is_old_name, with_name, old_names, greatest_in, AreInOrder};
 
 use std::alloc::{AllocError, Allocator, Global};
 use std::marker::Model;
@@ -114,44 +114,55 @@ fn is_below(first: &[u8], second: &[u8]) -> bool
     first.cmp(second).is_lt()
 }
 
-// Where a name comes to stand among names.
+// Where a name comes to stand among names in byte order. The place is sought from the end: that of a new label is there.
 fn place_of<A: Allocator>(names: &[FileName<A>], name: &[u8]) -> usize
+    requires { AreInOrder names.now }
     ensures within { result ≤ length names.now }
     ensures place { with_name name.now names.now ≡ take result names.now ++ name.now ∷ drop result names.now }
 {
-    for (place, other) in names.iter().enumerate() {
-        if !is_below(other.as_slice(), name) {
+    let mut place = names.len();
+    while place > 0 {
+        if is_below(names[place - 1].as_slice(), name) {
             return place;
         }
+        place -= 1;
     }
-    names.len()
+    0
 }
 
-/// Puts a name in its place among names.
-pub(crate) fn insert<A: Allocator>(
-    names: &mut Vec<FileName<A>, A>,
-    name: FileName<A>,
-) -> Result<(), AllocError>
-    ensures ok { OnOk result (names.new.items ≡ with_name name names.old.items) }
-    ensures err { OnErr result (names.new.items ≡ names.old.items) }
-    ensures room { vec_len names.old + 1 ≤ vec_capacity names.old → IsOk result }
-{
-    let place = place_of(names, name.as_slice());
-    names.insert(place, name)?;
-    Ok(())
+/// The names of old files, in byte order.
+#[derive(Drop)]
+pub(crate) struct OldNames<A: Allocator = Global> {
+    pub(crate) names: Vec<FileName<A>, A>,
+    ghost in_order: { AreInOrder names.items },
+}
+
+impl<A: Allocator> OldNames<A> {
+    /// Puts a name in its place.
+    pub(crate) fn insert(&mut self, name: FileName<A>) -> Result<(), AllocError>
+        ensures ok { OnOk result (self.new.names.items ≡ with_name name self.old.names.items) }
+        ensures err { OnErr result (self.new.names.items ≡ self.old.names.items) }
+        ensures room { vec_len self.old.names + 1 ≤ vec_capacity self.old.names → IsOk result }
+    {
+        let place = place_of(&self.names, name.as_slice());
+        self.names.insert(place, name)?;
+        Ok(())
+    }
 }
 
 /// The names of old files among names, in byte order.
 pub(crate) fn old_names<A: Allocator + Clone>(
     alloc: &A,
     names: Vec<FileName<A>, A>,
-) -> Result<Vec<FileName<A>, A>, AllocError>
-    ensures { IfOk result (λ olds. olds.items ≡ old_names names.items) }
+) -> Result<OldNames<A>, AllocError>
+    ensures { IfOk result (λ olds. olds.names.items ≡ old_names names.items) }
 {
-    let mut olds = Vec::new(alloc.clone()?);
+    let mut olds = OldNames {
+        names: Vec::new(alloc.clone()?),
+    };
     for name in names {
         if is_old_name(name.as_slice()) {
-            insert(&mut olds, name)?;
+            olds.insert(name)?;
         }
     }
     Ok(olds)

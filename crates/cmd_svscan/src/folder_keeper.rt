@@ -50,11 +50,7 @@ pub enum Answer {
 
 /// The rows of a folder, after the threads of what ended are joined. The services of which every part runs are left out: a
 /// scan needs no row of them, and what ends from now on is the next round's.
-fn list<
-    S: Files,
-    M: FolderHolder + Drop,
-    R: Threads + Wait + Clock + Copy + Drop + Send + 'static,
->(
+fn list<S: Files, M: FolderHolder + Drop, R: Threads + Wait + Clock + Copy + Drop + Send + 'static>(
     files: &S,
     alloc: Global,
     host: &mut Option<Host<M, R>>,

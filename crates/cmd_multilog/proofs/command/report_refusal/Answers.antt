@@ -1,4 +1,4 @@
-use Rattle.std.proofs.Common.{List, ℕ, subst, ◌∙◌, ap, rules, ◌≡◌}
+use Rattle.std.proofs.Common.{List, ℕ, subst, rules, ◌≡◌}
 use Rattle.tai_status.specs.Counted.{Tells}
 use Rattle.cmd_multilog.specs.Sayings.{script_told}
 use Rattle.cmd_multilog.proofs.command.report_refusal.Goals as goal

@@ -1,4 +1,4 @@
-use Rattle.std.proofs.Common.{List, ℕ, [], ◌∷◌, ◌++◌, subst, ◌∙◌, ap, rules, ◌≡◌, sym}
+use Rattle.std.proofs.Common.{List, ℕ, [], ◌∷◌, ◌++◌, subst}
 use Rattle.std.specs.Prelude.{codes}
 use Rattle.tai_status.specs.Counted.{Tells}
 use Rattle.cmd_multilog.proofs.command.report_unopened.Goals as goal

@@ -1,4 +1,4 @@
-use Rattle.std.proofs.Common.{rules, ap, Err, Some, subst, sym, List, ℕ}
+use Rattle.std.proofs.Common.{ap, Err, Some, subst, List, ℕ}
 use Rattle.mlog_core.specs.declared.stream.RunFault.{RunFault}
 use Rattle.tai_status.specs.Counted.{Tells}
 use Rattle.cmd_multilog.specs.Ends.{stage}

@@ -1,6 +1,9 @@
-use Rattle.std.proofs.Common.{◌≡◌, ◌++◌, take, drop}
-use Rattle.cmd_multilog.specs.Names.{with_name}
+use Rattle.std.proofs.Common.{◌≤◌, length}
+use Rattle.cmd_multilog.proofs.Ordered.{IsBefore}
 use Rattle.cmd_multilog.proofs.names.place_of.Given as goal
 
 abbrev pub invariant-loop-place : goal.invariant-loop-place
-invariant-loop-place g l = with_name l.name l.names ≡ take l.place l.names ++ with_name l.name (drop l.place l.names)
+invariant-loop-place g l = (l.place ≤ length l.names) × IsBefore l.name l.names l.place
+
+abbrev pub decreases-loop-place : goal.decreases-loop-place
+decreases-loop-place g l = l.place

@@ -1,4 +1,4 @@
-use Rattle.std.proofs.Common.{rules, ap, ◌∙◌, ◌≡◌, ◌+◌, ◌≤◌, sym, subst, ℕ, arith, length, None, [], count_by, ◌<◌, ◌^◌}
+use Rattle.std.proofs.Common.{rules, ap, ◌≡◌, ◌+◌, ◌≤◌, subst, ℕ, arith, length, None, count_by, ◌<◌, ◌^◌}
 use Rattle.mlog_script.specs.Script.{Plan, is_log}
 use Rattle.cmd_multilog.specs.Opening.{folders_of}
 use Rattle.cmd_multilog.proofs.Openings.{opens-none, opens-log, opens-all-logs, folder_at, no_folder_at, longer, unopened}

@@ -1,4 +1,4 @@
-use Rattle.std.proofs.Common.{rules, ap, ◌∙◌, ◌≡◌, ◌+◌, ◌≤◌, sym, subst, ℕ, arith, length, None, Some, [], count_by, ◌<◌, ◌^◌}
+use Rattle.std.proofs.Common.{rules, ap, ◌≡◌, ◌+◌, ◌≤◌, subst, ℕ, arith, length, None, Some, count_by, ◌<◌, ◌^◌}
 use Rattle.std.specs.Prelude.{slice_get}
 use Rattle.mlog_script.specs.Script.{is_file, file_paths}
 use Rattle.cmd_multilog.proofs.Openings.{opens-none, opens-status, opens-all-files, longer}

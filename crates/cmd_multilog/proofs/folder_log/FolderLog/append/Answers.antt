@@ -1,7 +1,4 @@
-use Rattle.std.proofs.Common.{rules, take, sym, subst, Option}
-use Rattle.mlog_files.specs.Files.{append_steps}
-use Rattle.mlog_files.specs.Store.{Reaches}
-use Rattle.cmd_multilog.specs.Folder.{Folder, files_of}
+use Rattle.std.proofs.Common.{take}
 use Rattle.cmd_multilog.proofs.Folders.{extends_files}
 use Rattle.cmd_multilog.proofs.folder_log.FolderLog.append.Goals as goal
 

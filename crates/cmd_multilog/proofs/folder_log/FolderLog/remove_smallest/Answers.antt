@@ -1,12 +1,12 @@
-use Rattle.std.proofs.Common.{rules, ◌≡◌, ◌<◌, subst, sym, List, ℕ, ◌∙◌, ap, take, drop, ◌++◌, length, get_or}
+use Rattle.std.proofs.Common.{rules, ◌≡◌, ◌<◌, subst, sym, List, ℕ, length, get_or}
 use Rattle.cmd_multilog.specs.Folder.{IsKept}
-use Rattle.cmd_multilog.proofs.Folders.{kept-removed-first, removed_first_files}
+use Rattle.cmd_multilog.proofs.Folders.{kept-removed-first}
 use Rattle.cmd_multilog.proofs.folder_log.FolderLog.remove_smallest.Goals as goal
 
 pub invariant_of-self-2 : goal.invariant_of-self-2
 invariant_of-self-2 g c =
     let f = g.F.LogFolder.folder in
-    let names = c.self.inside.names.items in
+    let names = c.self.inside.olds.names.items in
     let first = c.as_slice.result.now in
     let some : 0 < length names = search rules in
     let is : first ≡ get_or names 0 first = search rules in
