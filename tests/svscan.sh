@@ -943,6 +943,40 @@ shortage() {
   so 'the service too' lives "$(process "${up[0]}")"
 }
 
+# What stands in the folder when a service begins anew counts, though rounds passed in which it was not looked at.
+begins_anew() {
+  mkdir d
+  sleeper d/web
+  sleeper d/pair
+  logger d/pair/log
+  start told d
+  soon 'up' 5 is_settled d/web
+  soon 'the pair is up' 5 is_settled d/pair/log
+  sleep 6
+  local first
+  first=$(process d/pair)
+  : >d/web/down
+  : >d/pair/log/down
+  svc -dx d/web d/pair/log
+  soon 'ended' 3 not is_served d/web
+  soon 'it begins again' 8 is_served d/web
+  soon 'its logger begins again' 8 is_served d/pair/log
+  sleep 2
+  is 'down since then: not started' '1 1' "$(count d/web/starts) $(count d/pair/log/starts)"
+  is 'the service of the pair goes on' "$first" "$(process d/pair)"
+  rm d/web/down
+  svc -x d/web
+  soon 'up since then: started' 8 has_lines 2 d/web/starts
+  # Its folder is a file by the time it ends.
+  mv d/web d/.web
+  echo 'a file' >d/web
+  svc -dx d/.web
+  soon 'a file in its place: ended' 3 not is_served d/.web
+  sleep 6
+  is 'a file in its place: it does not start again' 2 "$(count d/.web/starts)"
+  is 'nothing was told' '' "$(cat told)"
+}
+
 ticks() {
   sed 's/.*) //' "/proc/$1/stat" | { read -r -a field; echo $((field[11] + field[12])); }
 }
@@ -979,7 +1013,7 @@ has_counts() {
 }
 
 scenarios=(life modes_kept exits no_run links stubborn killed_service killed_logger killed_svscan late_logger changes twice
-  names silent connections no_supervise rounds two_services child shortage many)
+  names silent connections no_supervise rounds two_services child begins_anew shortage many)
 set -m
 for each in "${scenarios[@]}"; do
   (play "$each") </dev/null &
