@@ -2,7 +2,7 @@
 ghost use Rattle.std.specs.Prelude.{◌≡◌};
 
 use crate::keeper::{Keeper, ListFault, RoundOut};
-use crate::listing::list_folder;
+use crate::listing::{list_names, list_rows};
 use cmd_base::SystemClock;
 use scan_table::{DirRow, ScanFault};
 use std::alloc::Global;
@@ -48,19 +48,35 @@ pub enum Answer {
     Done,
 }
 
-/// The rows of a folder, after the threads of what ended are joined. The services of which every part runs are left out: a
-/// scan needs no row of them, and what ends from now on is the next round's.
-fn list<S: Files, M: FolderHolder + Drop, R: Threads + Wait + Clock + Copy + Drop + Send + 'static>(
+/// Those of some names of which a scan needs rows: all but those of the services of which every part runs.
+fn needed<M: Maker + Drop, R: Threads + Wait + Clock + Copy + Drop + Send + 'static>(
+    alloc: Global,
+    host: &Host<M, R>,
+    names: Vec<String>,
+) -> Result<Vec<String>, ListFault> {
+    let mut needed = Vec::new(alloc);
+    for name in names {
+        if !host.is_whole(name.as_str()) && needed.push(name).is_err() {
+            return Err(ListFault::OutOfMemory);
+        }
+    }
+    Ok(needed)
+}
+
+/// The rows of a folder of which a scan has need, after the threads of what ended are joined: what ends from now on is the
+/// next round's.
+fn list<S: Files, M: Maker + Drop, R: Threads + Wait + Clock + Copy + Drop + Send + 'static>(
     files: &S,
     alloc: Global,
     host: &mut Option<Host<M, R>>,
     folder: &str,
 ) -> Result<Vec<DirRow>, ListFault> {
     let Some(host) = host else {
-        return list_folder(files, alloc, folder, &|_name: &str| true);
+        return list_rows(files, alloc, folder, list_names(files, alloc, folder)?);
     };
     host.collect();
-    list_folder(files, alloc, folder, &|name: &str| !host.is_whole(name))
+    let names = needed(alloc, host, list_names(files, alloc, folder)?)?;
+    list_rows(files, alloc, folder, names)
 }
 
 /// One scan of the rows of a folder.

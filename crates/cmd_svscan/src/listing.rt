@@ -59,40 +59,30 @@ fn fault_of(fault: &io::Error) -> ListFault {
     }
 }
 
-/// The names in a folder that are wanted.
-fn names<R: Files, F: Fn(&str) -> bool>(
-    rt: &R,
-    alloc: Global,
-    path: &str,
-    is_wanted: &F,
-) -> io::Result<Vec<String>>
-    requires { F.IsAlwaysCallable is_wanted.now }
-{
+fn read_names<R: Files>(rt: &R, alloc: Global, path: &str) -> io::Result<Vec<String>> {
     let mut names = Vec::new(alloc);
     for entry in fs::read_dir(&(rt, &alloc), path)? {
         let entry = entry?;
-        let name = entry.file_name();
-        if is_wanted(name) {
-            names.push(String::from_str(alloc, name)?)?;
-        }
+        names.push(String::from_str(alloc, entry.file_name())?)?;
     }
     Ok(names)
 }
 
-/// The rows of those names in a folder on this machine that are wanted, in the byte order of the names. Nothing else in the
-/// folder is looked at.
-pub fn list_folder<R: Files, F: Fn(&str) -> bool>(
+/// The names in a folder on this machine.
+pub fn list_names<R: Files>(rt: &R, alloc: Global, path: &str) -> Result<Vec<String>, ListFault> {
+    match read_names(rt, alloc, path) {
+        Ok(names) => Ok(names),
+        Err(fault) => Err(fault_of(&fault)),
+    }
+}
+
+/// The rows of these names in a folder on this machine, in the byte order of the names. Nothing else in it is looked at.
+pub fn list_rows<R: Files>(
     rt: &R,
     alloc: Global,
     path: &str,
-    is_wanted: &F,
-) -> Result<Vec<DirRow>, ListFault>
-    requires { F.IsAlwaysCallable is_wanted.now }
-{
-    let names = match names(rt, alloc, path, is_wanted) {
-        Ok(names) => names,
-        Err(fault) => return Err(fault_of(&fault)),
-    };
+    names: Vec<String>,
+) -> Result<Vec<DirRow>, ListFault> {
     let folder = MachineFolder { rt, alloc, path };
     match rows_of(alloc, &folder, names) {
         Ok(rows) => Ok(rows),
