@@ -1,4 +1,5 @@
 pub mod Console
 pub mod Told
-pub mod Held
+pub mod Known
+pub mod Paths
 pub mod Printed

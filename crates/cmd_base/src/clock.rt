@@ -1,8 +1,8 @@
-//! The clock of the machine.
+//! The clock of the system.
 use std::time::{Clock, SystemTime, UNIX_EPOCH};
 use tai_status::{Label, TimeSource};
 
-/// The machine's clock. Where it can't be read it repeats its last reading, at first the label of Unix
+/// The system's clock. Where it can't be read it repeats its last reading, at first the label of Unix
 /// second 0. It tells contracts nothing of what it gave.
 #[derive(Drop)]
 pub struct SystemClock<R: Clock + Drop> {
@@ -20,7 +20,7 @@ impl<R: Clock + Drop> SystemClock<R> {
     }
 }
 
-/// The label of the machine's present time, where it can be read.
+/// The label of the system's present time, where it can be read.
 fn read_clock<R: Clock>(runtime: &R) -> Option<Label> {
     let now = SystemTime::now(runtime).ok()?;
     let since = now.duration_since(UNIX_EPOCH).ok()?;

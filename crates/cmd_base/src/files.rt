@@ -8,18 +8,18 @@ use std::{fs, io};
 /// What holds files. Contracts see what a file holds, where it tells that.
 pub trait FileSource {
     ghost use Rattle.std.specs.Prelude.{ℕ, List, Option, None};
-    ghost use Rattle.cmd_base.specs.Held.{IsHeld, IsMissed};
+    ghost use Rattle.cmd_base.specs.Known.{IsKnown, IsMissed};
 
     // the bytes of the file at a path
     ghost file_at: { Self → List ℕ → Option (List ℕ) } = { λ _ _. None };
 
     /// All bytes of the file at a path.
     fn read_file<A: Allocator>(&self, alloc: A, path: &str) -> io::Result<Vec<u8, A>>
-        ensures held { IfOk result (λ bytes. IsHeld (file_at self.now path.now) bytes.items) }
+        ensures known { IfOk result (λ bytes. IsKnown (file_at self.now path.now) bytes.items) }
         ensures missing { IfErr result (λ fault. IsMissed fault (file_at self.now path.now)) };
 }
 
-/// The machine's own files. They tell contracts nothing.
+/// The system's own files. They tell contracts nothing.
 impl FileSource for HostRuntime {
     fn read_file<A: Allocator>(&self, alloc: A, path: &str) -> io::Result<Vec<u8, A>> {
         let mut bytes = Vec::new(alloc);

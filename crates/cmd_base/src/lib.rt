@@ -1,11 +1,15 @@
-//! What every command stands on: how it tells a fault and with which status it ends, the files that it
-//! reads, and the machine's clock.
+//! What every command stands on: how it reports a fault and with which status it ends, the files that it
+//! reads, the status file of a service among them, and the system's clock.
 #![tactic(auto)]
 
 mod clock;
 mod files;
-mod telling;
+mod reporting;
+mod status;
 
 pub use clock::SystemClock;
 pub use files::FileSource;
-pub use telling::{DONE, REFUSED, TROUBLE, push_number, report, report_parts, tell, usage};
+pub use reporting::{
+    DONE, REFUSED, TROUBLE, print_fault, push_number, report, report_parts, usage,
+};
+pub use status::{StatusFront, path_by_descriptor, read_status_front};

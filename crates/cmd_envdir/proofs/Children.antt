@@ -11,7 +11,7 @@ use Rattle.cmd_envdir.specs.declared.fault.EnvdirFault.TheVariants as fault
 use Rattle.std.specs.IoError.{error_kind}
 use Rattle.std.specs.declared.io.Error.{Error}
 use Rattle.std.specs.declared.io.ErrorKind.TheVariants.{OutOfMemory}
-use Rattle.cmd_base.specs.Held.{IsHeld, IsMissed}
+use Rattle.cmd_base.specs.Known.{IsKnown, IsMissed}
 use Rattle.cmd_envdir.specs.Child.{said_of, AreInByteOrder}
 use Rattle.cmd_envdir.specs.Ends.{name_of, IsFirstFault, WasRead}
 use Rattle.cmd_envdir.specs.Sayings.{said_after_files, said_after_set}
@@ -158,12 +158,12 @@ not_read error (fault.NotText place) folder files memory (inl h) missed = cc h
 not_read error (fault.NotText place) folder files memory (inr h) missed = cc h
 
 -- a folder that is read
-pub is_read : (cause : EnvdirFault) (folder : Option (List File)) (files : List File) → cause ≢ fault.Unread → IsHeld folder files → WasRead cause folder files
-is_read fault.Unread folder files readable held = absurd (readable refl)
-is_read fault.OutOfMemory folder files readable held = tt
-is_read fault.NotRun folder files readable held = held
-is_read (fault.NameHasEquals place) folder files readable held = held
-is_read (fault.NotText place) folder files readable held = held
+pub is_read : (cause : EnvdirFault) (folder : Option (List File)) (files : List File) → cause ≢ fault.Unread → IsKnown folder files → WasRead cause folder files
+is_read fault.Unread folder files readable known = absurd (readable refl)
+is_read fault.OutOfMemory folder files readable known = tt
+is_read fault.NotRun folder files readable known = known
+is_read (fault.NameHasEquals place) folder files readable known = known
+is_read (fault.NotText place) folder files readable known = known
 
 -- Names
 

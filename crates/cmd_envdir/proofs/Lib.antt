@@ -1,1 +1,3 @@
 pub mod Children
+pub mod Quoting
+pub mod Making

@@ -1,6 +1,8 @@
 -- The child of `envdir`: what it is started with, and its status
 -- (by the envdir page of daemontools, cr.yp.to/daemontools/envdir.html).
-use Rattle.std.specs.Prelude.{◌≡◌, ℕ, ℤ, pos, Bool, true, false, List, [], ◌∷◌, Option, Some, None, MatchResult, IsSorted}
+use Rattle.std.specs.Prelude.{◌≡◌, ◌⊎◌, ℕ, ℤ, pos, Bool, true, false, List, [], ◌∷◌, Option, Some, None}
+use Rattle.std.specs.Prelude.{MatchResult}
+use Rattle.std.specs.Prelude.{IsSorted}
 use Rattle.std.specs.Cmp.Lexicographic.{slice_cmp}
 use Rattle.std.specs.Ordering.{nat_cmp}
 use Rattle.std.specs.Process.{exit_code}
@@ -10,7 +12,8 @@ use Rattle.std.specs.declared.io.ErrorKind.TheVariants.{OutOfMemory}
 use Rattle.std.specs.Prelude.{◌≢◌}
 use Rattle.env_title.specs.Env.{Binding, value_of}
 use Rattle.env_title.specs.Files.{File, has_file}
-use Rattle.cmd_envdir.specs.Around.{Start, Launch, Launched}
+use Rattle.cmd_envdir.specs.System.{Child, Start, Launch}
+use Rattle.tai_status.specs.Extended.{Extended}
 use Rattle.cmd_envdir.specs.declared.fault.EnvdirFault.{EnvdirFault}
 use Rattle.cmd_envdir.specs.declared.fault.EnvdirFault.TheVariants as fault
 
@@ -26,10 +29,9 @@ said_of None false = None
 
 -- A command starts this program with these arguments in an environment that files have made: it sets each variable of
 -- that, takes away any other that has a file's name, and leaves the rest as they are.
-pub record StartsChild (start : Start) (program : List ℕ) (arguments : List (List ℕ)) (files : List File)
-    (env : List Binding) : Type 0 where
-  pub program_is : start.program ≡ program
-  pub arguments_are : start.arguments ≡ arguments
+pub record StartsChild (start : Start) (child : Child) (files : List File) (env : List Binding) : Type 0 where
+  pub program_is : start.program ≡ child.program
+  pub arguments_are : start.arguments ≡ child.arguments
   pub variables_are : (name : List ℕ) → start.variables name ≡ said_of (value_of env name) (has_file files name)
   pub others_stay : start.alone ≡ false
 
@@ -46,17 +48,23 @@ pub record IsCauseOf (error : Error) (cause : EnvdirFault) : Type 0 where
 
 -- One command was handed over, the one that starts this child in this environment. The child was started and ended with
 -- this status.
-pub record StartsOne (past now : Option (List Launch)) (program : List ℕ) (arguments : List (List ℕ))
-    (files : List File) (env : List Binding) (status : ℕ) : Type 0 where
+pub record StartsOne (past now : Option (List Launch)) (child : Child) (files : List File) (env : List Binding)
+    (status : ℕ) : Type 0 where
   pub launch : Launch
-  pub handed : Launched past now (launch ∷ [])
-  pub start : StartsChild launch.start program arguments files env
+  pub handed : Extended past now (launch ∷ [])
+  pub start : StartsChild launch.start child files env
   pub ended : MatchResult launch.ended (λ ended. status ≡ status_of_child (exit_code ended)) (λ error. ⊥)
 
 -- One command was handed over, the one that starts this child in this environment, and it failed for this cause.
-pub record FailsToStart (past now : Option (List Launch)) (program : List ℕ) (arguments : List (List ℕ))
-    (files : List File) (env : List Binding) (cause : EnvdirFault) : Type 0 where
+pub record FailsToStart (past now : Option (List Launch)) (child : Child) (files : List File) (env : List Binding)
+    (cause : EnvdirFault) : Type 0 where
   pub launch : Launch
-  pub handed : Launched past now (launch ∷ [])
-  pub start : StartsChild launch.start program arguments files env
+  pub handed : Extended past now (launch ∷ [])
+  pub start : StartsChild launch.start child files env
   pub failed : MatchResult launch.ended (λ ended. ⊥) (λ error. IsCauseOf error cause)
+
+-- The child was not started, for this cause: there was no memory for the command, or it failed.
+abbrev pub StartsNone : (past now : Option (List Launch)) (child : Child) (files : List File) (env : List Binding)
+    (cause : EnvdirFault) → Type 0
+StartsNone past now child files env cause =
+    ((now ≡ past) × (cause ≡ fault.OutOfMemory)) ⊎ FailsToStart past now child files env cause

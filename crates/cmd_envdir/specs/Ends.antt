@@ -1,14 +1,16 @@
 -- How `envdir` ends, and what it tells.
-use Rattle.std.specs.Prelude.{◌≡◌, ◌≢◌, ◌⊎◌, ⊤, ℕ, List, [], ◌∷◌, ◌++◌, codes, map, slice_get, Option, Some, None}
+use Rattle.std.specs.Prelude.{◌≡◌, ◌≢◌, ◌⊎◌, ⊤, ℕ, Bool, bytes_eq, MatchBool, List, [], ◌∷◌, ◌++◌, codes, map}
+use Rattle.std.specs.Prelude.{slice_get, Option, Some, None}
 use Rattle.std.specs.Option.{option_map_or}
 use Rattle.env_title.specs.Env.{Binding}
 use Rattle.env_title.specs.Files.{File, env_after}
 use Rattle.env_title.specs.Faults.{first_fault}
 use Rattle.env_title.specs.declared.fault.EnvFault.TheVariants as why
-use Rattle.tai_status.specs.Counted.{Device, Tells}
-use Rattle.cmd_base.specs.Held.{IsHeld}
+use Rattle.tai_status.specs.Counted.{Device, Fails, Tells, Works, Wrote, WroteFront}
+use Rattle.cmd_base.specs.Known.{IsKnown}
 use Rattle.cmd_base.specs.Told.{usage_text}
-use Rattle.cmd_envdir.specs.Around.{Around, Launch}
+use Rattle.cmd_envdir.specs.System.{Child, child, Launch, Outputs, Scene, SystemState}
+use Rattle.cmd_envdir.specs.Words.{ReadsAsWordsOf}
 use Rattle.cmd_envdir.specs.Child.{AreInByteOrder, StartsOne, FailsToStart}
 use Rattle.cmd_envdir.specs.declared.fault.EnvdirFault.{EnvdirFault}
 use Rattle.cmd_envdir.specs.declared.fault.EnvdirFault.TheVariants as fault
@@ -44,64 +46,122 @@ IsFirstFault fault.OutOfMemory files = ⊤
 abbrev pub WasRead : EnvdirFault → Option (List File) → List File → Type 0
 WasRead fault.Unread folder files = folder ≡ None
 WasRead fault.OutOfMemory folder files = ⊤
-WasRead fault.NotRun folder files = IsHeld folder files
-WasRead (fault.NameHasEquals place) folder files = IsHeld folder files
-WasRead (fault.NotText place) folder files = IsHeld folder files
+WasRead fault.NotRun folder files = IsKnown folder files
+WasRead (fault.NameHasEquals place) folder files = IsKnown folder files
+WasRead (fault.NotText place) folder files = IsKnown folder files
 
 -- Ends
 
--- The child was started once, in the environment that these files make of the variables around.
-pub record RunsChild (around : Around) (past now : Option (List Launch)) (program : List ℕ)
-    (arguments : List (List ℕ)) (files : List File) (status : ℕ) : Type 0 where
+-- This is the environment that files, which can be applied, make of the variables of the process.
+pub record IsChangedBy (files : List File) (system : SystemState) (after : List Binding) : Type 0 where
   pub variables : List Binding
-  pub variables_are : IsHeld around.variables variables
+  pub variables_are : IsKnown system.variables variables
   pub good : first_fault files ≡ None
-  pub one : StartsOne past now program arguments files (env_after files variables) status
+  pub after_is : after ≡ env_after files variables
+
+-- The child was started once, in the environment that these files make of the variables of the process.
+pub record RunsChild (system : SystemState) (past now : Option (List Launch)) (child : Child) (files : List File)
+    (status : ℕ) : Type 0 where
+  pub variables : List Binding
+  pub variables_are : IsKnown system.variables variables
+  pub good : first_fault files ≡ None
+  pub one : StartsOne past now child files (env_after files variables) status
 
 -- It could not be started.
-pub record RunsNot (around : Around) (past now : Option (List Launch)) (program : List ℕ)
-    (arguments : List (List ℕ)) (files : List File) (cause : EnvdirFault) : Type 0 where
+pub record RunsNot (system : SystemState) (past now : Option (List Launch)) (child : Child) (files : List File)
+    (cause : EnvdirFault) : Type 0 where
   pub variables : List Binding
-  pub variables_are : IsHeld around.variables variables
-  pub fails : FailsToStart past now program arguments files (env_after files variables) cause
+  pub variables_are : IsKnown system.variables variables
+  pub fails : FailsToStart past now child files (env_after files variables) cause
 
 -- There is no child for this cause: no command was handed over, or it failed.
-abbrev pub HasNoChild : (around : Around) (past now : Option (List Launch)) (program : List ℕ)
-    (arguments : List (List ℕ)) (files : List File) (cause : EnvdirFault) → Type 0
-HasNoChild around past now program arguments files cause =
-    ((now ≡ past) × (cause ≢ fault.NotRun)) ⊎ RunsNot around past now program arguments files cause
+abbrev pub HasNoChild : (system : SystemState) (past now : Option (List Launch)) (child : Child) (files : List File)
+    (cause : EnvdirFault) → Type 0
+HasNoChild system past now child files cause =
+    ((now ≡ past) × (cause ≢ fault.NotRun)) ⊎ RunsNot system past now child files cause
 
 -- The files of the folder, in the byte order of their names, made the environment of a child; nothing is told.
-pub record EndsWithChild (around : Around) (past now : Option (List Launch)) (dir program : List ℕ)
-    (arguments : List (List ℕ)) (status : ℕ) (faults tells : Device) : Type 0 where
+pub record EndsWithChild (system : SystemState) (dir : List ℕ) (child : Child) (status : ℕ) (old new : Scene)
+    : Type 0 where
   pub files : List File
-  pub files_are : IsHeld (around.folder dir) files
+  pub files_are : IsKnown (system.folder dir) files
   pub in_order : AreInByteOrder (map (λ file. file.name) files)
-  pub runs : RunsChild around past now program arguments files status
-  pub untold : tells ≡ faults
+  pub runs : RunsChild system old.launches new.launches child files status
+  pub silent : new.outputs ≡ old.outputs
 
--- There was no child, and it is told why.
-pub record EndsWithout (around : Around) (past now : Option (List Launch)) (dir program : List ℕ)
-    (arguments : List (List ℕ)) (status : ℕ) (faults tells : Device) : Type 0 where
-  pub cause : EnvdirFault
-  pub files : List File
-  pub read : WasRead cause (around.folder dir) files
+-- It is told why the files of the folder do nothing.
+pub record TellsWhy (system : SystemState) (dir program : List ℕ) (cause : EnvdirFault) (files : List File) (status : ℕ)
+    (faults tells : Device) : Type 0 where
+  pub read : WasRead cause (system.folder dir) files
   pub first : IsFirstFault cause files
-  pub none : HasNoChild around past now program arguments files cause
   pub status_is : status ≡ 111
   pub told_why : Tells faults tells (envdir_told dir program (name_of cause files) cause)
 
--- Words are too few: no command is handed over, and the usage is told.
-pub record TellsUsage (past now : Option (List Launch)) (status : ℕ) (faults tells : Device) : Type 0 where
-  pub none : now ≡ past
-  pub status_is : status ≡ 100
-  pub told : Tells faults tells usage_text
+-- There was no child, and it is told why.
+pub record EndsWithout (system : SystemState) (dir : List ℕ) (child : Child) (status : ℕ) (old new : Scene)
+    : Type 0 where
+  pub cause : EnvdirFault
+  pub files : List File
+  pub why : TellsWhy system dir child.program cause files status old.outputs.faults new.outputs.faults
+  pub none : HasNoChild system old.launches new.launches child files cause
+  pub unwritten : new.outputs.writer ≡ old.outputs.writer
 
--- `envdir`: its words are a folder, a program and arguments.
-abbrev pub EnvdirEnds : (around : Around) (past now : Option (List Launch)) (words : List (List ℕ))
-    (status : ℕ) (faults tells : Device) → Type 0
-EnvdirEnds around past now [] status faults tells = TellsUsage past now status faults tells
-EnvdirEnds around past now (dir ∷ []) status faults tells = TellsUsage past now status faults tells
-EnvdirEnds around past now (dir ∷ program ∷ arguments) status faults tells =
-    EndsWithChild around past now dir program arguments status faults tells
-    ⊎ EndsWithout around past now dir program arguments status faults tells
+-- A child is asked for.
+abbrev pub ChildEnds : (system : SystemState) (dir : List ℕ) (child : Child) (status : ℕ) (old new : Scene) → Type 0
+ChildEnds system dir child status old new =
+    EndsWithChild system dir child status old new ⊎ EndsWithout system dir child status old new
+
+-- A text was written, and nothing is told; or a front of it, and it is told that the writer failed.
+pub record EndsWriting (text : List ℕ) (status : ℕ) (old new : Outputs) : Type 0 where
+  pub either : (status ≡ 0) ⊎ (status ≡ 111)
+  pub wrote : status ≡ 0 → Wrote old.writer new.writer text × Works old.writer new.writer
+  pub untold : status ≡ 0 → new.faults ≡ old.faults
+  pub failed : status ≡ 111 → WroteFront old.writer new.writer text × Fails old.writer new.writer
+  pub told : status ≡ 111 → Tells old.faults new.faults (codes "envdir: write fault" ++ 10 ∷ [])
+
+-- The words of the files of the folder were written, as a shell reads them.
+pub record WritesWords (system : SystemState) (dir : List ℕ) (status : ℕ) (old new : Outputs) : Type 0 where
+  pub files : List File
+  pub files_are : IsKnown (system.folder dir) files
+  pub good : first_fault files ≡ None
+  pub text : List ℕ
+  pub reads : ReadsAsWordsOf files text
+  pub writes : EndsWriting text status old new
+
+-- The files have no words, and it is told why.
+pub record HasNoWords (system : SystemState) (dir : List ℕ) (status : ℕ) (old new : Outputs) : Type 0 where
+  pub cause : EnvdirFault
+  pub files : List File
+  pub why : TellsWhy system dir [] cause files status old.faults new.faults
+  pub ran : cause ≢ fault.NotRun
+  pub unwritten : new.writer ≡ old.writer
+
+-- The words are asked for.
+abbrev pub WordsEnd : (system : SystemState) (dir : List ℕ) (status : ℕ) (old new : Outputs) → Type 0
+WordsEnd system dir status old new =
+    WritesWords system dir status old new ⊎ HasNoWords system dir status old new
+
+-- Words are wrong: nothing is written, and the usage is told.
+pub record TellsUsage (status : ℕ) (old new : Outputs) : Type 0 where
+  pub unwritten : new.writer ≡ old.writer
+  pub status_is : status ≡ 100
+  pub told : Tells old.faults new.faults usage_text
+
+-- Behind `--words` there is a folder, and nothing else.
+abbrev pub AskedEnds : (system : SystemState) (words : List (List ℕ)) (status : ℕ) (old new : Outputs) → Type 0
+AskedEnds system [] status old new = TellsUsage status old new
+AskedEnds system (dir ∷ []) status old new = WordsEnd system dir status old new
+AskedEnds system (dir ∷ word ∷ words) status old new = TellsUsage status old new
+
+-- No command is handed over.
+abbrev pub AsksNothing : (old new : Scene) → Type 0
+AsksNothing old new = new.launches ≡ old.launches
+
+-- `envdir`: its words are a folder, a program and arguments; or `--words` and a folder.
+abbrev pub EnvdirEnds : (system : SystemState) (words : List (List ℕ)) (status : ℕ) (old new : Scene) → Type 0
+EnvdirEnds system [] status old new = AsksNothing old new × TellsUsage status old.outputs new.outputs
+EnvdirEnds system (word ∷ []) status old new = AsksNothing old new × TellsUsage status old.outputs new.outputs
+EnvdirEnds system (word ∷ second ∷ more) status old new =
+    MatchBool (bytes_eq word (codes "--words"))
+    (AsksNothing old new × AskedEnds system (second ∷ more) status old.outputs new.outputs)
+    (ChildEnds system word (child second more) status old new)

@@ -1,4 +1,7 @@
-pub mod Around
+pub mod System
 pub mod Child
+pub mod Shell
+pub mod Words
+pub mod Quoting
 pub mod Ends
 pub mod Sayings

@@ -1,8 +1,9 @@
 //! The child of `envdir`.
-ghost use Rattle.std.specs.Prelude.{◌≡◌, ◌⊎◌, ◌++◌, ◌∷◌, [], ℕ, List, map, false, IfOk, IfErr, OnOk};
-ghost use Rattle.std.specs.Process.{command_args, command_program, command_var, clears_env, exit_code, SameEnv, SameProgramAndArgs};
-ghost use Rattle.cmd_envdir.specs.Around.{start_of};
-ghost use Rattle.cmd_envdir.specs.Child.{FailsToStart, IsCauseOf, StartsChild, StartsOne, status_of_child};
+ghost use Rattle.std.specs.Prelude.{◌≡◌, ◌⊎◌, ◌++◌, ◌∷◌, [], ℕ, List, false, IfOk, IfErr, OnOk};
+ghost use Rattle.std.specs.Process.{command_args, command_program, command_var, clears_env, exit_code, SameEnv};
+ghost use Rattle.std.specs.Process.{SameProgramAndArgs};
+ghost use Rattle.cmd_envdir.specs.System.{child, start_of, texts};
+ghost use Rattle.cmd_envdir.specs.Child.{IsCauseOf, StartsChild, StartsNone, StartsOne, status_of_child};
 ghost use Rattle.cmd_envdir.specs.Sayings.{said_after_files, said_after_set};
 
 use crate::fault::EnvdirFault;
@@ -33,7 +34,7 @@ fn add_arguments<A: Allocator + Clone>(
 ) -> Result<(), AllocError>
     ensures program { OnOk result (command_program command.new ≡ command_program command.old) }
     ensures arguments { OnOk result (command_args command.new
-        ≡ command_args command.old ++ map (λ word. word.now) arguments.now) }
+        ≡ command_args command.old ++ texts arguments.now) }
     ensures variables { OnOk result (SameEnv command.old command.new) }
 {
     for argument in arguments {
@@ -85,7 +86,7 @@ fn child_command<A: Allocator + Clone>(
     variables: &Env<A>,
 ) -> Result<Command<A>, AllocError>
     ensures { IfOk result (λ command. StartsChild (start_of command)
-        program.now (map (λ word. word.now) arguments.now) files.now variables.now) }
+        (child program.now (texts arguments.now)) files.now variables.now) }
 {
     let mut command = Command::new(alloc, program)?;
     add_arguments(&mut command, arguments)?;
@@ -126,11 +127,10 @@ pub fn run_child<L: Launcher, A: Allocator + Clone>(
     files: &[EnvFile<'_>],
     variables: &Env<A>,
 ) -> Result<u8, EnvdirFault>
-    ensures ok { IfOk result (λ status. StartsOne (L.launched launcher.old) (L.launched launcher.new)
-        program.now (map (λ word. word.now) arguments.now) files.now variables.now status) }
-    ensures none { IfErr result (λ cause. ((launcher.new ≡ launcher.old) × (cause ≡ EnvdirFault.OutOfMemory))
-        ⊎ FailsToStart (L.launched launcher.old) (L.launched launcher.new)
-        program.now (map (λ word. word.now) arguments.now) files.now variables.now cause) }
+    ensures ok { IfOk result (λ status. StartsOne (L.calls launcher.old) (L.calls launcher.new)
+        (child program.now (texts arguments.now)) files.now variables.now status) }
+    ensures none { IfErr result (λ cause. StartsNone (L.calls launcher.old) (L.calls launcher.new)
+        (child program.now (texts arguments.now)) files.now variables.now cause) }
     ensures either { IfErr result (λ cause. (cause ≡ EnvdirFault.OutOfMemory) ⊎ (cause ≡ EnvdirFault.NotRun)) }
 {
     let Ok(mut command) = child_command(alloc, program, arguments, files, variables) else {

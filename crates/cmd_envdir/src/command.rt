@@ -1,20 +1,21 @@
 //! The command `envdir`.
-ghost use Rattle.std.specs.Prelude.{◌≡◌, ◌≢◌, ◌<◌, ◌⊎◌, List, None, length, map, IfOk, IfErr};
+ghost use Rattle.std.specs.Prelude.{◌≡◌, ◌≢◌, ◌<◌, ◌⊎◌, None, length, IsOk, IfOk, IfErr};
 ghost use Rattle.std.specs.IoError.{error_kind};
-ghost use Rattle.env_title.specs.Env.{Binding};
 ghost use Rattle.env_title.specs.Files.{env_after};
 ghost use Rattle.env_title.specs.Faults.{first_fault};
 ghost use Rattle.tai_status.specs.Counted.{Tells};
-ghost use Rattle.cmd_base.specs.Held.{IsHeld};
-ghost use Rattle.cmd_envdir.specs.Around.{around};
-ghost use Rattle.cmd_envdir.specs.Ends.{EndsWithChild, EndsWithout, EnvdirEnds, HasNoChild, IsFirstFault, RunsChild, envdir_told, name_of};
+ghost use Rattle.cmd_envdir.specs.System.{child, outputs, scene, texts};
+ghost use Rattle.cmd_envdir.specs.Words.{ReadsAsWordsOf};
+ghost use Rattle.cmd_envdir.specs.Ends.{AskedEnds, ChildEnds, EndsWriting, EnvdirEnds, HasNoChild, IsChangedBy};
+ghost use Rattle.cmd_envdir.specs.Ends.{IsFirstFault, RunsChild, WordsEnd, envdir_told, name_of};
 
 use crate::child::run_child;
+use crate::env_system::EnvSystem;
 use crate::fault::EnvdirFault;
 use crate::folder::{FolderFile, env_files, name_at};
 use crate::launcher::Launcher;
-use crate::surroundings::Surroundings;
-use cmd_base::{TROUBLE, report, report_parts, usage};
+use crate::words::shell_text;
+use cmd_base::{DONE, TROUBLE, report, report_parts, usage};
 use env_title::{Env, EnvFault, EnvFile, apply};
 use std::alloc::Allocator;
 use std::io::{Error, ErrorKind, Write};
@@ -32,24 +33,21 @@ fn fault_of(error: Error) -> EnvdirFault
     EnvdirFault::Unread
 }
 
-/// The environment that files make of this one.
-fn changed_env<R: Surroundings, A: Allocator + Clone>(
-    rt: &R,
+/// The environment that files make of one.
+fn applied<A: Allocator + Clone>(
     alloc: &A,
     files: &[EnvFile<'_>],
+    before: &Env<A>,
 ) -> Result<Env<A>, EnvdirFault>
-    ensures ok { IfOk result (λ after. (variables : List Binding) × (IsHeld (R.known_variables rt.now) variables
-        × ((first_fault files.now ≡ None) × (after ≡ env_after files.now variables)))) }
+    ensures ok { IfOk result (λ after. after ≡ env_after files.now before.now) }
+    ensures good { IsOk result → first_fault files.now ≡ None }
     ensures first { IfErr result (λ why. IsFirstFault why files.now) }
     ensures neither { IfErr result (λ why. (why ≢ EnvdirFault.Unread) × (why ≢ EnvdirFault.NotRun)) }
 {
-    let Ok(before) = rt.variables(alloc) else {
-        return Err(EnvdirFault::OutOfMemory);
-    };
     let Ok(own) = alloc.clone() else {
         return Err(EnvdirFault::OutOfMemory);
     };
-    match apply(own, files, &before) {
+    match apply(own, files, before) {
         Ok(after) => Ok(after),
         Err(EnvFault::NameHasEquals(place)) => Err(EnvdirFault::NameHasEquals(place)),
         Err(EnvFault::NotText(place)) => Err(EnvdirFault::NotText(place)),
@@ -57,8 +55,24 @@ fn changed_env<R: Surroundings, A: Allocator + Clone>(
     }
 }
 
+/// The environment that files make of this one.
+fn changed_env<R: EnvSystem, A: Allocator + Clone>(
+    rt: &R,
+    alloc: &A,
+    files: &[EnvFile<'_>],
+) -> Result<Env<A>, EnvdirFault>
+    ensures ok { IfOk result (λ after. IsChangedBy files.now (R.state rt.now) after) }
+    ensures first { IfErr result (λ why. IsFirstFault why files.now) }
+    ensures neither { IfErr result (λ why. (why ≢ EnvdirFault.Unread) × (why ≢ EnvdirFault.NotRun)) }
+{
+    match rt.variables(alloc) {
+        Ok(before) => applied(alloc, files, &before),
+        Err(_) => Err(EnvdirFault::OutOfMemory),
+    }
+}
+
 /// Runs a child in the environment that the files of a folder make of this one. Answers its status.
-fn run_with<R: Surroundings, L: Launcher, A: Allocator + Clone>(
+fn run_with<R: EnvSystem, L: Launcher, A: Allocator + Clone>(
     rt: &R,
     launcher: &mut L,
     alloc: &A,
@@ -66,12 +80,10 @@ fn run_with<R: Surroundings, L: Launcher, A: Allocator + Clone>(
     program: &str,
     arguments: &[&str],
 ) -> Result<u8, EnvdirFault>
-    ensures ok { IfOk result (λ status. RunsChild (around (R.folder_at rt.now) (R.known_variables rt.now))
-        (L.launched launcher.old) (L.launched launcher.new)
-        program.now (map (λ word. word.now) arguments.now) folder.now status) }
-    ensures none { IfErr result (λ why. HasNoChild (around (R.folder_at rt.now) (R.known_variables rt.now))
-        (L.launched launcher.old) (L.launched launcher.new)
-        program.now (map (λ word. word.now) arguments.now) folder.now why) }
+    ensures ok { IfOk result (λ status. RunsChild (R.state rt.now) (L.calls launcher.old) (L.calls launcher.new)
+        (child program.now (texts arguments.now)) folder.now status) }
+    ensures none { IfErr result (λ why. HasNoChild (R.state rt.now) (L.calls launcher.old) (L.calls launcher.new)
+        (child program.now (texts arguments.now)) folder.now why) }
     ensures first { IfErr result (λ why. IsFirstFault why folder.now) }
     ensures read { IfErr result (λ why. why ≢ EnvdirFault.Unread) }
 {
@@ -85,6 +97,28 @@ fn run_with<R: Surroundings, L: Launcher, A: Allocator + Clone>(
     match alloc.clone() {
         Ok(own) => run_child(launcher, own, program, arguments, &files, &after),
         Err(_) => Err(EnvdirFault::OutOfMemory),
+    }
+}
+
+/// The words by which `env` makes the environment of the files of a folder, as a shell reads them.
+fn folder_words<A: Allocator + Clone>(
+    alloc: &A,
+    folder: &[FolderFile<A>],
+) -> Result<Vec<u8, A>, EnvdirFault>
+    ensures ok { IfOk result (λ text. ReadsAsWordsOf folder.now text.items) }
+    ensures good { IsOk result → first_fault folder.now ≡ None }
+    ensures first { IfErr result (λ why. IsFirstFault why folder.now) }
+    ensures neither { IfErr result (λ why. (why ≢ EnvdirFault.Unread) × (why ≢ EnvdirFault.NotRun)) }
+{
+    let Ok(files) = env_files(alloc, folder) else {
+        return Err(EnvdirFault::OutOfMemory);
+    };
+    let Ok(own) = alloc.clone() else {
+        return Err(EnvdirFault::OutOfMemory);
+    };
+    match applied(alloc, &files, &Env::new(own)) {
+        Ok(set) => shell_text(alloc, &files, &set).map_err(|_| EnvdirFault::OutOfMemory),
+        Err(fault) => Err(fault),
     }
 }
 
@@ -147,21 +181,18 @@ fn report_fault<E: Write>(
 
 /// Runs a program with arguments in the environment that the files of a folder make of this one, and
 /// answers its status; or tells why there is none.
-fn run_in_folder<R: Surroundings, L: Launcher, A: Allocator + Clone, E: Write>(
+fn run_in_folder<R: EnvSystem, L: Launcher, A: Allocator + Clone, W: Write, E: Write>(
     rt: &R,
     launcher: &mut L,
     alloc: &A,
     dir: &str,
     program: &str,
     arguments: &[&str],
+    writer: &Output<W>,
     faults: &mut Output<E>,
 ) -> u8
-    ensures ends { EndsWithChild (around (R.folder_at rt.now) (R.known_variables rt.now))
-        (L.launched launcher.old) (L.launched launcher.new)
-        dir.now program.now (map (λ word. word.now) arguments.now) result faults.old faults.new
-        ⊎ EndsWithout (around (R.folder_at rt.now) (R.known_variables rt.now))
-        (L.launched launcher.old) (L.launched launcher.new)
-        dir.now program.now (map (λ word. word.now) arguments.now) result faults.old faults.new }
+    ensures ends { ChildEnds (R.state rt.now) dir.now (child program.now (texts arguments.now)) result
+        (scene (L.calls launcher.old) writer.now faults.old) (scene (L.calls launcher.new) writer.now faults.new) }
 {
     let folder = match rt.read_folder(alloc, dir) {
         Ok(folder) => folder,
@@ -173,27 +204,85 @@ fn run_in_folder<R: Surroundings, L: Launcher, A: Allocator + Clone, E: Write>(
     }
 }
 
+/// Writes a text, and answers the status of that.
+fn write_text<W: Write, E: Write>(text: &[u8], writer: &mut Output<W>, faults: &mut Output<E>) -> u8
+    ensures ends { EndsWriting text.now result (outputs writer.old faults.old) (outputs writer.new faults.new) }
+{
+    match writer.write_all(text) {
+        Ok(()) => DONE,
+        Err(_) => report(faults, b"envdir: write fault\n", TROUBLE),
+    }
+}
+
+/// Writes the words by which `env` makes the environment of the files of a folder; or tells why there are none.
+fn write_words<R: EnvSystem, A: Allocator + Clone, W: Write, E: Write>(
+    rt: &R,
+    alloc: &A,
+    dir: &str,
+    writer: &mut Output<W>,
+    faults: &mut Output<E>,
+) -> u8
+    ensures ends { WordsEnd (R.state rt.now) dir.now result
+        (outputs writer.old faults.old) (outputs writer.new faults.new) }
+{
+    let folder = match rt.read_folder(alloc, dir) {
+        Ok(folder) => folder,
+        Err(error) => return report_fault(fault_of(error), dir, "", "", faults),
+    };
+    match folder_words(alloc, &folder) {
+        Ok(text) => write_text(text.as_slice(), writer, faults),
+        Err(fault) => report_fault(fault, dir, "", refused_name(fault, &folder), faults),
+    }
+}
+
+/// Writes the words of the folder that is the only word behind `--words`.
+fn write_asked<R: EnvSystem, A: Allocator + Clone, W: Write, E: Write>(
+    rt: &R,
+    alloc: &A,
+    words: &[&str],
+    writer: &mut Output<W>,
+    faults: &mut Output<E>,
+) -> u8
+    ensures ends { AskedEnds (R.state rt.now) (texts words.now) result
+        (outputs writer.old faults.old) (outputs writer.new faults.new) }
+{
+    match words {
+        [dir] => write_words(rt, alloc, dir, writer, faults),
+        _ => usage(faults),
+    }
+}
+
 /// The command `envdir`: starts the program of its second word, with the words after it, in an
 /// environment that the files of the folder of its first word have changed, and waits for its end
 /// (<https://cr.yp.to/daemontools/envdir.html>). The program is sought in the changed `PATH`. Answers the
 /// status of the child, where a signal ended it 111; 100 for less than two words; 111 where the folder
 /// can't be read or applied, where the child can't be started, and for want of memory.
-pub fn run_envdir<R: Surroundings, L: Launcher, A: Allocator + Clone, E: Write>(
+///
+/// `--words` and a folder: writes the words by which `env` makes that environment of its own, each in single
+/// quotes and with a space behind it. A shell script that reads them can start the program in its own place.
+/// Starts nothing. Answers 0; 111 for those faults, and for one of the writer; 100 for more words.
+pub fn run_envdir<R: EnvSystem, L: Launcher, A: Allocator + Clone, W: Write, E: Write>(
     rt: &R,
     launcher: &mut L,
     alloc: A,
     words: &[&str],
+    writer: &mut Output<W>,
     faults: &mut Output<E>,
 ) -> u8
-    ensures ends { EnvdirEnds (around (R.folder_at rt.now) (R.known_variables rt.now))
-        (L.launched launcher.old) (L.launched launcher.new)
-        (map (λ word. word.now) words.now) result faults.old faults.new }
+    ensures ends { EnvdirEnds (R.state rt.now) (texts words.now) result
+        (scene (L.calls launcher.old) writer.old faults.old) (scene (L.calls launcher.new) writer.new faults.new) }
     ensures unasked { length words.now < 2 → launcher.new ≡ launcher.old }
 {
-    match words {
-        [dir, program, arguments @ ..] => {
-            run_in_folder(rt, launcher, &alloc, dir, program, arguments, faults)
-        }
-        _ => usage(faults),
+    let [first, rest @ ..] = words else {
+        return usage(faults);
+    };
+    if *first == "--words" {
+        return write_asked(rt, &alloc, rest, writer, faults);
     }
+    let [program, arguments @ ..] = rest else {
+        return usage(faults);
+    };
+    run_in_folder(
+        rt, launcher, &alloc, first, program, arguments, writer, faults,
+    )
 }

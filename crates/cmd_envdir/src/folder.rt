@@ -27,7 +27,7 @@ impl<A: Allocator> Model for FolderFile<A> {
     ghost view = { λ file. record { name = string_bytes file.name; bytes = file.bytes.items } };
 }
 
-/// The files of a folder on this machine, as `Surroundings` says.
+/// The files of a folder on this system, as `EnvSystem` says.
 pub fn folder_files<R: Files + FileSource, A: Allocator + Clone>(
     rt: &R,
     alloc: &A,

@@ -6,16 +6,17 @@ use std::process::{Command, ExitStatus, Processes};
 /// Starts commands. Contracts see which commands it was handed and how that ended, where it keeps that.
 pub trait Launcher {
     ghost use Rattle.std.specs.Prelude.{◌∷◌, [], Option, List, None};
-    ghost use Rattle.cmd_envdir.specs.Around.{Launch, Launched, launch_of};
+    ghost use Rattle.cmd_envdir.specs.System.{Launch, launch_of};
+    ghost use Rattle.tai_status.specs.Extended.{Extended};
 
-    ghost launched: { Self → Option (List Launch) } = { λ _. None };
+    ghost calls: { Self → Option (List Launch) } = { λ _. None };
 
     /// Starts a command, waits for the child's end, and answers how it ended.
     fn launch<A: Allocator + Clone>(&mut self, command: &mut Command<A>) -> io::Result<ExitStatus>
-        ensures handed { Launched (launched self.old) (launched self.new) (launch_of command.old result ∷ []) };
+        ensures handed { Extended (calls self.old) (calls self.new) (launch_of command.old result ∷ []) };
 }
 
-/// Starts commands on this machine. It tells contracts nothing of what it started.
+/// Starts commands on this system. It tells contracts nothing of what it started.
 #[derive(Drop)]
 pub struct SystemLauncher<R: Processes + Drop> {
     runtime: R,

@@ -3,15 +3,16 @@
 
 mod child;
 mod command;
+mod env_system;
 mod fault;
 mod folder;
 mod launcher;
-mod surroundings;
 mod variables;
+mod words;
 
 pub use command::run_envdir;
+pub use env_system::EnvSystem;
 pub use fault::EnvdirFault;
 pub use folder::FolderFile;
 pub use launcher::{Launcher, SystemLauncher};
-pub use surroundings::Surroundings;
-pub use variables::machine_env;
+pub use variables::system_env;

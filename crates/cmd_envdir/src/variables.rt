@@ -5,7 +5,7 @@ use std::env::FillError;
 use std::{env, str};
 
 /// The variables of this process, but for those that are not text.
-pub fn machine_env<R: env::Env, A: Allocator + Clone>(
+pub fn system_env<R: env::Env, A: Allocator + Clone>(
     rt: &R,
     alloc: &A,
 ) -> Result<Env<A>, AllocError> {

@@ -1,8 +1,9 @@
 -- How `tai64n` ends: by the tai64n page of daemontools (cr.yp.to/daemontools/tai64n.html).
-use Rattle.std.specs.Prelude.{◌≡◌, ◌≢◌, ℕ, List, [], ◌∷◌, ◌++◌, codes, Option}
+use Rattle.std.specs.Prelude.{◌≡◌, ◌≢◌, ℕ, List, [], ◌∷◌, ◌++◌, codes, map, Option}
+use Rattle.std.specs.Borrow.{Bor}
 use Rattle.tai_status.specs.Label.{Tai64n}
 use Rattle.tai_status.specs.Counted.{Fails, Works, IsRead, Tells}
-use Rattle.tai_status.specs.Lines.{Desk, desk, Stamps, StampsFront}
+use Rattle.tai_status.specs.Lines.{StampState, stamp_state, Stamps, StampsFront}
 use Rattle.tai_status.specs.declared.stamp.StampFault.{StampFault}
 use Rattle.tai_status.specs.declared.stamp.StampFault.TheVariants as fault
 use Rattle.cmd_base.specs.Console.{Console, EndsWell}
@@ -14,13 +15,13 @@ stamp_told fault.Read = codes "tai64n: Read" ++ 10 ∷ []
 stamp_told fault.Write = codes "tai64n: Write" ++ 10 ∷ []
 
 -- where a command stamps, with what the clock gave so far
-abbrev pub desk_of : Console → Option (List Tai64n) → Desk
-desk_of at readings = desk at.reader at.writer readings
+abbrev pub stamp_state_of : Console → Option (List Tai64n) → StampState
+stamp_state_of at readings = stamp_state at.reader at.writer readings
 
 -- The whole input was stamped, no device failed, and nothing is told.
 pub record StampsInput (past now : Option (List Tai64n)) (old new : Console) : Type 0 where
   pub lines : ℕ
-  pub stamps : Stamps (desk_of old past) (desk_of new now) lines
+  pub stamps : Stamps (stamp_state_of old past) (stamp_state_of new now) lines
   pub end : IsRead new.reader
   pub well : EndsWell old new
 
@@ -28,9 +29,9 @@ pub record StampsInput (past now : Option (List Tai64n)) (old new : Console) : T
 -- after a front of the stamped lines.
 abbrev pub StampCause : StampFault → (past now : Option (List Tai64n)) (old new : Console) → Type 0
 StampCause fault.Read past now old new = Fails old.reader new.reader × Works old.writer new.writer
-    × ((lines : ℕ) × Stamps (desk_of old past) (desk_of new now) lines)
+    × ((lines : ℕ) × Stamps (stamp_state_of old past) (stamp_state_of new now) lines)
 StampCause fault.Write past now old new = Works old.reader new.reader × Fails old.writer new.writer
-    × StampsFront (desk_of old past) (desk_of new now)
+    × StampsFront (stamp_state_of old past) (stamp_state_of new now)
 
 -- A device failed, and it is told which.
 pub record StampsNoFurther (past now : Option (List Tai64n)) (old new : Console) : Type 0 where
@@ -48,3 +49,12 @@ abbrev pub StampsEnd : (words : List (List ℕ)) (status : ℕ) (past now : Opti
     (old new : Console) → Type 0
 StampsEnd [] status past now old new = StampsByStatus status past now old new
 StampsEnd (word ∷ words) status past now old new = RefusesWords status old new
+
+-- The same, of a clock that tells its readings so.
+abbrev pub TaiEnds : {C : Type 0} (words : List (List ℕ)) (status : ℕ) (readings : C → Option (List Tai64n))
+    (clock read : C) (old new : Console) → Type 0
+TaiEnds words status readings clock read old new = StampsEnd words status (readings clock) (readings read) old new
+
+-- the texts of words
+abbrev pub texts : List (Bor (List ℕ)) → List (List ℕ)
+texts words = map (λ word. word.now) words

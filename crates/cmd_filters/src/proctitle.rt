@@ -3,7 +3,8 @@ ghost use Rattle.std.specs.Prelude.{◌≡◌, ◌↔◌, ◌<◌, ◌≢◌, []
 ghost use Rattle.tai_status.specs.Counted.{Fails, Works, Wrote, WroteFront, IsRead};
 ghost use Rattle.env_title.specs.Title.{new_title, title_text};
 ghost use Rattle.cmd_base.specs.Console.{console};
-ghost use Rattle.cmd_filters.specs.Title.{NoTitle, ShowsTitle, ShowsRead, TitleEnds, WritesTitle, proctitle_told, proctitle_status};
+ghost use Rattle.cmd_filters.specs.Title.{NoTitle, ShowsTitle, ShowsRead, TitleEnds, WritesTitle, proctitle_told};
+ghost use Rattle.cmd_filters.specs.Title.{proctitle_status};
 
 use cmd_base::{DONE, REFUSED, TROUBLE, report, usage};
 use env_title::{Title, TitleFault};

@@ -1,7 +1,7 @@
 //! The command `tai64n`.
-ghost use Rattle.std.specs.Prelude.{◌≡◌, ◌<◌, length, map};
+ghost use Rattle.std.specs.Prelude.{◌≡◌, ◌<◌, [], length};
 ghost use Rattle.cmd_base.specs.Console.{console};
-ghost use Rattle.cmd_filters.specs.Stamped.{StampsByStatus, StampsEnd, stamp_told};
+ghost use Rattle.cmd_filters.specs.Stamped.{TaiEnds, stamp_told, texts};
 
 use cmd_base::{DONE, TROUBLE, report, usage};
 use std::io::{Read, Write};
@@ -18,7 +18,7 @@ pub fn run_tai64n<D: Read, W: Write, E: Write, C: TimeSource>(
     faults: &mut Output<E>,
     clock: &mut C,
 ) -> u8
-    ensures ends { StampsEnd (map (λ word. word.now) words.now) result (C.readings clock.old) (C.readings clock.new)
+    ensures ends { TaiEnds (texts words.now) result C.readings clock.old clock.new
         (console reader.old writer.old faults.old) (console reader.new writer.new faults.new) }
     ensures unasked { 0 < length words.now → clock.new ≡ clock.old }
 {
@@ -35,7 +35,7 @@ fn stamp_input<D: Read, W: Write, E: Write, C: TimeSource>(
     faults: &mut Output<E>,
     clock: &mut C,
 ) -> u8
-    ensures ends { StampsByStatus result (C.readings clock.old) (C.readings clock.new)
+    ensures ends { TaiEnds [] result C.readings clock.old clock.new
         (console reader.old writer.old faults.old) (console reader.new writer.new faults.new) }
 {
     match stamp_lines(reader, writer, clock) {

@@ -1,6 +1,6 @@
 -- Folders of logs: what calls in turn do.
 use Rattle.std.proofs.Common.{◌≡◌, ℕ, ◌+◌, ◌<◌, true, false, List, [], ◌∷◌, ◌++◌, length, map, drop, get_or, Option, Some, None, refl, sym, ap, ◌∙◌, arith, subst, append_assoc, append-nil}
-use Rattle.std.specs.Prelude.{IfSome, MatchOption, unwrap_or, take, Result, Ok, Err, OnOk, OnErr}
+use Rattle.std.specs.Prelude.{IfSome, IsSome, MatchOption, unwrap_or, take, Result, Ok, Err, OnOk, OnErr}
 use Rattle.std.specs.Option.{option_map}
 use Rattle.std.proofs.lemmas.Slice.Eq.{bytes_eq-Decides}
 use Rattle.std.proofs.lemmas.List.{length-append}
@@ -293,3 +293,21 @@ pub kept-begun-or : {X E : Type 0} (r : Result X E) (a b c : Option Folder) (nam
     → OnOk r (Changes b c Opens) → OnErr r (c ≡ b) → IsKept b names 0 → IsKept c names 0
 kept-begun-or (Ok x) a b c name names h ok err kept = kept-begun a b c name names h ok kept
 kept-begun-or (Err e) a b c name names h ok err kept = subst (λ (f : Option Folder). IsKept f names 0) (sym err) kept
+
+if_some_any : {X : Type 0} (x : Option X) (P : Type 0) → P → IfSome x (λ _. P)
+if_some_any None P p = tt
+if_some_any (Some x) P p = p
+
+-- A log whose current file was finished has one again, where the files are told.
+pub finish_begins : (o s n c : Option Folder) (name : List ℕ) → Changes o s Syncs → Changes s n (Renames name) → Changes n c Opens
+    → IfSome (files_of o) (λ _. IsSome (files_of c))
+finish_begins None s n c name k l m = tt
+finish_begins (Some o) None n c name k l m = absurd k
+finish_begins (Some o) (Some s) None c name k l m = absurd l
+finish_begins (Some o) (Some s) (Some n) None name k l m = absurd m
+finish_begins (Some o) (Some s) (Some n) (Some c) name k l m = if_some_any (files_in o) (IsSome (files_in c)) (rw m refl)
+
+pub finish_begins_or : {T E : Type 0} (r : Result T E) (o s n c : Option Folder) (name : List ℕ) → Changes o s Syncs → Changes s n (Renames name) → OnOk r (Changes n c Opens)
+    → OnOk r (IfSome (files_of o) (λ _. IsSome (files_of c)))
+finish_begins_or (Ok x) o s n c name k l m = finish_begins o s n c name k l m
+finish_begins_or (Err e) o s n c name k l m = tt

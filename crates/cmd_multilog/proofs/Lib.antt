@@ -4,3 +4,4 @@ pub mod Shelves
 pub mod Openings
 pub mod Running
 pub mod Ordered
+pub mod Stopping

@@ -1,14 +1,10 @@
 -- Names in byte order.
-use Rattle.std.proofs.Common.{◌≡◌, ℕ, ◌≤◌, true, false, List, [], ◌∷◌, length, take, refl, ap, map}
-use Rattle.std.proofs.lemmas.List.{take_all}
+use Rattle.std.proofs.Common.{◌≡◌, ℕ, true, false, List, [], ◌∷◌, refl, ap, map}
 use Rattle.std.specs.Cmp.Lexicographic.{slice_cmp}
 use Rattle.std.specs.Ordering.{is_lt, nat_cmp}
 use Rattle.std.specs.Prelude.{if◌then◌else◌}
 use Rattle.mlog_files.specs.Files.{Old, with_old}
 use Rattle.cmd_multilog.specs.Names.{with_name}
-
-pub short_name : (name : List ℕ) → length name ≤ 25 → take 25 name ≡ name
-short_name name short = take_all 25 name short
 
 -- The names of old files, with one more.
 pub names-with_old : (old : Old) (olds : List Old)

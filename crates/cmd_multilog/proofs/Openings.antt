@@ -7,7 +7,8 @@ use Rattle.std.specs.Prelude.{slice_get, IfSome}
 use Rattle.std.specs.IoError.{error_kind}
 use Rattle.std.specs.declared.io.Error.{Error}
 use Rattle.std.specs.declared.io.ErrorKind.TheVariants as error
-use Rattle.cmd_multilog.specs.Folder.{Folder, Status, Asked}
+use Rattle.cmd_multilog.specs.Folder.{Folder, Status}
+use Rattle.tai_status.specs.Extended.{Extended}
 use Rattle.cmd_multilog.specs.Shelf.{Shelf, IsBegunAt, OpensLog, AsksForOne, AddsStatus, AddsNone}
 use Rattle.std.specs.Option.{option_map}
 use Rattle.mlog_script.specs.Script.{Act, Plan, log_plans}
@@ -42,19 +43,19 @@ placed-more [] (f ∷ fs) path status all one = absurd all
 placed-more (p ∷ ps) [] path status all one = absurd all
 placed-more (p ∷ ps) (f ∷ fs) path status all one = (all.0, placed-more ps fs path status (all.1) one)
 
-asked-none : (a : Option (List (List ℕ))) → Asked a a []
-asked-none None = tt
-asked-none (Some past) = sym (append-nil past)
+extended-none : (a : Option (List (List ℕ))) → Extended a a []
+extended-none None = tt
+extended-none (Some past) = sym (append-nil past)
 
-asked-both : (a b c : Option (List (List ℕ))) (ps qs : List (List ℕ)) → Asked a b ps → Asked b c qs → Asked a c (ps ++ qs)
-asked-both None b c ps qs one two = tt
-asked-both (Some past) None c ps qs one two = absurd one
-asked-both (Some past) (Some now) None ps qs one two = absurd two
-asked-both (Some past) (Some now) (Some later) ps qs one two =
+extended-both : (a b c : Option (List (List ℕ))) (ps qs : List (List ℕ)) → Extended a b ps → Extended b c qs → Extended a c (ps ++ qs)
+extended-both None b c ps qs one two = tt
+extended-both (Some past) None c ps qs one two = absurd one
+extended-both (Some past) (Some now) None ps qs one two = absurd two
+extended-both (Some past) (Some now) (Some later) ps qs one two =
     two ∙ ap (λ (t : List (List ℕ)). t ++ qs) one ∙ append_assoc past ps qs
 
-asked-same : (a b c : Option (List (List ℕ))) (ps : List (List ℕ)) → Asked a b ps → c ≡ b → Asked a c ps
-asked-same a b c ps one same = subst (λ (t : Option (List (List ℕ))). Asked a t ps) (sym same) one
+extended-same : (a b c : Option (List (List ℕ))) (ps : List (List ℕ)) → Extended a b ps → c ≡ b → Extended a c ps
+extended-same a b c ps one same = subst (λ (t : Option (List (List ℕ))). Extended a t ps) (sym same) one
 
 pub opens-none : (a : Shelf) → Opens a a [] [] []
 opens-none a = record {
@@ -65,7 +66,7 @@ opens-none a = record {
   logs = sym (append-nil a.logs);
   statuses = sym (append-nil a.statuses);
   alerts = refl;
-  asked_for = asked-none a.asked;
+  asked_for = extended-none a.asked;
   failures = refl;
 }
 
@@ -80,7 +81,7 @@ opens-log a b c paths n path o is l =
       logs = l.logs ∙ ap (λ (t : List (Option Folder)). t ++ l.folder ∷ []) o.logs ∙ append_assoc a.logs o.folders (l.folder ∷ []);
       statuses = l.statuses ∙ o.statuses;
       alerts = l.alerts ∙ o.alerts;
-      asked_for = asked-both a.asked b.asked c.asked (take n paths) (path ∷ []) o.asked_for l.asked;
+      asked_for = extended-both a.asked b.asked c.asked (take n paths) (path ∷ []) o.asked_for l.asked;
       failures = l.failures ∙ o.failures;
     })
 
@@ -95,12 +96,12 @@ opens-status a b c paths n path o is l =
       logs = l.logs ∙ o.logs;
       statuses = l.statuses ∙ ap (λ (t : List (Option Status)). t ++ l.status ∷ []) o.statuses ∙ append_assoc a.statuses o.placed (l.status ∷ []);
       alerts = l.alerts ∙ o.alerts;
-      asked_for = asked-same a.asked b.asked c.asked [] o.asked_for l.asked;
+      asked_for = extended-same a.asked b.asked c.asked [] o.asked_for l.asked;
       failures = l.failures ∙ o.failures;
     })
 
 pub opens-adds_none : (a b c : Shelf) (paths files asked more : List (List ℕ)) → Opens a b paths files asked → AddsNone b c
-    → Asked a.asked c.asked more → Opens a c paths files more
+    → Extended a.asked c.asked more → Opens a c paths files more
 opens-adds_none a b c paths files asked more o l asks = record {
   folders = o.folders;
   placed = o.placed;
@@ -139,8 +140,8 @@ opens-both a b c paths files asked o l = record {
   statuses = l.statuses ∙ ap (λ (t : List (Option Status)). t ++ l.placed) (o.statuses
       ∙ ap (λ (t : List (Option Status)). a.statuses ++ t) (none_placed o.placed o.all_placed) ∙ append-nil a.statuses);
   alerts = l.alerts ∙ o.alerts;
-  asked_for = subst (λ (ps : List (List ℕ)). Asked a.asked c.asked ps) (append-nil asked)
-      (asked-both a.asked b.asked c.asked asked [] o.asked_for l.asked_for);
+  asked_for = subst (λ (ps : List (List ℕ)). Extended a.asked c.asked ps) (append-nil asked)
+      (extended-both a.asked b.asked c.asked asked [] o.asked_for l.asked_for);
   failures = l.failures ∙ o.failures;
 }
 
@@ -166,8 +167,8 @@ one_more : (a b c : Shelf) (script : List Act) (log : ℕ) (path : List ℕ) →
 one_more a b c script log path o none one is =
     let paths = take log (folders_of script) in
     opens-adds_none a b c paths [] paths (take (log + 1) (folders_of script)) o none
-    (subst (λ (ps : List (List ℕ)). Asked a.asked c.asked ps) (sym (one_further (folders_of script) log path is))
-    (asked-both a.asked b.asked c.asked paths (path ∷ []) o.asked_for one))
+    (subst (λ (ps : List (List ℕ)). Extended a.asked c.asked ps) (sym (one_further (folders_of script) log path is))
+    (extended-both a.asked b.asked c.asked paths (path ∷ []) o.asked_for one))
 
 -- why a log was not opened: at a fault of its folder, or for want of memory before that was asked for
 abbrev pub Why : Error → Shelf → Shelf → List ℕ → Type 0
@@ -186,7 +187,7 @@ unopened a b c script log path fault cause o none (inl one) is memory (inr e) =
 unopened a b c script log path fault cause o none (inr (same, kind)) is memory either =
     let paths = take log (folders_of script) in
     subst (λ (w : OpenFault). OpensUpTo a c script w) (sym (memory kind))
-    (log, 0, log, omega arith, opens-adds_none a b c paths [] paths paths o none (asked-same a.asked b.asked c.asked paths o.asked_for same))
+    (log, 0, log, omega arith, opens-adds_none a b c paths [] paths paths o none (extended-same a.asked b.asked c.asked paths o.asked_for same))
 
 -- status files that are not all placed
 pub not_placed : (a b c : Shelf) (paths all : List (List ℕ)) → Opens a b paths [] paths → ((files : ℕ) × Opens b c [] (take files all) [])

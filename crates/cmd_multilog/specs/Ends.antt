@@ -1,14 +1,14 @@
 -- How `multilog` ends.
 use Rattle.std.specs.Prelude.{◌≡◌, ◌⊎◌, ⊤, ℕ, List, [], map, slice_get, unwrap_or, Option, Some, None, MatchOption, Ok}
 use Rattle.tai_status.specs.Label.{Tai64n}
-use Rattle.tai_status.specs.Counted.{Device, Fails, IsRead, Rose, Tells}
+use Rattle.tai_status.specs.Counted.{Device, Fails, IsRead, Rose, Tells, Works}
 use Rattle.mlog_script.specs.Script.{Act, said, first_fault, file_paths}
 use Rattle.mlog_script.specs.declared.fault.ScriptFaultKind.TheVariants as kind
 use Rattle.mlog_core.specs.Run.{World, world, RunsAll, RunsLines, RunsUpTo}
 use Rattle.mlog_core.specs.declared.stream.Counts.{Counts}
 use Rattle.mlog_core.specs.declared.stream.RunFault.{RunFault}
 use Rattle.mlog_core.specs.declared.stream.RunFault.TheVariants as fault
-use Rattle.cmd_multilog.specs.Shelf.{Shelf, told_of}
+use Rattle.cmd_multilog.specs.Shelf.{Shelf, state_of}
 use Rattle.cmd_multilog.specs.Opening.{Opens, OpensUpTo, folders_of}
 use Rattle.cmd_multilog.specs.Sayings.{script_told, script_status, run_told, memory_told, unopened_told}
 use Rattle.cmd_multilog.specs.declared.fault.OpenFault.{OpenFault}
@@ -79,18 +79,18 @@ pub record OpensNotAll (script : List Act) (status : ℕ) (old new : Stage) : Ty
 -- The run
 
 abbrev pub world_of : Stage → World
-world_of s = world s.reader (told_of s.store) s.readings
+world_of s = world s.reader (state_of s.store) s.readings
 
 -- what a run did, by its fault
 abbrev pub RunsBy : Option RunFault → List Act → Stage → Stage → Type 0
 RunsBy None script old new =
-    ((counts : Counts) × RunsAll script (world_of old) (world_of new) counts) × IsRead new.reader
+    ((counts : Counts) × RunsAll script (world_of old) (world_of new) counts)
+    × IsRead new.reader × Works old.reader new.reader
 RunsBy (Some fault.Read) script old new = RunsLines script (world_of old) (world_of new) × Fails old.reader new.reader
 RunsBy (Some fault.Store) script old new =
     RunsUpTo script (world_of old) (world_of new) fault.Store × Rose old.store.failures new.store.failures
 RunsBy (Some fault.LabelsSpent) script old new = RunsUpTo script (world_of old) (world_of new) fault.LabelsSpent
-RunsBy (Some fault.OutOfMemory) script old new = (new.reader ≡ old.reader)
-    × (told_of new.store ≡ told_of old.store) × (new.readings ≡ old.readings)
+RunsBy (Some fault.OutOfMemory) script old new = world_of new ≡ world_of old
 
 abbrev pub run_status : Option RunFault → ℕ
 run_status None = 0
@@ -120,3 +120,9 @@ ScriptEnds script status old new = OpensNotAll script status old new ⊎ RunsScr
 abbrev pub MultilogEnds : List (List ℕ) → ℕ → Stage → Stage → Type 0
 MultilogEnds words status old new =
     Refuses words status old new ⊎ ((script : List Act) × IsSaidBy script words × ScriptEnds script status old new)
+
+-- The same, with what it works with one by one, each before and after.
+abbrev pub MultilogEndsBy : List (List ℕ) → ℕ → (store store_now : Shelf) → (reader reader_now : Device)
+    → (readings readings_now : Option (List Tai64n)) → (faults faults_now : Device) → Type 0
+MultilogEndsBy words status store store_now reader reader_now readings readings_now faults faults_now =
+    MultilogEnds words status (stage store reader readings faults) (stage store_now reader_now readings_now faults_now)

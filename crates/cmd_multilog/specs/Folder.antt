@@ -1,12 +1,13 @@
--- The folder of a log, as a disk tells it, and what calls do to it.
-use Rattle.std.specs.Prelude.{◌≡◌, ⊤, ℕ, Bool, true, false, if◌then◌else◌, List, [], ◌∷◌, ◌++◌, map, length, bytes_eq, unwrap_or, Option, Some, None, IfSome, MatchOption}
+-- The folder of a log, as the system tells it, and what calls do to it.
+use Rattle.std.specs.Prelude.{◌≡◌, ⊤, ℕ, Bool, true, false, if◌then◌else◌, List, [], ◌∷◌, ◌++◌, map, length, bytes_eq}
+use Rattle.std.specs.Prelude.{unwrap_or, Option, Some, None, IfSome, MatchOption}
 use Rattle.std.specs.List.{list_any}
 use Rattle.std.specs.Option.{option_map}
 use Rattle.mlog_files.specs.Files.{Old, Files, with_old}
 use Rattle.cmd_multilog.specs.Names.{old_names}
 
--- A folder: its path; whether this process holds its lock; its current file, where it has one, and whether all of that is
--- on the disk for certain; and its old files, in byte order of their names.
+-- A folder: its path; whether this process holds its lock; its current file, where it has one, and whether all of that
+-- is on the disk for certain; and its old files, in byte order of their names.
 pub record Folder : Type 0 where
   pub path : List ℕ
   pub locked : Bool
@@ -164,10 +165,3 @@ Holds None None content = ⊤
 Holds None (Some new) content = ⊥
 Holds (Some old) None content = ⊥
 Holds (Some old) (Some new) content = new ≡ record { path = old.path; content = content }
-
--- A disk was asked for the folders at these paths, in order, and for no other. One that tells what it was asked for goes
--- on telling it.
-abbrev pub Asked : Option (List (List ℕ)) → Option (List (List ℕ)) → List (List ℕ) → Type 0
-Asked None now paths = ⊤
-Asked (Some past) None paths = ⊥
-Asked (Some past) (Some now) paths = now ≡ past ++ paths

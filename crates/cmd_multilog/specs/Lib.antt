@@ -4,3 +4,4 @@ pub mod Shelf
 pub mod Sayings
 pub mod Opening
 pub mod Ends
+pub mod Stop

@@ -1,5 +1,6 @@
 -- Names in the folder of a log, which are lists of bytes.
-use Rattle.std.specs.Prelude.{ℕ, nat_le, ◌==◌, Bool, false, ◌&&◌, if◌then◌else◌, List, [], ◌∷◌, fold, length, Option, None, IsSorted}
+use Rattle.std.specs.Prelude.{ℕ, nat_le, ◌==◌, Bool, false, ◌&&◌, if◌then◌else◌, List, [], ◌∷◌, fold, length, Option}
+use Rattle.std.specs.Prelude.{None, IsSorted}
 use Rattle.std.specs.Cmp.Lexicographic.{slice_cmp}
 use Rattle.std.specs.Ordering.{is_lt, nat_cmp}
 use Rattle.tai_status.specs.Label.{Tai64n}

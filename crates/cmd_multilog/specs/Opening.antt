@@ -1,7 +1,8 @@
 -- How the logs and status files of a script are opened.
 use Rattle.std.specs.Prelude.{◌≡◌, ℕ, ◌<◌, ◌≤◌, ◌+◌, ⊤, List, [], ◌∷◌, ◌++◌, take, map, length, Option, IfSome}
 use Rattle.mlog_script.specs.Script.{Act, log_plans, file_paths}
-use Rattle.cmd_multilog.specs.Folder.{Folder, Status, Asked}
+use Rattle.cmd_multilog.specs.Folder.{Folder, Status}
+use Rattle.tai_status.specs.Extended.{Extended}
 use Rattle.cmd_multilog.specs.Shelf.{Shelf, IsBegunAt}
 use Rattle.cmd_multilog.specs.declared.fault.OpenFault.{OpenFault}
 use Rattle.cmd_multilog.specs.declared.fault.OpenFault.TheVariants as why
@@ -24,8 +25,8 @@ AllPlaced [] (status ∷ statuses) = ⊥
 AllPlaced (path ∷ paths) [] = ⊥
 AllPlaced (path ∷ paths) (status ∷ statuses) = IfSome status (λ s. s.path ≡ path) × AllPlaced paths statuses
 
--- The logs in the folders at these paths were opened, in order, and the status files at these placed. The disk was asked
--- for the folders at these paths. All else is as before.
+-- The logs in the folders at these paths were opened, in order, and the status files at these placed. The system was
+-- asked for the folders at these paths. All else is as before.
 pub record Opens (old new : Shelf) (paths files asked : List (List ℕ)) : Type 0 where
   pub folders : List (Option Folder)
   pub placed : List (Option Status)
@@ -34,7 +35,7 @@ pub record Opens (old new : Shelf) (paths files asked : List (List ℕ)) : Type 
   pub logs : new.logs ≡ old.logs ++ folders
   pub statuses : new.statuses ≡ old.statuses ++ placed
   pub alerts : new.alerts ≡ old.alerts
-  pub asked_for : Asked old.asked new.asked asked
+  pub asked_for : Extended old.asked new.asked asked
   pub failures : new.failures ≡ old.failures
 
 -- The logs before one were opened, and then no more: no folder behind that one's was asked for.

@@ -1,11 +1,12 @@
 -- What a store over folders holds, and what it tells of it.
-use Rattle.std.specs.Prelude.{◌≡◌, ⊤, ℕ, List, [], ◌∷◌, ◌++◌, Option, Some, None, IfSome, slice_get}
+use Rattle.std.specs.Prelude.{◌≡◌, ⊤, ℕ, List, [], ◌∷◌, ◌++◌, length, Option, Some, None, IfSome, slice_get}
 use Rattle.mlog_files.specs.Files.{Files}
-use Rattle.mlog_files.specs.Store.{Told}
-use Rattle.cmd_multilog.specs.Folder.{Folder, files_of, Begins, Status, content_of, Asked}
+use Rattle.mlog_files.specs.Store.{StoreState}
+use Rattle.cmd_multilog.specs.Folder.{Folder, files_of, Begins, Status, content_of}
+use Rattle.tai_status.specs.Extended.{Extended}
 
--- The folders of the logs and the status files, as far as the disk tells them; the alerts; the folders that the disk was
--- asked for; and how many calls failed.
+-- The folders of the logs and the status files, as far as the system tells them; the alerts; the folders that the
+-- system was asked for; and how many calls failed.
 pub record Shelf : Type 0 where
   pub logs : List (Option Folder)
   pub statuses : List (Option Status)
@@ -23,14 +24,20 @@ abbrev pub content_at : Option (Option Status) → Option (List ℕ)
 content_at None = None
 content_at (Some status) = content_of status
 
-abbrev pub told_of : Shelf → Told
-told_of shelf = record {
-  files = λ log. files_at (slice_get shelf.logs log);
-  statuses = λ file. content_at (slice_get shelf.statuses file);
-  alerts = shelf.alerts;
+-- the store that it is
+abbrev pub state_of : Shelf → StoreState
+state_of shelf = record {
+  logs = length shelf.logs;
+  status_files = length shelf.statuses;
+  failures = shelf.failures;
+  told = record {
+    files = λ log. files_at (slice_get shelf.logs log);
+    statuses = λ file. content_at (slice_get shelf.statuses file);
+    alerts = shelf.alerts;
+  };
 }
 
--- The shelf is as before, but for what the disk was asked for.
+-- The shelf is as before, but for what the system was asked for.
 pub record AddsNone (old new : Shelf) : Type 0 where
   pub logs : new.logs ≡ old.logs
   pub statuses : new.statuses ≡ old.statuses
@@ -49,12 +56,12 @@ pub record OpensLog (old new : Shelf) (path : List ℕ) : Type 0 where
   pub logs : new.logs ≡ old.logs ++ folder ∷ []
   pub statuses : new.statuses ≡ old.statuses
   pub alerts : new.alerts ≡ old.alerts
-  pub asked : Asked old.asked new.asked (path ∷ [])
+  pub asked : Extended old.asked new.asked (path ∷ [])
   pub failures : new.failures ≡ old.failures
 
--- The disk was asked for the folder at a path.
+-- The system was asked for the folder at a path.
 abbrev pub AsksForOne : Shelf → Shelf → List ℕ → Type 0
-AsksForOne old new path = Asked old.asked new.asked (path ∷ [])
+AsksForOne old new path = Extended old.asked new.asked (path ∷ [])
 
 -- The status file at a path is the next.
 pub record AddsStatus (old new : Shelf) (path : List ℕ) : Type 0 where

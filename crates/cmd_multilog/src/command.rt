@@ -1,13 +1,12 @@
 //! The command `multilog`.
-ghost use Rattle.std.specs.Prelude.{◌≡◌, ◌≤◌, [], map, length, count_by, slice_get, unwrap_or, IfOk, IfErr};
+ghost use Rattle.std.specs.Prelude.{◌≡◌, [], slice_get, unwrap_or, IfOk, IfErr};
 ghost use Rattle.tai_status.specs.Counted.{Tells};
-ghost use Rattle.mlog_script.specs.Script.{is_log, is_file, texts};
+ghost use Rattle.mlog_script.specs.Script.{texts};
 ghost use Rattle.cmd_multilog.specs.Opening.{folders_of};
-ghost use Rattle.cmd_multilog.specs.Ends.{stage, IsSaidBy, IsRefusal, refusal_told, refusal_status, open_told};
-ghost use Rattle.cmd_multilog.specs.Ends.{RunsOpened, ScriptEnds, MultilogEnds};
+ghost use Rattle.cmd_multilog.specs.Ends.{IsSaidBy, IsRefusal, refusal_told, refusal_status, open_told, MultilogEndsBy};
 
-use crate::disk::LogDisk;
 use crate::fault::{NoScript, OpenFault, run_text, script_status, script_text};
+use crate::log_system::LogSystem;
 use crate::opening::open_all;
 use crate::store::FolderStore;
 use cmd_base::{DONE, TROUBLE, report, report_parts};
@@ -25,7 +24,7 @@ fn bytes_of<'a, A: Allocator + Clone>(
     alloc: &A,
     words: &[&'a str],
 ) -> Result<Vec<&'a [u8], A>, AllocError>
-    ensures { IfOk result (λ all. texts all.items ≡ map (λ word. word.now) words.now) }
+    ensures { IfOk result (λ all. texts all.items ≡ texts words.now) }
 {
     let mut all = Vec::new(alloc.clone()?);
     for word in words {
@@ -47,8 +46,8 @@ fn script_of<A: Allocator + Clone>(alloc: A, words: &[&[u8]]) -> Result<Script<A
 
 /// Reads the words of a script.
 fn read_script<A: Allocator + Clone>(alloc: &A, words: &[&str]) -> Result<Script<A>, NoScript>
-    ensures ok { IfOk result (λ script. IsSaidBy script (map (λ word. word.now) words.now)) }
-    ensures err { IfErr result (λ why. IsRefusal why (map (λ word. word.now) words.now)) }
+    ensures ok { IfOk result (λ script. IsSaidBy script (texts words.now)) }
+    ensures err { IfErr result (λ why. IsRefusal why (texts words.now)) }
 {
     let Ok(all) = bytes_of(alloc, words) else {
         return Err(NoScript::OutOfMemory);
@@ -105,58 +104,6 @@ fn report_unopened<B: Allocator + Clone, E: Write>(
     }
 }
 
-/// Runs a script over opened logs.
-fn run_opened<D, A, R, E, C>(
-    alloc: A,
-    store: &mut FolderStore<D, A>,
-    script: &Script<A>,
-    reader: &mut Input<R>,
-    faults: &mut Output<E>,
-    clock: &mut C,
-) -> u8
-where
-    D: LogDisk + Drop,
-    A: Allocator + Clone,
-    R: Read,
-    E: Write,
-    C: TimeSource,
-    requires logs { count_by is_log script.now ≤ length store.old.logs }
-    requires files { count_by is_file script.now ≤ length store.old.statuses }
-    ensures { RunsOpened script.now result (stage store.old reader.old (C.readings clock.old) faults.old)
-        (stage store.new reader.new (C.readings clock.new) faults.new) }
-{
-    match run(alloc, script, reader, store, clock) {
-        Ok(_) => DONE,
-        Err(fault) => report(faults, run_text(fault), TROUBLE),
-    }
-}
-
-/// Opens the logs of a script, and runs it.
-fn run_script<D, A, R, E, C>(
-    alloc: A,
-    store: &mut FolderStore<D, A>,
-    script: &Script<A>,
-    reader: &mut Input<R>,
-    faults: &mut Output<E>,
-    clock: &mut C,
-) -> u8
-where
-    D: LogDisk + Drop,
-    A: Allocator + Clone,
-    R: Read,
-    E: Write,
-    C: TimeSource,
-    requires no_logs { store.old.logs ≡ [] }
-    requires no_files { store.old.statuses ≡ [] }
-    ensures { ScriptEnds script.now result (stage store.old reader.old (C.readings clock.old) faults.old)
-        (stage store.new reader.new (C.readings clock.new) faults.new) }
-{
-    match open_all(store, &alloc, script) {
-        Ok(()) => run_opened(alloc, store, script, reader, faults, clock),
-        Err(why) => report_unopened(why, script, faults),
-    }
-}
-
 /// The command `multilog`: reads lines, and hands them out to the logs, alerts and status files that its words ask for
 /// (<https://cr.yp.to/daemontools/multilog.html>). No words are a lawful script. Answers the status: 0; 100 for words
 /// that are no script, where nothing is made or read; 111 where a log can't be opened, for a fault of the reader or the
@@ -170,19 +117,26 @@ pub fn run_multilog<D, A, R, E, C>(
     clock: &mut C,
 ) -> u8
 where
-    D: LogDisk + Drop,
+    D: LogSystem + Drop,
     A: Allocator + Clone,
     R: Read,
     E: Write,
     C: TimeSource,
     requires no_logs { store.old.logs ≡ [] }
     requires no_files { store.old.statuses ≡ [] }
-    ensures ends { MultilogEnds (map (λ word. word.now) words.now) result
-        (stage store.old reader.old (C.readings clock.old) faults.old)
-        (stage store.new reader.new (C.readings clock.new) faults.new) }
+    ensures ends { MultilogEndsBy (texts words.now) result store.old store.new reader.old reader.new
+        (C.readings clock.old) (C.readings clock.new) faults.old faults.new }
 {
-    match read_script(&alloc, words) {
-        Ok(script) => run_script(alloc, store, &script, reader, faults, clock),
-        Err(why) => report_refusal(why, faults),
+    let script = match read_script(&alloc, words) {
+        Ok(script) => script,
+        Err(why) => return report_refusal(why, faults),
+    };
+    match open_all(store, &alloc, &script) {
+        Ok(()) => {}
+        Err(why) => return report_unopened(why, &script, faults),
+    }
+    match run(alloc, &script, reader, store, clock) {
+        Ok(_) => DONE,
+        Err(fault) => report(faults, run_text(fault), TROUBLE),
     }
 }

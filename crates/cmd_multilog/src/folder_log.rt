@@ -1,7 +1,7 @@
 //! A log in a folder.
 ghost use Rattle.std.specs.Prelude.{◌≡◌};
 
-use crate::disk::LogFolder;
+use crate::log_system::LogFolder;
 use crate::names::{FileName, OldNames, greatest_in, old_names};
 use std::alloc::{AllocError, Allocator, Global};
 use std::io;
@@ -9,8 +9,8 @@ use std::io::{Error, ErrorKind};
 use std::marker::Model;
 use tai_status::Label;
 
-/// A log in a folder, which is locked while the log is there. The names of its old files are kept in byte order, so that the
-/// folder is listed once.
+/// A log in a folder, which is locked while the log is there. The names of its old files are kept in byte order, so
+/// that the folder is listed once.
 #[derive(Drop)]
 pub struct FolderLog<F: LogFolder + Drop, A: Allocator = Global> {
     folder: F,
@@ -30,7 +30,7 @@ impl<F: LogFolder + Drop, A: Allocator> Model for FolderLog<F, A> {
 }
 
 impl<F: LogFolder + Drop, A: Allocator + Clone> FolderLog<F, A> {
-    ghost use Rattle.std.specs.Prelude.{◌≡◌, ◌<◌, ◌≤◌, ◌∷◌, [], length, take, IfOk, IfSome, OnOk, OnErr};
+    ghost use Rattle.std.specs.Prelude.{◌≡◌, ◌<◌, ◌≤◌, ◌∷◌, [], length, take, IfOk, IfSome, IsSome, OnOk, OnErr};
     ghost use Rattle.mlog_files.specs.Files.{Finish, Remove, append_steps};
     ghost use Rattle.mlog_files.specs.Named.{greatest_label};
     ghost use Rattle.mlog_files.specs.Store.{Reaches};
@@ -57,7 +57,8 @@ impl<F: LogFolder + Drop, A: Allocator + Clone> FolderLog<F, A> {
     pub(crate) fn append(&mut self, piece: &[u8]) -> io::Result<usize>
         ensures bound { IfOk result (λ count. count ≤ length piece.now) }
         ensures some { IfOk result (λ count. 0 < length piece.now → 0 < count) }
-        ensures ok { IfOk result (λ count. Reaches (files_of self.old) (files_of self.new) (append_steps (take count piece.now))) }
+        ensures ok { IfOk result (λ count.
+            Reaches (files_of self.old) (files_of self.new) (append_steps (take count piece.now))) }
         ensures err { OnErr result (self.new ≡ self.old) }
         ensures stays { StaysAt self.old self.new }
     {
@@ -69,10 +70,11 @@ impl<F: LogFolder + Drop, A: Allocator + Clone> FolderLog<F, A> {
         Ok(count)
     }
 
-    /// Has the current file put on the disk, makes it the old file of a label, and begins a new one. All memory is taken
-    /// first. Where the new one can't be made, the log has no current file.
+    /// Has the current file put on the disk, makes it the old file of a label, and begins a new one. All memory is
+    /// taken first. Where the new one can't be made, the log has no current file.
     pub(crate) fn finish(&mut self, label: &Label) -> io::Result<()>
         ensures ok { OnOk result (Reaches (files_of self.old) (files_of self.new) (Finish label.now ∷ [])) }
+        ensures begun { OnOk result (IfSome (files_of self.old) (λ _. IsSome (files_of self.new))) }
         ensures err { OnErr result (Reaches (files_of self.old) (files_of self.new) []) }
         ensures stays { StaysAt self.old self.new }
     {

@@ -2,18 +2,24 @@
 #![tactic(auto)]
 
 mod command;
-mod disk;
 mod fault;
 mod folder_log;
-mod machine;
+mod laws;
+mod log_system;
 mod names;
 mod opening;
+mod stop;
 mod store;
+mod system;
+mod system_input;
 
 pub use command::run_multilog;
-pub use disk::{LogDisk, LogFolder, StatusFile};
 pub use fault::{NoScript, OpenFault};
 pub use folder_log::FolderLog;
-pub use machine::{MachineDisk, MachineFolder, MachineStatus};
+pub use laws::what_a_stop_gives;
+pub use log_system::{LogFolder, LogSystem, StatusFile};
 pub use names::FileName;
+pub use stop::{Heard, LoggerInput, Stoppable};
 pub use store::FolderStore;
+pub use system::{SystemFolder, SystemLogs, SystemStatus};
+pub use system_input::{SystemInput, stop_channel};

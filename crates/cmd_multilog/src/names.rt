@@ -1,14 +1,15 @@
 //! Names of old files.
-ghost use Rattle.std.specs.Prelude.{◌≡◌, ◌≤◌, ◌<◌, ◌++◌, ◌∷◌, [], length, take, drop, OnOk, OnErr, IfOk, IsOk, vec_len, vec_capacity, ◌+◌};
+ghost use Rattle.std.specs.Prelude.{◌≡◌, ◌≤◌, ◌<◌, ◌++◌, ◌∷◌, [], length, take, drop, OnOk, OnErr, IfOk, IsOk};
+ghost use Rattle.std.specs.Prelude.{vec_len, vec_capacity, ◌+◌};
 ghost use Rattle.std.specs.Cmp.Lexicographic.{slice_cmp};
 ghost use Rattle.std.specs.Ordering.{is_lt, nat_cmp};
 ghost use Rattle.mlog_files.specs.Files.{old_name};
-ghost use Rattle.mlog_files.specs.Named.{label_in, later_of};
 ghost use Rattle.cmd_multilog.specs.Names.{begins_with_at, is_old_name, with_name, old_names, greatest_in, AreInOrder};
 
+use mlog_files::{label_in, later_of};
 use std::alloc::{AllocError, Allocator, Global};
 use std::marker::Model;
-use tai_status::{Label, read_text, text};
+use tai_status::{Label, text};
 
 /// How long a label's text is.
 const LABEL: usize = 25;
@@ -62,31 +63,8 @@ impl<A: Allocator> FileName<A> {
     fn label(&self) -> Option<Label>
         ensures { result ≡ label_in self.now }
     {
-        read_text(front(self.as_slice())).ok()
+        label_in(self.as_slice())
     }
-}
-
-// The bytes of a name in which a label may stand.
-fn front(name: &[u8]) -> &[u8]
-    ensures { result.now ≡ take 25 name.now }
-{
-    if name.len() <= LABEL {
-        return name;
-    }
-    &name[..LABEL]
-}
-
-// The later of two labels.
-fn later_of(a: Option<Label>, b: Option<Label>) -> Option<Label>
-    ensures { result ≡ later_of a b }
-{
-    let Some(first) = a else {
-        return b;
-    };
-    let Some(second) = b else {
-        return a;
-    };
-    if first < second { b } else { a }
 }
 
 /// The greatest label in names.
@@ -114,7 +92,8 @@ fn is_below(first: &[u8], second: &[u8]) -> bool
     first.cmp(second).is_lt()
 }
 
-// Where a name comes to stand among names in byte order. The place is sought from the end: that of a new label is there.
+// Where a name comes to stand among names in byte order. The place is sought from the end: that of a new label is
+// there.
 fn place_of<A: Allocator>(names: &[FileName<A>], name: &[u8]) -> usize
     requires { AreInOrder names.now }
     ensures within { result ≤ length names.now }

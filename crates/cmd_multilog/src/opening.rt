@@ -4,8 +4,8 @@ ghost use Rattle.std.specs.IoError.{error_kind};
 ghost use Rattle.mlog_script.specs.Script.{is_log, is_file, file_paths};
 ghost use Rattle.cmd_multilog.specs.Opening.{Opens, OpensUpTo, folders_of};
 
-use crate::disk::LogDisk;
 use crate::fault::OpenFault;
+use crate::log_system::LogSystem;
 use crate::store::FolderStore;
 use mlog_script::Script;
 use std::alloc::{AllocError, Allocator};
@@ -24,7 +24,7 @@ fn fault_of(error: Error, log: usize) -> OpenFault
 }
 
 /// Opens the logs of a script, in order, up to the first that can't be opened.
-fn open_logs<D: LogDisk + Drop, A: Allocator + Clone, B: Allocator + Clone>(
+fn open_logs<D: LogSystem + Drop, A: Allocator + Clone, B: Allocator + Clone>(
     store: &mut FolderStore<D, A>,
     alloc: &A,
     script: &Script<B>,
@@ -45,7 +45,7 @@ fn open_logs<D: LogDisk + Drop, A: Allocator + Clone, B: Allocator + Clone>(
 }
 
 /// Places the status files of a script, in order.
-fn place_statuses<D: LogDisk + Drop, A: Allocator + Clone, B: Allocator + Clone>(
+fn place_statuses<D: LogSystem + Drop, A: Allocator + Clone, B: Allocator + Clone>(
     store: &mut FolderStore<D, A>,
     script: &Script<B>,
 ) -> Result<(), AllocError>
@@ -63,7 +63,7 @@ fn place_statuses<D: LogDisk + Drop, A: Allocator + Clone, B: Allocator + Clone>
 }
 
 /// Opens the logs of a script, and then places its status files.
-pub(crate) fn open_all<D: LogDisk + Drop, A: Allocator + Clone, B: Allocator + Clone>(
+pub(crate) fn open_all<D: LogSystem + Drop, A: Allocator + Clone, B: Allocator + Clone>(
     store: &mut FolderStore<D, A>,
     alloc: &A,
     script: &Script<B>,

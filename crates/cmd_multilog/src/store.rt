@@ -1,8 +1,8 @@
 //! A store over folders.
 ghost use Rattle.std.specs.Prelude.{◌≡◌};
 
-use crate::disk::{LogDisk, StatusFile};
 use crate::folder_log::FolderLog;
+use crate::log_system::{LogSystem, StatusFile};
 use mlog_files::{LogStore, StoreFault};
 use std::alloc::{AllocError, Allocator, Global};
 use std::io;
@@ -44,16 +44,16 @@ impl<S: StatusFile + Drop> PlacedStatus<S> {
     }
 }
 
-/// The logs, status files and alerts of a disk. It begins without logs and status files.
+/// The logs, status files and alerts of a system. It begins without logs and status files.
 #[derive(Drop)]
-pub struct FolderStore<D: LogDisk + Drop, A: Allocator = Global> {
-    disk: D,
+pub struct FolderStore<D: LogSystem + Drop, A: Allocator = Global> {
+    system: D,
     logs: Vec<FolderLog<D::Folder, A>, A>,
     statuses: Vec<PlacedStatus<D::Status>, A>,
     failures: u64,
 }
 
-impl<D: LogDisk + Drop, A: Allocator> Model for FolderStore<D, A> {
+impl<D: LogSystem + Drop, A: Allocator> Model for FolderStore<D, A> {
     ghost use Rattle.cmd_multilog.specs.Shelf.{Shelf};
 
     ghost Value = { Shelf };
@@ -61,35 +61,37 @@ impl<D: LogDisk + Drop, A: Allocator> Model for FolderStore<D, A> {
     ghost view = { λ store. record {
       logs = store.logs.items;
       statuses = store.statuses.items;
-      alerts = D.alerts store.disk;
-      asked = D.asked store.disk;
+      alerts = D.alerts store.system;
+      asked = D.asked store.system;
       failures = store.failures;
     } };
 }
 
-impl<D: LogDisk + Drop, A: Allocator + Clone> FolderStore<D, A> {
+impl<D: LogSystem + Drop, A: Allocator + Clone> FolderStore<D, A> {
     ghost use Rattle.std.specs.Prelude.{◌≡◌, ◌<◌, ◌≤◌, ◌^◌, ◌⊎◌, [], length, IfOk, IfErr, OnOk, OnErr};
     ghost use Rattle.std.specs.IoError.{error_kind};
     ghost use Rattle.tai_status.specs.Counted.{Rose};
     ghost use Rattle.cmd_multilog.specs.Shelf.{OpensLog, AsksForOne, AddsStatus, AddsNone};
 
     /// A store over a disk.
-    pub fn new(disk: D, alloc: A) -> Result<FolderStore<D, A>, AllocError>
+    pub fn new(system: D, alloc: A) -> Result<FolderStore<D, A>, AllocError>
         ensures logs { IfOk result (λ store. store.logs ≡ []) }
         ensures statuses { IfOk result (λ store. store.statuses ≡ []) }
         ensures failures { IfOk result (λ store. store.failures ≡ 0) }
+        ensures asked { IfOk result (λ store. store.asked ≡ D.asked system) }
+        ensures alerts { IfOk result (λ store. store.alerts ≡ D.alerts system) }
     {
         let statuses = Vec::new(alloc.clone()?);
         Ok(FolderStore {
-            disk,
+            system,
             logs: Vec::new(alloc),
             statuses,
             failures: 0,
         })
     }
 
-    /// Opens the log in the folder at a path, as the next one: makes the folder where it is missing, locks it, opens its
-    /// current file and lists it.
+    /// Opens the log in the folder at a path, as the next one: makes the folder where it is missing, locks it, opens
+    /// its current file and lists it.
     pub(crate) fn open_log(&mut self, alloc: &A, path: &[u8]) -> io::Result<()>
         ensures ok { OnOk result (OpensLog self.old self.new path.now) }
         ensures fits { OnOk result (length self.new.logs < 2 ^ 64) }
@@ -98,7 +100,7 @@ impl<D: LogDisk + Drop, A: Allocator + Clone> FolderStore<D, A> {
             ⊎ ((self.new.asked ≡ self.old.asked) × (error_kind error ≡ ErrorKind.OutOfMemory))) }
     {
         self.logs.reserve(1)?;
-        let folder = self.disk.folder(path)?;
+        let folder = self.system.folder(path)?;
         let log = FolderLog::open(folder, alloc)?;
         self.logs.push(log)?;
         Ok(())
@@ -111,7 +113,7 @@ impl<D: LogDisk + Drop, A: Allocator + Clone> FolderStore<D, A> {
         ensures err { OnErr result (AddsNone self.old self.new) }
         ensures asked { self.new.asked ≡ self.old.asked }
     {
-        let status = self.disk.status_file(path)?;
+        let status = self.system.status_file(path)?;
         self.statuses.push(PlacedStatus::new(status))?;
         Ok(())
     }
@@ -129,17 +131,10 @@ impl<D: LogDisk + Drop, A: Allocator + Clone> FolderStore<D, A> {
     }
 }
 
-impl<D: LogDisk + Drop, A: Allocator + Clone> LogStore for FolderStore<D, A> {
-    ghost use Rattle.std.specs.Prelude.{length};
-    ghost use Rattle.cmd_multilog.specs.Shelf.{told_of};
+impl<D: LogSystem + Drop, A: Allocator + Clone> LogStore for FolderStore<D, A> {
+    ghost use Rattle.cmd_multilog.specs.Shelf.{state_of};
 
-    ghost logs = { λ store. length store.logs };
-
-    ghost status_files = { λ store. length store.statuses };
-
-    ghost failures = { λ store. store.failures };
-
-    ghost told = { told_of };
+    ghost state = { state_of };
 
     fn append(&mut self, log: usize, piece: &[u8]) -> Result<usize, StoreFault> {
         match self.logs[log].append(piece) {
@@ -171,7 +166,7 @@ impl<D: LogDisk + Drop, A: Allocator + Clone> LogStore for FolderStore<D, A> {
     }
 
     fn alert(&mut self, piece: &[u8]) -> Result<usize, StoreFault> {
-        match self.disk.alert(piece) {
+        match self.system.alert(piece) {
             Ok(count) => Ok(count),
             Err(_) => Err(self.fail()),
         }

@@ -1,3 +1,4 @@
 pub mod Sim
 pub mod Progress
 pub mod Ends
+pub mod Session

@@ -1,5 +1,6 @@
 -- How far `sim` has come. No public contract speaks of it.
-use Rattle.std.specs.Prelude.{◌≡◌, ℕ, ◌+◌, Bool, true, false, List, [], ◌∷◌, ◌++◌, length, Option, Some, None, Result, Ok, Err, ⊤}
+use Rattle.std.specs.Prelude.{◌≡◌, ℕ, ◌+◌, Bool, true, false, List, [], ◌∷◌, ◌++◌, length, Option, Some, None, Result}
+use Rattle.std.specs.Prelude.{Ok, Err, ⊤}
 use Rattle.std.specs.Io.KnownBytes.{Consumes}
 use Rattle.tai_status.specs.Block.{Emits}
 use Rattle.tai_status.specs.Lines.{texts_of}
@@ -18,7 +19,8 @@ use Rattle.cmd_sim.specs.declared.fault.Why.{Why}
 use Rattle.cmd_sim.specs.declared.fault.Why.TheVariants as why
 use Rattle.cmd_sim.specs.declared.fault.NoAnswer.{NoAnswer}
 use Rattle.cmd_sim.specs.declared.fault.NoAnswer.TheVariants as none
-use Rattle.cmd_sim.specs.Sim.{Past, Nothing, Service, OfSuite, Said, said, answers, first_refused, tells_scan, begins_suite, step_why}
+use Rattle.cmd_sim.specs.Sim.{Past, Nothing, Service, OfSuite, Said, said, answers, first_refused, tells_scan}
+use Rattle.cmd_sim.specs.Sim.{begins_suite, step_why}
 
 -- Why a line has no answer
 

@@ -1,5 +1,6 @@
 -- What `sim` prints for the lines of its input.
-use Rattle.std.specs.Prelude.{◌≡◌, ℕ, ◌+◌, ◌-◌, ◌≤◌, nat_lt, bytes_eq, Bool, true, false, if◌then◌else◌, List, [], ◌∷◌, ◌++◌, length, take, codes, flat_map, Option, Some, None, Result, Ok, Err}
+use Rattle.std.specs.Prelude.{◌≡◌, ◌⊎◌, ℕ, ◌+◌, ◌-◌, ◌≤◌, nat_lt, bytes_eq, Bool, true, false, if◌then◌else◌, List, []}
+use Rattle.std.specs.Prelude.{◌∷◌, ◌++◌, length, take, codes, flat_map, Option, Some, None, Result, Ok, Err}
 use Rattle.std.specs.Io.KnownBytes.{Appends, Consumes}
 use Rattle.tai_status.specs.Label.{Tai64n}
 use Rattle.tai_status.specs.Counted.{Device, AppendsFront}
@@ -116,6 +117,9 @@ pub record Refusal : Type 0 where
   pub line : ℕ
   pub why : Why
 
+abbrev pub at_line : (line : ℕ) (why : Why) → Refusal
+at_line line why = record { line = line; why = why }
+
 -- the first line that is refused, where lines are numbered from here
 abbrev pub first_refused : ℕ → Past → List (List ℕ) → Option Refusal
 first_refused number past [] = None
@@ -176,9 +180,15 @@ AnswersUpTo reader reads old new refusal =
 abbrev pub AnswersFront : (reader reads : Device) (old new : Device) → Type 0
 AnswersFront reader reads old new = AnswersPart reader.bytes reads.bytes old.bytes new.bytes
 
+-- Memory was missed: before anything was read; or at a line of a suite, and then a front of the answers to what was
+-- read is written.
+abbrev pub LacksMemory : (reader reads : Device) (old new : Device) → Type 0
+LacksMemory reader reads old new =
+    ((reads ≡ reader) × (new ≡ old)) ⊎ (IsOfSuite reader.bytes × AnswersFront reader reads old new)
+
 -- The printed table: both sides of each control byte.
 abbrev pub both_sides : ℕ → List (List ℕ)
 both_sides byte = table_text byte true ∷ table_text byte false ∷ []
 
 unfoldable pub printed_table : List ℕ
-printed_table = printed (flat_map both_sides (codes "udopchaitkx"))
+printed_table = printed (flat_map both_sides (codes "udopchaitkx12q"))

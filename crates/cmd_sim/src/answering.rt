@@ -2,13 +2,13 @@
 ghost use Rattle.std.specs.Prelude.{◌≡◌, ◌≢◌, ◌≤◌, [], ◌∷◌, length, flat_map, true, IfOk, IfErr, IsErrOf, Ok, Err};
 ghost use Rattle.sup_core.specs.declared.asks.Reply.{Reply};
 ghost use Rattle.sup_core.specs.History.{History, Begin, state_of, phase_of};
-ghost use Rattle.sup_core.specs.Reading.{fields, event_from, begin_from};
+ghost use Rattle.sup_core.specs.Reading.{fields, begin_from};
 ghost use Rattle.sup_core.specs.Rules.{asks_of_begin};
 ghost use Rattle.sup_core.specs.Text.{answer_text};
 ghost use Rattle.suite_lines.specs.Reading.{suite_event_from};
 ghost use Rattle.suite_lines.specs.Text.{step_lines};
 ghost use Rattle.cmd_sim.specs.declared.fault.Why.{Why};
-ghost use Rattle.cmd_sim.specs.Sim.{Past, Nothing, OfSuite, said, tells_scan, beginning, going_on, stepping};
+ghost use Rattle.cmd_sim.specs.Sim.{Past, Nothing, OfSuite, Service, said, said_by, tells_scan, beginning, stepping};
 ghost use Rattle.cmd_sim.specs.Progress.{TellsService, Stands, Says, texts_in, is_suite_line};
 
 use crate::fault::NoAnswer;
@@ -63,9 +63,9 @@ fn begin_service(line: &[u8]) -> Result<(Machine, ArrayString<128>), NoAnswer>
 /// Takes an event of a service.
 fn step_service(machine: &mut Machine, line: &[u8]) -> Result<ArrayString<128>, NoAnswer>
     ensures ok { IfOk result (λ text. (past : History) → state_of past ≡ machine.old
-        → TellsService (going_on past (event_from (fields line.now))) machine.new text.bytes) }
+        → TellsService (said_by (Service past) line.now) machine.new text.bytes) }
     ensures refused { (why : Why) → IsErrOf result (NoAnswer.Refused why)
-        → (past : History) → going_on past (event_from (fields line.now)) ≡ Err why }
+        → (past : History) → said_by (Service past) line.now ≡ Err why }
     ensures memory { IfErr result (λ none. none ≢ NoAnswer.OutOfMemory) }
 {
     let event = read_event(line)?;

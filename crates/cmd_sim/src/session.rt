@@ -1,6 +1,6 @@
 //! A service as the lines tell it, and the answers to them.
-ghost use Rattle.std.specs.Prelude.{◌≡◌, ◌≤◌, ◌<◌, ◌+◌, ◌^◌, [], ◌∷◌, ◌++◌, length, OnOk, OnErr, IfOk, IfErr, IsErrOf, Err, Option, List, ℕ, ◌≢◌, ◌⊎◌, true, map, string_bytes};
-ghost use Rattle.std.specs.Io.KnownBytes.{IsAtEnd};
+ghost use Rattle.std.specs.Prelude.{◌≡◌, ◌≤◌, ◌<◌, ◌+◌, ◌^◌, [], ◌∷◌, ◌++◌, length, OnOk, OnErr, IfOk, IfErr};
+ghost use Rattle.std.specs.Prelude.{IsErrOf, Err, ℕ, ◌≢◌, true, map, string_bytes};
 ghost use Rattle.tai_status.specs.Counted.{Fails, Works, Wrote, WroteFront, IsRead};
 ghost use Rattle.tai_status.specs.Block.{Puts};
 ghost use Rattle.tai_status.specs.LineReader.{IsPlain};
@@ -9,8 +9,10 @@ ghost use Rattle.cmd_sim.specs.declared.answering.Told.TheVariants as code;
 ghost use Rattle.cmd_sim.specs.declared.fault.SimFault.{SimFault};
 ghost use Rattle.cmd_sim.specs.declared.fault.Why.{Why};
 ghost use Rattle.cmd_sim.specs.declared.fault.NoAnswer.{NoAnswer};
-ghost use Rattle.cmd_sim.specs.Sim.{Past, said, IsOfSuite, AnswersWhole, AnswersBefore, AnswersPart, ReadsNear, AnswersAll, AnswersUpTo, AnswersFront};
-ghost use Rattle.cmd_sim.specs.Progress.{Stands, Says, Answered, SoFar, text_said, texts_in, is_suite_line};
+ghost use Rattle.cmd_sim.specs.Sim.{Past, said, at_line, AnswersAll, AnswersUpTo, AnswersFront, LacksMemory};
+ghost use Rattle.cmd_sim.specs.Progress.{Stands, Says, texts_in, is_suite_line};
+ghost use Rattle.cmd_sim.specs.Session.{AnswersLine, AnswersToEnd, GoesOn, LeavesFront, MissesLast, MissesMemory};
+ghost use Rattle.cmd_sim.specs.Session.{ReadsUpTo, RefusesAt, RefusesLast, WritesFrontWith};
 
 use crate::answering::{Answer, Told};
 use crate::fault::{NoAnswer, SimFault, Why};
@@ -142,8 +144,9 @@ impl<A: Allocator + Clone> Session<A> {
     fn give_up<W: Write>(&mut self, none: NoAnswer, writer: &mut Output<W>) -> SimFault
         requires { self.old.count < 2 ^ 63 }
         ensures told { (number : ℕ) (why : Why) → result ≡ SimFault.Refused number why
-            → (number ≡ self.old.count + 1) × (none ≡ NoAnswer.Refused why)
-            × Wrote writer.old writer.new self.old.waiting × Works writer.old writer.new }
+            → (number ≡ self.old.count + 1) × (none ≡ NoAnswer.Refused why) }
+        ensures told_wrote { (number : ℕ) (why : Why) → result ≡ SimFault.Refused number why
+            → Wrote writer.old writer.new self.old.waiting × Works writer.old writer.new }
         ensures memory { result ≡ SimFault.OutOfMemory
             → (none ≡ NoAnswer.OutOfMemory) × Wrote writer.old writer.new self.old.waiting }
         ensures write { result ≡ SimFault.Write
@@ -165,19 +168,18 @@ impl<A: Allocator + Clone> Session<A> {
     /// Answers a line, behind the answers that wait. Where it has no answer, those are written.
     fn answer_line<W: Write>(&mut self, line: &[u8], writer: &mut Output<W>) -> Result<(), SimFault>
         requires { self.old.count < 2 ^ 63 }
-        ensures ok { OnOk result ((past : Past) → Stands past self.old.told
-            → Answered past line.now self.new.told writer.old.bytes writer.new.bytes
-            self.old.waiting self.new.waiting) }
+        ensures ok { OnOk result (AnswersLine line.now writer.old self.old writer.new self.new) }
         ensures count { OnOk result (self.new.count ≡ self.old.count + 1) }
         ensures refused { (number : ℕ) (why : Why) → IsErrOf result (SimFault.Refused number why)
-            → (number ≡ self.old.count + 1) × Wrote writer.old writer.new self.old.waiting
-            × ((past : Past) → Stands past self.old.told → said past line.now ≡ Err why) }
+            → (past : Past) → Stands past self.old.told → said past line.now ≡ Err why }
+        ensures refused_wrote { (number : ℕ) (why : Why) → IsErrOf result (SimFault.Refused number why)
+            → (number ≡ self.old.count + 1) × Wrote writer.old writer.new self.old.waiting }
         ensures refused_works { (number : ℕ) (why : Why) → IsErrOf result (SimFault.Refused number why)
             → Works writer.old writer.new }
-        ensures memory { IsErrOf result SimFault.OutOfMemory → Wrote writer.old writer.new self.old.waiting
-            × ((past : Past) → Stands past self.old.told → is_suite_line past line.now ≡ true) }
-        ensures write { IsErrOf result SimFault.Write → (past : Past) → Stands past self.old.told
-            → WroteFront writer.old writer.new (self.old.waiting ++ text_said (said past line.now)) }
+        ensures memory { IsErrOf result SimFault.OutOfMemory
+            → (past : Past) → Stands past self.old.told → is_suite_line past line.now ≡ true }
+        ensures memory_wrote { IsErrOf result SimFault.OutOfMemory → Wrote writer.old writer.new self.old.waiting }
+        ensures write { IsErrOf result SimFault.Write → WritesFrontWith line.now writer.old self.old writer.new }
         ensures fault { IsErrOf result SimFault.Write → Fails writer.old writer.new }
         ensures faults { OnOk result (Works writer.old writer.new) }
         ensures neither { IfErr result (λ fault. fault ≢ SimFault.Read) }
@@ -199,10 +201,8 @@ impl<A: Allocator + Clone> Session<A> {
         writer: &mut Output<W>,
     ) -> Result<(), SimFault>
         requires { self.old.count + length lines.old.pending ≤ 2 ^ 63 }
-        ensures ok { OnOk result ((before now held : Option (List ℕ))
-            → SoFar before now held writer.old.bytes lines.old.pending self.old.waiting self.old.told self.old.count
-            → SoFar before now held writer.new.bytes
-            lines.new.pending self.new.waiting self.new.told self.new.count) }
+        ensures ok { OnOk result
+            (GoesOn writer.old lines.old.pending self.old writer.new lines.new.pending self.new) }
         ensures waiting { OnOk result (self.new.waiting ≡ []) }
         ensures plain { OnOk result (IsPlain lines.new.pending) }
         ensures room { OnOk result (self.new.count + length lines.new.pending
@@ -210,23 +210,17 @@ impl<A: Allocator + Clone> Session<A> {
         ensures less { length lines.new.pending ≤ length lines.old.pending }
         ensures bound { lines.new.bound ≡ lines.old.bound }
         ensures refused { (number : ℕ) (why : Why) → IsErrOf result (SimFault.Refused number why)
-            → (before now held : Option (List ℕ))
-            → SoFar before now held writer.old.bytes lines.old.pending self.old.waiting self.old.told self.old.count
-            → AnswersBefore before held writer.new.bytes (record { line = number; why = why }) }
+            → RefusesAt number why writer.old lines.old.pending self.old writer.new }
         ensures near { (number : ℕ) (why : Why) → IsErrOf result (SimFault.Refused number why)
-            → (before now held : Option (List ℕ))
-            → SoFar before now held writer.old.bytes lines.old.pending self.old.waiting self.old.told self.old.count
-            → length lines.old.pending ≤ 98304 → ReadsNear before now number }
+            → ReadsUpTo number writer.old lines.old.pending self.old }
         ensures refused_works { (number : ℕ) (why : Why) → IsErrOf result (SimFault.Refused number why)
             → Works writer.old writer.new }
-        ensures write { IsErrOf result SimFault.Write → (before now held : Option (List ℕ))
-            → SoFar before now held writer.old.bytes lines.old.pending self.old.waiting self.old.told self.old.count
-            → AnswersPart before now held writer.new.bytes }
+        ensures write { IsErrOf result SimFault.Write
+            → LeavesFront writer.old lines.old.pending self.old writer.new }
         ensures fault { IsErrOf result SimFault.Write → Fails writer.old writer.new }
         ensures faults { OnOk result (Works writer.old writer.new) }
-        ensures memory { IsErrOf result SimFault.OutOfMemory → (before now held : Option (List ℕ))
-            → SoFar before now held writer.old.bytes lines.old.pending self.old.waiting self.old.told self.old.count
-            → IsOfSuite before × AnswersPart before now held writer.new.bytes }
+        ensures memory { IsErrOf result SimFault.OutOfMemory
+            → MissesMemory writer.old lines.old.pending self.old writer.new }
         ensures neither { IfErr result (λ fault. fault ≢ SimFault.Read) }
     {
         'each: while lines.take_line() {
@@ -244,27 +238,19 @@ impl<A: Allocator + Clone> Session<A> {
         requires room { self.old.count + length lines.old.pending ≤ 2 ^ 63 }
         requires plain { IsPlain lines.old.pending }
         requires waiting { self.old.waiting ≡ [] }
-        ensures all { OnOk result ((before now held : Option (List ℕ))
-            → SoFar before now held writer.old.bytes lines.old.pending self.old.waiting self.old.told self.old.count
-            → IsAtEnd now → AnswersWhole before held writer.new.bytes) }
+        ensures all { OnOk result (AnswersToEnd writer.old lines.old.pending self.old writer.new) }
         ensures refused { (number : ℕ) (why : Why) → IsErrOf result (SimFault.Refused number why)
-            → (before now held : Option (List ℕ))
-            → SoFar before now held writer.old.bytes lines.old.pending self.old.waiting self.old.told self.old.count
-            → IsAtEnd now → AnswersBefore before held writer.new.bytes (record { line = number; why = why }) }
+            → RefusesLast number why writer.old lines.old.pending self.old writer.new }
         ensures near { (number : ℕ) (why : Why) → IsErrOf result (SimFault.Refused number why)
-            → (before now held : Option (List ℕ))
-            → SoFar before now held writer.old.bytes lines.old.pending self.old.waiting self.old.told self.old.count
-            → length lines.old.pending ≤ 98304 → ReadsNear before now number }
+            → ReadsUpTo number writer.old lines.old.pending self.old }
         ensures refused_works { (number : ℕ) (why : Why) → IsErrOf result (SimFault.Refused number why)
             → Works writer.old writer.new }
-        ensures write { IsErrOf result SimFault.Write → (before now held : Option (List ℕ))
-            → SoFar before now held writer.old.bytes lines.old.pending self.old.waiting self.old.told self.old.count
-            → AnswersPart before now held writer.new.bytes }
+        ensures write { IsErrOf result SimFault.Write
+            → LeavesFront writer.old lines.old.pending self.old writer.new }
         ensures fault { IsErrOf result SimFault.Write → Fails writer.old writer.new }
         ensures faults { OnOk result (Works writer.old writer.new) }
-        ensures memory { IsErrOf result SimFault.OutOfMemory → (before now held : Option (List ℕ))
-            → SoFar before now held writer.old.bytes lines.old.pending self.old.waiting self.old.told self.old.count
-            → IsAtEnd now → IsOfSuite before × AnswersPart before now held writer.new.bytes }
+        ensures memory { IsErrOf result SimFault.OutOfMemory
+            → MissesLast writer.old lines.old.pending self.old writer.new }
         ensures neither { IfErr result (λ fault. fault ≢ SimFault.Read) }
     {
         if !lines.take_rest() {
@@ -292,11 +278,11 @@ pub fn answer_lines<A: Allocator + Clone, D: Read, W: Write>(
     ensures end { OnOk result (IsRead reader.new) }
     ensures works { OnOk result (Works reader.old reader.new × Works writer.old writer.new) }
     ensures refused { (number : ℕ) (why : Why) → IsErrOf result (SimFault.Refused number why)
-        → AnswersUpTo reader.old reader.new writer.old writer.new (record { line = number; why = why }) }
+        → AnswersUpTo reader.old reader.new writer.old writer.new (at_line number why) }
     ensures refused_works { (number : ℕ) (why : Why) → IsErrOf result (SimFault.Refused number why)
         → Works reader.old reader.new × Works writer.old writer.new }
-    ensures memory { IsErrOf result SimFault.OutOfMemory → ((reader.new ≡ reader.old) × (writer.new ≡ writer.old))
-        ⊎ (IsOfSuite reader.old.bytes × AnswersFront reader.old reader.new writer.old writer.new) }
+    ensures memory { IsErrOf result SimFault.OutOfMemory
+        → LacksMemory reader.old reader.new writer.old writer.new }
     ensures read { IsErrOf result SimFault.Read
         → Fails reader.old reader.new × AnswersFront reader.old reader.new writer.old writer.new }
     ensures write { IsErrOf result SimFault.Write

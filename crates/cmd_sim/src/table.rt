@@ -35,5 +35,5 @@ fn rows_of(bytes: &[u8]) -> ArrayString<2048>
 pub fn whole_table() -> ArrayString<2048>
     ensures { result.bytes ≡ printed_table }
 {
-    rows_of(b"udopchaitkx")
+    rows_of(b"udopchaitkx12q")
 }

@@ -1,2 +1,5 @@
+pub mod Earlier
+pub mod Room
+pub mod Walk
 pub mod Turns
 pub mod Refusals

@@ -1,8 +1,8 @@
 -- Why words are no order.
 use Rattle.std.proofs.Common.{◌≡◌, ℕ, Option, Some, None, Result, Err, subst}
 use Rattle.std.specs.Prelude.{MatchOption, IsOkUnless, IsErrOf}
-use Rattle.svc_words.specs.declared.order.SvcFault.{SvcFault}
-use Rattle.svc_words.specs.declared.order.SvcFault.TheVariants.{UnknownLetter, OutOfMemory}
+use Rattle.cmd_svc.specs.declared.order.SvcFault.{SvcFault}
+use Rattle.cmd_svc.specs.declared.order.SvcFault.TheVariants.{UnknownLetter, OutOfMemory}
 
 same_letter : {T : Type 0} (a b : ℕ) (r : Result T SvcFault) → r ≡ Err (UnknownLetter a) → r ≡ Err (UnknownLetter b) → a ≡ b
 same_letter a b r h k = cc

@@ -2,15 +2,16 @@
 use Rattle.std.proofs.Common.{◌≡◌, ℕ, ◌+◌, ◌<◌, List, [], ◌∷◌, ◌++◌, length, map, take, drop, get_or, Option, Some, None, refl, sym, ap, ◌∙◌, subst, append_assoc, add-one, Bool, true, false, not}
 use Rattle.std.proofs.lemmas.List.{take_more, take-append-drop, map-append}
 use Rattle.std.proofs.Math.Seq.{drop-cons}
-use Rattle.cmd_svc.specs.Calls.{Call, Called}
+use Rattle.cmd_svc.specs.Calls.{Call}
+use Rattle.tai_status.specs.Extended.{Extended}
 use Rattle.cmd_svc.specs.Turns.{InTurn}
 
 -- calls after calls
-pub called-then : (a b c : Option (List Call)) (first rest : List Call) → Called a b first → Called b c rest → Called a c (first ++ rest)
-called-then None b c first rest h k = tt
-called-then (Some a) None c first rest h k = absurd h
-called-then (Some a) (Some b) None first rest h k = absurd k
-called-then (Some a) (Some b) (Some c) first rest h k =
+pub extended-then : (a b c : Option (List Call)) (first rest : List Call) → Extended a b first → Extended b c rest → Extended a c (first ++ rest)
+extended-then None b c first rest h k = tt
+extended-then (Some a) None c first rest h k = absurd h
+extended-then (Some a) (Some b) None first rest h k = absurd k
+extended-then (Some a) (Some b) (Some c) first rest h k =
     k ∙ ap (λ (t : List Call). t ++ rest) h ∙ append_assoc a first rest
 
 -- one more step

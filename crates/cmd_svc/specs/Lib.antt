@@ -1,3 +1,5 @@
+pub mod Words
+pub mod Line
 pub mod Paths
 pub mod Calls
 pub mod Turns

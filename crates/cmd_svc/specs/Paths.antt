@@ -1,6 +1,6 @@
 -- Paths by which sockets are reached.
-use Rattle.std.specs.Prelude.{ℕ, List, ◌++◌, codes, decimal}
+use Rattle.std.specs.Prelude.{ℕ, ◌<◌, List, length}
 
--- a name in the folder that is open under a descriptor
-abbrev pub path_by_descriptor : (descriptor : ℕ) (name : List ℕ) → List ℕ
-path_by_descriptor descriptor name = codes "/proc/self/fd/" ++ decimal descriptor ++ codes "/" ++ name
+-- The address of a socket has 108 bytes, for a path and the zero behind it.
+abbrev pub FitsAddress : (path : List ℕ) → Type 0
+FitsAddress path = length path < 108

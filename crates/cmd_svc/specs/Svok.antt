@@ -1,12 +1,19 @@
 -- How `svok` ends (cr.yp.to/daemontools/svok.html).
-use Rattle.std.specs.Prelude.{◌≡◌, ℕ, Bool, if◌then◌else◌, List, [], ◌∷◌, Option}
-use Rattle.cmd_svc.specs.Calls.{Call, Asked, Called}
+use Rattle.std.specs.Prelude.{◌≡◌, ℕ, List, [], ◌∷◌, Option, Some, None}
+use Rattle.cmd_svc.specs.Calls.{Call, Asked}
+use Rattle.tai_status.specs.Extended.{Extended}
+use Rattle.cmd_svc.specs.declared.services.Unreached.{Unreached}
+
+-- the status that tells what came of asking
+abbrev pub whether : (fault : Option Unreached) → ℕ
+whether None = 0
+whether (Some why) = 100
 
 -- It was asked once whether the service is supervised, and the status says it: 0 where it is, else 100.
 pub record SaysWhether (folder : List ℕ) (status : ℕ) (past now : Option (List Call)) : Type 0 where
-  pub supervised : Bool
-  pub asked : Called past now (Asked folder supervised ∷ [])
-  pub status_is : status ≡ (if supervised then 0 else 100)
+  pub fault : Option Unreached
+  pub asked : Extended past now (Asked folder fault ∷ [])
+  pub status_is : status ≡ whether fault
 
 -- The words are not one folder: nothing is asked.
 pub record AsksNothing (status : ℕ) (past now : Option (List Call)) : Type 0 where

@@ -1,15 +1,18 @@
 -- What `svstat` writes, and how it ends (cr.yp.to/daemontools/svstat.html).
-use Rattle.std.specs.Prelude.{◌≡◌, ◌⊎◌, ℕ, Bool, true, false, not, List, [], ◌∷◌, ◌++◌, codes, Option, Some, None, Ok, Err}
+use Rattle.std.specs.Prelude.{◌≡◌, ◌⊎◌, ℕ, Bool, not, List, [], ◌∷◌, ◌++◌, codes, Option, Some, None, Ok}
+use Rattle.std.specs.Prelude.{Err}
 use Rattle.tai_status.specs.Label.{Tai64n}
-use Rattle.tai_status.specs.Lines.{Gave}
 use Rattle.tai_status.specs.Counted.{Device, Fails, Tells, Works, Wrote, WroteFront}
-use Rattle.tai_status.specs.Decoding.{status_from}
-use Rattle.tai_status.specs.Record.{Status}
+use Rattle.tai_status.specs.Loading.{loaded_from}
+use Rattle.tai_status.specs.declared.loading.Loaded.{Loaded}
 use Rattle.tai_status.specs.declared.record.RecordFault.{RecordFault}
 use Rattle.tai_status.specs.declared.record.RecordFault.TheVariants as fault
-use Rattle.svc_words.specs.Line.{status_line}
-use Rattle.cmd_svc.specs.Calls.{Call, Asked, ReadStatus, SoughtDown, Called}
+use Rattle.cmd_svc.specs.Line.{status_line}
+use Rattle.cmd_svc.specs.Calls.{Call, Asked, ReadStatus, SoughtDown}
+use Rattle.tai_status.specs.Extended.{Extended}
 use Rattle.cmd_svc.specs.Turns.{InTurn}
+use Rattle.cmd_svc.specs.declared.services.Unreached.{Unreached}
+use Rattle.cmd_svc.specs.declared.services.Unreached.TheVariants as unreached
 use Rattle.cmd_svc.specs.declared.look.Look.{Look}
 use Rattle.cmd_svc.specs.declared.look.Look.TheVariants as look
 use Rattle.cmd_svc.specs.declared.svstat.SvstatFault.{SvstatFault}
@@ -33,41 +36,47 @@ scene calls readings writer = record { sight = sight calls readings; writer = wr
 
 -- A look at a service
 
--- A service that is not supervised is asked nothing more.
-pub record FindsDeserted (folder : List ℕ) (old new : Sight) : Type 0 where
-  pub asked : Called old.calls new.calls (Asked folder false ∷ [])
+-- A service that was not reached, for this reason, is asked nothing more.
+pub record FindsNone (folder : List ℕ) (why : Unreached) (old new : Sight) : Type 0 where
+  pub asked : Extended old.calls new.calls (Asked folder (Some why) ∷ [])
   pub unread : new.readings ≡ old.readings
 
 -- Its status could not be read.
 pub record FindsUnread (folder : List ℕ) (old new : Sight) : Type 0 where
-  pub asked : Called old.calls new.calls (Asked folder true ∷ ReadStatus folder None ∷ [])
+  pub asked : Extended old.calls new.calls (Asked folder None ∷ ReadStatus folder None ∷ [])
   pub unread : new.readings ≡ old.readings
 
 -- The bytes that were read are no record, for this fault.
 pub record FindsBad (folder : List ℕ) (cause : RecordFault) (old new : Sight) : Type 0 where
   pub bytes : List ℕ
-  pub refused : status_from bytes ≡ Err cause
-  pub asked : Called old.calls new.calls (Asked folder true ∷ ReadStatus folder (Some bytes) ∷ [])
+  pub refused : loaded_from bytes ≡ Err cause
+  pub asked : Extended old.calls new.calls (Asked folder None ∷ ReadStatus folder (Some bytes) ∷ [])
   pub unread : new.readings ≡ old.readings
 
--- The bytes that were read are the record of this status. The service is normally up where no file `down` was found,
+-- The bytes that were read are a record of this. The service is normally up where no file `down` was found,
 -- and the clock was read once.
-pub record FindsStatus (folder : List ℕ) (status : Status) (normally_up : Bool) (now : Tai64n) (old new : Sight)
+pub record FindsStatus (folder : List ℕ) (loaded : Loaded) (normally_up : Bool) (now : Tai64n) (old new : Sight)
     : Type 0 where
   pub bytes : List ℕ
-  pub is : status_from bytes ≡ Ok status
-  pub asked : Called old.calls new.calls
-      (Asked folder true ∷ ReadStatus folder (Some bytes) ∷ SoughtDown folder (not normally_up) ∷ [])
-  pub read : Gave old.readings new.readings (now ∷ [])
+  pub is : loaded_from bytes ≡ Ok loaded
+  pub asked : Extended old.calls new.calls
+      (Asked folder None ∷ ReadStatus folder (Some bytes) ∷ SoughtDown folder (not normally_up) ∷ [])
+  pub read : Extended old.readings new.readings (now ∷ [])
 
 -- What a look at the service in a folder found
 abbrev pub Finds : (folder : List ℕ) → Look → (old new : Sight) → Type 0
-Finds folder look.Deserted old new = FindsDeserted folder old new
+Finds folder (look.Unreached why) old new = FindsNone folder why old new
 Finds folder look.Unread old new = FindsUnread folder old new
 Finds folder (look.Bad cause) old new = FindsBad folder cause old new
-Finds folder (look.Standing status normally_up now) old new = FindsStatus folder status normally_up now old new
+Finds folder (look.Standing loaded normally_up now) old new = FindsStatus folder loaded normally_up now old new
 
 -- Lines
+
+-- what is said of a service that was not reached, behind its folder
+abbrev pub unreached_note : Unreached → List ℕ
+unreached_note unreached.NotRunning = codes ": supervise not running"
+unreached_note unreached.Denied = codes ": unable to open supervise/ok: Permission denied"
+unreached_note unreached.Unanswered = codes ": unable to open supervise/ok: no answer"
 
 abbrev pub fault_name : RecordFault → List ℕ
 fault_name fault.Length = codes "Length"
@@ -75,13 +84,16 @@ fault_name fault.BadLabel = codes "BadLabel"
 fault_name fault.PausedFlag = codes "PausedFlag"
 fault_name fault.PausedNoProcess = codes "PausedNoProcess"
 fault_name fault.WantByte = codes "WantByte"
+fault_name fault.ExitingFlag = codes "ExitingFlag"
+fault_name fault.PhaseNumber = codes "PhaseNumber"
+fault_name fault.NoSuchState = codes "NoSuchState"
 
 -- the line of a look at the service in a folder, without a newline
 abbrev pub look_line : (folder : List ℕ) → Look → List ℕ
-look_line folder look.Deserted = folder ++ codes ": supervise not running"
+look_line folder (look.Unreached why) = folder ++ unreached_note why
 look_line folder look.Unread = folder ++ codes ": unable to read status"
 look_line folder (look.Bad cause) = folder ++ codes ": bad status record: " ++ fault_name cause
-look_line folder (look.Standing status normally_up now) = status_line folder status normally_up now
+look_line folder (look.Standing loaded normally_up now) = status_line folder loaded normally_up now
 
 -- The service in a folder was looked at, and then the line of that was written.
 pub record Shows (folder : List ℕ) (old new : Scene) : Type 0 where

@@ -1,16 +1,26 @@
 //! The commands `svc`, `svstat` and `svok`: what a client asks of supervised services, and tells of them.
+//!
+//! [`assemble`] parts the words of a svc command (<https://cr.yp.to/daemontools/svc.html>): the letters of the option
+//! words in front become control bytes, and the other words are services. [`stat_line`] tells how a service stands, as
+//! svstat prints it (<https://cr.yp.to/daemontools/svstat.html>).
 #![tactic(auto)]
 
+mod line;
 mod look;
-mod machine;
+mod order;
 mod services;
 mod svc;
 mod svok;
 mod svstat;
+mod system;
+mod words;
 
-pub use look::Look;
-pub use machine::MachineServices;
-pub use services::{STATUS_FRONT, Services, StatusFront};
+pub use line::stat_line;
+pub use look::{Look, fault_name};
+pub use order::{LETTER_COUNT, LETTERS, Order, OrderBytes, SvcFault};
+pub use services::{Services, Unreached};
 pub use svc::run_svc;
 pub use svok::run_svok;
 pub use svstat::{SvstatFault, run_svstat};
+pub use system::SystemServices;
+pub use words::assemble;

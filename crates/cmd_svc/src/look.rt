@@ -1,24 +1,24 @@
 //! A look at a service.
 ghost use Rattle.std.specs.Prelude.{◌≡◌, ◌++◌, string_bytes, IfOk};
-ghost use Rattle.cmd_svc.specs.Svstat.{Finds, sight, fault_name, look_line};
+ghost use Rattle.cmd_svc.specs.Svstat.{Finds, sight, fault_name, look_line, unreached_note};
 
-use crate::services::Services;
+use crate::line::stat_line;
+use crate::services::{Services, Unreached};
 use std::alloc::{AllocError, Allocator};
-use svc_words::stat_line;
-use tai_status::{Label, RecordFault, TimeSource, View, decode};
+use tai_status::{Label, Loaded, RecordFault, TimeSource, decode_front};
 
 /// What a look at a service found.
 #[derive(Clone, Copy, Debug, PartialEq, Eq)]
 pub enum Look {
-    /// It is not supervised.
-    Deserted,
+    /// It is not to be reached, so that nothing is known of it.
+    Unreached(Unreached),
     /// Its status can't be read.
     Unread,
     /// Its status is no record.
     Bad(RecordFault),
     /// Its status; whether it is normally up; and when it was looked at.
     Standing {
-        view: View,
+        loaded: Loaded,
         normally_up: bool,
         now: Label,
     },
@@ -34,15 +34,15 @@ pub(crate) fn look_at<S: Services, C: TimeSource>(
     ensures { Finds folder.now result (sight (S.calls services.old) (C.readings clock.old))
         (sight (S.calls services.new) (C.readings clock.new)) }
 {
-    if !services.is_supervised(folder) {
-        return Look::Deserted;
+    if let Err(why) = services.reach(folder) {
+        return Look::Unreached(why);
     }
-    let Ok(bytes) = services.read_status(folder) else {
+    let Ok(front) = services.read_status(folder) else {
         return Look::Unread;
     };
-    match decode(bytes.as_slice()) {
-        Ok(view) => Look::Standing {
-            view,
+    match decode_front(front.as_slice()) {
+        Ok(loaded) => Look::Standing {
+            loaded,
             normally_up: !services.has_down(folder),
             now: clock.now(),
         },
@@ -50,8 +50,19 @@ pub(crate) fn look_at<S: Services, C: TimeSource>(
     }
 }
 
-/// The name of what is wrong with a status.
-fn fault_name(fault: RecordFault) -> &'static str
+/// What is said of a service that was not reached, behind its folder.
+fn unreached_note(why: Unreached) -> &'static str
+    ensures { result.now ≡ unreached_note why }
+{
+    match why {
+        Unreached::NotRunning => ": supervise not running",
+        Unreached::Denied => ": unable to open supervise/ok: Permission denied",
+        Unreached::Unanswered => ": unable to open supervise/ok: no answer",
+    }
+}
+
+/// The name of what is wrong with a status, as `svstat` tells it.
+pub fn fault_name(fault: RecordFault) -> &'static str
     ensures { result.now ≡ fault_name fault }
 {
     match fault {
@@ -60,6 +71,9 @@ fn fault_name(fault: RecordFault) -> &'static str
         RecordFault::PausedFlag => "PausedFlag",
         RecordFault::PausedNoProcess => "PausedNoProcess",
         RecordFault::WantByte => "WantByte",
+        RecordFault::ExitingFlag => "ExitingFlag",
+        RecordFault::PhaseNumber => "PhaseNumber",
+        RecordFault::NoSuchState => "NoSuchState",
     }
 }
 
@@ -87,13 +101,13 @@ pub(crate) fn look_line<A: Allocator>(
     ensures { IfOk result (λ line. string_bytes line ≡ look_line folder.now look.now) }
 {
     match look {
-        Look::Deserted => noted(alloc, folder, ": supervise not running", ""),
+        Look::Unreached(why) => noted(alloc, folder, unreached_note(*why), ""),
         Look::Unread => noted(alloc, folder, ": unable to read status", ""),
         Look::Bad(fault) => noted(alloc, folder, ": bad status record: ", fault_name(*fault)),
         Look::Standing {
-            view,
+            loaded,
             normally_up,
             now,
-        } => stat_line(alloc, folder, view, *normally_up, now),
+        } => stat_line(alloc, folder, loaded, *normally_up, now),
     }
 }

@@ -1,15 +1,16 @@
 //! The command `svc`.
 ghost use Rattle.std.specs.Prelude.{◌≡◌};
-ghost use Rattle.svc_words.specs.Words.{texts};
+ghost use Rattle.cmd_svc.specs.Words.{texts};
 ghost use Rattle.tai_status.specs.Counted.{Tells};
 ghost use Rattle.cmd_svc.specs.Turns.{InTurn};
-ghost use Rattle.cmd_svc.specs.Svc.{post, letter_told, Serves, ServesAll, SvcEnds};
+ghost use Rattle.cmd_svc.specs.Svc.{effects, letter_told, reason, Serves, ServesAll, SvcEnds};
 
-use crate::services::Services;
+use crate::order::SvcFault;
+use crate::services::{Services, Unreached};
+use crate::words::assemble;
 use cmd_base::{DONE, REFUSED, TROUBLE, report, report_parts};
 use std::alloc::Allocator;
 use std::io::Write;
-use svc_words::{SvcFault, assemble};
 use tai_status::{Name, Output};
 
 /// Tells that a letter is unknown, and answers the status of that.
@@ -22,24 +23,35 @@ fn report_letter<E: Write>(letter: u8, faults: &mut Output<E>) -> u8
     report_parts(faults, b"svc: unknown letter ", &digits, b"\n", REFUSED)
 }
 
-/// Sends bytes to a service, and tells that it can't be reached.
+/// Why a service was not reached, as it is told behind its folder.
+fn reason(why: Unreached) -> &'static [u8]
+    ensures { result.now ≡ reason why }
+{
+    match why {
+        Unreached::NotRunning => b": not running\n",
+        Unreached::Denied => b": Permission denied\n",
+        Unreached::Unanswered => b": no answer\n",
+    }
+}
+
+/// Sends bytes to a service, and tells that it can't be reached, and why.
 fn serve<S: Services, E: Write>(
     services: &mut S,
     folder: &str,
     bytes: &[u8],
     faults: &mut Output<E>,
 )
-    ensures { Serves bytes.now folder.now (post (S.calls services.old) faults.old)
-        (post (S.calls services.new) faults.new) }
+    ensures { Serves bytes.now folder.now (effects (S.calls services.old) faults.old)
+        (effects (S.calls services.new) faults.new) }
 {
     match services.send(folder, bytes) {
         Ok(()) => {}
-        Err(_) => {
+        Err(why) => {
             report_parts(
                 faults,
                 b"svc: warning: unable to control ",
                 folder.as_bytes(),
-                b"\n",
+                reason(why),
                 DONE,
             );
         }
@@ -53,8 +65,8 @@ fn serve_each<S: Services, A: Allocator, E: Write>(
     bytes: &[u8],
     faults: &mut Output<E>,
 )
-    ensures { InTurn (Serves bytes.now) names.now (post (S.calls services.old) faults.old)
-        (post (S.calls services.new) faults.new) }
+    ensures { InTurn (Serves bytes.now) names.now (effects (S.calls services.old) faults.old)
+        (effects (S.calls services.new) faults.new) }
 {
     for name in names {
         serve(services, name.as_str(), bytes, faults);
@@ -68,8 +80,8 @@ fn serve_all<S: Services, A: Allocator, E: Write>(
     bytes: &[u8],
     faults: &mut Output<E>,
 )
-    ensures { ServesAll bytes.now names.now (post (S.calls services.old) faults.old)
-        (post (S.calls services.new) faults.new) }
+    ensures { ServesAll bytes.now names.now (effects (S.calls services.old) faults.old)
+        (effects (S.calls services.new) faults.new) }
 {
     if !bytes.is_empty() {
         serve_each(services, names, bytes, faults);
@@ -78,8 +90,8 @@ fn serve_all<S: Services, A: Allocator, E: Write>(
 
 /// The command `svc`: sends the letters of its option words, as control bytes, to each service that its other words
 /// name, in order (<https://cr.yp.to/daemontools/svc.html>). Each letter is sent once. A service that can't be reached
-/// is told as `svc: warning: unable to control DIR`, and the others are served. No letters, or no services: nothing is
-/// done. Answers the status: 0, also after such warnings; 100 for an unknown letter, and 111 for want of memory: then
+/// is told as `svc: warning: unable to control DIR: WHY`, and the others are served. No letters, or no services: nothing
+/// is done. Answers the status: 0, also after such warnings; 100 for an unknown letter, and 111 for want of memory: then
 /// nothing is sent to anybody.
 pub fn run_svc<S: Services, A: Allocator + Clone, E: Write>(
     alloc: A,
@@ -87,8 +99,8 @@ pub fn run_svc<S: Services, A: Allocator + Clone, E: Write>(
     words: &[&str],
     faults: &mut Output<E>,
 ) -> u8
-    ensures ends { SvcEnds (texts words.now) result (post (S.calls services.old) faults.old)
-        (post (S.calls services.new) faults.new) }
+    ensures ends { SvcEnds (texts words.now) result (effects (S.calls services.old) faults.old)
+        (effects (S.calls services.new) faults.new) }
 {
     match assemble(alloc, words) {
         Ok(order) => {

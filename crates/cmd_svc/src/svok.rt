@@ -12,7 +12,7 @@ pub fn run_svok<S: Services>(services: &mut S, words: &[&str]) -> u8
     ensures ends { SvokEnds (map (λ word. word.now) words.now) result (S.calls services.old) (S.calls services.new) }
 {
     match words {
-        [folder] if services.is_supervised(folder) => DONE,
+        [folder] if services.reach(folder).is_ok() => DONE,
         _ => REFUSED,
     }
 }

@@ -1,20 +1,21 @@
 -- Calls and lines, one after the other.
 use Rattle.std.proofs.Common.{ℕ, List, [], ◌∷◌, ◌++◌, Option, Some, None, refl, sym, ap, ◌∙◌, subst, append_assoc, append-nil}
 use Rattle.tai_status.specs.Counted.{Device, Tells}
-use Rattle.cmd_svscan.specs.Calls.{Call, Called}
+use Rattle.cmd_svscan.specs.Calls.{Call}
+use Rattle.tai_status.specs.Extended.{Extended}
 use Rattle.cmd_svscan.specs.Rounds.{TellsAll}
 
 -- calls after calls
-pub called-then : (a b c : Option (List Call)) (first rest : List Call) → Called a b first → Called b c rest → Called a c (first ++ rest)
-called-then None b c first rest h k = tt
-called-then (Some a) None c first rest h k = absurd h
-called-then (Some a) (Some b) None first rest h k = absurd k
-called-then (Some a) (Some b) (Some c) first rest h k =
+pub extended-then : (a b c : Option (List Call)) (first rest : List Call) → Extended a b first → Extended b c rest → Extended a c (first ++ rest)
+extended-then None b c first rest h k = tt
+extended-then (Some a) None c first rest h k = absurd h
+extended-then (Some a) (Some b) None first rest h k = absurd k
+extended-then (Some a) (Some b) (Some c) first rest h k =
     k ∙ ap (λ (t : List Call). t ++ rest) h ∙ append_assoc a first rest
 
-pub called-none : (a : Option (List Call)) → Called a a []
-called-none None = tt
-called-none (Some a) = sym (append-nil a)
+pub extended-none : (a : Option (List Call)) → Extended a a []
+extended-none None = tt
+extended-none (Some a) = sym (append-nil a)
 
 -- lines after lines
 pub tells-then : (first rest : List (List ℕ)) (a b c : Device) → TellsAll first a b → TellsAll rest b c → TellsAll (first ++ rest) a c

@@ -1,4 +1,5 @@
 pub mod Calls
 pub mod Listing
+pub mod Requests
 pub mod Rounds
 pub mod Words

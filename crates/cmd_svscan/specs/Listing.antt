@@ -1,6 +1,7 @@
 -- The rows of a folder, of what it says of its names.
-use Rattle.std.specs.Prelude.{◌≡◌, ⊤, ℕ, List, Option, Some, None, IsSorted, All}
-use Rattle.scan_table.specs.Slots.{Row, name_order}
+use Rattle.std.specs.Prelude.{◌≡◌, ⊤, ℕ, not, List, filter, Option, Some, None, IsSorted, All}
+use Rattle.scan_table.specs.Slots.{Row, SlotState, name_order}
+use Rattle.scan_table.specs.Whole.{is_whole}
 use Rattle.cmd_svscan.specs.declared.rows.Entry.{Entry}
 
 -- No name is smaller than the one before, in the byte order of names.
@@ -21,3 +22,7 @@ row_of name entry = record {
 abbrev pub AreAsSaid : Option (List ℕ → Entry) → List Row → Type 0
 AreAsSaid None rows = ⊤
 AreAsSaid (Some says) rows = All (λ row. row ≡ row_of row.name (says row.name)) rows
+
+-- the names of which a scan needs rows: all but those of the services of which every part runs
+abbrev pub needed : List SlotState → (names : List (List ℕ)) → List (List ℕ)
+needed slots names = filter (λ name. not (is_whole slots name)) names

@@ -1,20 +1,20 @@
-//! The machine's own listing of a folder. It tells contracts nothing: what it finds is shown by tests.
-use crate::keeper::ListFault;
+//! The system's own listing of a folder. It tells contracts nothing: what it finds is shown by tests.
 use crate::rows::{Entry, Folder, rows_of};
+use crate::service_set::ListFault;
 use scan_table::DirRow;
 use std::alloc::{AllocError, Global};
 use std::fs::Files;
 use std::{fs, io};
 
-/// A folder on this machine, by its path.
+/// A folder on this system, by its path.
 #[derive(Drop)]
-struct MachineFolder<'a, R: Files> {
+struct SystemFolder<'a, R: Files> {
     rt: &'a R,
     alloc: Global,
     path: &'a str,
 }
 
-impl<'a, R: Files> MachineFolder<'a, R> {
+impl<'a, R: Files> SystemFolder<'a, R> {
     // The path of what is behind a name.
     fn path_of(&self, name: &str, rest: &str) -> Result<String, AllocError> {
         let mut path = String::from_str(self.alloc, self.path)?;
@@ -39,7 +39,7 @@ impl<'a, R: Files> MachineFolder<'a, R> {
 }
 
 /// Links are followed, so a dead one is no directory. What can't be looked at is not there.
-impl<'a, R: Files> Folder for MachineFolder<'a, R> {
+impl<'a, R: Files> Folder for SystemFolder<'a, R> {
     fn look(&self, name: &str) -> Result<Entry, AllocError> {
         let is_dir = self.is_dir(name, "")?;
         let has_log = is_dir && self.is_dir(name, "/log")?;
@@ -68,7 +68,7 @@ fn read_names<R: Files>(rt: &R, alloc: Global, path: &str) -> io::Result<Vec<Str
     Ok(names)
 }
 
-/// The names in a folder on this machine.
+/// The names in a folder on this system.
 pub fn list_names<R: Files>(rt: &R, alloc: Global, path: &str) -> Result<Vec<String>, ListFault> {
     match read_names(rt, alloc, path) {
         Ok(names) => Ok(names),
@@ -76,14 +76,14 @@ pub fn list_names<R: Files>(rt: &R, alloc: Global, path: &str) -> Result<Vec<Str
     }
 }
 
-/// The rows of these names in a folder on this machine, in the byte order of the names. Nothing else in it is looked at.
+/// The rows of these names in a folder on this system, in the byte order of the names. Nothing else in it is looked at.
 pub fn list_rows<R: Files>(
     rt: &R,
     alloc: Global,
     path: &str,
     names: Vec<String>,
 ) -> Result<Vec<DirRow>, ListFault> {
-    let folder = MachineFolder { rt, alloc, path };
+    let folder = SystemFolder { rt, alloc, path };
     match rows_of(alloc, &folder, names) {
         Ok(rows) => Ok(rows),
         Err(AllocError) => Err(ListFault::OutOfMemory),

@@ -38,7 +38,8 @@ pub fn rows_of<F: Folder>(
     names: Vec<String>,
 ) -> Result<Vec<DirRow>, AllocError>
     ensures order { IfOk result (λ rows. AreInOrder (map (λ row. row.name) rows.items)) }
-    ensures each { IfOk result (λ rows. IsPermutation (map string_bytes names.items) (map (λ row. row.name) rows.items)) }
+    ensures each { IfOk result (λ rows.
+        IsPermutation (map string_bytes names.items) (map (λ row. row.name) rows.items)) }
     ensures entries { IfOk result (λ rows. AreAsSaid (F.says folder.now) rows.items) }
 {
     let mut names = names;

@@ -1,12 +1,12 @@
 //! The words of `svscan`.
-ghost use Rattle.std.specs.Prelude.{◌≡◌, ℕ, map, MatchOption};
+ghost use Rattle.std.specs.Prelude.{◌≡◌, ℕ, map, MatchOption, ⊤, IfSome};
 ghost use Rattle.cmd_svscan.specs.Words.{TellsRounds, Asks, AskNothing};
 
 use sup_core::read_number;
 
 /// What the words ask for.
 #[derive(Clone, Copy)]
-pub struct Order<'a> {
+pub struct Options<'a> {
     pub folder: &'a str,
     /// How many rounds. None: without an end.
     pub rounds: Option<u32>,
@@ -14,7 +14,9 @@ pub struct Order<'a> {
 
 /// The number of rounds that a word tells.
 fn read_rounds(word: &str) -> Option<u32>
-    ensures { MatchOption result ((number : ℕ) → TellsRounds word.now number → ⊥) (λ number. TellsRounds word.now number) }
+    ensures { MatchOption result
+        ((number : ℕ) → TellsRounds word.now number → ⊥)
+        (λ number. TellsRounds word.now number) }
 {
     let number = read_number(word.as_bytes())?;
     if number == 0 {
@@ -24,20 +26,21 @@ fn read_rounds(word: &str) -> Option<u32>
 }
 
 /// What words ask for: `[DIR [N]]`.
-pub fn read_words<'a>(words: &'a [&'a str]) -> Option<Order<'a>>
-    ensures { MatchOption result (AskNothing (map (λ word. word.now) words.entry.now))
-        (λ order. Asks (map (λ word. word.now) words.entry.now) order.folder.now order.rounds) }
+pub fn read_words<'a>(words: &'a [&'a str]) -> Option<Options<'a>>
+    ensures wrong { MatchOption result (AskNothing (map (λ word. word.now) words.entry.now)) (λ _. ⊤) }
+    ensures asks { IfSome result (λ options.
+        Asks (map (λ word. word.now) words.entry.now) options.folder.now options.rounds) }
 {
     match words {
-        [] => Some(Order {
+        [] => Some(Options {
             folder: ".",
             rounds: None,
         }),
-        [folder] => Some(Order {
+        [folder] => Some(Options {
             folder,
             rounds: None,
         }),
-        [folder, number] => Some(Order {
+        [folder, number] => Some(Options {
             folder,
             rounds: Some(read_rounds(number)?),
         }),

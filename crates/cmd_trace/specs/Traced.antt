@@ -1,8 +1,10 @@
 -- What `trace` prints of the text of a trace, what its word after `--break` means, and what it tells of its faults.
-use Rattle.std.specs.Prelude.{◌≡◌, ◌≢◌, ◌<◌, ◌^◌, ⊤, ℕ, ◌⊎◌, List, [], ◌∷◌, ◌++◌, codes, decimal, Option, Some, None, Err}
+use Rattle.std.specs.Prelude.{◌≡◌, ◌≢◌, ◌<◌, ◌^◌, ⊤, ℕ, ◌⊎◌, List, [], ◌∷◌, ◌++◌, codes, decimal, Option, Some, None}
+use Rattle.std.specs.Prelude.{Err}
 use Rattle.tai_status.specs.Counted.{Device, Fails, Works, Wrote, WroteFront, Tells}
+use Rattle.tai_status.specs.Phase.{phase_name}
 use Rattle.sup_core.specs.State.{State}
-use Rattle.sup_core.specs.Text.{byte_text, phase_name, signal_name}
+use Rattle.sup_core.specs.Text.{byte_text, signal_name}
 use Rattle.sup_trace.specs.declared.breaks.Break.{Break}
 use Rattle.sup_trace.specs.declared.breaks.Break.TheVariants as break
 use Rattle.sup_trace.specs.declared.fault.TraceFault.{TraceFault}
@@ -14,7 +16,7 @@ use Rattle.sup_trace.specs.Explained.{explained}
 use Rattle.sup_trace.specs.Breaks.{IsFirstBreak, HasNoBreak}
 use Rattle.trace_words.specs.Words.{asked_of}
 use Rattle.cmd_base.specs.Printed.{printed}
-use Rattle.cmd_base.specs.Held.{IsHeld}
+use Rattle.cmd_base.specs.Known.{IsKnown}
 use Rattle.cmd_base.specs.Told.{usage_text}
 use Rattle.cmd_trace.specs.declared.fault.TraceTrouble.{TraceTrouble}
 use Rattle.cmd_trace.specs.declared.fault.TraceTrouble.TheVariants as trouble
@@ -132,7 +134,7 @@ TextEnds text at status writer writes faults tells =
 pub record EndsWithText (file : Option (List ℕ)) (at : Option Break) (status : ℕ)
     (writer writes faults tells : Device) : Type 0 where
   pub text : List ℕ
-  pub text_is : IsHeld file text
+  pub text_is : IsKnown file text
   pub ends : TextEnds text at status writer writes faults tells
 
 -- It is told of a file that is not known to be there that it can't be read, and nothing is written.

@@ -1,6 +1,6 @@
 //! The word after `--break`.
 ghost use Rattle.std.specs.Prelude.{◌≡◌, ◌<◌, ◌^◌, ℕ, IfOk, IfSome, OnErr, Some, Option, option_map};
-ghost use Rattle.sup_core.specs.declared.machine.Phase.{Phase};
+ghost use Rattle.tai_status.specs.declared.phase.Phase.{Phase};
 ghost use Rattle.sup_core.specs.declared.asks.Sig.{Sig};
 ghost use Rattle.cmd_trace.specs.Traced.{NamesBreak, break_text};
 

@@ -7,9 +7,10 @@ mod devices;
 
 use cmd_base::{SystemClock, TROUBLE, report, usage};
 use cmd_envdir::SystemLauncher;
-use cmd_multilog::{FolderStore, MachineDisk};
-use cmd_svc::MachineServices;
-use cmd_svscan::{FolderKeeper, Keeper, MachineHost, Order, obey};
+use cmd_local::{LocalZone, system_zone};
+use cmd_multilog::{FolderStore, Stoppable, SystemInput, SystemLogs, stop_channel};
+use cmd_svc::SystemServices;
+use cmd_svscan::{FolderServices, Request, ServiceSet, SystemHost, handle};
 use command::run;
 use devices::Devices;
 use std::env;
@@ -19,27 +20,36 @@ use std::sync::Wait;
 use tai_status::{Counted, Output, TimeSource};
 
 fn main(rt: HostRuntime) -> ExitCode {
+    let channel = logger_channel(&rt);
     let mut devices = Devices {
-        reader: Counted::new(rt.stdin()),
+        reader: Counted::new(Stoppable::new(SystemInput::new(rt.stdin(), channel))),
         writer: Counted::new(rt.stdout()),
         faults: Counted::new(rt.stderr()),
         clock: SystemClock::new(rt),
     };
     let alloc = rt.alloc();
-    let mut host: Option<MachineHost<HostRuntime>> = None;
-    let keeping = |order: Order| obey(rt, rt, alloc, &mut host, order);
-    let mut keeper = FolderKeeper::new(alloc, keeping);
-    ExitCode::from(run_arguments(&rt, &rt, &mut keeper, &mut devices))
+    let mut host: Option<SystemHost<HostRuntime>> = None;
+    let handling = |request: Request| handle(rt, rt, alloc, &mut host, request);
+    let mut service_set = FolderServices::new(alloc, handling);
+    ExitCode::from(run_arguments(&rt, &rt, &mut service_set, &mut devices))
+}
+
+/// The channel by which a logger is told to stop, where the command is one and there is a channel.
+fn logger_channel(rt: &HostRuntime) -> Option<i32> {
+    match env::args(rt).ok()?.skip(1).next() {
+        Some(name) if name.as_str() == "multilog" => stop_channel(rt),
+        _ => None,
+    }
 }
 
 /// Runs the program's words, but for its own name.
-fn run_arguments<V: Wait, P: Keeper, D: Read, W: Write, E: Write, C: TimeSource>(
+fn run_arguments<V: Wait, P: ServiceSet, D: Read, W: Write, E: Write, C: TimeSource>(
     rt: &HostRuntime,
     waiting: &V,
-    keeper: &mut P,
+    service_set: &mut P,
     devices: &mut Devices<D, W, E, C>,
 ) -> u8
-    requires { P.ready keeper.old }
+    requires { P.ready service_set.old }
 {
     let texts = match arguments(rt) {
         Ok(texts) => texts,
@@ -51,19 +61,28 @@ fn run_arguments<V: Wait, P: Keeper, D: Read, W: Write, E: Write, C: TimeSource>
             return refuse_words(ErrorKind::OutOfMemory, &mut devices.faults);
         }
     }
-    let disk = MachineDisk::new(rt, rt.stderr(), rt.alloc());
-    match FolderStore::new(disk, rt.alloc()) {
+    let system = SystemLogs::new(rt, rt.stderr(), rt.alloc());
+    match FolderStore::new(system, rt.alloc()) {
         Ok(mut store) => run(
             rt,
             &mut SystemLauncher::new(rt),
             &mut store,
-            &mut MachineServices::new(rt),
-            keeper,
+            &mut SystemServices::new(rt),
+            service_set,
             waiting,
+            &zone_for(rt, &words),
             &words,
             devices,
         ),
         Err(_) => refuse_words(ErrorKind::OutOfMemory, &mut devices.faults),
+    }
+}
+
+/// The zone of this computer, where the command tells local times. The others need none.
+fn zone_for(rt: &HostRuntime, words: &[&str]) -> LocalZone {
+    match words {
+        ["tai64nlocal" | "why", ..] => system_zone(rt),
+        _ => LocalZone::Utc,
     }
 }
 

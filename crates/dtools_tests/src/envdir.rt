@@ -1,4 +1,4 @@
-use cmd_envdir::machine_env;
+use cmd_envdir::system_env;
 use std::env::{Env, FillError};
 use std::test::Fail;
 
@@ -36,7 +36,7 @@ fn reads_variables(rt: HostRuntime) -> Result<(), Fail> {
     long[0] = b'E';
     long[1] = b'=';
     let entries = [b"A=1=2".as_slice(), b"B=\xff", b"=C", b"D", &long];
-    let variables = machine_env(&Entries { entries: &entries }, &rt.alloc())?;
+    let variables = system_env(&Entries { entries: &entries }, &rt.alloc())?;
     assert_eq!(rt; variables.len(), 2);
     assert_eq!(rt; variables.get("A"), Some("1=2"));
     assert_eq!(rt; variables.get("E").map(|value| value.len()), Some(998));

@@ -15,8 +15,8 @@ pub enum Call {
     Alert,
 }
 
-/// A store in memory that takes few bytes an append, and fails at one call. What it holds is looked at by the tests, and
-/// not told to contracts.
+/// A store in memory that takes few bytes an append, and fails at one call. What it holds is looked at by the tests,
+/// and not told to contracts.
 #[derive(Drop)]
 pub struct Faulty {
     store: MemoryStore,
@@ -56,12 +56,9 @@ impl Faulty {
 
 impl LogStore for Faulty {
     ghost use Rattle.std.specs.Prelude.{length};
+    ghost use Rattle.mlog_files.specs.Store.{tells_nothing};
 
-    ghost logs = { λ faulty. length faulty.store.logs };
-
-    ghost status_files = { λ faulty. length faulty.store.statuses };
-
-    ghost failures = { λ faulty. faulty.failures };
+    ghost state = { λ faulty. tells_nothing (length faulty.store.logs) (length faulty.store.statuses) faulty.failures };
 
     fn append(&mut self, log: usize, piece: &[u8]) -> Result<usize, StoreFault> {
         if self.failing == Call::Append {

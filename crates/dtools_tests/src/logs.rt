@@ -50,8 +50,8 @@ fn put_line<S: LogStore>(
     count: usize,
     piece: usize,
 ) -> Result<(), LogFault>
-    requires { 0 < S.logs store.old }
-    ensures { S.logs store.new ≡ S.logs store.old }
+    requires { 0 < (S.state store.old).logs }
+    ensures { (S.state store.new).logs ≡ (S.state store.old).logs }
 {
     if count == 0 {
         return Ok(());

@@ -29,8 +29,8 @@ struct Ran {
     answer: Result<Counts, RunFault>,
 }
 
-/// Runs a script of at most one log and one status file over an input that comes in reads of so many bytes, and then ends
-/// or fails. The clock stands at the beginning of 1970.
+/// Runs a script of at most one log and one status file over an input that comes in reads of so many bytes, and then
+/// ends or fails. The clock stands at the beginning of 1970.
 fn run_over(
     alloc: Global,
     words: &[&[u8]],
@@ -144,8 +144,8 @@ fn keeps_whole_lines_where_the_reader_fails(rt: HostRuntime) -> Result<(), Fail>
     Ok(())
 }
 
-/// What a run over one log and one status file leaves, where the store takes few bytes an append and fails at one call. The
-/// input comes in reads of seven bytes.
+/// What a run over one log and one status file leaves, where the store takes few bytes an append and fails at one call.
+/// The input comes in reads of seven bytes.
 fn run_faulty(
     alloc: Global,
     words: &[&[u8]],
@@ -257,7 +257,8 @@ fn run_within(alloc: Global, left: usize) -> Result<(Result<Counts, RunFault>, u
     Ok((answer, reader.reads()))
 }
 
-/// The memory of a run is a block and some marks for the log, and a byte each for the alert, the log and the status file.
+/// The memory of a run is a block and some marks for the log, and a byte each for the alert, the log and the status
+/// file.
 #[test]
 fn reads_nothing_where_memory_is_short(rt: HostRuntime) -> Result<(), Fail> {
     let mut refused = 0_u32;

@@ -127,8 +127,8 @@ fn drops_before_it_counts(rt: HostRuntime) -> Result<(), Fail> {
     Ok(())
 }
 
-/// Each growth of a scan that starts, restarts and drops is refused in turn. Nothing has changed then: the same scan with
-/// memory answers as if the refused one had not been.
+/// Each growth of a scan that starts, restarts and drops is refused in turn. Nothing has changed then: the same scan
+/// with memory answers as if the refused one had not been.
 #[test]
 fn scans_with_ample_memory(rt: HostRuntime) -> Result<(), Fail> {
     let mut refused = 0usize;

@@ -14,11 +14,11 @@ byte d
 death @400000000000000d00000000
 ";
 
-const ANSWERS: &[u8] = b"took record:400000000000000a00000000000000000075 start -> starting
-took record:400000000000000b00000000671200000075 -> settling
-took -> up
-took TERM:4711 CONT:4711 record:400000000000000b00000000671200000064 -> up
-took record:400000000000000d00000000000000000064 -> down
+const ANSWERS: &[u8] = b"took record:400000000000000a000000000000000000750000 start -> starting
+took record:400000000000000b000000006712000000750001 -> settling
+took record:400000000000000b000000006712000000750003 -> up
+took TERM:4711 CONT:4711 record:400000000000000b000000006712000000640003 -> up
+took record:400000000000000d000000000000000000640004 -> down
 ";
 
 /// Two services, of which the second is not told to stop while it settles.
@@ -32,14 +32,14 @@ at 2.main.3 clock @400000000000000c00000000
 ";
 
 const SUITE_ANSWERS: &[u8] = b"scan: 2 started, 0 restarted, 0 dropped, 0 refused
-0.main.1 took record:400000000000000a00000000000000000075 start -> starting
-2.main.3 took record:400000000000000a00000000000000000075 start -> starting
-0.main.1 took record:400000000000000b000000000a0000000075 -> settling
-2.main.3 took record:400000000000000b00000000140000000075 -> settling
-0.main.1 took -> up
+0.main.1 took record:400000000000000a000000000000000000750000 start -> starting
+2.main.3 took record:400000000000000a000000000000000000750000 start -> starting
+0.main.1 took record:400000000000000b000000000a00000000750001 -> settling
+2.main.3 took record:400000000000000b000000001400000000750001 -> settling
+0.main.1 took record:400000000000000b000000000a00000000750003 -> up
 2.main.3 held -> settling
-0.main.1 took TERM:10 CONT:10 record:400000000000000b000000000a0000000064 -> up
-2.main.3 took -> up
+0.main.1 took TERM:10 CONT:10 record:400000000000000b000000000a00000000640003 -> up
+2.main.3 took record:400000000000000b000000001400000000750003 -> up
 ";
 
 /// What a run wrote, what it told, and its status.
@@ -139,25 +139,25 @@ fn scan_line(alloc: Global, label: &str, from: usize) -> Result<String, AllocErr
 #[test]
 fn keeps_a_thousand_services(rt: HostRuntime) -> Result<(), Fail> {
     let first = "scan: 1000 started, 0 restarted, 0 dropped, 1 refused
-0.main.1 took record:400000000000000a00000000000000000064 -> down
+0.main.1 took record:400000000000000a000000000000000000640004 -> down
 ";
     for (from, last) in [
         (
             0,
-            "1998.main.1999 took record:400000000000000a00000000000000000064 -> down
+            "1998.main.1999 took record:400000000000000a000000000000000000640004 -> down
 d1000 refused TooMany
-0.main.1 took record:400000000000000a00000000000000000064 -> gone
+0.main.1 took record:400000000000000a000000000000000000640105 -> gone
 scan: 0 started, 1 restarted, 0 dropped, 1 refused
-0.main.2000 took record:400000000000000d00000000000000000064 -> down
+0.main.2000 took record:400000000000000d000000000000000000640004 -> down
 d1000 refused TooMany
 ",
         ),
         (
             1,
-            "0.main.1 took record:400000000000000a00000000000000000064 -> gone
+            "0.main.1 took record:400000000000000a000000000000000000640105 -> gone
 scan: 1 started, 0 restarted, 1 dropped, 0 refused
 0 dropped
-2000.main.2001 took record:400000000000000d00000000000000000064 -> down
+2000.main.2001 took record:400000000000000d000000000000000000640004 -> down
 ",
         ),
     ] {

@@ -75,8 +75,8 @@ fn names_the_place_of_a_fault(rt: HostRuntime) -> Result<(), Fail> {
     Ok(())
 }
 
-/// Each growth of a scan that starts, restarts and drops is refused in turn. Nothing has changed then: the same scan with
-/// memory answers as if the refused one had not been.
+/// Each growth of a scan that starts, restarts and drops is refused in turn. Nothing has changed then: the same scan
+/// with memory answers as if the refused one had not been.
 #[test]
 fn takes_a_scan_again(rt: HostRuntime) -> Result<(), Fail> {
     let mut refused = 0usize;

@@ -1,6 +1,7 @@
 -- What the files of a folder make of the environment, by the envdir page of daemontools
 -- (cr.yp.to/daemontools/envdir.html). Names and contents are lists of bytes.
-use Rattle.std.specs.Prelude.{List, [], ◌∷◌, ◌++◌, ℕ, ◌-◌, Bool, not, ◌==◌, ◌||◌, if◌then◌else◌, filter, map, take, length, slice_index, bytes_eq}
+use Rattle.std.specs.Prelude.{List, [], ◌∷◌, ◌++◌, ℕ, ◌-◌, Bool, not, ◌==◌, ◌||◌, if◌then◌else◌, filter, map, take}
+use Rattle.std.specs.Prelude.{length, slice_index, bytes_eq}
 use Rattle.std.specs.List.{list_any, before_first, suffix_len}
 use Rattle.env_title.specs.Env.{Binding, binding, put, without}
 
@@ -57,7 +58,8 @@ kept files env = filter (λ variable. not (has_file (counting files) variable.na
 
 -- what the files that count set, in their order: a file of 0 bytes sets nothing
 abbrev pub set_by : List File → List Binding
-set_by files = map (λ file. binding file.name (file_value file.bytes)) (filter (λ file. not (is_empty file)) (counting files))
+set_by files =
+    map (λ file. binding file.name (file_value file.bytes)) (filter (λ file. not (is_empty file)) (counting files))
 
 -- the environment after the files of a folder
 abbrev pub env_after : List File → List Binding → List Binding

@@ -1,6 +1,7 @@
 -- What an environment after files and a title after pushes are, said in other words. Each law is the contract of a
 -- function in `src/laws.rt`.
-use Rattle.std.specs.Prelude.{◌≡◌, ℕ, ◌-◌, ◌≤◌, List, [], ◌∷◌, ◌++◌, not, ◌&&◌, if◌then◌else◌, length, filter, fold, bytes_eq, replicate, Option, Some, None}
+use Rattle.std.specs.Prelude.{◌≡◌, ℕ, ◌-◌, ◌≤◌, List, [], ◌∷◌, ◌++◌, not, ◌&&◌, if◌then◌else◌, length, filter, fold}
+use Rattle.std.specs.Prelude.{bytes_eq, replicate, Option, Some, None}
 use Rattle.std.specs.List.{last_or}
 use Rattle.circular_buffer.specs.Buffer.{keep_last}
 use Rattle.env_title.specs.Env.{Binding, HasDistinctNames, value_of}
@@ -28,7 +29,8 @@ FoldersFollow = (files more : List File) (env : List Binding)
 
 -- No name comes to stand twice.
 abbrev pub NamesStayDistinct : Type 0
-NamesStayDistinct = (files : List File) (env : List Binding) → HasDistinctNames env → HasDistinctNames (env_after files env)
+NamesStayDistinct =
+    (files : List File) (env : List Binding) → HasDistinctNames env → HasDistinctNames (env_after files env)
 
 -- the title after these bytes are pushed one by one
 abbrev pub pushed_one_by_one : TitleParts → List ℕ → TitleParts
@@ -37,11 +39,13 @@ pushed_one_by_one title bytes = fold (λ before byte. pushed before (byte ∷ []
 -- The text of a new title after any bytes are pushed.
 abbrev pub ShowsLastBytes : Type 0
 ShowsLastBytes = (len : ℕ) (bytes : List ℕ)
-    → title_text (pushed_one_by_one (new_title len) bytes) ≡ dots ++ keep_last (len - 3) (replicate (len - 3) dot ++ without_nul bytes)
+    → title_text (pushed_one_by_one (new_title len) bytes)
+    ≡ dots ++ keep_last (len - 3) (replicate (len - 3) dot ++ without_nul bytes)
 
 -- It makes no difference where the pushed bytes are cut into blocks.
 abbrev pub BlocksJoin : Type 0
-BlocksJoin = (title : TitleParts) (bytes more : List ℕ) → pushed (pushed title bytes) more ≡ pushed title (bytes ++ more)
+BlocksJoin =
+    (title : TitleParts) (bytes more : List ℕ) → pushed (pushed title bytes) more ≡ pushed title (bytes ++ more)
 
 -- A new title keeps its length.
 abbrev pub LengthStays : Type 0

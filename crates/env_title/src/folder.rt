@@ -1,4 +1,5 @@
-ghost use Rattle.std.specs.Prelude.{◌≡◌, ◌<◌, ◌+◌, true, length, MatchOption, IsOk, IsErr, IfOk, OnOk, IsErrOf, IsOkUnless};
+ghost use Rattle.std.specs.Prelude.{◌≡◌, ◌<◌, ◌+◌, true, length, MatchOption, IsOk, IsErr, IfOk, OnOk, IsErrOf};
+ghost use Rattle.std.specs.Prelude.{IsOkUnless};
 ghost use Rattle.std.specs.Str.{is_utf8};
 ghost use Rattle.env_title.specs.Files.{after_file, env_after, file_value};
 ghost use Rattle.env_title.specs.Faults.{first_fault};

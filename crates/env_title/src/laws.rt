@@ -1,6 +1,7 @@
 //! What an environment and a title are, as facts about all files and bytes. The functions do nothing: each contract is
 //! a law.
-ghost use Rattle.env_title.specs.Laws.{LastFileDecides, FoldersFollow, NamesStayDistinct, ShowsLastBytes, BlocksJoin, LengthStays};
+ghost use Rattle.env_title.specs.Laws.{LastFileDecides, FoldersFollow, NamesStayDistinct, ShowsLastBytes, BlocksJoin};
+ghost use Rattle.env_title.specs.Laws.{LengthStays};
 
 /// Of each name that begins with no dot the last file decides: where it has 0 bytes there is no variable of the name,
 /// else the variable has the value that the file gives. Where there is no such file the variable is as it was.

@@ -15,8 +15,8 @@ const DOTS: [u8; 3] = *b"...";
 const LEAST_LEN: usize = DOTS.len() + 2;
 
 /// A text of fixed length: three dots, and the last bytes that were pushed, as the readproctitle page
-/// (<https://cr.yp.to/daemontools/readproctitle.html>) has it. Contracts see the bytes after the dots as `items`, and how
-/// long the whole text is as `len`.
+/// (<https://cr.yp.to/daemontools/readproctitle.html>) has it. Contracts see the bytes after the dots as `items`, and
+/// how long the whole text is as `len`.
 #[derive(Debug, Drop)]
 pub struct Title<A: Allocator + Clone = Global> {
     items: HeapCircularBuffer<u8, A>,

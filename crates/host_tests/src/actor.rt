@@ -1,4 +1,4 @@
-//! What a part stands on in a test: a world that answers at once, and loggers that keep what they take.
+//! The resources of a part in a test: a world that answers at once, and loggers that keep what they take.
 use std::alloc::Global;
 use std::io;
 use std::io::Read;
@@ -6,8 +6,8 @@ use std::sync::atomic::{AtomicU64, Ordering};
 use std::sync::{Arc, Wait};
 use std::time::Clock;
 use sup_core::Sig;
-use svc_host::{Attendant, Outlets};
-use svc_house::{Bell, StartAnswer, World};
+use svc_host::{Outlets, Reaper};
+use svc_house::{Notifier, StartAnswer, World};
 use svc_relay::outlet::{Outlet, OutletFault};
 use tai_status::Label;
 
@@ -15,7 +15,7 @@ use tai_status::Label;
 /// second each, one after the other.
 #[derive(Drop)]
 pub(crate) struct Actor {
-    pub(crate) bell: Arc<Bell, Global>,
+    pub(crate) notifier: Arc<Notifier, Global>,
     pub(crate) pid: u32,
     pub(crate) start: Label,
     pub(crate) clock: Label,
@@ -28,16 +28,16 @@ impl World for Actor {
     fn signal(&mut self, sig: Sig, _pid: u32) {
         if sig == Sig::Term {
             self.is_dying = true;
-            self.bell.ring();
+            self.notifier.notify();
         }
     }
 
     fn start(&mut self) {
         self.is_starting = true;
-        self.bell.ring();
+        self.notifier.notify();
     }
 
-    fn write(&mut self, _bytes: &[u8; 18]) {}
+    fn write(&mut self, _bytes: &[u8; 20]) {}
 
     fn poll_start(&mut self) -> Option<StartAnswer> {
         if !self.is_starting || self.pid == 0 {
@@ -67,8 +67,8 @@ impl World for Actor {
 #[derive(Drop)]
 pub(crate) struct Nobody;
 
-impl Attendant for Nobody {
-    fn attend<R: Wait + Clock + Copy + Drop>(self, _rt: R) {}
+impl Reaper for Nobody {
+    fn run<R: Wait + Clock + Copy + Drop>(self, _rt: R) {}
 }
 
 /// What a pair's service writes: six bytes, at most four of them a read.

@@ -4,8 +4,8 @@ use crate::meeting::{Flag, Meeting};
 use scan_table::PartId;
 use std::alloc::{AllocError, Global};
 use std::sync::Arc;
-use svc_host::{Gear, Maker};
-use svc_house::{Bell, Caller};
+use svc_host::{Maker, PartResources};
+use svc_house::{ControlSender, Notifier};
 use tai_status::Label;
 
 /// Makes actors. The parts of the first slot get one gate, those of every other slot another.
@@ -72,7 +72,7 @@ impl Maker for Cast {
 
     type Gate = Meeting;
 
-    type Attendant = Nobody;
+    type Reaper = Nobody;
 
     type Output = Said;
 
@@ -84,16 +84,16 @@ impl Maker for Cast {
         &mut self,
         _name: &str,
         part: PartId,
-        _caller: Caller,
-        bell: Arc<Bell, Global>,
-    ) -> Option<Gear<Actor, Meeting, Nobody>> {
+        _sender: ControlSender,
+        notifier: Arc<Notifier, Global>,
+    ) -> Option<PartResources<Actor, Meeting, Nobody>> {
         let gate = if part.slot == 0 {
             self.first.copy()
         } else {
             self.second.copy()
         };
         let world = Actor {
-            bell,
+            notifier,
             pid: self.next_pid,
             start: Label::from_unix(1, 0)?,
             clock: Label::from_unix(2, 0)?,
@@ -102,14 +102,14 @@ impl Maker for Cast {
             is_dying: false,
         };
         self.next_pid = self.next_pid.saturating_add(1);
-        Some(Gear {
+        Some(PartResources {
             world,
             gate: gate.ok()?,
-            attendant: Nobody,
+            reaper: Nobody,
         })
     }
 
-    fn pair(&mut self, slot: u64, _bell: Arc<Bell, Global>) -> Option<(Said, Lives)> {
+    fn pair(&mut self, slot: u64, _notifier: Arc<Notifier, Global>) -> Option<(Said, Lives)> {
         let (bytes, taken) = if slot == 0 {
             (*b"abcdef", Arc::try_clone(&self.taken[0]).ok()?)
         } else {
@@ -118,7 +118,9 @@ impl Maker for Cast {
         Some((Said { bytes, place: 0 }, Lives { taken, given: 0 }))
     }
 
-    fn keep_trace(&mut self, _part: PartId, _text: &[u8]) {}
+    fn keep_trace(&mut self, _part: PartId, _text: &[u8]) -> bool {
+        true
+    }
 
     fn ended(&mut self, _part: PartId) {}
 

@@ -3,14 +3,14 @@ use std::alloc::{AllocError, Global};
 use std::sync::atomic::{AtomicBool, Ordering};
 use std::sync::{Arc, Wait};
 use std::time::Duration;
-use svc_house::{Bell, Gate};
+use svc_house::{Gate, Notifier};
 
 /// How often a thread looks for another, with a rest of 1 ms after each look.
 pub(crate) const LOOKS: u32 = 10_000;
 
 /// Rests 1 ms.
 pub(crate) fn rest<R: Wait>(rt: &R) {
-    Bell::new().rest(rt, Some(Duration::from_millis(1)));
+    Notifier::new().wait(rt, Some(Duration::from_millis(1)));
 }
 
 /// A flag that one thread sets and another waits for.

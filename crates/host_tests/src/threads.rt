@@ -73,7 +73,7 @@ fn begin<R: Threads + Wait + Clock + Copy + Drop + Send + 'static>(
 {
     let label = Label::from_unix(0, 0)?;
     let mut host = Host::new(rt, alloc, cast, mail, 16).ok()?;
-    let started = match host.round(rows, label) {
+    let started = match host.scan(rows, label) {
         Ok(out) => out.failed.is_empty() && out.scan.starts.as_slice() == parts,
         Err(_) => false,
     };
@@ -241,7 +241,8 @@ fn rounds_until<R: Threads + Wait + Clock + Copy + Drop + Send + 'static>(
         drops: Vec::new(alloc),
     };
     for _ in 0..LOOKS {
-        let out = host.round(rows, label).ok()?;
+        host.collect();
+        let out = host.scan(rows, label).ok()?;
         done.starts = done.starts.saturating_add(out.scan.starts.len());
         done.restarts
             .extend_from_slice(out.scan.restarts.as_slice())

@@ -2,24 +2,27 @@
 use Rattle.std.proofs.Common.{◌≡◌, ℕ, zero, suc, ◌+◌, ◌-◌, ◌<◌, ◌≤◌, nat_lt, if◌then◌else◌, Bool, true, false, List, [], ◌∷◌, ◌++◌, length, take, drop, count_by, Option, None, refl, sym, subst, ap, ◌∙◌, arith, append-nil, length-append}
 use Rattle.std.specs.Prelude.{Result, Ok, Err, IfOk}
 use Rattle.std.specs.List.{list_all}
-use Rattle.std.proofs.lemmas.List.{map-append, take_rest, take-append-drop, length-take}
+use Rattle.std.proofs.lemmas.List.{map-append, take_all, take_rest, take-append-drop, length-take}
 use Rattle.std.proofs.Math.Seq.{take-add}
 use Rattle.tai_status.specs.Label.{Tai64n}
-use Rattle.tai_status.specs.Lines.{texts_of, Sent, sent, Gave}
+use Rattle.tai_status.specs.Lines.{texts_of, Sent, sent}
+use Rattle.tai_status.specs.Extended.{Extended}
 use Rattle.tai_status.specs.LineReader.{IsPlain}
-use Rattle.tai_status.proofs.Stamped.{Gave-then, Gave-none}
+use Rattle.tai_status.proofs.Stamped.{Extended-then, Extended-none}
 use Rattle.tai_status.proofs.Texts.{texts_of-line}
 use Rattle.mlog_script.specs.Script.{Act, is_log}
 use Rattle.mlog_script.specs.Selection.{Chosen, Fits, stamps, shown, chosen, chosen_line, flag_at, alert, padded}
 use Rattle.mlog_script.proofs.Texts.{texts-append}
-use Rattle.mlog_files.specs.Store.{Told}
+use Rattle.mlog_files.specs.Store.{StoreState, Stays}
+use Rattle.mlog_files.proofs.Doing.{Stays-then}
 use Rattle.mlog_files.specs.declared.tail.LogFault.{LogFault}
-use Rattle.mlog_line.specs.Desk.{Place, IsBare}
+use Rattle.mlog_line.specs.LineRouter.{Place, IsBare}
 use Rattle.mlog_line.specs.Given.{Given, nothing, joined, of_line, of_text, to_first, bytes_of}
 use Rattle.mlog_line.specs.Outputs.{outputs, Takes, Stops, SameGiven, StopsAt}
-use Rattle.mlog_line.proofs.Taking.{Takes-same, Stops-same}
+use Rattle.mlog_line.proofs.Taking.{Takes-same, Stops-same, if_err_weaker}
 use Rattle.mlog_line.proofs.Growing.{Same-then, Same-joined, Same-behind, StopsAt-more}
-use Rattle.mlog_core.specs.Scene.{Scene, scene, IsIn, Went, WentUpTo, AreAlike}
+use Rattle.mlog_core.specs.Scene.{Scene, scene, IsIn, Went, WentUpTo, AreAlike, Feeds}
+use Rattle.mlog_core.specs.declared.feed.Fed.{Fed}
 use Rattle.mlog_core.proofs.Going.{Went-then, WentUpTo-then}
 use Rattle.mlog_core.proofs.Lines.{whole_end, whole_both, cut_one, first_line, text_turn}
 
@@ -30,7 +33,7 @@ none_of false = refl
 pub alike_none : (script : List Act) (r : Option (List Tai64n)) → AreAlike script r r [] 0
 alike_none script r = record {
   labels = [];
-  gave = Gave-none r;
+  gave = Extended-none r;
   count_is = refl;
   lines = refl;
   each = refl;
@@ -91,7 +94,7 @@ line_given script label line c is fits bare all =
           ∙ ap (λ (t : List ℕ). if flag_at (chosen_line script label line).files file then padded t ∷ [] else []) here;
     }
 
-alike_line : (script : List Act) (label : Tai64n) (r r1 : Option (List Tai64n)) (line : List ℕ) (c : Chosen) → IsPlain line → Gave r r1 (label ∷ [])
+alike_line : (script : List Act) (label : Tai64n) (r r1 : Option (List Tai64n)) (line : List ℕ) (c : Chosen) → IsPlain line → Extended r r1 (label ∷ [])
     → c ≡ chosen script (take 1000 line) → Fits c script → IsBare script → list_all (λ (flag : Bool). flag) c.logs ≡ true
     → AreAlike script r r1 (line ++ 10 ∷ []) 1
 alike_line script label r r1 line c plain gave is fits bare all = record {
@@ -122,7 +125,7 @@ alike_then script a b c xs ys m n k l =
     let y = of_text script l.labels ys in
     let all = of_text script (k.labels ++ l.labels) (xs ++ ys) in record {
       labels = k.labels ++ l.labels;
-      gave = Gave-then a b c k.labels l.labels k.gave l.gave;
+      gave = Extended-then a b c k.labels l.labels k.gave l.gave;
       count_is = let p = k.count_is in let q = l.count_is in let h = length-append k.labels l.labels in omega (arith, p, q, h);
       lines = whole_both xs ys k.lines l.lines;
       each = let p = k.each in let q = l.each in let h = length-append k.labels l.labels in let g = length-append (texts_of xs) (texts_of ys) in
@@ -138,7 +141,7 @@ alike_then script a b c xs ys m n k l =
 -- One more line of some bytes.
 pub alike_further : (script : List Act) (label : Tai64n) (a b c : Option (List Tai64n)) (bytes rest : List ℕ) (at len m : ℕ) (ch : Chosen) → rest ≡ take (length bytes - at) (drop at bytes)
     → AreAlike script a b (take at bytes) m → IsPlain (take len rest) → (len < length rest) × (rest ≡ take len rest ++ 10 ∷ drop (len + 1) rest)
-    → Gave b c (label ∷ []) → ch ≡ chosen script (take 1000 (take len rest)) → Fits ch script → IsBare script → list_all (λ (flag : Bool). flag) ch.logs ≡ true
+    → Extended b c (label ∷ []) → ch ≡ chosen script (take 1000 (take len rest)) → Fits ch script → IsBare script → list_all (λ (flag : Bool). flag) ch.logs ≡ true
     → AreAlike script a c (take (at + (len + 1)) bytes) (m + 1)
 alike_further script label a b c bytes rest at len m ch rest_is k plain newline gave is fits bare all =
     let one : take (len + 1) rest ≡ take len rest ++ 10 ∷ [] = cut_one rest len newline.0 newline.1 in
@@ -152,11 +155,11 @@ alike_further script label a b c bytes rest at len m ch rest_is k plain newline 
 same_joined : (x : Given) → SameGiven x (joined x nothing)
 same_joined x = record { logs = λ log. sym (append-nil (x.logs log)); alerts = sym (append-nil x.alerts); files = λ file. sym (append-nil (x.files file)) }
 
-pub alike_went : (script : List Act) (p0 p q : Place) (s t : Told) (e f : ℕ) (r r1 : Option (List Tai64n)) (bytes : List ℕ) (m : ℕ) → p.tails ≡ p0.tails
+pub alike_went : (script : List Act) (p0 p q : Place) (s t : StoreState) (r r1 : Option (List Tai64n)) (bytes : List ℕ) (m : ℕ) → p.tails ≡ p0.tails
     → length p.tails ≡ count_by is_log script → AreAlike script r r1 bytes m
-    → ((text : List Sent) → bytes_of text ≡ bytes → Takes (outputs p.tails s e) (outputs q.tails t f) (to_first (length p.tails) text))
-    → Went script (scene None p0 s e r) (scene None q t f r1) [] bytes m
-alike_went script p0 p q s t e f r r1 bytes m same count k takes =
+    → ((text : List Sent) → bytes_of text ≡ bytes → Takes (outputs p.tails s) (outputs q.tails t) (to_first (length p.tails) text))
+    → Went script (scene None p0 s r) (scene None q t r1) [] bytes m
+alike_went script p0 p q s t r r1 bytes m same count k takes =
     let x = of_text script k.labels bytes in record {
       labels = k.labels;
       gave = k.gave;
@@ -172,31 +175,31 @@ alike_went script p0 p q s t e f r r1 bytes m same count k takes =
       grows = record {
         more = x;
         whole = same_joined x;
-        takes = subst (λ (tails : List _). Takes (outputs tails s e) (outputs q.tails t f) x) same
-            (Takes-same (outputs p.tails s e) (outputs q.tails t f) (to_first (length p.tails) k.text) x (takes k.text k.bytes_are)
+        takes = subst (λ (tails : List _). Takes (outputs tails s) (outputs q.tails t) x) same
+            (Takes-same (outputs p.tails s) (outputs q.tails t) (to_first (length p.tails) k.text) x (takes k.text k.bytes_are)
             (subst (λ (n : ℕ). SameGiven (to_first n k.text) x) (sym count) k.same));
       };
     }
 
 -- They did not.
-pub alike_stopped : (script : List Act) (p0 p q : Place) (s t : Told) (e f : ℕ) (r r1 : Option (List Tai64n)) (bytes : List ℕ) (len m : ℕ) (why : LogFault) → p.tails ≡ p0.tails
+pub alike_stopped : (script : List Act) (p0 p q : Place) (s t : StoreState) (r r1 : Option (List Tai64n)) (bytes : List ℕ) (len m : ℕ) (why : LogFault) → p.tails ≡ p0.tails
     → length p.tails ≡ count_by is_log script → AreAlike script r r1 (take len bytes) m
-    → ((text : List Sent) → bytes_of text ≡ take len bytes → Stops (outputs p.tails s e) (outputs q.tails t f) (to_first (length p.tails) text) why)
-    → WentUpTo script (scene None p0 s e r) (scene None q t f r1) [] bytes why
-alike_stopped script p0 p q s t e f r r1 bytes len m why same count k stops =
+    → ((text : List Sent) → bytes_of text ≡ take len bytes → Stops (outputs p.tails s) (outputs q.tails t) (to_first (length p.tails) text) why)
+    → WentUpTo script (scene None p0 s r) (scene None q t r1) [] bytes why
+alike_stopped script p0 p q s t r r1 bytes len m why same count k stops =
     let x = of_text script k.labels (take len bytes) in
     let rest = of_text script [] (drop len bytes) in
     let all : k.labels ++ [] ≡ k.labels = append-nil k.labels in
-    let stop : Stops (outputs p0.tails s e) (outputs q.tails t f) x why =
-    subst (λ (tails : List _). Stops (outputs tails s e) (outputs q.tails t f) x why) same
-    (Stops-same (outputs p.tails s e) (outputs q.tails t f) (to_first (length p.tails) k.text) x why (stops k.text k.bytes_are)
+    let stop : Stops (outputs p0.tails s) (outputs q.tails t) x why =
+    subst (λ (tails : List _). Stops (outputs tails s) (outputs q.tails t) x why) same
+    (Stops-same (outputs p.tails s) (outputs q.tails t) (to_first (length p.tails) k.text) x why (stops k.text k.bytes_are)
     (subst (λ (n : ℕ). SameGiven (to_first n k.text) x) (sym count) k.same)) in
     record {
       labels = k.labels;
       gave = k.gave;
-      stops = subst (λ (b : List ℕ). StopsAt (outputs p0.tails s e) (outputs q.tails t f) nothing (of_text script k.labels b) why) (take-append-drop len bytes)
-          (subst (λ (n : List Tai64n). StopsAt (outputs p0.tails s e) (outputs q.tails t f) nothing (of_text script n (take len bytes ++ drop len bytes)) why) all
-          (StopsAt-more (outputs p0.tails s e) (outputs q.tails t f) nothing x rest (of_text script (k.labels ++ []) (take len bytes ++ drop len bytes)) why
+      stops = subst (λ (b : List ℕ). StopsAt (outputs p0.tails s) (outputs q.tails t) nothing (of_text script k.labels b) why) (take-append-drop len bytes)
+          (subst (λ (n : List Tai64n). StopsAt (outputs p0.tails s) (outputs q.tails t) nothing (of_text script n (take len bytes ++ drop len bytes)) why) all
+          (StopsAt-more (outputs p0.tails s) (outputs q.tails t) nothing x rest (of_text script (k.labels ++ []) (take len bytes ++ drop len bytes)) why
           (record { more = x; whole = record { logs = λ log. refl; alerts = refl; files = λ file. refl }; stops = stop })
           (text_turn script k.labels [] (take len bytes) (drop len bytes) k.lines k.each)));
     }
@@ -230,3 +233,35 @@ empty_stopped script a b c bytes ys len m why is w v =
 pub if_ok_weaker : {T E : Type 0} (r : Result T E) (P Q : T → Type 0) → ((x : T) → P x → Q x) → IfOk r P → IfOk r Q
 if_ok_weaker (Ok x) P Q f p = f x p
 if_ok_weaker (Err e) P Q f p = tt
+
+pub where_none : (script : List Act) (a b : Scene) (line bytes : List ℕ) (m : ℕ) → line ≡ [] → Went script a b [] bytes m → Went script a b line bytes m
+where_none script a b line bytes m is w = subst (λ (l : List ℕ). Went script a b l bytes m) (sym is) w
+
+pub where_none_stopped : (script : List Act) (a b : Scene) (line bytes : List ℕ) (why : LogFault) → line ≡ [] → WentUpTo script a b [] bytes why → WentUpTo script a b line bytes why
+where_none_stopped script a b line bytes why is w = subst (λ (l : List ℕ). WentUpTo script a b l bytes why) (sym is) w
+
+-- Nothing was fed yet, and no line has begun.
+pub after_nothing : (result : Result Fed LogFault) (script : List Act) (inside i : Option Tai64n) (p p1 q : Place) (s s1 t : StoreState) (a a1 b : Option (List Tai64n)) (bytes : List ℕ) (len m : ℕ)
+    → inside ≡ None → i ≡ None → len ≡ 0 → m ≤ len
+    → ((line : List ℕ) → IsIn script (scene None p s a) line → Went script (scene None p s a) (scene i p1 s1 a1) line (take len bytes) m) → Stays s s1
+    → Feeds result script None p1 q s1 t a1 b bytes → Feeds result script inside p q s t a b bytes
+after_nothing result script inside i p p1 q s s1 t a a1 b bytes len m none none1 empty few w stays f =
+    let first = subst (λ (i : Option Tai64n). Went script (scene None p s a) (scene i p1 s1 a1) [] (take len bytes) m) none1 (w [] refl) in
+    subst (λ (i : Option Tai64n). Feeds result script i p q s t a b bytes) (sym none) (record {
+      within = f.within;
+      begun = f.begun;
+      went = if_ok_weaker result _ _ (λ fed k line at. where_none script _ _ line _ fed.begun at
+          (empty_then script (scene None p s a) (scene None p1 s1 a1) (scene fed.inside q t b) bytes (take fed.len bytes) len m fed.begun empty few first k)) f.went;
+      stopped = if_err_weaker result _ _ (λ why k line at. where_none_stopped script _ _ line _ why at
+          (empty_stopped script (scene None p s a) (scene None p1 s1 a1) (scene None q t b) bytes bytes len m why empty first k)) f.stopped;
+      serves = f.serves;
+      stays = Stays-then stays f.stays;
+    })
+
+pub all_taken : (script : List Act) (a b : Scene) (line bytes : List ℕ) (len m : ℕ) → len ≡ length bytes → Went script a b line (take len bytes) m → Went script a b line bytes m
+all_taken script a b line bytes len m all w =
+    subst (λ (t : List ℕ). Went script a b line t m) (take_all len bytes (omega (arith, all))) w
+
+pub all_fed : (script : List Act) (a b : Scene) (bytes : List ℕ) (len m : ℕ) → len ≡ length bytes → ((line : List ℕ) → IsIn script a line → Went script a b line (take len bytes) m)
+    → (line : List ℕ) → IsIn script a line → Went script a b line bytes m
+all_fed script a b bytes len m all w = λ line at. all_taken script a b line bytes len m all (w line at)

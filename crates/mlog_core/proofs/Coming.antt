@@ -2,14 +2,15 @@
 use Rattle.std.proofs.Common.{◌≡◌, ℕ, ◌+◌, List, [], ◌++◌, length, Option, Some, None, Result, Err, sym, subst, ap, ◌∙◌, arith, append-nil, length-append}
 use Rattle.std.specs.Io.KnownBytes.{Consumes}
 use Rattle.tai_status.specs.Label.{Tai64n}
-use Rattle.tai_status.specs.Lines.{texts_of, Gave}
+use Rattle.tai_status.specs.Lines.{texts_of}
+use Rattle.tai_status.specs.Extended.{Extended}
 use Rattle.tai_status.specs.Counted.{Device, Gives}
 use Rattle.tai_status.proofs.Stamped.{Consumes-then, Consumes-none}
 use Rattle.tai_status.proofs.Texts.{texts_of-last}
 use Rattle.mlog_script.specs.Script.{Act}
 use Rattle.mlog_script.proofs.Texts.{texts-append}
 use Rattle.mlog_files.specs.declared.tail.LogFault.{LogFault}
-use Rattle.mlog_line.specs.Desk.{Place}
+use Rattle.mlog_line.specs.LineRouter.{Place}
 use Rattle.mlog_line.specs.Given.{Given, nothing, joined, of_text}
 use Rattle.mlog_line.specs.Outputs.{Outputs, Takes, Stops, Grows, StopsAt}
 use Rattle.mlog_line.proofs.Taking.{Takes-same, Stops-same}
@@ -62,7 +63,7 @@ came_to_end script a b c r q p m none k read same end =
       bytes = k.bytes;
       labels = w.labels;
       read = subst (λ (t : List ℕ). Consumes r.bytes p.bytes t) (append-nil k.bytes) (Consumes-then r.bytes q.bytes p.bytes k.bytes [] k.read read);
-      gave = subst (λ (now : Option (List Tai64n)). Gave a.readings now w.labels) (sym same) w.gave;
+      gave = subst (λ (now : Option (List Tai64n)). Extended a.readings now w.labels) (sym same) w.gave;
       each = let e = w.each in let l = lines_left script b.place b.line w.left w.at in let n = ap length labels_are in let h = length-append w.names (labels_of b.line) in
           let t = ap (λ (t : List ℕ). length (texts_of t)) w.cut in let u = ap length (texts-append w.whole w.left w.lines) in
           let v = length-append (texts_of w.whole) (texts_of w.left) in omega (arith, e, l, n, h, t, u, v);
@@ -104,7 +105,7 @@ halted_end script a b c r q p m why none k read same end =
       bytes = k.bytes;
       labels = w.labels;
       read = subst (λ (t : List ℕ). Consumes r.bytes p.bytes t) (append-nil k.bytes) (Consumes-then r.bytes q.bytes p.bytes k.bytes [] k.read read);
-      gave = subst (λ (now : Option (List Tai64n)). Gave a.readings now w.labels) (sym same) w.gave;
+      gave = subst (λ (now : Option (List Tai64n)). Extended a.readings now w.labels) (sym same) w.gave;
       stops = stops_from_start (outputs_of a) (outputs_of c) (of_text script w.labels k.bytes) why
           (subst (λ (n : List Tai64n). StopsAt (outputs_of a) (outputs_of c) nothing (of_text script n k.bytes) why) (sym labels_are)
           (subst (λ (t : List ℕ). StopsAt (outputs_of a) (outputs_of c) nothing (of_text script (w.names ++ labels_of b.line) t) why) (sym w.cut) started));

@@ -1,18 +1,19 @@
 -- Bytes that go on behind others.
 use Rattle.std.proofs.Common.{◌≡◌, ℕ, ◌+◌, ◌-◌, ◌<◌, Bool, true, false, List, [], ◌∷◌, ◌++◌, length, take, drop, Option, Some, None, refl, sym, subst, ap, ◌∙◌, arith, append_assoc, append-nil, length-append}
 use Rattle.tai_status.specs.Label.{Tai64n}
-use Rattle.tai_status.specs.Lines.{texts_of, Gave}
+use Rattle.tai_status.specs.Lines.{texts_of}
+use Rattle.tai_status.specs.Extended.{Extended}
 use Rattle.tai_status.specs.LineReader.{IsPlain}
-use Rattle.tai_status.proofs.Stamped.{Gave-then, Gave-none}
+use Rattle.tai_status.proofs.Stamped.{Extended-then, Extended-none}
 use Rattle.tai_status.proofs.Texts.{texts_of-line}
 use Rattle.mlog_script.specs.Script.{Act}
 use Rattle.mlog_script.specs.Selection.{Chosen}
 use Rattle.mlog_script.proofs.Texts.{texts-append}
-use Rattle.mlog_files.specs.Store.{Told}
+use Rattle.mlog_files.specs.Store.{StoreState}
 use Rattle.mlog_files.specs.declared.tail.LogFault.{LogFault}
 use Rattle.std.proofs.Math.Seq.{take-add}
 use Rattle.std.proofs.lemmas.List.{take_rest, take-append-drop}
-use Rattle.mlog_line.specs.Desk.{Place, IsAt, IsHeldOrDecided}
+use Rattle.mlog_line.specs.LineRouter.{Place, IsAt, IsKeptOrDecided}
 use Rattle.mlog_line.specs.Given.{Given, nothing, joined, of_line, of_text, so_far}
 use Rattle.mlog_line.specs.Outputs.{Outputs, outputs, Takes, Stops, SameGiven, Grows, StopsAt}
 use Rattle.mlog_line.proofs.Growing.{Same-then, Same-sym, Same-nothing, Same-moved, Same-joined, Same-behind, Grows-none, Grows-then, Grows-same, Grows-behind, StopsAt-then, StopsAt-more, StopsAt-same, StopsAt-behind}
@@ -66,12 +67,12 @@ one_text label script line plain =
     (first_line script label line [] plain)
     (Same-sym (joined (of_text script (label ∷ []) (line ++ 10 ∷ [])) nothing) (of_text script (label ∷ []) (line ++ 10 ∷ [])) (Same-nothing (of_text script (label ∷ []) (line ++ 10 ∷ []))))
 
-open_on : (script : List Act) (label : Tai64n) (p q : Place) (s t : Told) (e f : ℕ) (r : Option (List Tai64n)) (line text : List ℕ) → 0 < length text → IsPlain line
-    → LineOpen script (outputs p.tails s e) (outputs q.tails t f) q label line text
-    → Went script (scene (Some label) p s e r) (scene (Some label) q t f r) line text 0
-open_on script label p q s t e f r line text some plain o = record {
+open_on : (script : List Act) (label : Tai64n) (p q : Place) (s t : StoreState) (r : Option (List Tai64n)) (line text : List ℕ) → 0 < length text → IsPlain line
+    → LineOpen script (outputs p.tails s) (outputs q.tails t) q label line text
+    → Went script (scene (Some label) p s r) (scene (Some label) q t r) line text 0
+open_on script label p q s t r line text some plain o = record {
   labels = [];
-  gave = Gave-none r;
+  gave = Extended-none r;
   count_is = refl;
   whole = [];
   names = [];
@@ -81,19 +82,19 @@ open_on script label p q s t e f r line text some plain o = record {
   lines = refl;
   each = refl;
   at = (o.at, plain_both line text plain o.plain, (let l = length-append line text in omega (arith, l, some)));
-  grows = Grows-same (outputs p.tails s e) (outputs q.tails t f) (so_far script label line) (so_far script label (line ++ text)) (joined (of_text script [] []) (so_far script label (line ++ text)))
+  grows = Grows-same (outputs p.tails s) (outputs q.tails t) (so_far script label line) (so_far script label (line ++ text)) (joined (of_text script [] []) (so_far script label (line ++ text)))
       o.grows (nothing_before script (so_far script label (line ++ text)));
 }
 
-ended_on : (script : List Act) (label : Tai64n) (p q : Place) (s t : Told) (e f : ℕ) (r : Option (List Tai64n)) (line bytes : List ℕ) → IsPlain line
-    → LineEnded script (outputs p.tails s e) (outputs q.tails t f) label line bytes
-    → Went script (scene (Some label) p s e r) (scene None q t f r) line bytes 0
-ended_on script label p q s t e f r line bytes plain o =
+ended_on : (script : List Act) (label : Tai64n) (p q : Place) (s t : StoreState) (r : Option (List Tai64n)) (line bytes : List ℕ) → IsPlain line
+    → LineEnded script (outputs p.tails s) (outputs q.tails t) label line bytes
+    → Went script (scene (Some label) p s r) (scene None q t r) line bytes 0
+ended_on script label p q s t r line bytes plain o =
     let line1 = line ++ o.text in
     let plain1 = plain_both line o.text plain o.plain in
     record {
       labels = [];
-      gave = Gave-none r;
+      gave = Extended-none r;
       count_is = refl;
       whole = line1 ++ 10 ∷ [];
       names = label ∷ [];
@@ -103,43 +104,43 @@ ended_on script label p q s t e f r line bytes plain o =
       lines = whole_end line1;
       each = sym (ap length (texts_of-line line1 [] plain1));
       at = refl;
-      grows = Grows-same (outputs p.tails s e) (outputs q.tails t f) (so_far script label line) (of_line script label line1) (joined (of_text script (label ∷ []) (line1 ++ 10 ∷ [])) nothing)
+      grows = Grows-same (outputs p.tails s) (outputs q.tails t) (so_far script label line) (of_line script label line1) (joined (of_text script (label ∷ []) (line1 ++ 10 ∷ [])) nothing)
           o.grows (one_text label script line1 plain1);
     }
 
-by_end : (script : List Act) (label : Tai64n) (p q : Place) (s t : Told) (e f : ℕ) (r : Option (List Tai64n)) (line text : List ℕ) (ends b : Bool) → ends ≡ b → 0 < length text
-    → (ends ≡ false → (line : List ℕ) → IsAt script p label line → LineOpen script (outputs p.tails s e) (outputs q.tails t f) q label line text)
-    → (ends ≡ true → (line : List ℕ) → IsAt script p label line → LineEnded script (outputs p.tails s e) (outputs q.tails t f) label line text)
-    → IsAt script p label line × IsPlain line × (0 < length line) → Went script (scene (Some label) p s e r) (scene (left_of label b) q t f r) line text 0
-by_end script label p q s t e f r line text ends true eb some goes_on ended at = ended_on script label p q s t e f r line text at.1 (ended eb line at.0)
-by_end script label p q s t e f r line text ends false eb some goes_on ended at = open_on script label p q s t e f r line text some at.1 (goes_on eb line at.0)
+by_end : (script : List Act) (label : Tai64n) (p q : Place) (s t : StoreState) (r : Option (List Tai64n)) (line text : List ℕ) (ends b : Bool) → ends ≡ b → 0 < length text
+    → (ends ≡ false → (line : List ℕ) → IsAt script p label line → LineOpen script (outputs p.tails s) (outputs q.tails t) q label line text)
+    → (ends ≡ true → (line : List ℕ) → IsAt script p label line → LineEnded script (outputs p.tails s) (outputs q.tails t) label line text)
+    → IsAt script p label line × IsPlain line × (0 < length line) → Went script (scene (Some label) p s r) (scene (left_of label b) q t r) line text 0
+by_end script label p q s t r line text ends true eb some goes_on ended at = ended_on script label p q s t r line text at.1 (ended eb line at.0)
+by_end script label p q s t r line text ends false eb some goes_on ended at = open_on script label p q s t r line text some at.1 (goes_on eb line at.0)
 
-pub inside_went : (script : List Act) (inside : Option Tai64n) (label : Tai64n) (p q : Place) (s t : Told) (e f : ℕ) (r : Option (List Tai64n)) (line text : List ℕ) (ends b : Bool) (left : Option Tai64n)
+pub inside_went : (script : List Act) (inside : Option Tai64n) (label : Tai64n) (p q : Place) (s t : StoreState) (r : Option (List Tai64n)) (line text : List ℕ) (ends b : Bool) (left : Option Tai64n)
     → inside ≡ Some label → left ≡ left_of label ends → ends ≡ b → 0 < length text
-    → (ends ≡ false → (line : List ℕ) → IsAt script p label line → LineOpen script (outputs p.tails s e) (outputs q.tails t f) q label line text)
-    → (ends ≡ true → (line : List ℕ) → IsAt script p label line → LineEnded script (outputs p.tails s e) (outputs q.tails t f) label line text)
-    → IsIn script (scene inside p s e r) line → Went script (scene inside p s e r) (scene left q t f r) line text 0
-inside_went script inside label p q s t e f r line text ends b left is lis eb some goes_on ended at =
+    → (ends ≡ false → (line : List ℕ) → IsAt script p label line → LineOpen script (outputs p.tails s) (outputs q.tails t) q label line text)
+    → (ends ≡ true → (line : List ℕ) → IsAt script p label line → LineEnded script (outputs p.tails s) (outputs q.tails t) label line text)
+    → IsIn script (scene inside p s r) line → Went script (scene inside p s r) (scene left q t r) line text 0
+inside_went script inside label p q s t r line text ends b left is lis eb some goes_on ended at =
     let at1 = subst (λ (i : Option Tai64n). IsInLine script p i line) is at in
-    subst (λ (i : Option Tai64n). Went script (scene i p s e r) (scene left q t f r) line text 0) (sym is)
-    (subst (λ (i : Option Tai64n). Went script (scene (Some label) p s e r) (scene i q t f r) line text 0) (sym (lis ∙ ap (left_of label) eb))
-    (by_end script label p q s t e f r line text ends b eb some goes_on ended at1))
+    subst (λ (i : Option Tai64n). Went script (scene i p s r) (scene left q t r) line text 0) (sym is)
+    (subst (λ (i : Option Tai64n). Went script (scene (Some label) p s r) (scene i q t r) line text 0) (sym (lis ∙ ap (left_of label) eb))
+    (by_end script label p q s t r line text ends b eb some goes_on ended at1))
 
-pub inside_stopped : (script : List Act) (inside : Option Tai64n) (label : Tai64n) (p q : Place) (s t : Told) (e f : ℕ) (r : Option (List Tai64n)) (line bytes : List ℕ) (why : LogFault)
+pub inside_stopped : (script : List Act) (inside : Option Tai64n) (label : Tai64n) (p q : Place) (s t : StoreState) (r : Option (List Tai64n)) (line bytes : List ℕ) (why : LogFault)
     → inside ≡ Some label
-    → ((line : List ℕ) → IsAt script p label line → IsPlain line → StopsAt (outputs p.tails s e) (outputs q.tails t f) (so_far script label line) (of_text script (label ∷ []) (line ++ bytes)) why)
-    → IsIn script (scene inside p s e r) line → WentUpTo script (scene inside p s e r) (scene None q t f r) line bytes why
-inside_stopped script inside label p q s t e f r line bytes why is stopped at =
+    → ((line : List ℕ) → IsAt script p label line → IsPlain line → StopsAt (outputs p.tails s) (outputs q.tails t) (so_far script label line) (of_text script (label ∷ []) (line ++ bytes)) why)
+    → IsIn script (scene inside p s r) line → WentUpTo script (scene inside p s r) (scene None q t r) line bytes why
+inside_stopped script inside label p q s t r line bytes why is stopped at =
     let at1 = subst (λ (i : Option Tai64n). IsInLine script p i line) is at in
-    subst (λ (i : Option Tai64n). WentUpTo script (scene i p s e r) (scene None q t f r) line bytes why) (sym is)
-    (record { labels = []; gave = Gave-none r; stops = stopped line at1.0 at1.1 })
+    subst (λ (i : Option Tai64n). WentUpTo script (scene i p s r) (scene None q t r) line bytes why) (sym is)
+    (record { labels = []; gave = Extended-none r; stops = stopped line at1.0 at1.1 })
 
 -- A line that begins
 
-new_open : (script : List Act) (label : Tai64n) (p0 p q : Place) (s t : Told) (e f : ℕ) (r r1 : Option (List Tai64n)) (text : List ℕ) → 0 < length text → p.tails ≡ p0.tails
-    → Gave r r1 (label ∷ []) → LineOpen script (outputs p.tails s e) (outputs q.tails t f) q label [] text
-    → Went script (scene None p0 s e r) (scene (Some label) q t f r1) [] text 1
-new_open script label p0 p q s t e f r r1 text some same gave o = record {
+new_open : (script : List Act) (label : Tai64n) (p0 p q : Place) (s t : StoreState) (r r1 : Option (List Tai64n)) (text : List ℕ) → 0 < length text → p.tails ≡ p0.tails
+    → Extended r r1 (label ∷ []) → LineOpen script (outputs p.tails s) (outputs q.tails t) q label [] text
+    → Went script (scene None p0 s r) (scene (Some label) q t r1) [] text 1
+new_open script label p0 p q s t r r1 text some same gave o = record {
   labels = label ∷ [];
   gave = gave;
   count_is = refl;
@@ -151,16 +152,16 @@ new_open script label p0 p q s t e f r r1 text some same gave o = record {
   lines = refl;
   each = refl;
   at = (o.at, o.plain, some);
-  grows = subst (λ (tails : List _). Grows (outputs tails s e) (outputs q.tails t f) nothing (joined (of_text script [] []) (so_far script label text))) same
-      (subst (λ (g : Given). Grows (outputs p.tails s e) (outputs q.tails t f) g (joined (of_text script [] []) (so_far script label text))) (sym (begun_nothing script label))
-      (Grows-same (outputs p.tails s e) (outputs q.tails t f) (so_far script label []) (so_far script label text) (joined (of_text script [] []) (so_far script label text))
+  grows = subst (λ (tails : List _). Grows (outputs tails s) (outputs q.tails t) nothing (joined (of_text script [] []) (so_far script label text))) same
+      (subst (λ (g : Given). Grows (outputs p.tails s) (outputs q.tails t) g (joined (of_text script [] []) (so_far script label text))) (sym (begun_nothing script label))
+      (Grows-same (outputs p.tails s) (outputs q.tails t) (so_far script label []) (so_far script label text) (joined (of_text script [] []) (so_far script label text))
       o.grows (nothing_before script (so_far script label text))));
 }
 
-new_ended : (script : List Act) (label : Tai64n) (p0 p q : Place) (s t : Told) (e f : ℕ) (r r1 : Option (List Tai64n)) (bytes : List ℕ) → p.tails ≡ p0.tails
-    → Gave r r1 (label ∷ []) → LineEnded script (outputs p.tails s e) (outputs q.tails t f) label [] bytes
-    → Went script (scene None p0 s e r) (scene None q t f r1) [] bytes 1
-new_ended script label p0 p q s t e f r r1 bytes same gave o = record {
+new_ended : (script : List Act) (label : Tai64n) (p0 p q : Place) (s t : StoreState) (r r1 : Option (List Tai64n)) (bytes : List ℕ) → p.tails ≡ p0.tails
+    → Extended r r1 (label ∷ []) → LineEnded script (outputs p.tails s) (outputs q.tails t) label [] bytes
+    → Went script (scene None p0 s r) (scene None q t r1) [] bytes 1
+new_ended script label p0 p q s t r r1 bytes same gave o = record {
   labels = label ∷ [];
   gave = gave;
   count_is = refl;
@@ -172,42 +173,42 @@ new_ended script label p0 p q s t e f r r1 bytes same gave o = record {
   lines = whole_end o.text;
   each = sym (ap length (texts_of-line o.text [] o.plain));
   at = refl;
-  grows = subst (λ (tails : List _). Grows (outputs tails s e) (outputs q.tails t f) nothing (joined (of_text script (label ∷ []) (o.text ++ 10 ∷ [])) nothing)) same
-      (subst (λ (g : Given). Grows (outputs p.tails s e) (outputs q.tails t f) g (joined (of_text script (label ∷ []) (o.text ++ 10 ∷ [])) nothing)) (sym (begun_nothing script label))
-      (Grows-same (outputs p.tails s e) (outputs q.tails t f) (so_far script label []) (of_line script label o.text) (joined (of_text script (label ∷ []) (o.text ++ 10 ∷ [])) nothing)
+  grows = subst (λ (tails : List _). Grows (outputs tails s) (outputs q.tails t) nothing (joined (of_text script (label ∷ []) (o.text ++ 10 ∷ [])) nothing)) same
+      (subst (λ (g : Given). Grows (outputs p.tails s) (outputs q.tails t) g (joined (of_text script (label ∷ []) (o.text ++ 10 ∷ [])) nothing)) (sym (begun_nothing script label))
+      (Grows-same (outputs p.tails s) (outputs q.tails t) (so_far script label []) (of_line script label o.text) (joined (of_text script (label ∷ []) (o.text ++ 10 ∷ [])) nothing)
       o.grows (one_text label script o.text o.plain)));
 }
 
-new_by : (script : List Act) (label : Tai64n) (p0 p q : Place) (s t : Told) (e f : ℕ) (r r1 : Option (List Tai64n)) (text : List ℕ) (ends b : Bool) → ends ≡ b → 0 < length text → p.tails ≡ p0.tails
-    → Gave r r1 (label ∷ []) → IsAt script p label []
-    → (ends ≡ false → (line : List ℕ) → IsAt script p label line → LineOpen script (outputs p.tails s e) (outputs q.tails t f) q label line text)
-    → (ends ≡ true → (line : List ℕ) → IsAt script p label line → LineEnded script (outputs p.tails s e) (outputs q.tails t f) label line text)
-    → Went script (scene None p0 s e r) (scene (left_of label b) q t f r1) [] text 1
-new_by script label p0 p q s t e f r r1 text ends true eb some same gave at goes_on ended = new_ended script label p0 p q s t e f r r1 text same gave (ended eb [] at)
-new_by script label p0 p q s t e f r r1 text ends false eb some same gave at goes_on ended = new_open script label p0 p q s t e f r r1 text some same gave (goes_on eb [] at)
+new_by : (script : List Act) (label : Tai64n) (p0 p q : Place) (s t : StoreState) (r r1 : Option (List Tai64n)) (text : List ℕ) (ends b : Bool) → ends ≡ b → 0 < length text → p.tails ≡ p0.tails
+    → Extended r r1 (label ∷ []) → IsAt script p label []
+    → (ends ≡ false → (line : List ℕ) → IsAt script p label line → LineOpen script (outputs p.tails s) (outputs q.tails t) q label line text)
+    → (ends ≡ true → (line : List ℕ) → IsAt script p label line → LineEnded script (outputs p.tails s) (outputs q.tails t) label line text)
+    → Went script (scene None p0 s r) (scene (left_of label b) q t r1) [] text 1
+new_by script label p0 p q s t r r1 text ends true eb some same gave at goes_on ended = new_ended script label p0 p q s t r r1 text same gave (ended eb [] at)
+new_by script label p0 p q s t r r1 text ends false eb some same gave at goes_on ended = new_open script label p0 p q s t r r1 text some same gave (goes_on eb [] at)
 
-pub new_went : (script : List Act) (inside : Option Tai64n) (label : Tai64n) (p0 p q : Place) (s t : Told) (e f : ℕ) (r r1 : Option (List Tai64n)) (line text : List ℕ) (ends : Bool) (left : Option Tai64n)
-    → inside ≡ None → left ≡ left_of label ends → 0 < length text → p.tails ≡ p0.tails → Gave r r1 (label ∷ []) → IsAt script p label []
-    → (ends ≡ false → (line : List ℕ) → IsAt script p label line → LineOpen script (outputs p.tails s e) (outputs q.tails t f) q label line text)
-    → (ends ≡ true → (line : List ℕ) → IsAt script p label line → LineEnded script (outputs p.tails s e) (outputs q.tails t f) label line text)
-    → IsIn script (scene inside p0 s e r) line → Went script (scene inside p0 s e r) (scene left q t f r1) line text 1
-new_went script inside label p0 p q s t e f r r1 line text ends left is lis some same gave at goes_on ended in_it =
+pub new_went : (script : List Act) (inside : Option Tai64n) (label : Tai64n) (p0 p q : Place) (s t : StoreState) (r r1 : Option (List Tai64n)) (line text : List ℕ) (ends : Bool) (left : Option Tai64n)
+    → inside ≡ None → left ≡ left_of label ends → 0 < length text → p.tails ≡ p0.tails → Extended r r1 (label ∷ []) → IsAt script p label []
+    → (ends ≡ false → (line : List ℕ) → IsAt script p label line → LineOpen script (outputs p.tails s) (outputs q.tails t) q label line text)
+    → (ends ≡ true → (line : List ℕ) → IsAt script p label line → LineEnded script (outputs p.tails s) (outputs q.tails t) label line text)
+    → IsIn script (scene inside p0 s r) line → Went script (scene inside p0 s r) (scene left q t r1) line text 1
+new_went script inside label p0 p q s t r r1 line text ends left is lis some same gave at goes_on ended in_it =
     let none : line ≡ [] = subst (λ (i : Option Tai64n). IsInLine script p0 i line) is in_it in
-    subst (λ (i : Option Tai64n). Went script (scene i p0 s e r) (scene left q t f r1) line text 1) (sym is)
-    (subst (λ (i : Option Tai64n). Went script (scene None p0 s e r) (scene i q t f r1) line text 1) (sym lis)
-    (subst (λ (l : List ℕ). Went script (scene None p0 s e r) (scene (left_of label ends) q t f r1) l text 1) (sym none)
-    (new_by script label p0 p q s t e f r r1 text ends ends refl some same gave at goes_on ended)))
+    subst (λ (i : Option Tai64n). Went script (scene i p0 s r) (scene left q t r1) line text 1) (sym is)
+    (subst (λ (i : Option Tai64n). Went script (scene None p0 s r) (scene i q t r1) line text 1) (sym lis)
+    (subst (λ (l : List ℕ). Went script (scene None p0 s r) (scene (left_of label ends) q t r1) l text 1) (sym none)
+    (new_by script label p0 p q s t r r1 text ends ends refl some same gave at goes_on ended)))
 
-pub new_stopped : (script : List Act) (inside : Option Tai64n) (label : Tai64n) (p0 p q : Place) (s t : Told) (e f : ℕ) (r r1 : Option (List Tai64n)) (line bytes : List ℕ) (why : LogFault)
-    → inside ≡ None → p.tails ≡ p0.tails → Gave r r1 (label ∷ []) → IsAt script p label []
-    → ((line : List ℕ) → IsAt script p label line → IsPlain line → StopsAt (outputs p.tails s e) (outputs q.tails t f) (so_far script label line) (of_text script (label ∷ []) (line ++ bytes)) why)
-    → IsIn script (scene inside p0 s e r) line → WentUpTo script (scene inside p0 s e r) (scene None q t f r1) line bytes why
-new_stopped script inside label p0 p q s t e f r r1 line bytes why is same gave at stopped in_it =
+pub new_stopped : (script : List Act) (inside : Option Tai64n) (label : Tai64n) (p0 p q : Place) (s t : StoreState) (r r1 : Option (List Tai64n)) (line bytes : List ℕ) (why : LogFault)
+    → inside ≡ None → p.tails ≡ p0.tails → Extended r r1 (label ∷ []) → IsAt script p label []
+    → ((line : List ℕ) → IsAt script p label line → IsPlain line → StopsAt (outputs p.tails s) (outputs q.tails t) (so_far script label line) (of_text script (label ∷ []) (line ++ bytes)) why)
+    → IsIn script (scene inside p0 s r) line → WentUpTo script (scene inside p0 s r) (scene None q t r1) line bytes why
+new_stopped script inside label p0 p q s t r r1 line bytes why is same gave at stopped in_it =
     let none : line ≡ [] = subst (λ (i : Option Tai64n). IsInLine script p0 i line) is in_it in
-    let stop = subst (λ (tails : List _). StopsAt (outputs tails s e) (outputs q.tails t f) nothing (of_text script (label ∷ []) bytes) why) same
-    (subst (λ (g : Given). StopsAt (outputs p.tails s e) (outputs q.tails t f) g (of_text script (label ∷ []) bytes) why) (sym (begun_nothing script label)) (stopped [] at refl)) in
-    subst (λ (i : Option Tai64n). WentUpTo script (scene i p0 s e r) (scene None q t f r1) line bytes why) (sym is)
-    (subst (λ (l : List ℕ). WentUpTo script (scene None p0 s e r) (scene None q t f r1) l bytes why) (sym none)
+    let stop = subst (λ (tails : List _). StopsAt (outputs tails s) (outputs q.tails t) nothing (of_text script (label ∷ []) bytes) why) same
+    (subst (λ (g : Given). StopsAt (outputs p.tails s) (outputs q.tails t) g (of_text script (label ∷ []) bytes) why) (sym (begun_nothing script label)) (stopped [] at refl)) in
+    subst (λ (i : Option Tai64n). WentUpTo script (scene i p0 s r) (scene None q t r1) line bytes why) (sym is)
+    (subst (λ (l : List ℕ). WentUpTo script (scene None p0 s r) (scene None q t r1) l bytes why) (sym none)
     (record { labels = label ∷ []; gave = gave; stops = stop }))
 
 -- One after another
@@ -230,7 +231,7 @@ Went-then script a b c line xs ys m n w then =
     let t3 = of_text script (w.names ++ v.names) (w.whole ++ v.whole) in
     record {
       labels = w.labels ++ v.labels;
-      gave = Gave-then a.readings b.readings c.readings w.labels v.labels w.gave v.gave;
+      gave = Extended-then a.readings b.readings c.readings w.labels v.labels w.gave v.gave;
       count_is = let k = w.count_is in let l = v.count_is in let h = length-append w.labels v.labels in omega (arith, k, l, h);
       whole = w.whole ++ v.whole;
       names = w.names ++ v.names;
@@ -265,7 +266,7 @@ WentUpTo-then script a b c line xs ys m why w then =
     (text_turn script w.names more w.whole rest w.lines w.each) in
     record {
       labels = w.labels ++ v.labels;
-      gave = Gave-then a.readings b.readings c.readings w.labels v.labels w.gave v.gave;
+      gave = Extended-then a.readings b.readings c.readings w.labels v.labels w.gave v.gave;
       stops = subst (λ (t : List ℕ). StopsAt (outputs_of a) (outputs_of c) x (of_text script (labels_of a.line ++ (w.labels ++ v.labels)) t) why) (sym bytes_are)
           (subst (λ (t : List Tai64n). StopsAt (outputs_of a) (outputs_of c) x (of_text script t (w.whole ++ rest)) why) (sym names_are) stops);
     }
@@ -291,7 +292,7 @@ no_further script a b c bytes at m why w v = λ line is.
 pub no_bytes : (script : List Act) (a : Scene) → (line : List ℕ) → IsIn script a line → Went script a a line [] 0
 no_bytes script a = λ line is. record {
   labels = [];
-  gave = Gave-none a.readings;
+  gave = Extended-none a.readings;
   count_is = refl;
   whole = [];
   names = [];
@@ -311,19 +312,19 @@ still_in : (script : List Act) (p q : Place) (inside : Option Tai64n) (line : Li
     → IsInLine script p inside line → IsInLine script q inside line
 still_in script p q None line same at = at
 still_in script p q (Some label) line same at = (
-  subst (λ (d : Bool). IsHeldOrDecided d script q.chosen q.front label line) (sym same.2)
-      (subst (λ (c : Chosen). IsHeldOrDecided p.decided script c q.front label line) (sym same.0)
-      (subst (λ (f : List ℕ). IsHeldOrDecided p.decided script p.chosen f label line) (sym same.1) at.0)),
+  subst (λ (d : Bool). IsKeptOrDecided d script q.chosen q.front label line) (sym same.2)
+      (subst (λ (c : Chosen). IsKeptOrDecided p.decided script c q.front label line) (sym same.0)
+      (subst (λ (f : List ℕ). IsKeptOrDecided p.decided script p.chosen f label line) (sym same.1) at.0)),
   at.1,
   at.2,
 )
 
 -- What waited was appended behind bytes that went on.
-pub flushed : (script : List Act) (a : Scene) (line : List ℕ) (i : Option Tai64n) (p q : Place) (s t : Told) (e f : ℕ) (r : Option (List Tai64n)) (bytes : List ℕ) (m : ℕ)
+pub flushed : (script : List Act) (a : Scene) (line : List ℕ) (i : Option Tai64n) (p q : Place) (s t : StoreState) (r : Option (List Tai64n)) (bytes : List ℕ) (m : ℕ)
     → (q.chosen ≡ p.chosen) × (q.front ≡ p.front) × (q.decided ≡ p.decided)
-    → Went script a (scene i p s e r) line bytes m → Takes (outputs p.tails s e) (outputs q.tails t f) nothing
-    → Went script a (scene i q t f r) line bytes m
-flushed script a line i p q s t e f r bytes m same w k =
+    → Went script a (scene i p s r) line bytes m → Takes (outputs p.tails s) (outputs q.tails t) nothing
+    → Went script a (scene i q t r) line bytes m
+flushed script a line i p q s t r bytes m same w k =
     let y = joined (of_text script w.names w.whole) (given_in script i w.left) in
     record {
       labels = w.labels;
@@ -337,7 +338,7 @@ flushed script a line i p q s t e f r bytes m same w k =
       lines = w.lines;
       each = w.each;
       at = still_in script p q i w.left same w.at;
-      grows = Grows-then (outputs_of a) (outputs p.tails s e) (outputs q.tails t f) (given_in script a.line line) y y w.grows
+      grows = Grows-then (outputs_of a) (outputs p.tails s) (outputs q.tails t) (given_in script a.line line) y y w.grows
           (record { more = nothing; whole = Same-nothing y; takes = k });
     }
 
@@ -356,19 +357,19 @@ the_end script p (Some label) left is =
     }
 
 -- It could not be appended.
-pub unflushed : (script : List Act) (a : Scene) (line : List ℕ) (i : Option Tai64n) (p q : Place) (s t : Told) (e f : ℕ) (r : Option (List Tai64n)) (bytes : List ℕ) (m : ℕ) (why : LogFault)
-    → Went script a (scene i p s e r) line bytes m → Stops (outputs p.tails s e) (outputs q.tails t f) nothing why
-    → WentUpTo script a (scene None q t f r) line bytes why
-unflushed script a line i p q s t e f r bytes m why w k =
+pub unflushed : (script : List Act) (a : Scene) (line : List ℕ) (i : Option Tai64n) (p q : Place) (s t : StoreState) (r : Option (List Tai64n)) (bytes : List ℕ) (m : ℕ) (why : LogFault)
+    → Went script a (scene i p s r) line bytes m → Stops (outputs p.tails s) (outputs q.tails t) nothing why
+    → WentUpTo script a (scene None q t r) line bytes why
+unflushed script a line i p q s t r bytes m why w k =
     let x = given_in script a.line line in
     let t1 = of_text script w.names w.whole in
     let s1 = given_in script i w.left in
     let y = joined t1 s1 in
     let end = the_end script p i w.left w.at in
     let all = of_text script (w.names ++ labels_of i) (w.whole ++ w.left) in
-    let stop : StopsAt (outputs p.tails s e) (outputs q.tails t f) y y why = record { more = nothing; whole = Same-nothing y; stops = k } in
-    let stops = StopsAt-more (outputs_of a) (outputs q.tails t f) x y end.rest all why
-    (StopsAt-then (outputs_of a) (outputs p.tails s e) (outputs q.tails t f) x y y why w.grows stop)
+    let stop : StopsAt (outputs p.tails s) (outputs q.tails t) y y why = record { more = nothing; whole = Same-nothing y; stops = k } in
+    let stops = StopsAt-more (outputs_of a) (outputs q.tails t) x y end.rest all why
+    (StopsAt-then (outputs_of a) (outputs p.tails s) (outputs q.tails t) x y y why w.grows stop)
     (Same-then (joined y end.rest) (joined t1 (joined s1 end.rest)) all
     (Same-sym (joined t1 (joined s1 end.rest)) (joined y end.rest) (Same-moved t1 s1 end.rest))
     (Same-then (joined t1 (joined s1 end.rest)) (joined t1 (of_text script (labels_of i) w.left)) all (Same-behind t1 (joined s1 end.rest) (of_text script (labels_of i) w.left) end.whole)
@@ -376,8 +377,8 @@ unflushed script a line i p q s t e f r bytes m why w k =
     record {
       labels = w.labels;
       gave = w.gave;
-      stops = subst (λ (b : List ℕ). StopsAt (outputs_of a) (outputs q.tails t f) x (of_text script (labels_of a.line ++ w.labels) b) why) (sym w.cut)
-          (subst (λ (n : List Tai64n). StopsAt (outputs_of a) (outputs q.tails t f) x (of_text script n (w.whole ++ w.left)) why) (sym w.named) stops);
+      stops = subst (λ (b : List ℕ). StopsAt (outputs_of a) (outputs q.tails t) x (of_text script (labels_of a.line ++ w.labels) b) why) (sym w.cut)
+          (subst (λ (n : List Tai64n). StopsAt (outputs_of a) (outputs q.tails t) x (of_text script n (w.whole ++ w.left)) why) (sym w.named) stops);
     }
 
 -- The end of the input

@@ -13,7 +13,7 @@ use Rattle.mlog_script.specs.Selection.{stamps, shown, chosen_line, to_log, to_a
 use Rattle.mlog_script.proofs.Texts.{comes_in_turn}
 use Rattle.mlog_line.specs.Given.{Given, nothing, joined, of_line, of_text, so_far, to_logs}
 use Rattle.mlog_line.specs.Outputs.{SameGiven}
-use Rattle.mlog_line.proofs.Fronts.{line_ends, held_so_far}
+use Rattle.mlog_line.proofs.Fronts.{line_ends, kept_so_far}
 
 -- Plain bytes
 
@@ -114,7 +114,7 @@ short_by true label =
 short_by false label = omega arith
 
 pub begun_nothing : (script : List Act) (label : Tai64n) → nothing ≡ so_far script label []
-begun_nothing script label = held_so_far script label [] (shown script label []) refl (short_by (stamps script) label)
+begun_nothing script label = kept_so_far script label [] (shown script label []) refl (short_by (stamps script) label)
 
 -- The line that bytes belong to, up to its newline or their end.
 line_by : (script : List Act) (label : Tai64n) (line text bytes rest : List ℕ) → IsPlain line → IsPlain text → bytes ≡ text ++ 10 ∷ rest

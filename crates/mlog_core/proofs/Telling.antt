@@ -6,7 +6,8 @@ use Rattle.std.specs.Prelude.{slice_get, IfSome}
 use Rattle.std.specs.Option.{option_map}
 use Rattle.std.specs.Io.KnownBytes.{Consumes}
 use Rattle.tai_status.specs.Label.{Tai64n}
-use Rattle.tai_status.specs.Lines.{Sent, Gave}
+use Rattle.tai_status.specs.Lines.{Sent}
+use Rattle.tai_status.specs.Extended.{Extended}
 use Rattle.tai_status.specs.LineReader.{IsPlain}
 use Rattle.tai_status.specs.Counted.{Device, AppendsFront}
 use Rattle.tai_status.proofs.Known.{AppendsFront-whole, AppendsFront-more}
@@ -14,13 +15,13 @@ use Rattle.mlog_script.specs.Script.{Act, Plan, log_plans}
 use Rattle.mlog_script.specs.Selection.{log_text}
 use Rattle.mlog_files.specs.Files.{Files, Step, append_steps}
 use Rattle.mlog_files.specs.Going.{Standing, steps_on, standing_on}
-use Rattle.mlog_files.specs.Store.{Told, Reaches}
+use Rattle.mlog_files.specs.Store.{StoreState, Told, Reaches}
 use Rattle.mlog_files.specs.Tails.{keep_of, waiting_in, standing, found}
 use Rattle.mlog_files.specs.declared.tail.Tail.{Tail}
 use Rattle.mlog_files.specs.declared.tail.LogFault.{LogFault}
 use Rattle.mlog_files.specs.declared.tail.LogFault.TheVariants as log_fault
 use Rattle.mlog_files.proofs.Goings.{steps_on-append}
-use Rattle.mlog_line.specs.Desk.{Place, IsOpened, IsOpenedAt, AreOpened, IsWrittenAt, IsWritten, total_finished, total_removed}
+use Rattle.mlog_line.specs.LineRouter.{Place, IsOpened, IsOpenedAt, AreOpened, IsWrittenAt, IsWritten, total_finished, total_removed}
 use Rattle.mlog_line.specs.Given.{joined, of_text}
 use Rattle.mlog_line.specs.Outputs.{steps_for, after, TakesIn, TakesInAt, TakesFrontAt, Takes, IsSpent, SameGiven}
 use Rattle.mlog_line.proofs.Taking.{Takes-same}
@@ -156,66 +157,66 @@ fold_map f g n (x ∷ xs) = fold_map f g (f n (g x)) xs
 
 -- The whole run
 
-pub runs_all : (script : List Act) (r p : Device) (told now : Told) (e f : ℕ) (a b : Option (List Tai64n)) (p0 p1 : Place) (n : ℕ) (counts : Counts)
-    → AreOpened script told p0.tails → IsWritten p1.tails → Done script (scene None p0 told e a) (scene None p1 now f b) r p n
+pub runs_all : (script : List Act) (r p : Device) (old new : StoreState) (a b : Option (List Tai64n)) (p0 p1 : Place) (n : ℕ) (counts : Counts)
+    → AreOpened script old.told p0.tails → IsWritten p1.tails → Done script (scene None p0 old a) (scene None p1 new b) r p n
     → counts.lines ≡ n → counts.finished ≡ total_finished p1.tails → counts.removed ≡ total_removed p1.tails
-    → RunsAll script (world r told a) (world p now b) counts
+    → RunsAll script (world r old a) (world p new b) counts
 unfolding stood_of
-runs_all script r p told now e f a b p0 p1 n counts opened written d lines finished removed = record {
+runs_all script r p old new a b p0 p1 n counts opened written d lines finished removed = record {
   bytes = d.bytes;
   labels = d.labels;
-  stood = stood_of p0.tails told;
+  stood = stood_of p0.tails old.told;
   ends = map standing p1.tails;
   read = d.read;
   gave = d.gave;
   each = d.each;
-  are_found = all_found script told p0.tails opened;
-  logs = λ log. log_done (slice_get (log_plans script) log) (told.files log) (now.files log) (slice_get p0.tails log) (slice_get p1.tails log) (log_text script log d.labels d.bytes)
+  are_found = all_found script old.told p0.tails opened;
+  logs = λ log. log_done (slice_get (log_plans script) log) (old.told.files log) (new.told.files log) (slice_get p0.tails log) (slice_get p1.tails log) (log_text script log d.labels d.bytes)
       (opened log) (d.takes.logs log) (written log);
   alerts = d.takes.alerts;
   files = d.takes.files;
   lines = lines ∙ d.count_is ∙ d.each;
-  are_ends = λ log. subst (λ (end : Option Standing). IsEnd (slice_get (log_plans script) log) (stood_of p0.tails told log) (log_text script log d.labels d.bytes) end)
+  are_ends = λ log. subst (λ (end : Option Standing). IsEnd (slice_get (log_plans script) log) (stood_of p0.tails old.told log) (log_text script log d.labels d.bytes) end)
       (sym (slice_get-map standing p1.tails log))
-      (log_end (slice_get (log_plans script) log) (told.files log) (now.files log) (slice_get p0.tails log) (slice_get p1.tails log) (log_text script log d.labels d.bytes)
+      (log_end (slice_get (log_plans script) log) (old.told.files log) (new.told.files log) (slice_get p0.tails log) (slice_get p1.tails log) (log_text script log d.labels d.bytes)
       (opened log) (d.takes.logs log));
   finished = finished ∙ sym (fold_map (λ (t : ℕ) (s : Standing). min (2 ^ 64 - 1) (t + s.marks.finished)) standing 0 p1.tails);
   removed = removed ∙ sym (fold_map (λ (t : ℕ) (s : Standing). min (2 ^ 64 - 1) (t + s.marks.removed)) standing 0 p1.tails);
 }
 
-pub runs_up_to : (script : List Act) (r p : Device) (told now : Told) (e f : ℕ) (a b : Option (List Tai64n)) (p0 p1 : Place) (why : LogFault) (tells : RunFault)
-    → AreOpened script told p0.tails → (tells ≡ fault.LabelsSpent → why ≡ log_fault.LabelsSpent) → Halted script (scene None p0 told e a) (scene None p1 now f b) r p why
-    → RunsUpTo script (world r told a) (world p now b) tells
+pub runs_up_to : (script : List Act) (r p : Device) (old new : StoreState) (a b : Option (List Tai64n)) (p0 p1 : Place) (why : LogFault) (tells : RunFault)
+    → AreOpened script old.told p0.tails → (tells ≡ fault.LabelsSpent → why ≡ log_fault.LabelsSpent) → Halted script (scene None p0 old a) (scene None p1 new b) r p why
+    → RunsUpTo script (world r old a) (world p new b) tells
 unfolding stood_of
-runs_up_to script r p told now e f a b p0 p1 why tells opened same h = record {
+runs_up_to script r p old new a b p0 p1 why tells opened same h = record {
   bytes = h.bytes;
   labels = h.labels;
-  stood = stood_of p0.tails told;
+  stood = stood_of p0.tails old.told;
   read = h.read;
   gave = h.gave;
-  are_found = all_found script told p0.tails opened;
-  logs = λ log. log_front (slice_get (log_plans script) log) (told.files log) (now.files log) (slice_get p0.tails log) (log_text script log h.labels h.bytes)
+  are_found = all_found script old.told p0.tails opened;
+  logs = λ log. log_front (slice_get (log_plans script) log) (old.told.files log) (new.told.files log) (slice_get p0.tails log) (log_text script log h.labels h.bytes)
       (opened log) (h.stops.logs log);
   alerts = h.stops.alerts;
-  spent = λ is. let s = h.stops.spent (same is) in (s.log, log_spent (slice_get (log_plans script) s.log) (told.files s.log) (slice_get p0.tails s.log) (log_text script s.log h.labels h.bytes) (opened s.log) s.spent);
+  spent = λ is. let s = h.stops.spent (same is) in (s.log, log_spent (slice_get (log_plans script) s.log) (old.told.files s.log) (slice_get p0.tails s.log) (log_text script s.log h.labels h.bytes) (opened s.log) s.spent);
 }
 
 plain_left : (script : List Act) (p : Place) (i : Option Tai64n) (left : List ℕ) → IsInLine script p i left → IsPlain left
 plain_left script p None left is = subst (λ (t : List ℕ). IsPlain t) (sym is) refl
 plain_left script p (Some label) left is = is.1
 
-pub runs_lines : (script : List Act) (r p : Device) (told now : Told) (e f : ℕ) (a b : Option (List Tai64n)) (p0 p1 : Place) (i : Option Tai64n) (n : ℕ)
-    → AreOpened script told p0.tails → IsWritten p1.tails → Came script (scene None p0 told e a) (scene i p1 now f b) r p n
-    → RunsLines script (world r told a) (world p now b)
+pub runs_lines : (script : List Act) (r p : Device) (old new : StoreState) (a b : Option (List Tai64n)) (p0 p1 : Place) (i : Option Tai64n) (n : ℕ)
+    → AreOpened script old.told p0.tails → IsWritten p1.tails → Came script (scene None p0 old a) (scene i p1 new b) r p n
+    → RunsLines script (world r old a) (world p new b)
 unfolding stood_of
-runs_lines script r p told now e f a b p0 p1 i n opened written c =
+runs_lines script r p old new a b p0 p1 i n opened written c =
     let w = c.went in
     let t1 = of_text script w.names w.whole in
     let s1 = given_in script i w.left in
     let end = the_end script p1 i w.left w.at in
     let all = of_text script (w.names ++ labels_of i) (w.whole ++ w.left) in
-    let first = outputs_of (scene None p0 told e a) in
-    let last = outputs_of (scene i p1 now f b) in
+    let first = outputs_of (scene None p0 old a) in
+    let last = outputs_of (scene i p1 new b) in
     let takes : Takes first last (joined t1 s1) =
     Takes-same first last w.grows.more (joined t1 s1) w.grows.takes (record { logs = w.grows.whole.logs; alerts = w.grows.whole.alerts; files = w.grows.whole.files }) in
     let whole : SameGiven (joined (joined t1 s1) end.rest) all =
@@ -227,17 +228,17 @@ runs_lines script r p told now e f a b p0 p1 i n opened written c =
       front = w.left;
       labels = w.names;
       more = labels_of i;
-      stood = stood_of p0.tails told;
+      stood = stood_of p0.tails old.told;
       read = subst (λ (t : List ℕ). Consumes r.bytes p.bytes t) w.cut c.read;
-      gave = subst (λ (t : List Tai64n). Gave a b t) w.named w.gave;
+      gave = subst (λ (t : List Tai64n). Extended a b t) w.named w.gave;
       whole = w.lines;
       plain = plain_left script p1 i w.left w.at;
       each = w.each;
-      are_found = all_found script told p0.tails opened;
-      logs = λ log. subst (λ (t : List Sent). ReachesFront (told.files log) (now.files log) (length (log_steps script (stood_of p0.tails told) w.names w.whole log))
-          (planned_steps (slice_get (log_plans script) log) (stood_of p0.tails told log) t)) (whole.logs log)
-          (log_lines (slice_get (log_plans script) log) (told.files log) (now.files log) (slice_get p0.tails log) (slice_get p1.tails log) (t1.logs log) (s1.logs log) (end.rest.logs log)
+      are_found = all_found script old.told p0.tails opened;
+      logs = λ log. subst (λ (t : List Sent). ReachesFront (old.told.files log) (new.told.files log) (length (log_steps script (stood_of p0.tails old.told) w.names w.whole log))
+          (planned_steps (slice_get (log_plans script) log) (stood_of p0.tails old.told log) t)) (whole.logs log)
+          (log_lines (slice_get (log_plans script) log) (old.told.files log) (new.told.files log) (slice_get p0.tails log) (slice_get p1.tails log) (t1.logs log) (s1.logs log) (end.rest.logs log)
           (opened log) (takes.logs log) (written log));
-      alerts = subst (λ (t : List ℕ). AppendsFront told.alerts now.alerts t) whole.alerts
-          (AppendsFront-more end.rest.alerts (AppendsFront-whole told.alerts now.alerts (t1.alerts ++ s1.alerts) takes.alerts));
+      alerts = subst (λ (t : List ℕ). AppendsFront old.told.alerts new.told.alerts t) whole.alerts
+          (AppendsFront-more end.rest.alerts (AppendsFront-whole old.told.alerts new.told.alerts (t1.alerts ++ s1.alerts) takes.alerts));
     }

@@ -12,16 +12,19 @@ abbrev pub total_below : ℕ → (ℕ → ℕ) → ℕ
 total_below zero each = 0
 total_below (suc count) each = each 0 + total_below count (λ log. each (log + 1))
 
--- The counts of a run, over logs that nothing was counted of before, are how many of the steps of all logs are finishes and
--- how many are removals. They stop at 2^64 - 1.
-pub record CountsAllSteps (script : List Act) (stood : ℕ → Standing) (labels : List Tai64n) (bytes : List ℕ) (ends : List Standing) : Type 0 where
-  pub finished : all_finished ends
-      ≡ min (2 ^ 64 - 1) (total_below (length ends) (λ log. count_by is_finish (log_steps script stood labels bytes log)))
-  pub removed : all_removed ends
-      ≡ min (2 ^ 64 - 1) (total_below (length ends) (λ log. count_by is_remove (log_steps script stood labels bytes log)))
+-- The counts of a run, over logs that nothing was counted of before, are how many of the steps of all logs are finishes
+-- and how many are removals. They stop at 2^64 - 1.
+pub record CountsAllSteps (script : List Act) (stood : ℕ → Standing) (labels : List Tai64n) (bytes : List ℕ)
+    (ends : List Standing) : Type 0 where
+  pub finished : all_finished ends ≡ min (2 ^ 64 - 1)
+      (total_below (length ends) (λ log. count_by is_finish (log_steps script stood labels bytes log)))
+  pub removed : all_removed ends ≡ min (2 ^ 64 - 1)
+      (total_below (length ends) (λ log. count_by is_remove (log_steps script stood labels bytes log)))
 
 abbrev pub RunsCountTheirSteps : Type 0
-RunsCountTheirSteps = (script : List Act) (stood : ℕ → Standing) (labels : List Tai64n) (bytes : List ℕ) (ends : List Standing)
+RunsCountTheirSteps = (script : List Act) (stood : ℕ → Standing) (labels : List Tai64n) (bytes : List ℕ)
+    (ends : List Standing)
     → ((log : ℕ) → ((stood log).marks.finished ≡ 0) × ((stood log).marks.removed ≡ 0))
-    → ((log : ℕ) → IsEnd (slice_get (log_plans script) log) (stood log) (log_text script log labels bytes) (slice_get ends log))
+    → ((log : ℕ)
+    → IsEnd (slice_get (log_plans script) log) (stood log) (log_text script log labels bytes) (slice_get ends log))
     → CountsAllSteps script stood labels bytes ends

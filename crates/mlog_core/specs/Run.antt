@@ -1,29 +1,31 @@
 -- What a run of multilog does.
-use Rattle.std.specs.Prelude.{◌≡◌, ℕ, ◌+◌, ◌-◌, ◌^◌, ◌≤◌, min, true, List, [], ◌++◌, length, take, fold, slice_get, Option, Some, None, IfSome}
+use Rattle.std.specs.Prelude.{◌≡◌, ℕ, ◌+◌, ◌-◌, ◌^◌, ◌≤◌, min, true, List, [], ◌++◌, length, take, fold, slice_get}
+use Rattle.std.specs.Prelude.{Option, Some, None, IfSome, Result, IfOk, IsErrOf}
 use Rattle.std.specs.Io.KnownBytes.{Appends}
 use Rattle.tai_status.specs.Label.{Tai64n}
 use Rattle.tai_status.specs.Counted.{Device, AppendsFront, Gives}
-use Rattle.tai_status.specs.Lines.{Sent, texts_of, Gave}
+use Rattle.tai_status.specs.Lines.{Sent, texts_of}
+use Rattle.tai_status.specs.Extended.{Extended}
 use Rattle.tai_status.specs.LineReader.{IsPlain}
 use Rattle.mlog_script.specs.Script.{Act, Plan, log_plans}
 use Rattle.mlog_script.specs.Selection.{log_text, alert_text, file_contents, is_whole}
 use Rattle.mlog_files.specs.Files.{Files, Step}
 use Rattle.mlog_files.specs.Going.{Standing, steps_on, standing_on}
-use Rattle.mlog_files.specs.Store.{Told, Reaches}
+use Rattle.mlog_files.specs.Store.{StoreState, Told, Reaches}
 use Rattle.mlog_files.specs.Tails.{found}
 use Rattle.mlog_line.specs.Outputs.{Becomes}
 use Rattle.mlog_core.specs.declared.stream.Counts.{Counts}
 use Rattle.mlog_core.specs.declared.stream.RunFault.{RunFault}
 use Rattle.mlog_core.specs.declared.stream.RunFault.TheVariants as fault
 
--- What a run reads, writes and asks: the reader, what the store tells, and what the clock gave.
+-- What a run reads, writes and asks: the reader, the store, and what the clock gave.
 pub record World : Type 0 where
   pub reader : Device
-  pub told : Told
+  pub store : StoreState
   pub readings : Option (List Tai64n)
 
-abbrev pub world : Device → Told → Option (List Tai64n) → World
-world reader told readings = record { reader = reader; told = told; readings = readings }
+abbrev pub world : Device → StoreState → Option (List Tai64n) → World
+world reader store readings = record { reader = reader; store = store; readings = readings }
 
 -- where each log stood when it was opened: as its files are, where they are told
 abbrev pub AreFound : Told → (ℕ → Standing) → Type 0
@@ -64,13 +66,13 @@ pub record RunsAll (script : List Act) (old new : World) (counts : Counts) : Typ
   pub stood : ℕ → Standing
   pub ends : List Standing
   pub read : Gives old.reader new.reader bytes
-  pub gave : Gave old.readings new.readings labels
+  pub gave : Extended old.readings new.readings labels
   pub each : length labels ≡ length (texts_of bytes)
-  pub are_found : AreFound old.told stood
+  pub are_found : AreFound old.store.told stood
   pub logs : (log : ℕ)
-      → Reaches (old.told.files log) (new.told.files log) (log_steps script stood labels bytes log)
-  pub alerts : Appends old.told.alerts new.told.alerts (alert_text script labels bytes)
-  pub files : (file : ℕ) → Becomes (old.told.statuses file) (new.told.statuses file)
+      → Reaches (old.store.told.files log) (new.store.told.files log) (log_steps script stood labels bytes log)
+  pub alerts : Appends old.store.told.alerts new.store.told.alerts (alert_text script labels bytes)
+  pub files : (file : ℕ) → Becomes (old.store.told.statuses file) (new.store.told.statuses file)
       (file_contents script file labels bytes)
   pub lines : counts.lines ≡ length (texts_of bytes)
   pub are_ends : (log : ℕ)
@@ -93,14 +95,15 @@ pub record RunsLines (script : List Act) (old new : World) : Type 0 where
   pub more : List Tai64n
   pub stood : ℕ → Standing
   pub read : Gives old.reader new.reader (lines ++ front)
-  pub gave : Gave old.readings new.readings (labels ++ more)
+  pub gave : Extended old.readings new.readings (labels ++ more)
   pub whole : is_whole lines ≡ true
   pub plain : IsPlain front
   pub each : length labels ≡ length (texts_of lines)
-  pub are_found : AreFound old.told stood
-  pub logs : (log : ℕ) → ReachesFront (old.told.files log) (new.told.files log)
+  pub are_found : AreFound old.store.told stood
+  pub logs : (log : ℕ) → ReachesFront (old.store.told.files log) (new.store.told.files log)
       (length (log_steps script stood labels lines log)) (log_steps script stood (labels ++ more) (lines ++ front) log)
-  pub alerts : AppendsFront old.told.alerts new.told.alerts (alert_text script (labels ++ more) (lines ++ front))
+  pub alerts : AppendsFront old.store.told.alerts new.store.told.alerts
+      (alert_text script (labels ++ more) (lines ++ front))
 
 -- The store failed, or there was no label for an old file: a front of the steps of each log is done, and a front of
 -- the alerts was alerted.
@@ -109,10 +112,20 @@ pub record RunsUpTo (script : List Act) (old new : World) (why : RunFault) : Typ
   pub labels : List Tai64n
   pub stood : ℕ → Standing
   pub read : Gives old.reader new.reader bytes
-  pub gave : Gave old.readings new.readings labels
-  pub are_found : AreFound old.told stood
+  pub gave : Extended old.readings new.readings labels
+  pub are_found : AreFound old.store.told stood
   pub logs : (log : ℕ)
-      → ReachesFront (old.told.files log) (new.told.files log) 0 (log_steps script stood labels bytes log)
-  pub alerts : AppendsFront old.told.alerts new.told.alerts (alert_text script labels bytes)
+      → ReachesFront (old.store.told.files log) (new.store.told.files log) 0 (log_steps script stood labels bytes log)
+  pub alerts : AppendsFront old.store.told.alerts new.store.told.alerts (alert_text script labels bytes)
   pub spent : why ≡ fault.LabelsSpent → (log : ℕ)
       × IsPlanSpent (slice_get (log_plans script) log) (stood log) (log_text script log labels bytes)
+
+-- How a run ends. At Ok all the input was handed out. The reader failed, and all steps of the lines that it gave are
+-- done; or the store failed, or a log has no label for an old file, after a front of the steps; or there was no memory,
+-- and nothing was done.
+pub record RunEnds (result : Result Counts RunFault) (script : List Act) (old new : World) : Type 0 where
+  pub done : IfOk result (λ counts. RunsAll script old new counts)
+  pub read : IsErrOf result fault.Read → RunsLines script old new
+  pub store : IsErrOf result fault.Store → RunsUpTo script old new fault.Store
+  pub spent : IsErrOf result fault.LabelsSpent → RunsUpTo script old new fault.LabelsSpent
+  pub memory : IsErrOf result fault.OutOfMemory → new ≡ old

@@ -1,35 +1,32 @@
 -- How far a run has come. No public contract speaks of it.
-use Rattle.std.specs.Prelude.{◌≡◌, ℕ, ◌<◌, Bool, true, false, List, [], ◌∷◌, ◌++◌, length, count_by, Option, Some, None}
+use Rattle.std.specs.Prelude.{◌≡◌, ℕ, ◌<◌, ◌≤◌, Bool, true, false, List, [], ◌∷◌, ◌++◌, length, take, count_by}
+use Rattle.std.specs.Prelude.{Option, Some, None, Result, OnOk, IfOk, IfErr}
 use Rattle.tai_status.specs.Label.{Tai64n}
-use Rattle.tai_status.specs.Lines.{texts_of, Sent, Gave}
+use Rattle.tai_status.specs.Lines.{texts_of, Sent}
+use Rattle.tai_status.specs.Extended.{Extended}
 use Rattle.tai_status.specs.LineReader.{IsPlain}
 use Rattle.mlog_script.specs.Script.{Act, is_log}
 use Rattle.mlog_script.specs.Selection.{is_whole}
-use Rattle.mlog_files.specs.Store.{Told}
+use Rattle.mlog_files.specs.Store.{StoreState, Stays}
 use Rattle.mlog_files.specs.declared.tail.LogFault.{LogFault}
-use Rattle.mlog_line.specs.Desk.{Place, IsAt}
+use Rattle.mlog_line.specs.LineRouter.{Place, IsAt, Serves}
 use Rattle.mlog_line.specs.Given.{Given, nothing, joined, of_line, of_text, so_far, to_first, bytes_of}
 use Rattle.mlog_line.specs.Outputs.{Outputs, outputs, SameGiven, Grows, StopsAt}
+use Rattle.mlog_core.specs.declared.feed.Taken.{Taken}
+use Rattle.mlog_core.specs.declared.feed.Fed.{Fed}
 
--- The label of the line that has begun, where one has; the desk; the store; and what the clock gave.
+-- The label of the line that has begun, where one has; the router; the store; and what the clock gave.
 pub record Scene : Type 0 where
   pub line : Option Tai64n
   pub place : Place
-  pub told : Told
-  pub failures : ℕ
+  pub store : StoreState
   pub readings : Option (List Tai64n)
 
-abbrev pub scene : Option Tai64n → Place → Told → ℕ → Option (List Tai64n) → Scene
-scene line place told failures readings = record {
-  line = line;
-  place = place;
-  told = told;
-  failures = failures;
-  readings = readings;
-}
+abbrev pub scene : Option Tai64n → Place → StoreState → Option (List Tai64n) → Scene
+scene line place store readings = record { line = line; place = place; store = store; readings = readings }
 
 abbrev pub outputs_of : Scene → Outputs
-outputs_of s = outputs s.place.tails s.told s.failures
+outputs_of s = outputs s.place.tails s.store
 
 abbrev pub labels_of : Option Tai64n → List Tai64n
 labels_of None = []
@@ -51,7 +48,7 @@ given_in script (Some label) line = so_far script label line
 -- Bytes went on behind the bytes of a line: some lines are whole then, and a last one may have begun.
 pub record Went (script : List Act) (old new : Scene) (line bytes : List ℕ) (count : ℕ) : Type 0 where
   pub labels : List Tai64n
-  pub gave : Gave old.readings new.readings labels
+  pub gave : Extended old.readings new.readings labels
   pub count_is : count ≡ length labels
   pub whole : List ℕ
   pub names : List Tai64n
@@ -67,12 +64,13 @@ pub record Went (script : List Act) (old new : Scene) (line bytes : List ℕ) (c
 -- They did not all go on.
 pub record WentUpTo (script : List Act) (old new : Scene) (line bytes : List ℕ) (why : LogFault) : Type 0 where
   pub labels : List Tai64n
-  pub gave : Gave old.readings new.readings labels
+  pub gave : Extended old.readings new.readings labels
   pub stops : StopsAt (outputs_of old) (outputs_of new) (given_in script old.line line)
       (of_text script (labels_of old.line ++ labels) (line ++ bytes)) why
 
 -- A line has gone on by this text, and not ended.
-pub record LineOpen (script : List Act) (old new : Outputs) (place : Place) (label : Tai64n) (line text : List ℕ) : Type 0 where
+pub record LineOpen (script : List Act) (old new : Outputs) (place : Place) (label : Tai64n) (line text : List ℕ)
+    : Type 0 where
   pub at : IsAt script place label (line ++ text)
   pub plain : IsPlain text
   pub grows : Grows old new (so_far script label line) (so_far script label (line ++ text))
@@ -92,10 +90,49 @@ left_of label false = Some label
 -- Whole lines that go to all logs alone, as they are, with a reading of the clock for each.
 pub record AreAlike (script : List Act) (old new : Option (List Tai64n)) (bytes : List ℕ) (count : ℕ) : Type 0 where
   pub labels : List Tai64n
-  pub gave : Gave old new labels
+  pub gave : Extended old new labels
   pub count_is : count ≡ length labels
   pub lines : is_whole bytes ≡ true
   pub each : length labels ≡ length (texts_of bytes)
   pub text : List Sent
   pub bytes_are : bytes_of text ≡ bytes
   pub same : SameGiven (to_first (count_by is_log script) text) (of_text script labels bytes)
+
+-- What a call comes to that is given bytes of a line that has begun: it took some, and the line goes on, or has ended
+-- with the last of them; or it stopped, and why. The router serves the script as before.
+pub record FeedsLine (result : Result Taken LogFault) (script : List Act) (place now : Place) (was is : StoreState)
+    (label : Tai64n) (bytes : List ℕ) : Type 0 where
+  pub taken : IfOk result (λ taken. (0 < taken.len) × (taken.len ≤ length bytes))
+  pub goes_on : IfOk result (λ taken. taken.ends ≡ false → (line : List ℕ) → IsAt script place label line
+      → LineOpen script (outputs place.tails was) (outputs now.tails is) now label line (take taken.len bytes))
+  pub ended : IfOk result (λ taken. taken.ends ≡ true → (line : List ℕ) → IsAt script place label line
+      → LineEnded script (outputs place.tails was) (outputs now.tails is) label line (take taken.len bytes))
+  pub stopped : IfErr result (λ why. (line : List ℕ) → IsAt script place label line → IsPlain line
+      → StopsAt (outputs place.tails was) (outputs now.tails is)
+      (so_far script label line) (of_text script (label ∷ []) (line ++ bytes)) why)
+  pub serves : Serves script now is
+  pub stays : Stays was is
+
+-- What a call comes to that is given bytes, which come where a line has begun, or none has: it was fed a front of them;
+-- or it stopped, and why. The router serves the script as before.
+pub record Feeds (result : Result Fed LogFault) (script : List Act) (inside : Option Tai64n) (place now : Place)
+    (was is : StoreState) (read reads : Option (List Tai64n)) (bytes : List ℕ) : Type 0 where
+  pub within : IfOk result (λ fed. fed.len ≤ length bytes)
+  pub begun : IfOk result (λ fed. fed.begun ≤ fed.len)
+  pub went : IfOk result (λ fed. (line : List ℕ) → IsIn script (scene inside place was read) line
+      → Went script (scene inside place was read) (scene fed.inside now is reads) line (take fed.len bytes) fed.begun)
+  pub stopped : IfErr result (λ why. (line : List ℕ) → IsIn script (scene inside place was read) line
+      → WentUpTo script (scene inside place was read) (scene None now is reads) line bytes why)
+  pub serves : Serves script now is
+  pub stays : Stays was is
+
+-- What a call comes to at the end of the input: the line that had begun has given all that it gives; or it stopped, and
+-- why.
+pub record EndsInput {T : Type 0} (result : Result T LogFault) (script : List Act) (inside : Option Tai64n)
+    (place now : Place) (was is : StoreState) : Type 0 where
+  pub grows : OnOk result ((line : List ℕ) → IsInLine script place inside line
+      → Grows (outputs place.tails was) (outputs now.tails is)
+      (given_in script inside line) (of_text script (labels_of inside) line))
+  pub stopped : IfErr result (λ why. (line : List ℕ) → IsInLine script place inside line
+      → StopsAt (outputs place.tails was) (outputs now.tails is)
+      (given_in script inside line) (of_text script (labels_of inside) line) why)

@@ -1,13 +1,19 @@
 -- What a run has done, as the functions below it tell. No public contract speaks of it.
-use Rattle.std.specs.Prelude.{◌≡◌, ℕ, List, [], length}
+use Rattle.std.specs.Prelude.{◌≡◌, ℕ, List, [], length, Option, None, Result, IfOk, IsErrOf}
 use Rattle.tai_status.specs.Label.{Tai64n}
-use Rattle.tai_status.specs.Lines.{texts_of, Gave}
+use Rattle.tai_status.specs.Lines.{texts_of}
+use Rattle.tai_status.specs.Extended.{Extended}
 use Rattle.tai_status.specs.Counted.{Device, Gives}
 use Rattle.mlog_script.specs.Script.{Act}
+use Rattle.mlog_files.specs.Store.{StoreState}
 use Rattle.mlog_files.specs.declared.tail.LogFault.{LogFault}
+use Rattle.mlog_files.specs.declared.tail.LogFault.TheVariants as log_fault
+use Rattle.mlog_line.specs.LineRouter.{Place, IsWritten}
 use Rattle.mlog_line.specs.Given.{of_text}
 use Rattle.mlog_line.specs.Outputs.{Takes, Stops}
-use Rattle.mlog_core.specs.Scene.{Scene, outputs_of, Went}
+use Rattle.mlog_core.specs.Scene.{Scene, scene, outputs_of, Went}
+use Rattle.mlog_core.specs.declared.stream.RunFault.{RunFault}
+use Rattle.mlog_core.specs.declared.stream.RunFault.TheVariants as fault
 
 -- All that was read went on from the beginning.
 pub record Came (script : List Act) (old new : Scene) (reader reads : Device) (count : ℕ) : Type 0 where
@@ -20,7 +26,7 @@ pub record Done (script : List Act) (old new : Scene) (reader reads : Device) (c
   pub bytes : List ℕ
   pub labels : List Tai64n
   pub read : Gives reader reads bytes
-  pub gave : Gave old.readings new.readings labels
+  pub gave : Extended old.readings new.readings labels
   pub each : length labels ≡ length (texts_of bytes)
   pub count_is : count ≡ length labels
   pub takes : Takes (outputs_of old) (outputs_of new) (of_text script labels bytes)
@@ -30,5 +36,18 @@ pub record Halted (script : List Act) (old new : Scene) (reader reads : Device) 
   pub bytes : List ℕ
   pub labels : List Tai64n
   pub read : Gives reader reads bytes
-  pub gave : Gave old.readings new.readings labels
+  pub gave : Extended old.readings new.readings labels
   pub stops : Stops (outputs_of old) (outputs_of new) (of_text script labels bytes) why
+
+-- What a call comes to that reads all lines and hands them out: all of it is done; or the reader failed, and what came
+-- is written; or it halted, and why.
+pub record Runs (result : Result ℕ RunFault) (script : List Act) (place now : Place) (was is : StoreState)
+    (read reads : Option (List Tai64n)) (reader reader_now : Device) : Type 0 where
+  pub done : IfOk result (λ lines.
+      Done script (scene None place was read) (scene None now is reads) reader reader_now lines)
+  pub came : IsErrOf result fault.Read → (inside : Option Tai64n) × (lines : ℕ) × IsWritten now.tails
+      × Came script (scene None place was read) (scene inside now is reads) reader reader_now lines
+  pub store : IsErrOf result fault.Store
+      → Halted script (scene None place was read) (scene None now is reads) reader reader_now log_fault.Store
+  pub spent : IsErrOf result fault.LabelsSpent
+      → Halted script (scene None place was read) (scene None now is reads) reader reader_now log_fault.LabelsSpent

@@ -1,13 +1,13 @@
-//! What multilog does (<https://cr.yp.to/daemontools/multilog.html>): it reads lines, and hands them out to logs, alerts
-//! and status files as its script says.
+//! What multilog does (<https://cr.yp.to/daemontools/multilog.html>): it reads lines, and hands them out to logs,
+//! alerts and status files as its script says.
 //!
-//! [`run`] streams: of a line no more than the first 1000 bytes are held in memory, and what a read gave is appended
+//! [`run`] streams: of a line no more than the first 1000 bytes are kept in memory, and what a read gave is appended
 //! before the next read.
 #![tactic(auto)]
 
 mod feed;
+mod front;
 mod laws;
-mod part;
 mod stream;
 
 pub use laws::counts_of_a_run;

@@ -1,17 +1,15 @@
 //! The run of a script.
-ghost use Rattle.std.specs.Prelude.{◌≡◌, ◌≤◌, ℕ, Option, Some, None, count_by, IfOk, OnOk, IfErr, IsErrOf};
-ghost use Rattle.tai_status.specs.Label.{Tai64n};
-ghost use Rattle.tai_status.specs.Counted.{Fails, IsRead, Rose};
+ghost use Rattle.std.specs.Prelude.{◌≡◌, ◌≤◌, count_by, OnOk, IsErrOf};
+ghost use Rattle.tai_status.specs.Counted.{Fails, IsRead, Rose, Works};
 ghost use Rattle.mlog_script.specs.Script.{is_log, is_file};
-ghost use Rattle.mlog_line.specs.Desk.{IsWritten, Serves};
-ghost use Rattle.mlog_core.specs.Scene.{scene};
-ghost use Rattle.mlog_core.specs.Run.{world, RunsAll, RunsLines, RunsUpTo};
-ghost use Rattle.mlog_core.specs.Story.{Came, Done, Halted};
+ghost use Rattle.mlog_line.specs.LineRouter.{IsWritten, Serves};
+ghost use Rattle.mlog_core.specs.Run.{world, RunEnds};
+ghost use Rattle.mlog_core.specs.Story.{Runs};
 ghost use Rattle.mlog_files.specs.declared.tail.LogFault.TheVariants as log_fault;
 
 use crate::feed::{feed_block, feed_end};
 use mlog_files::{LogFault, LogStore};
-use mlog_line::Desk;
+use mlog_line::LineRouter;
 use mlog_script::Script;
 use std::alloc::Allocator;
 use std::io::Read;
@@ -48,12 +46,12 @@ pub enum RunFault {
     LabelsSpent,
 }
 
-/// Reads all lines, and hands each out to the logs, alerts and status files at which the script selects it. The clock is
-/// read once for each line, at its first byte. A last line without a newline gets one in the logs.
+/// Reads all lines, and hands each out to the logs, alerts and status files at which the script selects it. The clock
+/// is read once for each line, at its first byte. A last line without a newline gets one in the logs.
 ///
-/// All memory is taken at the beginning: `OutOfMemory` comes only where the allocator refuses a block of 32,768 bytes for
-/// each log, or a byte for each alert, log and status file, and nothing was read then. After `Read` all lines that were
-/// read whole are in their logs. After `Store` and `LabelsSpent` a front of what each log was to get is in it.
+/// All memory is taken at the beginning: `OutOfMemory` comes only where the allocator refuses a block of 32,768 bytes
+/// for each log, or a byte for each alert, log and status file, and nothing was read then. After `Read` all lines that
+/// were read whole are in their logs. After `Store` and `LabelsSpent` a front of what each log was to get is in it.
 pub fn run<A: Allocator + Clone, B: Allocator + Clone, D: Read, S: LogStore, C: TimeSource>(
     alloc: A,
     script: &Script<B>,
@@ -62,38 +60,24 @@ pub fn run<A: Allocator + Clone, B: Allocator + Clone, D: Read, S: LogStore, C: 
     clock: &mut C,
 ) -> Result<Counts, RunFault>
     // The store has the logs and status files of the script.
-    requires logs { count_by is_log script.now ≤ S.logs store.old }
-    requires files { count_by is_file script.now ≤ S.status_files store.old }
-    ensures done { IfOk result (λ counts. RunsAll script.now
-        (world reader.old (S.told store.old) (C.readings clock.old))
-        (world reader.new (S.told store.new) (C.readings clock.new)) counts) }
+    requires logs { count_by is_log script.now ≤ (S.state store.old).logs }
+    requires files { count_by is_file script.now ≤ (S.state store.old).status_files }
+    ensures runs { RunEnds result script.now (world reader.old (S.state store.old) (C.readings clock.old))
+        (world reader.new (S.state store.new) (C.readings clock.new)) }
     ensures end { OnOk result (IsRead reader.new) }
-    // The reader failed, and all steps of the lines that it gave are done.
-    ensures read { IsErrOf result RunFault.Read → RunsLines script.now
-        (world reader.old (S.told store.old) (C.readings clock.old))
-        (world reader.new (S.told store.new) (C.readings clock.new)) }
+    ensures works { OnOk result (Works reader.old reader.new) }
     ensures unread { IsErrOf result RunFault.Read → Fails reader.old reader.new }
-    // The store failed, after a front of the steps.
-    ensures store { IsErrOf result RunFault.Store → RunsUpTo script.now
-        (world reader.old (S.told store.old) (C.readings clock.old))
-        (world reader.new (S.told store.new) (C.readings clock.new)) RunFault.Store }
-    ensures unwritten { IsErrOf result RunFault.Store → Rose (S.failures store.old) (S.failures store.new) }
-    // A log has no label for an old file.
-    ensures spent { IsErrOf result RunFault.LabelsSpent → RunsUpTo script.now
-        (world reader.old (S.told store.old) (C.readings clock.old))
-        (world reader.new (S.told store.new) (C.readings clock.new)) RunFault.LabelsSpent }
-    // There was no memory, and nothing was done.
-    ensures memory { IsErrOf result RunFault.OutOfMemory → (reader.new ≡ reader.old)
-        × (S.told store.new ≡ S.told store.old) × (C.readings clock.new ≡ C.readings clock.old) }
+    ensures unwritten { IsErrOf result RunFault.Store
+        → Rose (S.state store.old).failures (S.state store.new).failures }
 {
-    let Ok(mut desk) = Desk::open(alloc, script, store) else {
+    let Ok(mut router) = LineRouter::open(alloc, script, store) else {
         return Err(RunFault::OutOfMemory);
     };
-    match run_lines(&mut desk, script, reader, store, clock) {
+    match run_lines(&mut router, script, reader, store, clock) {
         Ok(lines) => Ok(Counts {
             lines,
-            finished: desk.finished(),
-            removed: desk.removed(),
+            finished: router.finished(),
+            removed: router.removed(),
         }),
         Err(why) => Err(why),
     }
@@ -115,49 +99,41 @@ fn fault_of(why: LogFault) -> RunFault
 
 /// Reads all lines, and hands them out. It tells how many there were.
 fn run_lines<A: Allocator + Clone, B: Allocator + Clone, D: Read, S: LogStore, C: TimeSource>(
-    desk: &mut Desk<A>,
+    router: &mut LineRouter<A>,
     script: &Script<B>,
-    reader: &mut Input<D>,
+    input: &mut Input<D>,
     store: &mut S,
     clock: &mut C,
 ) -> Result<u64, RunFault>
-    requires serves { Serves script.now desk.old (S.logs store.old) (S.status_files store.old) }
-    requires written { IsWritten desk.old.tails }
-    ensures done { IfOk result (λ lines. Done script.now
-        (scene None desk.old (S.told store.old) (S.failures store.old) (C.readings clock.old))
-        (scene None desk.new (S.told store.new) (S.failures store.new) (C.readings clock.new)) reader.old reader.new lines) }
-    ensures written { OnOk result (IsWritten desk.new.tails) }
-    ensures end { OnOk result (IsRead reader.new) }
-    ensures came { IsErrOf result RunFault.Read → (inside : Option Tai64n) × (lines : ℕ) × IsWritten desk.new.tails
-        × Came script.now (scene None desk.old (S.told store.old) (S.failures store.old) (C.readings clock.old))
-        (scene inside desk.new (S.told store.new) (S.failures store.new) (C.readings clock.new)) reader.old reader.new lines }
-    ensures unread { IsErrOf result RunFault.Read → Fails reader.old reader.new }
+    requires serves { Serves script.now router.old (S.state store.old) }
+    requires written { IsWritten router.old.tails }
+    ensures runs { Runs result script.now router.old router.new (S.state store.old) (S.state store.new)
+        (C.readings clock.old) (C.readings clock.new) input.old input.new }
+    ensures written { OnOk result (IsWritten router.new.tails) }
+    ensures end { OnOk result (IsRead input.new) }
+    ensures works { OnOk result (Works input.old input.new) }
+    ensures unread { IsErrOf result RunFault.Read → Fails input.old input.new }
     ensures memory { ¬ (IsErrOf result RunFault.OutOfMemory) }
-    ensures store { IsErrOf result RunFault.Store → Halted script.now
-        (scene None desk.old (S.told store.old) (S.failures store.old) (C.readings clock.old))
-        (scene None desk.new (S.told store.new) (S.failures store.new) (C.readings clock.new)) reader.old reader.new
-        log_fault.Store }
-    ensures spent { IsErrOf result RunFault.LabelsSpent → Halted script.now
-        (scene None desk.old (S.told store.old) (S.failures store.old) (C.readings clock.old))
-        (scene None desk.new (S.told store.new) (S.failures store.new) (C.readings clock.new)) reader.old reader.new
-        log_fault.LabelsSpent }
 {
     let mut bytes = [0; BLOCK];
     let mut inside = None;
     let mut lines = 0;
     'reads: loop {
-        let count = match reader.read(&mut bytes) {
+        let count = match input.read(&mut bytes) {
             Ok(count) => count,
             Err(_) => return Err(RunFault::Read),
         };
         if count == 0 {
-            return match feed_end(desk, script, store, inside) {
+            return match feed_end(router, script, store, inside) {
                 Ok(()) => Ok(lines),
                 Err(why) => Err(fault_of(why)),
             };
         }
-        match feed_block(desk, script, store, clock, &mut inside, &bytes[..count]) {
-            Ok(begun) => lines += begun,
+        match feed_block(router, script, store, clock, inside, &bytes[..count]) {
+            Ok(fed) => {
+                inside = fed.inside;
+                lines += fed.begun;
+            }
             Err(why) => return Err(fault_of(why)),
         }
     }

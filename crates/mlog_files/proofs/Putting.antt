@@ -5,10 +5,13 @@ use Rattle.tai_status.specs.Label.{Tai64n}
 use Rattle.tai_status.specs.Lines.{Sent, sent}
 use Rattle.mlog_files.specs.Cut.{fills}
 use Rattle.mlog_files.specs.Files.{Files, Step, append_steps}
-use Rattle.mlog_files.specs.Steps.{Marks, label_given}
+use Rattle.mlog_files.specs.Steps.{Marks}
 use Rattle.mlog_files.specs.Going.{Standing, finish_under, stands_under, finish_at, finished_at, steps_on, standing_on}
-use Rattle.mlog_files.specs.Store.{Told, Reaches, Does, DoesFront, Goes}
-use Rattle.mlog_files.proofs.Doing.{DoesFront-more, Goes-then, Goes-front, Goes-does, Goes-through}
+use Rattle.mlog_files.specs.Store.{StoreState, Reaches, Does, DoesFront, Fails, Goes}
+use Rattle.mlog_files.specs.Tails.{StopsOn}
+use Rattle.mlog_files.specs.declared.tail.LogFault.{LogFault}
+use Rattle.mlog_files.specs.declared.tail.LogFault.TheVariants as fault
+use Rattle.mlog_files.proofs.Doing.{rose_since, DoesFront-more, Does-more, Fails-more, Goes-then, Goes-front, Goes-does, Goes-through}
 use Rattle.mlog_files.proofs.Goings.{steps_on-append, standing_on-append, front_open, front_cut, over_full, sent-append, sent-further, sent-rest}
 
 -- A text in two parts.
@@ -75,22 +78,22 @@ open_whole size keep log reading bytes len f room last =
     ∙ ap (λ (t : List Step). t ++ steps_on size keep (Some now) later) one.0
 
 -- The store failed as the front was put.
-front_failed : {o q : Told} {log : ℕ} (waited : List ℕ) (front rest steps : List Step) → steps ≡ front ++ rest
-    → DoesFront o q log (append_steps waited ++ front) → DoesFront o q log (append_steps waited ++ steps)
+front_failed : {o q : StoreState} {log : ℕ} (waited : List ℕ) (front rest steps : List Step) → steps ≡ front ++ rest
+    → Fails o q log (append_steps waited ++ front) → Fails o q log (append_steps waited ++ steps)
 front_failed {o} {q} {log} waited front rest steps e d =
-    subst (λ (t : List Step). DoesFront o q log t) (append_assoc (append_steps waited) front rest ∙ ap (λ (t : List Step). append_steps waited ++ t) (sym e))
-    (DoesFront-more rest d)
+    subst (λ (t : List Step). Fails o q log t) (append_assoc (append_steps waited) front rest ∙ ap (λ (t : List Step). append_steps waited ++ t) (sym e))
+    (Fails-more rest d)
 
 -- a file has room where it isn't full
 pub room_left : (size count len : ℕ) (ends : Bool) → fills size (count + len) ends ≡ false → count + len < size
 room_left size count len ends is = grind (arith, is)
 
-pub held_failed : {o q : Told} {log : ℕ} (size keep : ℕ) (from : Standing) (reading : Tai64n) (bytes : List ℕ) (len : ℕ) (waited : List ℕ) (full : Bool)
+pub held_failed : {o q : StoreState} {log : ℕ} (size keep : ℕ) (from : Standing) (reading : Tai64n) (bytes : List ℕ) (len : ℕ) (waited : List ℕ) (full : Bool)
     → 0 < len → len ≤ length bytes → from.count + len ≤ size
     → ((k : ℕ) → 0 < k → k < len → fills size (from.count + k) (get_or bytes (k - 1) 0 == 10) ≡ false)
     → fills size (from.count + len) (get_or bytes (len - 1) 0 == 10) ≡ full
-    → DoesFront o q log (append_steps waited ++ append_steps (take len bytes))
-    → DoesFront o q log (append_steps waited ++ steps_on size keep (Some from) (sent reading bytes))
+    → Fails o q log (append_steps waited ++ append_steps (take len bytes))
+    → Fails o q log (append_steps waited ++ steps_on size keep (Some from) (sent reading bytes))
 held_failed {o} {q} {log} size keep from reading bytes len waited true some within upto before is d =
     let f : Front size keep from reading bytes len = record { some = some; within = within; upto = upto; before = before } in
     let finish = finish_at keep from.marks reading in
@@ -102,8 +105,51 @@ held_failed {o} {q} {log} size keep from reading bytes len waited false some wit
     front_failed waited (append_steps (take len bytes)) _ (steps_on size keep (Some from) (sent reading bytes))
     (open_whole size keep from reading bytes len f (room_left size from.count len _ is) is) d
 
+-- A log goes no further, as the store failed.
+pub stops_failed : {o q : StoreState} {log : ℕ} (steps : List Step) (end : Option Standing) → Fails o q log steps → StopsOn o q log steps end fault.Store
+stops_failed {o} {q} {log} steps end f = record {
+  front = f.front;
+  store = λ is. f.rose;
+  nowhere = λ is. cc;
+  spent = λ is. cc;
+}
+
+-- It goes no further, as there is no label.
+pub stops_spent : {o q : StoreState} {log : ℕ} (steps more : List Step) (end : Option Standing) → Does o q log steps → end ≡ None → more ≡ []
+    → StopsOn o q log (steps ++ more) end fault.LabelsSpent
+stops_spent {o} {q} {log} steps more end d none nothing = record {
+  front = Does-more more d;
+  store = λ is. cc;
+  nowhere = λ is. none;
+  spent = λ is. subst (λ (t : List Step). Does o q log t) (sym (ap (λ (t : List Step). steps ++ t) nothing ∙ append-nil steps)) d;
+}
+
+-- It stopped after other steps.
+pub stops_then : {o p q : StoreState} {log : ℕ} {a b : List ℕ} {xs : List Step} {end : Option Standing} {why : LogFault} (ys steps : List Step) (last : Option Standing)
+    → Goes o p log a b xs → steps ≡ xs ++ ys → last ≡ end → StopsOn p q log (append_steps b ++ ys) end why → StopsOn o q log (append_steps a ++ steps) last why
+stops_then {o} {p} {q} {log} {a} {b} {xs} ys steps last g e same s = record {
+  front = subst (λ (t : List Step). DoesFront o q log (append_steps a ++ t)) (sym e) (Goes-front ys g s.front);
+  store = λ is. rose_since o.failures p.failures q.failures g.does.stays.steady (s.store is);
+  nowhere = λ is. same ∙ s.nowhere is;
+  spent = λ is. subst (λ (t : List Step). Does o q log (append_steps a ++ t)) (sym e) (Goes-does ys g (s.spent is));
+}
+
+-- It stopped before the steps of a text.
+pub stops_before : {o q : StoreState} {log : ℕ} {now : Option Standing} {why : LogFault} (waited : List ℕ) (first : List Step) (size keep : ℕ) (text : List Sent)
+    (steps : List Step) (end : Option Standing) → steps ≡ first ++ steps_on size keep now text → end ≡ standing_on size keep now text
+    → StopsOn o q log (append_steps waited ++ first) now why → StopsOn o q log (append_steps waited ++ steps) end why
+stops_before {o} {q} {log} {now} waited first size keep text steps end e ends s = record {
+  front = subst (λ (t : List Step). DoesFront o q log t)
+      (append_assoc (append_steps waited) first (steps_on size keep now text) ∙ ap (λ (t : List Step). append_steps waited ++ t) (sym e))
+      (DoesFront-more (steps_on size keep now text) s.front);
+  store = s.store;
+  nowhere = λ is. ends ∙ ap (λ (r : Option Standing). standing_on size keep r text) (s.nowhere is);
+  spent = λ is. subst (λ (t : List Step). Does o q log (append_steps waited ++ t))
+      (sym (e ∙ ap (λ (r : Option Standing). first ++ steps_on size keep r text) (s.nowhere is) ∙ append-nil first)) (s.spent is);
+}
+
 -- The file was filled, and finished.
-pub cut_done : {o p q : Told} {log : ℕ} (size keep : ℕ) (from : Standing) (reading : Tai64n) (bytes : List ℕ) (len : ℕ) (waited waits now : List ℕ)
+pub cut_done : {o p q : StoreState} {log : ℕ} (size keep : ℕ) (from : Standing) (reading : Tai64n) (bytes : List ℕ) (len : ℕ) (waited waits now : List ℕ)
     → 0 < len → len ≤ length bytes → from.count + len ≤ size
     → ((k : ℕ) → 0 < k → k < len → fills size (from.count + k) (get_or bytes (k - 1) 0 == 10) ≡ false)
     → fills size (from.count + len) (get_or bytes (len - 1) 0 == 10) ≡ true
@@ -114,43 +160,23 @@ cut_done {o} {p} {q} {log} size keep from reading bytes len waited waits now som
     subst (λ (t : List Step). Goes o q log waited now t) (sym (front_cut size keep from reading bytes len some within upto before full).0)
     (Goes-through waited now (append_steps (take len bytes) ++ finish_at keep from.marks reading) empty (Goes-does (finish_at keep from.marks reading) g d))
 
--- The file was filled, and the store failed as it was finished.
-pub cut_failed : {o p q : Told} {log : ℕ} (size keep : ℕ) (from : Standing) (reading : Tai64n) (bytes : List ℕ) (len : ℕ) (waited waits : List ℕ)
+-- The file was filled, and not finished.
+pub cut_stopped : {o p q : StoreState} {log : ℕ} {why : LogFault} (size keep : ℕ) (from : Standing) (reading : Tai64n) (bytes : List ℕ) (len : ℕ) (waited waits : List ℕ)
     → 0 < len → len ≤ length bytes → from.count + len ≤ size
     → ((k : ℕ) → 0 < k → k < len → fills size (from.count + k) (get_or bytes (k - 1) 0 == 10) ≡ false)
     → fills size (from.count + len) (get_or bytes (len - 1) 0 == 10) ≡ true
     → Goes o p log waited waits (append_steps (take len bytes))
-    → DoesFront p q log (append_steps waits ++ finish_at keep from.marks reading)
-    → DoesFront o q log (append_steps waited ++ steps_on size keep (Some from) (sent reading bytes))
-cut_failed {o} {p} {q} {log} size keep from reading bytes len waited waits some within upto before full g d =
-    let f : Front size keep from reading bytes len = record { some = some; within = within; upto = upto; before = before } in
-    front_failed waited (append_steps (take len bytes) ++ finish_at keep from.marks reading) _ (steps_on size keep (Some from) (sent reading bytes))
-    (cut_whole size keep from reading bytes len f full).0 (Goes-front (finish_at keep from.marks reading) g d)
-
--- The file was filled, and there was no label for it.
-pub cut_spent : {o p q : Told} {log : ℕ} (size keep : ℕ) (from : Standing) (reading : Tai64n) (bytes : List ℕ) (len : ℕ) (waited waits : List ℕ)
-    → 0 < len → len ≤ length bytes → from.count + len ≤ size
-    → ((k : ℕ) → 0 < k → k < len → fills size (from.count + k) (get_or bytes (k - 1) 0 == 10) ≡ false)
-    → fills size (from.count + len) (get_or bytes (len - 1) 0 == 10) ≡ true
-    → Goes o p log waited waits (append_steps (take len bytes))
-    → finished_at keep from.marks reading ≡ None → Does p q log (append_steps waits)
-    → (standing_on size keep (Some from) (sent reading bytes) ≡ None)
-    × Does o q log (append_steps waited ++ steps_on size keep (Some from) (sent reading bytes))
-cut_spent {o} {p} {q} {log} size keep from reading bytes len waited waits some within upto before full g none d =
+    → StopsOn p q log (append_steps waits ++ finish_at keep from.marks reading) (finished_at keep from.marks reading) why
+    → StopsOn o q log (append_steps waited ++ steps_on size keep (Some from) (sent reading bytes)) (standing_on size keep (Some from) (sent reading bytes)) why
+cut_stopped {o} {p} {q} {log} size keep from reading bytes len waited waits some within upto before full g s =
     let f : Front size keep from reading bytes len = record { some = some; within = within; upto = upto; before = before } in
     let all = cut_whole size keep from reading bytes len f full in
-    let later = sent reading (drop len bytes) in
-    let nothing : finish_at keep from.marks reading ≡ [] = none_given keep from.marks (label_given from.marks.last reading) none in
-    let steps : steps_on size keep (Some from) (sent reading bytes) ≡ append_steps (take len bytes) ++ [] =
-    all.0 ∙ ap (λ (r : Option Standing). (append_steps (take len bytes) ++ finish_at keep from.marks reading) ++ steps_on size keep r later) none
-    ∙ append-nil (append_steps (take len bytes) ++ finish_at keep from.marks reading) ∙ ap (λ (t : List Step). append_steps (take len bytes) ++ t) nothing in (
-      all.1 ∙ ap (λ (r : Option Standing). standing_on size keep r later) none,
-      subst (λ (t : List Step). Does o q log (append_steps waited ++ t)) (sym steps)
-          (Goes-does [] g (subst (λ (t : List Step). Does p q log t) (sym (append-nil (append_steps waits))) d)),
-    )
+    let finish = finish_at keep from.marks reading in
+    stops_before waited (append_steps (take len bytes) ++ finish) size keep (sent reading (drop len bytes)) _ _ all.0 all.1
+    (stops_then finish (append_steps (take len bytes) ++ finish) (finished_at keep from.marks reading) g refl refl s)
 
 -- The file is not full yet.
-pub open_done : {o p : Told} {log : ℕ} (size keep : ℕ) (from : Standing) (reading : Tai64n) (bytes : List ℕ) (len : ℕ) (waited waits : List ℕ)
+pub open_done : {o p : StoreState} {log : ℕ} (size keep : ℕ) (from : Standing) (reading : Tai64n) (bytes : List ℕ) (len : ℕ) (waited waits : List ℕ)
     → 0 < len → len ≤ length bytes
     → ((k : ℕ) → 0 < k → k < len → fills size (from.count + k) (get_or bytes (k - 1) 0 == 10) ≡ false)
     → fills size (from.count + len) (get_or bytes (len - 1) 0 == 10) ≡ false
@@ -178,43 +204,20 @@ over_steps size keep size' keep' from now reading (byte ∷ bytes) sized over so
           ∙ ap (λ (n : ℕ). standing_on n keep now (s ∷ text)) (sym a) ∙ ap (λ (n : ℕ). standing_on size' n now (s ∷ text)) (sym b),
     )
 
-pub over_done : {o p q : Told} {log : ℕ} {waited waits now : List ℕ} (first later steps : List Step) → steps ≡ first ++ later
+pub over_done : {o p q : StoreState} {log : ℕ} {waited waits now : List ℕ} (first later steps : List Step) → steps ≡ first ++ later
     → Does o p log (append_steps waited ++ first) → waits ≡ [] → Goes p q log waits now later → Goes o q log waited now steps
 over_done {o} {p} {q} {log} {waited} {waits} {now} first later steps e d empty g =
     subst (λ (t : List Step). Goes o q log waited now t) (sym e) (Goes-then (Goes-through waited waits first empty d) g)
 
-pub over_failed : {o p q : Told} {log : ℕ} {waits : List ℕ} (waited : List ℕ) (first later steps : List Step) → steps ≡ first ++ later
-    → Does o p log (append_steps waited ++ first) → waits ≡ [] → DoesFront p q log (append_steps waits ++ later)
-    → DoesFront o q log (append_steps waited ++ steps)
-over_failed {o} {p} {q} {log} {waits} waited first later steps e d empty f =
-    subst (λ (t : List Step). DoesFront o q log (append_steps waited ++ t)) (sym e) (Goes-front later (Goes-through waited waits first empty d) f)
-
-pub over_spent : {o p q : Told} {log : ℕ} {waits : List ℕ} (waited : List ℕ) (first later steps : List Step) → steps ≡ first ++ later
-    → Does o p log (append_steps waited ++ first) → waits ≡ [] → Does p q log (append_steps waits ++ later)
-    → Does o q log (append_steps waited ++ steps)
-over_spent {o} {p} {q} {log} {waits} waited first later steps e d empty f =
-    subst (λ (t : List Step). Does o q log (append_steps waited ++ t)) (sym e) (Goes-does later (Goes-through waited waits first empty d) f)
-
--- It could not be finished.
-pub over_stopped : {o p : Told} {log : ℕ} (waited : List ℕ) (first later steps : List Step) → steps ≡ first ++ later
-    → DoesFront o p log (append_steps waited ++ first) → DoesFront o p log (append_steps waited ++ steps)
-over_stopped {o} {p} {log} waited first later steps e d = front_failed waited first later steps e d
-
--- There was no label for it.
-pub over_unlabelled : {o p : Told} {log : ℕ} (size keep : ℕ) (from : Standing) (reading : Tai64n) (bytes : List ℕ) (waited : List ℕ) → 0 < size → size ≤ from.count
-    → 0 < length bytes → finished_at keep from.marks reading ≡ None → Does o p log (append_steps waited)
-    → (standing_on size keep (Some from) (sent reading bytes) ≡ None)
-    × Does o p log (append_steps waited ++ steps_on size keep (Some from) (sent reading bytes))
-over_unlabelled {o} {p} {log} size keep from reading bytes waited sized over some none d =
-    let all = over_steps size keep size keep from None reading bytes sized over some refl refl none in
-    let nothing : finish_at keep from.marks reading ≡ [] = none_given keep from.marks (label_given from.marks.last reading) none in (
-      all.1,
-      subst (λ (t : List Step). Does o p log t)
-          (sym (ap (λ (t : List Step). append_steps waited ++ t) (all.0 ∙ append-nil (finish_at keep from.marks reading) ∙ nothing) ∙ append-nil (append_steps waited))) d,
-    )
+-- It was finished, and the log stopped later.
+pub over_failed : {o p q : StoreState} {log : ℕ} {waits : List ℕ} {end : Option Standing} {why : LogFault} (waited : List ℕ) (first later steps : List Step)
+    (last : Option Standing) → steps ≡ first ++ later → last ≡ end → Does o p log (append_steps waited ++ first) → waits ≡ []
+    → StopsOn p q log (append_steps waits ++ later) end why → StopsOn o q log (append_steps waited ++ steps) last why
+over_failed {o} {p} {q} {log} {waits} waited first later steps last e same d empty s =
+    stops_then later steps last (Goes-through waited waits first empty d) e same s
 
 -- A line's bytes, part by part.
-pub put_further : {o p q : Told} {log : ℕ} {waited waits now : List ℕ} (size keep size' keep' : ℕ) (from to : Standing) (reading : Tai64n) (bytes : List ℕ) (at n : ℕ)
+pub put_further : {o p q : StoreState} {log : ℕ} {waited waits now : List ℕ} (size keep size' keep' : ℕ) (from to : Standing) (reading : Tai64n) (bytes : List ℕ) (at n : ℕ)
     → size' ≡ size → keep' ≡ keep → standing_on size keep (Some from) (sent reading (take at bytes)) ≡ Some to
     → Goes o p log waited waits (steps_on size keep (Some from) (sent reading (take at bytes)))
     → Goes p q log waits now (steps_on size' keep' (Some to) (sent reading (take n (take (length bytes - at) (drop at bytes)))))
@@ -230,44 +233,33 @@ pub put_stands : (size keep size' keep' : ℕ) (from to : Standing) (end : Optio
 put_stands size keep size' keep' from to end reading bytes at n a b is later =
     stands_parted size keep size' keep' from (Some to) _ _ _ a b (sent-further reading bytes at n) is ∙ later
 
-pub put_stopped : {o p q : Told} {log : ℕ} {waited waits : List ℕ} (size keep size' keep' : ℕ) (from to : Standing) (reading : Tai64n) (bytes : List ℕ) (at : ℕ)
+pub put_stopped : {o p q : StoreState} {log : ℕ} {waited waits : List ℕ} {why : LogFault} (size keep size' keep' : ℕ) (from to : Standing) (reading : Tai64n) (bytes : List ℕ) (at : ℕ)
     → size' ≡ size → keep' ≡ keep → standing_on size keep (Some from) (sent reading (take at bytes)) ≡ Some to
     → Goes o p log waited waits (steps_on size keep (Some from) (sent reading (take at bytes)))
-    → DoesFront p q log (append_steps waits ++ steps_on size' keep' (Some to) (sent reading (take (length bytes - at) (drop at bytes))))
-    → DoesFront o q log (append_steps waited ++ steps_on size keep (Some from) (sent reading bytes))
-put_stopped {o} {p} {q} {log} {waited} {waits} size keep size' keep' from to reading bytes at a b is g h =
-    subst (λ (t : List Step). DoesFront o q log (append_steps waited ++ t))
-    (sym (steps_parted size keep size' keep' from (Some to) _ _ _ a b (sent-rest reading bytes at) is)) (Goes-front _ g h)
-
-pub put_spent : {o p q : Told} {log : ℕ} {waited waits : List ℕ} (size keep size' keep' : ℕ) (from to : Standing) (reading : Tai64n) (bytes : List ℕ) (at : ℕ)
-    → size' ≡ size → keep' ≡ keep → standing_on size keep (Some from) (sent reading (take at bytes)) ≡ Some to
-    → Goes o p log waited waits (steps_on size keep (Some from) (sent reading (take at bytes)))
-    → (standing_on size' keep' (Some to) (sent reading (take (length bytes - at) (drop at bytes))) ≡ None)
-    → Does p q log (append_steps waits ++ steps_on size' keep' (Some to) (sent reading (take (length bytes - at) (drop at bytes))))
-    → (standing_on size keep (Some from) (sent reading bytes) ≡ None)
-    × Does o q log (append_steps waited ++ steps_on size keep (Some from) (sent reading bytes))
-put_spent {o} {p} {q} {log} {waited} {waits} size keep size' keep' from to reading bytes at a b is g none h = (
-  stands_parted size keep size' keep' from (Some to) _ _ _ a b (sent-rest reading bytes at) is ∙ none,
-  subst (λ (t : List Step). Does o q log (append_steps waited ++ t))
-      (sym (steps_parted size keep size' keep' from (Some to) _ _ _ a b (sent-rest reading bytes at) is)) (Goes-does _ g h),
-)
+    → StopsOn p q log (append_steps waits ++ steps_on size' keep' (Some to) (sent reading (take (length bytes - at) (drop at bytes))))
+    (standing_on size' keep' (Some to) (sent reading (take (length bytes - at) (drop at bytes)))) why
+    → StopsOn o q log (append_steps waited ++ steps_on size keep (Some from) (sent reading bytes)) (standing_on size keep (Some from) (sent reading bytes)) why
+put_stopped {o} {p} {q} {log} {waited} {waits} size keep size' keep' from to reading bytes at a b is g s =
+    stops_then _ _ _ g (steps_parted size keep size' keep' from (Some to) _ _ _ a b (sent-rest reading bytes at) is)
+    (stands_parted size keep size' keep' from (Some to) _ _ _ a b (sent-rest reading bytes at) is) s
 
 pub same_files : (files : Option Files) → Reaches files files []
 same_files None = tt
 same_files (Some files) = refl
 
 -- Nothing was put yet.
-pub put_nothing : (o : Told) (log : ℕ) (waited : List ℕ) → Goes o o log waited waited []
+pub put_nothing : (o : StoreState) (log : ℕ) (waited : List ℕ) → Goes o o log waited waited []
 put_nothing o log waited = record {
   done = [];
-  does = record { here = same_files (o.files log); others = λ other apart. refl; statuses = refl; alerts = refl };
+  does = record {
+    here = same_files (o.told.files log);
+    others = λ other apart. refl;
+    statuses = refl;
+    alerts = refl;
+    stays = record { logs = refl; status_files = refl; steady = omega arith };
+  };
   whole = sym (append-nil (append_steps waited));
 }
-
--- The fault of a call is handed on.
-pub same_fault : {A B E : Type 0} (x y z : E) → x ≡ y → ◌≡◌ {A = Result A E} (Err x) (Err z) → ◌≡◌ {A = Result B E} (Err y) (Err z)
-same_fault {A} {B} {E} x y z same is =
-    let given : x ≡ z = cc in ap (λ (e : E). Err e) (sym same ∙ given)
 
 pub if_ok_both : {T E : Type 0} (r : Result T E) (P Q R : T → Type 0) → ((x : T) → P x → Q x → R x) → IfOk r P → IfOk r Q → IfOk r R
 if_ok_both (Ok x) P Q R all p q = all x p q

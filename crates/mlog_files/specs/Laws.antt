@@ -43,6 +43,7 @@ pub record CountsSteps (old new : Marks) (steps : List Step) : Type 0 where
 
 -- Where a log stands after a text, its marks count the steps of the text.
 abbrev pub CountsItsSteps : Type 0
-CountsItsSteps = (size keep : ℕ) (log end : Standing) (text : List Sent) → log.marks.finished < 2 ^ 64 → log.marks.removed < 2 ^ 64
+CountsItsSteps = (size keep : ℕ) (log end : Standing) (text : List Sent)
+    → log.marks.finished < 2 ^ 64 → log.marks.removed < 2 ^ 64
     → standing_on size keep (Some log) text ≡ Some end
     → CountsSteps log.marks end.marks (steps_on size keep (Some log) text)

@@ -1,7 +1,7 @@
 -- What a store in memory holds.
-use Rattle.std.specs.Prelude.{ℕ, List, Some, slice_get}
+use Rattle.std.specs.Prelude.{ℕ, List, length, Some, slice_get}
 use Rattle.mlog_files.specs.Files.{Files}
-use Rattle.mlog_files.specs.Store.{Told}
+use Rattle.mlog_files.specs.Store.{StoreState}
 
 pub record Memory : Type 0 where
   pub logs : List Files
@@ -10,9 +10,14 @@ pub record Memory : Type 0 where
   pub failures : ℕ
 
 -- It tells all of it.
-abbrev pub told_of : Memory → Told
-told_of memory = record {
-  files = slice_get memory.logs;
-  statuses = slice_get memory.statuses;
-  alerts = Some memory.alerts;
+abbrev pub state_of : Memory → StoreState
+state_of memory = record {
+  logs = length memory.logs;
+  status_files = length memory.statuses;
+  failures = memory.failures;
+  told = record {
+    files = slice_get memory.logs;
+    statuses = slice_get memory.statuses;
+    alerts = Some memory.alerts;
+  };
 }

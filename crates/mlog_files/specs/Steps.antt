@@ -1,5 +1,6 @@
 -- What a text does to the files of a log: the names of old files, the removals, the steps of a cut text.
-use Rattle.std.specs.Prelude.{ℕ, ◌+◌, ◌-◌, ◌^◌, min, ◌==◌, nat_le, Bool, ◌&&◌, if◌then◌else◌, List, [], ◌∷◌, ◌++◌, Option, Some, None}
+use Rattle.std.specs.Prelude.{ℕ, ◌+◌, ◌-◌, ◌^◌, min, ◌==◌, nat_le, Bool, ◌&&◌, if◌then◌else◌, List, [], ◌∷◌, ◌++◌}
+use Rattle.std.specs.Prelude.{Option, Some, None}
 use Rattle.tai_status.specs.Label.{Tai64n, greatest, is_earlier, plus_nano}
 use Rattle.tai_status.specs.Lines.{Sent}
 use Rattle.mlog_files.specs.Files.{Step, Finish, Remove, appends}

@@ -1,6 +1,7 @@
--- What calls of a store do.
-use Rattle.std.specs.Prelude.{◌≡◌, ◌≢◌, ℕ, List, ◌++◌, take, Option, Some, None, ⊤}
+-- A store, and what its calls do.
+use Rattle.std.specs.Prelude.{◌≡◌, ◌≢◌, ℕ, ◌<◌, ◌≤◌, List, [], ◌++◌, length, take, Option, Some, None, ⊤}
 use Rattle.std.specs.Io.KnownBytes.{Appends}
+use Rattle.tai_status.specs.Counted.{Rose}
 use Rattle.mlog_files.specs.Files.{Files, Step, files_after, append_steps}
 
 -- What a store tells, as far as it tells it: the files of each log, each status file, and all alerts.
@@ -9,9 +10,27 @@ pub record Told : Type 0 where
   pub statuses : ℕ → Option (List ℕ)
   pub alerts : Option (List ℕ)
 
--- a store that tells nothing, as one over folders
-abbrev pub tells_nothing : {S : Type 0} → S → Told
-tells_nothing s = record { files = λ _. None; statuses = λ _. None; alerts = None }
+-- A store: how many logs and how many status files it has, how many of its calls failed, and what it tells.
+pub record StoreState : Type 0 where
+  pub logs : ℕ
+  pub status_files : ℕ
+  pub failures : ℕ
+  pub told : Told
+
+-- a store that tells nothing, with so many logs and status files and failed calls
+abbrev pub tells_nothing : ℕ → ℕ → ℕ → StoreState
+tells_nothing logs status_files failures = record {
+  logs = logs;
+  status_files = status_files;
+  failures = failures;
+  told = record { files = λ _. None; statuses = λ _. None; alerts = None };
+}
+
+-- The logs and status files are as many as before, and no failed call is forgotten.
+pub record Stays (old new : StoreState) : Type 0 where
+  pub logs : new.logs ≡ old.logs
+  pub status_files : new.status_files ≡ old.status_files
+  pub steady : old.failures ≤ new.failures
 
 -- Files that are told went through these steps. A store may stop to tell them, and doesn't begin again.
 abbrev pub Reaches : Option Files → Option Files → List Step → Type 0
@@ -21,22 +40,39 @@ Reaches (Some old) None steps = ⊤
 Reaches (Some old) (Some new) steps = new ≡ files_after steps old
 
 -- One log went through these steps, and all else is as before.
-pub record Does (old new : Told) (log : ℕ) (steps : List Step) : Type 0 where
-  pub here : Reaches (old.files log) (new.files log) steps
-  pub others : (other : ℕ) → other ≢ log → new.files other ≡ old.files other
-  pub statuses : new.statuses ≡ old.statuses
-  pub alerts : new.alerts ≡ old.alerts
+pub record Does (old new : StoreState) (log : ℕ) (steps : List Step) : Type 0 where
+  pub here : Reaches (old.told.files log) (new.told.files log) steps
+  pub others : (other : ℕ) → other ≢ log → new.told.files other ≡ old.told.files other
+  pub statuses : new.told.statuses ≡ old.told.statuses
+  pub alerts : new.told.alerts ≡ old.told.alerts
+  pub stays : Stays old new
 
 -- One log went through a front of these steps, and all else is as before.
-pub record DoesFront (old new : Told) (log : ℕ) (steps : List Step) : Type 0 where
+pub record DoesFront (old new : StoreState) (log : ℕ) (steps : List Step) : Type 0 where
   pub count : ℕ
   pub front : Does old new log (take count steps)
 
+-- The store failed on a log's way through these steps: a front of them is done, and the failure is counted.
+pub record Fails (old new : StoreState) (log : ℕ) (steps : List Step) : Type 0 where
+  pub front : DoesFront old new log steps
+  pub rose : Rose old.failures new.failures
+
 -- A log went through steps which, with the bytes that wait afterwards, are these, after the bytes that waited before.
-pub record Goes (old new : Told) (log : ℕ) (waited waits : List ℕ) (steps : List Step) : Type 0 where
+pub record Goes (old new : StoreState) (log : ℕ) (waited waits : List ℕ) (steps : List Step) : Type 0 where
   pub done : List Step
   pub does : Does old new log done
   pub whole : done ++ append_steps waits ≡ append_steps waited ++ steps
+
+-- So many bytes of a piece were appended to a log's current file. Where none of some was, a failure is counted.
+pub record AppendsPart (old new : StoreState) (log : ℕ) (piece : List ℕ) (count : ℕ) : Type 0 where
+  pub within : count ≤ length piece
+  pub does : Does old new log (append_steps (take count piece))
+  pub none : count ≡ 0 → 0 < length piece → Rose old.failures new.failures
+
+-- A call for a log failed: nothing is done, and the failure is counted.
+pub record FailsAt (old new : StoreState) (log : ℕ) : Type 0 where
+  pub nothing : Does old new log []
+  pub rose : Rose old.failures new.failures
 
 -- A file that is told is this now. A store may stop to tell it.
 abbrev pub IsNow : Option (List ℕ) → Option (List ℕ) → List ℕ → Type 0
@@ -46,20 +82,35 @@ IsNow (Some old) None content = ⊤
 IsNow (Some old) (Some new) content = new ≡ content
 
 -- One status file was replaced by this content, and all else is as before.
-pub record Replaces (old new : Told) (file : ℕ) (content : List ℕ) : Type 0 where
-  pub here : IsNow (old.statuses file) (new.statuses file) content
-  pub others : (other : ℕ) → other ≢ file → new.statuses other ≡ old.statuses other
-  pub files : new.files ≡ old.files
-  pub alerts : new.alerts ≡ old.alerts
+pub record Replaces (old new : StoreState) (file : ℕ) (content : List ℕ) : Type 0 where
+  pub here : IsNow (old.told.statuses file) (new.told.statuses file) content
+  pub others : (other : ℕ) → other ≢ file → new.told.statuses other ≡ old.told.statuses other
+  pub files : new.told.files ≡ old.told.files
+  pub alerts : new.told.alerts ≡ old.told.alerts
+  pub stays : Stays old new
 
--- A status file may have any content, and all else is as before.
-pub record MayReplace (old new : Told) (file : ℕ) : Type 0 where
-  pub others : (other : ℕ) → other ≢ file → new.statuses other ≡ old.statuses other
-  pub files : new.files ≡ old.files
-  pub alerts : new.alerts ≡ old.alerts
+-- A status file was not replaced: it may have any content, all else is as before, and the failure is counted.
+pub record FailsToReplace (old new : StoreState) (file : ℕ) : Type 0 where
+  pub others : (other : ℕ) → other ≢ file → new.told.statuses other ≡ old.told.statuses other
+  pub files : new.told.files ≡ old.told.files
+  pub alerts : new.told.alerts ≡ old.told.alerts
+  pub stays : Stays old new
+  pub rose : Rose old.failures new.failures
 
 -- This was alerted, and all else is as before.
-pub record Alerts (old new : Told) (piece : List ℕ) : Type 0 where
-  pub here : Appends old.alerts new.alerts piece
-  pub files : new.files ≡ old.files
-  pub statuses : new.statuses ≡ old.statuses
+pub record Alerts (old new : StoreState) (piece : List ℕ) : Type 0 where
+  pub here : Appends old.told.alerts new.told.alerts piece
+  pub files : new.told.files ≡ old.told.files
+  pub statuses : new.told.statuses ≡ old.told.statuses
+  pub stays : Stays old new
+
+-- So many bytes of a piece were alerted. Where none of some was, a failure is counted.
+pub record AlertsPart (old new : StoreState) (piece : List ℕ) (count : ℕ) : Type 0 where
+  pub within : count ≤ length piece
+  pub alerts : Alerts old new (take count piece)
+  pub none : count ≡ 0 → 0 < length piece → Rose old.failures new.failures
+
+-- An alert failed: nothing is alerted, and the failure is counted.
+pub record FailsToAlert (old new : StoreState) : Type 0 where
+  pub nothing : Alerts old new []
+  pub rose : Rose old.failures new.failures

@@ -1,12 +1,16 @@
 -- Where a log's end stands.
-use Rattle.std.specs.Prelude.{ℕ, ◌+◌, ◌-◌, List, length, Option, Some}
+use Rattle.std.specs.Prelude.{◌≡◌, ℕ, ◌+◌, ◌-◌, List, ◌++◌, length, Option, Some, None}
+use Rattle.tai_status.specs.Counted.{Rose}
 use Rattle.tai_status.specs.Label.{Tai64n}
 use Rattle.tai_status.specs.Lines.{sent}
-use Rattle.mlog_files.specs.Files.{Files, Step}
+use Rattle.mlog_files.specs.Files.{Files, Step, append_steps}
 use Rattle.mlog_files.specs.Steps.{Marks}
-use Rattle.mlog_files.specs.Going.{Standing, steps_on, standing_on}
+use Rattle.mlog_files.specs.Going.{Standing, finish_at, finished_at, steps_on, standing_on}
 use Rattle.mlog_files.specs.Named.{greatest_label}
+use Rattle.mlog_files.specs.Store.{StoreState, Does, DoesFront, Goes}
 use Rattle.mlog_files.specs.declared.tail.Tail.{Tail}
+use Rattle.mlog_files.specs.declared.tail.LogFault.{LogFault}
+use Rattle.mlog_files.specs.declared.tail.LogFault.TheVariants as fault
 
 -- the size that a file of the log has at most
 abbrev pub size_of : Tail → ℕ
@@ -55,3 +59,38 @@ room_in tail = tail.size - 2000 - tail.count - 1
 -- where a log stands whose current file has so many bytes more
 abbrev pub longer : Standing → ℕ → Standing
 longer log more = record { count = log.count + more; marks = log.marks }
+
+-- A log keeps the size of its files, and how many old ones it has.
+pub record SameLimits (tail now : Tail) : Type 0 where
+  pub size : size_of now ≡ size_of tail
+  pub keep : keep_of now ≡ keep_of tail
+
+-- Bytes of a line with this reading were put: the log went through their steps, but for what waits, and stands after
+-- them.
+pub record Puts (old new : StoreState) (log : ℕ) (tail now : Tail) (reading : Tai64n) (bytes : List ℕ) : Type 0 where
+  pub goes : Goes old new log (waiting_in tail) (waiting_in now) (steps_at tail reading bytes)
+  pub stands : after_at tail reading bytes ≡ Some (standing now)
+
+-- A log stopped on its way through some steps, which end there: a front of them is done. The store failed, which is
+-- counted; or the end is nowhere, as there is no label for an old file, and all steps before that are done.
+pub record StopsOn (old new : StoreState) (log : ℕ) (steps : List Step) (end : Option Standing) (why : LogFault)
+    : Type 0 where
+  pub front : DoesFront old new log steps
+  pub store : why ≡ fault.Store → Rose old.failures new.failures
+  pub nowhere : why ≡ fault.LabelsSpent → end ≡ None
+  pub spent : why ≡ fault.LabelsSpent → Does old new log steps
+
+-- the steps of a finish under the label that a reading gives, with what waits
+abbrev pub steps_to_finish : Tail → Tai64n → List Step
+steps_to_finish tail reading = append_steps (waiting_in tail) ++ finish_at (keep_of tail) (marks_at tail) reading
+
+-- The current file was not finished, with what waited.
+abbrev pub FinishesUpTo : (old new : StoreState) → ℕ → Tail → Tai64n → LogFault → Type 0
+FinishesUpTo old new log tail reading why = StopsOn old new log (steps_to_finish tail reading)
+    (finished_at (keep_of tail) (marks_at tail) reading) why
+
+-- Bytes of a line were not all put, after what waited.
+abbrev pub PutsUpTo : (old new : StoreState) → ℕ → Tail → Tai64n → List ℕ → LogFault → Type 0
+PutsUpTo old new log tail reading bytes why =
+    StopsOn old new log (append_steps (waiting_in tail) ++ steps_at tail reading bytes)
+    (after_at tail reading bytes) why

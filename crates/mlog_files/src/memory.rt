@@ -3,16 +3,13 @@ ghost use Rattle.std.specs.Prelude.{◌≡◌, ◌≤◌, ◌++◌, ◌∷◌, l
 ghost use Rattle.std.specs.Cmp.Lexicographic.{slice_cmp};
 ghost use Rattle.std.specs.Ordering.{is_lt, nat_cmp};
 ghost use Rattle.mlog_files.specs.Files.{Old, with_old};
-ghost use Rattle.mlog_files.specs.Named.{later_of};
 
+use crate::named::{label_in, later_of};
 use crate::store::{LogStore, StoreFault};
 use std::alloc::{AllocError, Allocator, Global};
 use std::marker::Model;
 use std::mem;
-use tai_status::{Label, read_text, text};
-
-/// How long a label's text is.
-const LABEL: usize = 25;
+use tai_status::{Label, text};
 
 /// An old file of a log.
 #[derive(Drop)]
@@ -29,17 +26,6 @@ impl<A: Allocator> Model for OldFile<A> {
     ghost view = { λ old. record { name = old.name.items; bytes = old.bytes.items } };
 }
 
-// The bytes of a name in which a label may stand.
-#[tactic(auto, using(crate::proofs::Kept::short_name))]
-fn front(name: &[u8]) -> &[u8]
-    ensures { result.now ≡ take 25 name.now }
-{
-    if name.len() <= LABEL {
-        return name;
-    }
-    &name[..LABEL]
-}
-
 impl<A: Allocator> OldFile<A> {
     ghost use Rattle.mlog_files.specs.Named.{label_in};
     ghost use Rattle.std.specs.Prelude.{◌≡◌};
@@ -54,7 +40,7 @@ impl<A: Allocator> OldFile<A> {
     fn label(&self) -> Option<Label>
         ensures { result ≡ label_in self.now.name }
     {
-        read_text(front(self.name())).ok()
+        label_in(self.name())
     }
 }
 
@@ -71,19 +57,6 @@ impl<A: Allocator> Model for LogFiles<A> {
     ghost Value = { Files };
 
     ghost view = { λ files. record { current = files.current.items; olds = files.olds.items } };
-}
-
-// The later of two labels.
-fn later_of(a: Option<Label>, b: Option<Label>) -> Option<Label>
-    ensures { result ≡ later_of a b }
-{
-    let Some(first) = a else {
-        return b;
-    };
-    let Some(second) = b else {
-        return a;
-    };
-    if first < second { b } else { a }
 }
 
 // Whether a name comes before another, in byte order.

@@ -101,16 +101,9 @@ impl<A: Allocator> MemoryStore<A> {
 }
 
 impl<A: Allocator + Clone> LogStore for MemoryStore<A> {
-    ghost use Rattle.std.specs.Prelude.{length};
-    ghost use Rattle.mlog_files.specs.Memory.{told_of};
+    ghost use Rattle.mlog_files.specs.Memory.{state_of};
 
-    ghost logs = { λ store. length store.logs };
-
-    ghost status_files = { λ store. length store.statuses };
-
-    ghost failures = { λ store. store.failures };
-
-    ghost told = { told_of };
+    ghost state = { state_of };
 
     fn append(&mut self, log: usize, piece: &[u8]) -> Result<usize, StoreFault> {
         match self.logs[log].append(piece) {

@@ -1,9 +1,8 @@
 //! The end of a log, where its text goes on.
-ghost use Rattle.std.specs.Prelude.{◌≡◌, ◌≤◌, ◌<◌, ◌++◌, [], length, OnOk, OnErr, Some};
-ghost use Rattle.tai_status.specs.Counted.{Rose};
+ghost use Rattle.std.specs.Prelude.{◌≡◌, ◌≤◌, ◌<◌, ◌++◌, [], OnOk, OnErr, Some};
 ghost use Rattle.mlog_files.specs.Files.{append_steps};
 ghost use Rattle.mlog_files.specs.Steps.{label_given};
-ghost use Rattle.mlog_files.specs.Store.{Does, DoesFront, Goes};
+ghost use Rattle.mlog_files.specs.Store.{Does, Fails, Goes};
 
 use crate::cut::{SLACK, first_cut};
 use crate::store::{LogStore, StoreFault, append_all};
@@ -62,13 +61,10 @@ fn label_past(last: &Label, reading: &Label) -> Option<Label>
 
 // Appends what waits.
 fn write_out<S: LogStore>(waiting: &mut Block, store: &mut S, log: usize) -> Result<(), StoreFault>
-    requires { log < S.logs store.old }
-    ensures ok { OnOk result (Does (S.told store.old) (S.told store.new) log (append_steps waiting.old)) }
+    requires { log < (S.state store.old).logs }
+    ensures ok { OnOk result (Does (S.state store.old) (S.state store.new) log (append_steps waiting.old)) }
     ensures empty { OnOk result (waiting.new ≡ []) }
-    ensures err { OnErr result (DoesFront (S.told store.old) (S.told store.new) log (append_steps waiting.old)) }
-    ensures fault { OnErr result (Rose (S.failures store.old) (S.failures store.new)) }
-    ensures steady { S.failures store.old ≤ S.failures store.new }
-    ensures counts { (S.logs store.new ≡ S.logs store.old) × (S.status_files store.new ≡ S.status_files store.old) }
+    ensures err { OnErr result (Fails (S.state store.old) (S.state store.new) log (append_steps waiting.old)) }
 {
     append_all(store, log, waiting.as_slice())?;
     waiting.clear();
@@ -82,14 +78,11 @@ fn hold<S: LogStore>(
     log: usize,
     piece: &[u8],
 ) -> Result<(), StoreFault>
-    requires { log < S.logs store.old }
+    requires { log < (S.state store.old).logs }
     ensures ok { OnOk result
-        (Goes (S.told store.old) (S.told store.new) log waiting.old waiting.new (append_steps piece.now)) }
+        (Goes (S.state store.old) (S.state store.new) log waiting.old waiting.new (append_steps piece.now)) }
     ensures err { OnErr result
-        (DoesFront (S.told store.old) (S.told store.new) log (append_steps waiting.old ++ append_steps piece.now)) }
-    ensures fault { OnErr result (Rose (S.failures store.old) (S.failures store.new)) }
-    ensures steady { S.failures store.old ≤ S.failures store.new }
-    ensures counts { (S.logs store.new ≡ S.logs store.old) × (S.status_files store.new ≡ S.status_files store.old) }
+        (Fails (S.state store.old) (S.state store.new) log (append_steps waiting.old ++ append_steps piece.now)) }
 {
     if piece.len() <= waiting.room() {
         waiting.push(piece);
@@ -104,25 +97,24 @@ fn hold<S: LogStore>(
 }
 
 impl Tail {
-    ghost use Rattle.std.specs.Prelude.{◌≡◌, ◌<◌, ◌≤◌, ◌++◌, [], length, take, Some, None};
-    ghost use Rattle.std.specs.Prelude.{IfOk, IfErr, IfSome, OnOk, OnErr, IsErrOf};
-    ghost use Rattle.tai_status.specs.Counted.{Rose};
+    ghost use Rattle.std.specs.Prelude.{◌≡◌, ◌<◌, ◌≤◌, ◌++◌, [], length, take, Some, IfOk, IfErr, IfSome, OnOk, OnErr};
     ghost use Rattle.mlog_files.specs.Files.{append_steps};
     ghost use Rattle.mlog_files.specs.Steps.{finish_steps};
-    ghost use Rattle.mlog_files.specs.Going.{begun, finish_at, finished_at};
-    ghost use Rattle.mlog_files.specs.Store.{Does, DoesFront, Goes};
+    ghost use Rattle.mlog_files.specs.Going.{begun, finished_at};
+    ghost use Rattle.mlog_files.specs.Store.{Does, Fails, Goes};
     ghost use Rattle.mlog_files.specs.Tails.{size_of, keep_of, waiting_in, marks_at, standing, found};
-    ghost use Rattle.mlog_files.specs.Tails.{steps_at, after_at, room_in, longer};
+    ghost use Rattle.mlog_files.specs.Tails.{room_in, longer, SameLimits, steps_to_finish, FinishesUpTo, Puts};
+    ghost use Rattle.mlog_files.specs.Tails.{PutsUpTo};
     ghost use Rattle.mlog_files.specs.declared.tail.LogFault.TheVariants as fault;
 
     /// The end of a log as the store holds it.
     pub fn open<S: LogStore>(store: &S, log: usize, size: usize, keep: u64) -> Tail
-        requires log { log < S.logs store.now }
+        requires log { log < (S.state store.now).logs }
         requires size { 2000 ≤ size }
         requires keep { 2 ≤ keep }
         ensures limits { (size_of result ≡ size) × (keep_of result ≡ keep) }
         ensures waiting { waiting_in result ≡ [] }
-        ensures found { IfSome ((S.told store.now).files log) (λ files. standing result ≡ found files) }
+        ensures found { IfSome ((S.state store.now).told.files log) (λ files. standing result ≡ found files) }
     {
         Tail {
             size,
@@ -157,17 +149,14 @@ impl Tail {
         log: usize,
         label: Label,
     ) -> Result<(), StoreFault>
-        requires { log < S.logs store.old }
-        ensures ok { OnOk result (Does (S.told store.old) (S.told store.new) log
+        requires { log < (S.state store.old).logs }
+        ensures ok { OnOk result (Does (S.state store.old) (S.state store.new) log
             (finish_steps self.old.keep (marks_at self.old) label)) }
         ensures stands { OnOk result (standing self.new ≡ begun self.old.keep (marks_at self.old) label) }
         ensures waiting { self.new.waiting ≡ self.old.waiting }
-        ensures same { (self.new.size ≡ self.old.size) × (self.new.keep ≡ self.old.keep) }
-        ensures err { OnErr result (DoesFront (S.told store.old) (S.told store.new) log
+        ensures same { SameLimits self.old self.new }
+        ensures err { OnErr result (Fails (S.state store.old) (S.state store.new) log
             (finish_steps self.old.keep (marks_at self.old) label)) }
-        ensures fault { OnErr result (Rose (S.failures store.old) (S.failures store.new)) }
-        ensures steady { S.failures store.old ≤ S.failures store.new }
-        ensures counts { (S.logs store.new ≡ S.logs store.old) × (S.status_files store.new ≡ S.status_files store.old) }
     {
         store.finish(log, &label)?;
         self.finished = self.finished.saturating_add(1);
@@ -189,21 +178,15 @@ impl Tail {
         log: usize,
         reading: &Label,
     ) -> Result<(), LogFault>
-        requires { log < S.logs store.old }
-        ensures ok { OnOk result (Does (S.told store.old) (S.told store.new) log
-            (append_steps self.old.waiting ++ finish_at self.old.keep (marks_at self.old) reading.now)) }
+        requires { log < (S.state store.old).logs }
+        ensures ok { OnOk result (Does (S.state store.old) (S.state store.new) log
+            (steps_to_finish self.old reading.now)) }
         ensures stands { OnOk result
             (finished_at self.old.keep (marks_at self.old) reading.now ≡ Some (standing self.new)) }
         ensures empty { OnOk result (self.new.waiting ≡ []) }
-        ensures same { (self.new.size ≡ self.old.size) × (self.new.keep ≡ self.old.keep) }
-        ensures stopped { OnErr result (DoesFront (S.told store.old) (S.told store.new) log
-            (append_steps self.old.waiting ++ finish_at self.old.keep (marks_at self.old) reading.now)) }
-        ensures spent { IsErrOf result fault.LabelsSpent →
-            (finished_at self.old.keep (marks_at self.old) reading.now ≡ None)
-            × Does (S.told store.old) (S.told store.new) log (append_steps self.old.waiting) }
-        ensures store { IsErrOf result fault.Store → Rose (S.failures store.old) (S.failures store.new) }
-        ensures steady { S.failures store.old ≤ S.failures store.new }
-        ensures counts { (S.logs store.new ≡ S.logs store.old) × (S.status_files store.new ≡ S.status_files store.old) }
+        ensures same { SameLimits self.old self.new }
+        ensures stopped { IfErr result (λ why.
+            FinishesUpTo (S.state store.old) (S.state store.new) log self.old reading.now why) }
     {
         match write_out(&mut self.waiting, store, log) {
             Ok(()) => {}
@@ -226,25 +209,15 @@ impl Tail {
         reading: &Label,
         bytes: &[u8],
     ) -> Result<usize, LogFault>
-        requires log { log < S.logs store.old }
+        requires log { log < (S.state store.old).logs }
         requires room { self.old.count < self.old.size }
         requires some { 0 < length bytes.now }
         ensures taken { IfOk result (λ taken. (0 < taken) × (taken ≤ length bytes.now)) }
-        ensures done { IfOk result (λ taken.
-            Goes (S.told store.old) (S.told store.new) log self.old.waiting self.new.waiting
-            (steps_at self.old reading.now (take taken bytes.now))) }
-        ensures stands { IfOk result (λ taken.
-            after_at self.old reading.now (take taken bytes.now) ≡ Some (standing self.new)) }
-        ensures same { (self.new.size ≡ self.old.size) × (self.new.keep ≡ self.old.keep) }
-        ensures stopped { OnErr result (DoesFront (S.told store.old) (S.told store.new) log
-            (append_steps self.old.waiting ++ steps_at self.old reading.now bytes.now)) }
-        ensures spent { IsErrOf result fault.LabelsSpent →
-            (after_at self.old reading.now bytes.now ≡ None)
-            × Does (S.told store.old) (S.told store.new) log
-            (append_steps self.old.waiting ++ steps_at self.old reading.now bytes.now) }
-        ensures store { IsErrOf result fault.Store → Rose (S.failures store.old) (S.failures store.new) }
-        ensures steady { S.failures store.old ≤ S.failures store.new }
-        ensures counts { (S.logs store.new ≡ S.logs store.old) × (S.status_files store.new ≡ S.status_files store.old) }
+        ensures puts { IfOk result (λ taken. Puts (S.state store.old) (S.state store.new) log
+            self.old self.new reading.now (take taken bytes.now)) }
+        ensures same { SameLimits self.old self.new }
+        ensures stopped { IfErr result (λ why.
+            PutsUpTo (S.state store.old) (S.state store.new) log self.old reading.now bytes.now why) }
     {
         let cut = first_cut(self.size, self.count, bytes);
         match hold(&mut self.waiting, store, log, &bytes[..cut.len]) {
@@ -267,24 +240,14 @@ impl Tail {
         reading: &Label,
         bytes: &[u8],
     ) -> Result<usize, LogFault>
-        requires log { log < S.logs store.old }
+        requires log { log < (S.state store.old).logs }
         requires some { 0 < length bytes.now }
         ensures taken { IfOk result (λ taken. (0 < taken) × (taken ≤ length bytes.now)) }
-        ensures done { IfOk result (λ taken.
-            Goes (S.told store.old) (S.told store.new) log self.old.waiting self.new.waiting
-            (steps_at self.old reading.now (take taken bytes.now))) }
-        ensures stands { IfOk result (λ taken.
-            after_at self.old reading.now (take taken bytes.now) ≡ Some (standing self.new)) }
-        ensures same { (self.new.size ≡ self.old.size) × (self.new.keep ≡ self.old.keep) }
-        ensures stopped { OnErr result (DoesFront (S.told store.old) (S.told store.new) log
-            (append_steps self.old.waiting ++ steps_at self.old reading.now bytes.now)) }
-        ensures spent { IsErrOf result fault.LabelsSpent →
-            (after_at self.old reading.now bytes.now ≡ None)
-            × Does (S.told store.old) (S.told store.new) log
-            (append_steps self.old.waiting ++ steps_at self.old reading.now bytes.now) }
-        ensures store { IsErrOf result fault.Store → Rose (S.failures store.old) (S.failures store.new) }
-        ensures steady { S.failures store.old ≤ S.failures store.new }
-        ensures counts { (S.logs store.new ≡ S.logs store.old) × (S.status_files store.new ≡ S.status_files store.old) }
+        ensures puts { IfOk result (λ taken. Puts (S.state store.old) (S.state store.new) log
+            self.old self.new reading.now (take taken bytes.now)) }
+        ensures same { SameLimits self.old self.new }
+        ensures stopped { IfErr result (λ why.
+            PutsUpTo (S.state store.old) (S.state store.new) log self.old reading.now bytes.now why) }
     {
         if self.count < self.size {
             return self.put_open(store, log, reading, bytes);
@@ -303,21 +266,12 @@ impl Tail {
         reading: &Label,
         bytes: &[u8],
     ) -> Result<(), LogFault>
-        requires log { log < S.logs store.old }
-        ensures done { OnOk result
-            (Goes (S.told store.old) (S.told store.new) log (waiting_in self.old) (waiting_in self.new)
-            (steps_at self.old reading.now bytes.now)) }
-        ensures stands { OnOk result (after_at self.old reading.now bytes.now ≡ Some (standing self.new)) }
-        ensures same { (size_of self.new ≡ size_of self.old) × (keep_of self.new ≡ keep_of self.old) }
-        ensures stopped { OnErr result (DoesFront (S.told store.old) (S.told store.new) log
-            (append_steps (waiting_in self.old) ++ steps_at self.old reading.now bytes.now)) }
-        ensures spent { IsErrOf result fault.LabelsSpent →
-            (after_at self.old reading.now bytes.now ≡ None)
-            × Does (S.told store.old) (S.told store.new) log
-            (append_steps (waiting_in self.old) ++ steps_at self.old reading.now bytes.now) }
-        ensures store { IsErrOf result fault.Store → Rose (S.failures store.old) (S.failures store.new) }
-        ensures steady { S.failures store.old ≤ S.failures store.new }
-        ensures counts { (S.logs store.new ≡ S.logs store.old) × (S.status_files store.new ≡ S.status_files store.old) }
+        requires log { log < (S.state store.old).logs }
+        ensures puts { OnOk result
+            (Puts (S.state store.old) (S.state store.new) log self.old self.new reading.now bytes.now) }
+        ensures same { SameLimits self.old self.new }
+        ensures stopped { IfErr result (λ why.
+            PutsUpTo (S.state store.old) (S.state store.new) log self.old reading.now bytes.now why) }
     {
         let mut at = 0;
         while at < bytes.len() {
@@ -343,18 +297,15 @@ impl Tail {
         log: usize,
         bytes: &[u8],
     ) -> Result<(), LogFault>
-        requires log { log < S.logs store.old }
+        requires log { log < (S.state store.old).logs }
         requires room { length bytes.now ≤ room_in self.old }
-        ensures done { OnOk result
-            (Goes (S.told store.old) (S.told store.new) log (waiting_in self.old) (waiting_in self.new)
-            (append_steps bytes.now)) }
+        ensures done { OnOk result (Goes (S.state store.old) (S.state store.new) log
+            (waiting_in self.old) (waiting_in self.new) (append_steps bytes.now)) }
         ensures stands { OnOk result (standing self.new ≡ longer (standing self.old) (length bytes.now)) }
-        ensures same { (size_of self.new ≡ size_of self.old) × (keep_of self.new ≡ keep_of self.old) }
-        ensures stopped { OnErr result (DoesFront (S.told store.old) (S.told store.new) log
+        ensures same { SameLimits self.old self.new }
+        ensures stopped { OnErr result (Fails (S.state store.old) (S.state store.new) log
             (append_steps (waiting_in self.old) ++ append_steps bytes.now)) }
-        ensures store { IfErr result (λ why. (why ≡ fault.Store) × Rose (S.failures store.old) (S.failures store.new)) }
-        ensures steady { S.failures store.old ≤ S.failures store.new }
-        ensures counts { (S.logs store.new ≡ S.logs store.old) × (S.status_files store.new ≡ S.status_files store.old) }
+        ensures why { IfErr result (λ why. why ≡ fault.Store) }
     {
         match hold(&mut self.waiting, store, log, bytes) {
             Ok(()) => {
@@ -367,17 +318,15 @@ impl Tail {
 
     /// Appends what waits in memory.
     pub fn flush<S: LogStore>(&mut self, store: &mut S, log: usize) -> Result<(), LogFault>
-        requires log { log < S.logs store.old }
+        requires log { log < (S.state store.old).logs }
         ensures done { OnOk result
-            (Does (S.told store.old) (S.told store.new) log (append_steps (waiting_in self.old))) }
+            (Does (S.state store.old) (S.state store.new) log (append_steps (waiting_in self.old))) }
         ensures empty { OnOk result (waiting_in self.new ≡ []) }
         ensures stands { standing self.new ≡ standing self.old }
-        ensures same { (size_of self.new ≡ size_of self.old) × (keep_of self.new ≡ keep_of self.old) }
+        ensures same { SameLimits self.old self.new }
         ensures stopped { OnErr result
-            (DoesFront (S.told store.old) (S.told store.new) log (append_steps (waiting_in self.old))) }
-        ensures store { IfErr result (λ why. (why ≡ fault.Store) × Rose (S.failures store.old) (S.failures store.new)) }
-        ensures steady { S.failures store.old ≤ S.failures store.new }
-        ensures counts { (S.logs store.new ≡ S.logs store.old) × (S.status_files store.new ≡ S.status_files store.old) }
+            (Fails (S.state store.old) (S.state store.new) log (append_steps (waiting_in self.old))) }
+        ensures why { IfErr result (λ why. why ≡ fault.Store) }
     {
         match write_out(&mut self.waiting, store, log) {
             Ok(()) => Ok(()),

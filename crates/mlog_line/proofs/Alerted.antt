@@ -1,55 +1,72 @@
 -- Alerts and status files, one after another.
 use Rattle.std.proofs.Common.{◌≡◌, ◌≢◌, ℕ, suc, ◌+◌, ◌-◌, min, replicate, ◌<◌, ◌≤◌, ◌==◌, if◌then◌else◌, Bool, true, false, List, [], ◌∷◌, ◌++◌, length, take, drop, get_or, Option, Some, None, refl, sym, subst, ap, ◌∙◌, arith, append-nil}
-use Rattle.std.specs.Prelude.{Result, Ok, Err, OnOk, MatchResult}
 use Rattle.std.proofs.lemmas.List.{take_more, take_all, take_min, take-append-drop, length-take, drop-replicate}
 use Rattle.std.proofs.Math.Seq.{take-append-add}
 use Rattle.std.proofs.lemmas.List.Concat.{flat_map-append}
 use Rattle.std.specs.List.{flat_map}
 use Rattle.tai_status.proofs.Known.{Appends-then, Appends-further, AppendsFront-more}
 use Rattle.mlog_script.specs.Selection.{flag_at, alert, padded}
-use Rattle.mlog_files.specs.Store.{Told, Alerts, Replaces, IsNow}
+use Rattle.mlog_files.specs.Store.{StoreState, Alerts, AlertsPart, FailsToAlert, Replaces, IsNow}
+use Rattle.mlog_files.proofs.Doing.{Stays-then, rose_since}
 use Rattle.mlog_line.specs.Given.{alerts_for}
 use Rattle.mlog_line.specs.Outputs.{Becomes}
 use Rattle.mlog_line.specs.Several.{AlertsFront, Replaced}
-use Rattle.mlog_line.proofs.Taking.{Appends-front, Appends-none, Becomes-then, Becomes-none}
+use Rattle.mlog_line.proofs.Taking.{Appends-front, Appends-none, Becomes-then, Becomes-none, Stays-same}
 use Rattle.mlog_line.proofs.Ones.{flag_next}
 
-pub Alerts-none : (a : Told) → Alerts a a []
-Alerts-none a = record { here = Appends-none a.alerts; files = refl; statuses = refl }
+pub Alerts-none : (a : StoreState) → Alerts a a []
+Alerts-none a = record { here = Appends-none a.told.alerts; files = refl; statuses = refl; stays = Stays-same a }
 
-pub Alerts-then : (a b c : Told) (xs ys : List ℕ) → Alerts a b xs → Alerts b c ys → Alerts a c (xs ++ ys)
+pub Alerts-then : (a b c : StoreState) (xs ys : List ℕ) → Alerts a b xs → Alerts b c ys → Alerts a c (xs ++ ys)
 Alerts-then a b c xs ys k l = record {
-  here = Appends-then a.alerts b.alerts c.alerts xs ys k.here l.here;
+  here = Appends-then a.told.alerts b.told.alerts c.told.alerts xs ys k.here l.here;
   files = l.files ∙ k.files;
   statuses = l.statuses ∙ k.statuses;
+  stays = Stays-then k.stays l.stays;
 }
 
-pub Alerts-front : (a b c : Told) (xs ys : List ℕ) → Alerts a b xs → AlertsFront b c ys → AlertsFront a c (xs ++ ys)
+pub Alerts-front : (a b c : StoreState) (xs ys : List ℕ) → Alerts a b xs → AlertsFront b c ys → AlertsFront a c (xs ++ ys)
 Alerts-front a b c xs ys k f = record {
-  here = Appends-front a.alerts b.alerts c.alerts xs ys k.here f.here;
+  here = Appends-front a.told.alerts b.told.alerts c.told.alerts xs ys k.here f.here;
   files = f.files ∙ k.files;
   statuses = f.statuses ∙ k.statuses;
+  stays = Stays-then k.stays f.stays;
+  rose = rose_since a.failures b.failures c.failures k.stays.steady f.rose;
 }
 
-pub AlertsFront-more : (a b : Told) (xs ys : List ℕ) → AlertsFront a b xs → AlertsFront a b (xs ++ ys)
-AlertsFront-more a b xs ys f = record { here = AppendsFront-more ys f.here; files = f.files; statuses = f.statuses }
+pub AlertsFront-more : (a b : StoreState) (xs ys : List ℕ) → AlertsFront a b xs → AlertsFront a b (xs ++ ys)
+AlertsFront-more a b xs ys f = record { here = AppendsFront-more ys f.here; files = f.files; statuses = f.statuses; stays = f.stays; rose = f.rose }
 
 -- Nothing more was alerted.
-stays : (a b : Told) (xs : List ℕ) → Alerts a b [] → AlertsFront a b xs
-stays a b xs k = record { here = record { count = 0; front = k.here }; files = k.files; statuses = k.statuses }
-
-pub alerted_further : (a b c : Told) (xs : List ℕ) (at n : ℕ) → Alerts a b (take at xs) → Alerts b c (take n (take (length xs - at) (drop at xs)))
-    → Alerts a c (take (at + n) xs)
-alerted_further a b c xs at n k l = record {
-  here = Appends-further a.alerts b.alerts c.alerts xs at n k.here l.here;
-  files = l.files ∙ k.files;
-  statuses = l.statuses ∙ k.statuses;
+stopped : (a b : StoreState) (xs : List ℕ) → FailsToAlert a b → AlertsFront a b xs
+stopped a b xs f = record {
+  here = record { count = 0; front = f.nothing.here };
+  files = f.nothing.files;
+  statuses = f.nothing.statuses;
+  stays = f.nothing.stays;
+  rose = f.rose;
 }
 
-pub alerted_upto : (a b c : Told) (xs : List ℕ) (at : ℕ) → Alerts a b (take at xs) → Alerts b c [] → AlertsFront a c xs
+-- None of some bytes was alerted.
+pub none_alerted : (a b : StoreState) (piece : List ℕ) (count : ℕ) → AlertsPart a b piece count → count ≡ 0 → 0 < length piece → FailsToAlert a b
+none_alerted a b piece count d none some = record {
+  nothing = subst (λ (n : ℕ). Alerts a b (take n piece)) none d.alerts;
+  rose = d.none none some;
+}
+
+pub alerted_further : (a b c : StoreState) (xs : List ℕ) (at n : ℕ) → Alerts a b (take at xs) → Alerts b c (take n (take (length xs - at) (drop at xs)))
+    → Alerts a c (take (at + n) xs)
+alerted_further a b c xs at n k l = record {
+  here = Appends-further a.told.alerts b.told.alerts c.told.alerts xs at n k.here l.here;
+  files = l.files ∙ k.files;
+  statuses = l.statuses ∙ k.statuses;
+  stays = Stays-then k.stays l.stays;
+}
+
+pub alerted_upto : (a b c : StoreState) (xs : List ℕ) (at : ℕ) → Alerts a b (take at xs) → FailsToAlert b c → AlertsFront a c xs
 alerted_upto a b c xs at k l =
     subst (λ (t : List ℕ). AlertsFront a c t) (take-append-drop at xs)
-    (Alerts-front a b c (take at xs) (drop at xs) k (stays b c (drop at xs) l))
+    (Alerts-front a b c (take at xs) (drop at xs) k (stopped b c (drop at xs) l))
 
 -- Flag by flag
 
@@ -60,12 +77,12 @@ alerts_next flags k flag front within is =
     ap (flat_map one) (take_more flags k flag within) ∙ flat_map-append one (take k flags) (get_or flags k flag ∷ [])
     ∙ ap (λ (t : List ℕ). flat_map one (take k flags) ++ t) (append-nil (one (get_or flags k flag)) ∙ ap one (sym is))
 
-pub alerted_next : (a b c : Told) (flags : List Bool) (k : ℕ) (flag : Bool) (front : List ℕ) → k < length flags → flag ≡ get_or flags k flag
+pub alerted_next : (a b c : StoreState) (flags : List Bool) (k : ℕ) (flag : Bool) (front : List ℕ) → k < length flags → flag ≡ get_or flags k flag
     → Alerts a b (alerts_for (take k flags) front) → Alerts b c (if flag then alert front else []) → Alerts a c (alerts_for (take (k + 1) flags) front)
 alerted_next a b c flags k flag front within is k' l =
     subst (λ (t : List ℕ). Alerts a c t) (sym (alerts_next flags k flag front within is)) (Alerts-then a b c _ _ k' l)
 
-pub alerted_no_further : (a b c : Told) (flags : List Bool) (k : ℕ) (flag : Bool) (front : List ℕ) → k < length flags → flag ≡ get_or flags k flag
+pub alerted_no_further : (a b c : StoreState) (flags : List Bool) (k : ℕ) (flag : Bool) (front : List ℕ) → k < length flags → flag ≡ get_or flags k flag
     → Alerts a b (alerts_for (take k flags) front) → AlertsFront b c (if flag then alert front else []) → AlertsFront a c (alerts_for flags front)
 alerted_no_further a b c flags k flag front within is k' l =
     let one : Bool → List ℕ = λ (b : Bool). if b then alert front else [] in
@@ -83,27 +100,28 @@ becomes_now None (Some b) content k = absurd k
 becomes_now (Some a) None content k = tt
 becomes_now (Some a) (Some b) content k = k
 
-becomes_at : (a b : Told) (k n : ℕ) (content : List ℕ) (t : Bool) → (n == k) ≡ t → Replaces a b k content
-    → Becomes (a.statuses n) (b.statuses n) (if n == k then content ∷ [] else [])
+becomes_at : (a b : StoreState) (k n : ℕ) (content : List ℕ) (t : Bool) → (n == k) ≡ t → Replaces a b k content
+    → Becomes (a.told.statuses n) (b.told.statuses n) (if n == k then content ∷ [] else [])
 becomes_at a b k n content true e r =
     let same : n ≡ k = grind (arith, e) in
-    rw e (subst (λ (m : ℕ). Becomes (a.statuses m) (b.statuses m) (content ∷ [])) (sym same) (becomes_now (a.statuses k) (b.statuses k) content r.here))
+    rw e (subst (λ (m : ℕ). Becomes (a.told.statuses m) (b.told.statuses m) (content ∷ [])) (sym same) (becomes_now (a.told.statuses k) (b.told.statuses k) content r.here))
 becomes_at a b k n content false e r =
     let apart : n ≢ k = λ is. grind (arith, e, is) in
-    rw e (subst (λ (f : Option (List ℕ)). Becomes (a.statuses n) f []) (sym (r.others n apart)) (Becomes-none (a.statuses n)))
+    rw e (subst (λ (f : Option (List ℕ)). Becomes (a.told.statuses n) f []) (sym (r.others n apart)) (Becomes-none (a.told.statuses n)))
 
-pub replaced_none : (a : Told) (content : List ℕ) → Replaced a a [] content
-replaced_none a content = record { here = λ file. Becomes-none (a.statuses file); files = refl; alerts = refl }
+pub replaced_none : (a : StoreState) (content : List ℕ) → Replaced a a [] content
+replaced_none a content = record { here = λ file. Becomes-none (a.told.statuses file); files = refl; alerts = refl; stays = Stays-same a }
 
-pub replaced_next : (a b c : Told) (flags : List Bool) (k : ℕ) (flag : Bool) (content : List ℕ) → k < length flags → flag ≡ get_or flags k flag → flag ≡ true
+pub replaced_next : (a b c : StoreState) (flags : List Bool) (k : ℕ) (flag : Bool) (content : List ℕ) → k < length flags → flag ≡ get_or flags k flag → flag ≡ true
     → Replaced a b (take k flags) content → Replaces b c k content → Replaced a c (take (k + 1) flags) content
 replaced_next a b c flags k flag content within is set r s = record {
-  here = λ n. subst (λ (t : List (List ℕ)). Becomes (a.statuses n) (c.statuses n) t)
+  here = λ n. subst (λ (t : List (List ℕ)). Becomes (a.told.statuses n) (c.told.statuses n) t)
       (ap (λ (t : Bool). (if flag_at (take k flags) n then content ∷ [] else []) ++ (if n == k then (if t then content ∷ [] else []) else [])) (sym set)
       ∙ flag_next flags k flag n (content ∷ []) within is)
-      (Becomes-then (a.statuses n) (b.statuses n) (c.statuses n) _ _ (r.here n) (becomes_at b c k n content (n == k) refl s));
+      (Becomes-then (a.told.statuses n) (b.told.statuses n) (c.told.statuses n) _ _ (r.here n) (becomes_at b c k n content (n == k) refl s));
   files = s.files ∙ r.files;
   alerts = s.alerts ∙ r.alerts;
+  stays = Stays-then r.stays s.stays;
 }
 
 nothing_at : {X : Type 0} (b : Bool) (flag : Bool) (x : X) → flag ≡ false → (if b then (if flag then x ∷ [] else []) else []) ≡ []
@@ -117,13 +135,14 @@ no_more flags k flag content n unset =
     ap (λ (t : List (List ℕ)). (if flag_at (take k flags) n then content ∷ [] else []) ++ t) (nothing_at (n == k) flag content unset)
     ∙ append-nil (if flag_at (take k flags) n then content ∷ [] else [])
 
-pub replaced_not : (a b : Told) (flags : List Bool) (k : ℕ) (flag : Bool) (content : List ℕ) → k < length flags → flag ≡ get_or flags k flag → flag ≡ false
+pub replaced_not : (a b : StoreState) (flags : List Bool) (k : ℕ) (flag : Bool) (content : List ℕ) → k < length flags → flag ≡ get_or flags k flag → flag ≡ false
     → Replaced a b (take k flags) content → Replaced a b (take (k + 1) flags) content
 replaced_not a b flags k flag content within is unset r = record {
-  here = λ n. subst (λ (t : List (List ℕ)). Becomes (a.statuses n) (b.statuses n) t)
+  here = λ n. subst (λ (t : List (List ℕ)). Becomes (a.told.statuses n) (b.told.statuses n) t)
       (sym (no_more flags k flag content n unset) ∙ flag_next flags k flag n (content ∷ []) within is) (r.here n);
   files = r.files;
   alerts = r.alerts;
+  stays = r.stays;
 }
 
 -- Texts
@@ -151,10 +170,6 @@ pub padded_is : (f : List ℕ) → length f ≤ 1000 → f ++ drop (length f) (r
 padded_is f few =
     let whole = take_all 1000 f few in
     ap (λ (t : List ℕ). f ++ t) (drop_same (length f) 1001) ∙ ap (λ (t : List ℕ). t ++ replicate (1001 - length t) 10) (sym whole)
-
-pub match_ok : {T E R : Type 0} (r : Result T E) (P : T → Type 0) (Q : E → Type 0) → ((x : T) → P x → R) → MatchResult r P Q → OnOk r R
-match_ok (Ok x) P Q f p = f x p
-match_ok (Err e) P Q f p = tt
 
 -- As many bytes as patterns see.
 pub front_taken : (f : List ℕ) (n : ℕ) → n ≡ min (length f) 1000 → take n f ≡ take 1000 f

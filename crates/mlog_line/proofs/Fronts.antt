@@ -101,9 +101,9 @@ line_is_decided script label line front is few =
 
 -- So far
 
-pub held_so_far : (script : List Act) (label : Tai64n) (line front : List ℕ) → front ≡ shown script label line → length front < 1000
+pub kept_so_far : (script : List Act) (label : Tai64n) (line front : List ℕ) → front ≡ shown script label line → length front < 1000
     → nothing ≡ so_far script label line
-held_so_far script label line front is few =
+kept_so_far script label line front is few =
     let short : nat_le 1000 (length (shown script label line)) ≡ false = let e = ap length is in grind (arith, few, e) in
     rw short refl
 
@@ -112,23 +112,23 @@ pub decided_so_far : (script : List Act) (label : Tai64n) (line : List ℕ) → 
 decided_so_far script label line long =
     let many : nat_le 1000 (length (shown script label line)) ≡ true = grind (arith, long) in rw many refl
 
--- Further bytes are held.
-pub held_on : (o : Outputs) (script : List Act) (label : Tai64n) (line front more : List ℕ) → front ≡ shown script label line → length front < 1000
+-- Further bytes are kept.
+pub kept_on : (o : Outputs) (script : List Act) (label : Tai64n) (line front more : List ℕ) → front ≡ shown script label line → length front < 1000
     → length (front ++ more) < 1000 → Grows o o (so_far script label line) (so_far script label (line ++ more))
-held_on o script label line front more is few fewer =
-    let a = held_so_far script label line front is few in
-    let b = held_so_far script label (line ++ more) (front ++ more) (ap (λ (t : List ℕ). t ++ more) is ∙ sym (shown-append script label line more)) fewer in
+kept_on o script label line front more is few fewer =
+    let a = kept_so_far script label line front is few in
+    let b = kept_so_far script label (line ++ more) (front ++ more) (ap (λ (t : List ℕ). t ++ more) is ∙ sym (shown-append script label line more)) fewer in
     subst (λ (g : Given). Grows o o g (so_far script label (line ++ more))) a (subst (λ (g : Given). Grows o o nothing g) b (Grows-none o nothing))
 
 from_nothing : (m y : Given) → SameGiven m y → SameGiven (joined nothing m) y
 from_nothing m y s = record { logs = s.logs; alerts = s.alerts; files = s.files }
 
--- A held front is decided on, with bytes behind it.
+-- A kept front is decided on, with bytes behind it.
 pub decides_at : (o n : Outputs) (script : List Act) (label : Tai64n) (line front line1 front1 : List ℕ) → front ≡ shown script label line → length front < 1000
     → front1 ≡ shown script label line1 → length front1 ≤ 1000 → Takes o n (of_chosen script label front1)
     → Grows o n (so_far script label line) (of_front script label line1)
 decides_at o n script label line front line1 front1 is few is1 few1 k =
-    subst (λ (g : Given). Grows o n g (of_front script label line1)) (held_so_far script label line front is few)
+    subst (λ (g : Given). Grows o n g (of_front script label line1)) (kept_so_far script label line front is few)
     (record {
       more = of_chosen script label front1;
       whole = from_nothing (of_chosen script label front1) (of_front script label line1) (line_is_decided script label line1 front1 is1 few1);
@@ -139,7 +139,7 @@ pub decides_stopped : (o n : Outputs) (script : List Act) (label : Tai64n) (line
     → front1 ≡ shown script label line1 → length front1 ≤ 1000 → Stops o n (of_chosen script label front1) why
     → StopsAt o n (so_far script label line) (of_front script label line1) why
 decides_stopped o n script label line front line1 front1 why is few is1 few1 k =
-    subst (λ (g : Given). StopsAt o n g (of_front script label line1) why) (held_so_far script label line front is few)
+    subst (λ (g : Given). StopsAt o n g (of_front script label line1) why) (kept_so_far script label line front is few)
     (record {
       more = of_chosen script label front1;
       whole = from_nothing (of_chosen script label front1) (of_front script label line1) (line_is_decided script label line1 front1 is1 few1);
@@ -169,7 +169,7 @@ pub long_on : (script : List Act) (label : Tai64n) (line more : List ℕ) → 10
 long_on script label line more long =
     let e = ap length (shown-append script label line more) in let l = length-append (shown script label line) more in omega (arith, long, e, l)
 
--- in the words of the desk
+-- in the words of the router
 pub decided_goes : (o n : Outputs) (script : List Act) (label : Tai64n) (line more : List ℕ) (flags : List Bool) → flags ≡ (chosen_line script label line).logs
     → 1000 ≤ length (shown script label line) → Takes o n (to_logs flags label more)
     → Grows o n (so_far script label line) (so_far script label (line ++ more))
@@ -227,7 +227,7 @@ line_is_ended script label line front is few =
 pub ends_whole : (o n : Outputs) (script : List Act) (label : Tai64n) (line front : List ℕ) → front ≡ shown script label line → length front < 1000
     → Takes o n (of_put script label front (front ++ 10 ∷ [])) → Grows o n (so_far script label line) (of_line script label line)
 ends_whole o n script label line front is few k =
-    subst (λ (g : Given). Grows o n g (of_line script label line)) (held_so_far script label line front is few)
+    subst (λ (g : Given). Grows o n g (of_line script label line)) (kept_so_far script label line front is few)
     (record {
       more = of_put script label front (front ++ 10 ∷ []);
       whole = from_nothing (of_put script label front (front ++ 10 ∷ [])) (of_line script label line) (line_is_ended script label line front is (omega (arith, few)));
@@ -237,7 +237,7 @@ ends_whole o n script label line front is few k =
 pub stops_whole : (o n : Outputs) (script : List Act) (label : Tai64n) (line front : List ℕ) (why : LogFault) → front ≡ shown script label line → length front < 1000
     → Stops o n (of_put script label front (front ++ 10 ∷ [])) why → StopsAt o n (so_far script label line) (of_line script label line) why
 stops_whole o n script label line front why is few k =
-    subst (λ (g : Given). StopsAt o n g (of_line script label line) why) (held_so_far script label line front is few)
+    subst (λ (g : Given). StopsAt o n g (of_line script label line) why) (kept_so_far script label line front is few)
     (record {
       more = of_put script label front (front ++ 10 ∷ []);
       whole = from_nothing (of_put script label front (front ++ 10 ∷ [])) (of_line script label line) (line_is_ended script label line front is (omega (arith, few)));

@@ -1,4 +1,4 @@
--- What a desk does, by its place.
+-- What a router does, by its place.
 use Rattle.std.proofs.Common.{◌≡◌, ℕ, ◌+◌, ◌-◌, ◌<◌, ◌≤◌, Bool, true, false, List, [], ◌∷◌, ◌++◌, length, take, drop, sym, subst, ap, ◌∙◌, arith, append_assoc, append-nil, length-append}
 use Rattle.std.proofs.lemmas.List.{take_rest, take-append-drop, length-take}
 use Rattle.tai_status.specs.Label.{Tai64n, label_text}
@@ -9,28 +9,28 @@ use Rattle.mlog_files.specs.declared.tail.Tail.{Tail}
 use Rattle.mlog_files.specs.declared.tail.LogFault.{LogFault}
 use Rattle.mlog_line.specs.Given.{Given, of_line, of_front, of_put, of_chosen, so_far, to_logs}
 use Rattle.mlog_line.specs.Outputs.{Outputs, Takes, Stops, Grows, StopsAt}
-use Rattle.mlog_line.specs.Desk.{Place, IsAt, IsHeldOrDecided}
+use Rattle.mlog_line.specs.LineRouter.{Place, IsAt, IsKeptOrDecided}
 use Rattle.mlog_line.proofs.Growing.{Grows-then, StopsAt-then, StopsAt-more}
-use Rattle.mlog_line.proofs.Fronts.{shown-append, front_chosen, same_chosen, line_goes_on, held_on, decides_at, decides_stopped, goes_at, stops_at, long_on, decided_so_far, decided_goes, decided_stops, ends_at, end_stops, ends_whole, stops_whole}
+use Rattle.mlog_line.proofs.Fronts.{shown-append, front_chosen, same_chosen, line_goes_on, kept_on, decides_at, decides_stopped, goes_at, stops_at, long_on, decided_so_far, decided_goes, decided_stops, ends_at, end_stops, ends_whole, stops_whole}
 
 place : List Tail → Chosen → List ℕ → Bool → Place
 place tails c front decided = record { tails = tails; chosen = c; front = front; decided = decided }
 
 pub at_decided : (script : List Act) (p : Place) (label : Tai64n) (line : List ℕ) → p.decided ≡ true → IsAt script p label line
     → (p.chosen ≡ chosen_line script label line) × (1000 ≤ length (shown script label line))
-at_decided script p label line is at = subst (λ (d : Bool). IsHeldOrDecided d script p.chosen p.front label line) is at
+at_decided script p label line is at = subst (λ (d : Bool). IsKeptOrDecided d script p.chosen p.front label line) is at
 
-pub at_held : (script : List Act) (p : Place) (label : Tai64n) (line : List ℕ) → p.decided ≡ false → IsAt script p label line
+pub at_kept : (script : List Act) (p : Place) (label : Tai64n) (line : List ℕ) → p.decided ≡ false → IsAt script p label line
     → (p.front ≡ shown script label line) × (length p.front < 1000)
-at_held script p label line is at = subst (λ (d : Bool). IsHeldOrDecided d script p.chosen p.front label line) is at
+at_kept script p label line is at = subst (λ (d : Bool). IsKeptOrDecided d script p.chosen p.front label line) is at
 
 pub is_decided : (script : List Act) (d : Bool) (c : Chosen) (front : List ℕ) (label : Tai64n) (line : List ℕ) → d ≡ true
-    → c ≡ chosen_line script label line → 1000 ≤ length (shown script label line) → IsHeldOrDecided d script c front label line
-is_decided script d c front label line is same long = subst (λ (d : Bool). IsHeldOrDecided d script c front label line) (sym is) (same, long)
+    → c ≡ chosen_line script label line → 1000 ≤ length (shown script label line) → IsKeptOrDecided d script c front label line
+is_decided script d c front label line is same long = subst (λ (d : Bool). IsKeptOrDecided d script c front label line) (sym is) (same, long)
 
 -- Bytes of a line that is decided on.
 pub put_at : (script : List Act) (p : Place) (d : Bool) (c : Chosen) (front : List ℕ) (label : Tai64n) (line more : List ℕ) → p.decided ≡ true → d ≡ true → c ≡ p.chosen
-    → IsAt script p label line → IsHeldOrDecided d script c front label (line ++ more)
+    → IsAt script p label line → IsKeptOrDecided d script c front label (line ++ more)
 put_at script p d c front label line more is same_d same_c at =
     let a = at_decided script p label line is at in
     is_decided script d c front label (line ++ more) same_d
@@ -48,14 +48,23 @@ put_stopped script p label line more o o1 n flags why is same sf k at =
     let a = at_decided script p label line is at in
     decided_stops o n script label line more flags why (sf ∙ ap (λ (c : Chosen). c.logs) a.0) a.1 (subst (λ (t : Outputs). Stops t n (to_logs flags label more) why) same k)
 
--- Bytes that are held.
+-- Bytes that are kept.
+pub hold_at : (script : List Act) (p : Place) (d : Bool) (c : Chosen) (front : List ℕ) (label : Tai64n) (line more : List ℕ) → p.decided ≡ false → d ≡ false
+    → front ≡ p.front ++ more → length p.front + length more < 1000 → IsAt script p label line → IsKeptOrDecided d script c front label (line ++ more)
+hold_at script p d c front label line more is kept made few at =
+    let a = at_kept script p label line is at in
+    subst (λ (d : Bool). IsKeptOrDecided d script c front label (line ++ more)) (sym kept) (
+      made ∙ ap (λ (t : List ℕ). t ++ more) a.0 ∙ sym (shown-append script label line more),
+      (let e = ap length made in let l = length-append p.front more in omega (arith, e, l, few)),
+    )
+
 pub hold_grows : (script : List Act) (p : Place) (label : Tai64n) (line more : List ℕ) (o o1 : Outputs) → p.decided ≡ false → o1 ≡ o → length p.front + length more < 1000
     → IsAt script p label line → Grows o o1 (so_far script label line) (so_far script label (line ++ more))
 hold_grows script p label line more o o1 is same few at =
-    let a = at_held script p label line is at in
+    let a = at_kept script p label line is at in
     let l = length-append p.front more in
     subst (λ (t : Outputs). Grows o t (so_far script label line) (so_far script label (line ++ more))) (sym same)
-    (held_on o script label line p.front more a.0 a.1 (omega (arith, few, l)))
+    (kept_on o script label line p.front more a.0 a.1 (omega (arith, few, l)))
 
 -- What is known once the front is whole.
 record Whole (script : List Act) (label : Tai64n) (line first rest bytes front : List ℕ) : Type 0 where
@@ -67,7 +76,7 @@ record Whole (script : List Act) (label : Tai64n) (line first rest bytes front :
 is_whole_front : (script : List Act) (p : Place) (label : Tai64n) (line first rest bytes front : List ℕ) → p.decided ≡ false → IsAt script p label line
     → front ≡ p.front ++ first → length front ≡ 1000 → first ++ rest ≡ bytes → Whole script label line first rest bytes front
 is_whole_front script p label line first rest bytes front is at made long cut =
-    let a = at_held script p label line is at in
+    let a = at_kept script p label line is at in
     let here : front ≡ shown script label (line ++ first) = made ∙ ap (λ (t : List ℕ). t ++ first) a.0 ∙ sym (shown-append script label line first) in
     record {
       here = here;
@@ -88,7 +97,7 @@ pub full_stopped : (script : List Act) (p : Place) (label : Tai64n) (line first 
     → front ≡ p.front ++ first → length front ≡ 1000 → first ++ rest ≡ bytes → Stops o1 n (of_chosen script label front) why
     → IsAt script p label line → StopsAt o n (so_far script label line) (so_far script label (line ++ bytes)) why
 full_stopped script p label line first rest bytes front o o1 n why is same made long cut k at =
-    let a = at_held script p label line is at in
+    let a = at_kept script p label line is at in
     let w = is_whole_front script p label line first rest bytes front is at made long cut in
     let line1 = line ++ first in
     let end : of_front script label (line1 ++ rest) ≡ so_far script label (line ++ bytes) =
@@ -103,7 +112,7 @@ pub full_grows : (script : List Act) (p : Place) (label : Tai64n) (line first re
     → c ≡ chosen script front → flags ≡ c.logs → Takes m1 n (to_logs flags label rest)
     → IsAt script p label line → Grows o n (so_far script label line) (so_far script label (line ++ bytes))
 full_grows script p label line first rest bytes front o o1 m m1 n c flags is same same_m made long cut k ic sf l at =
-    let a = at_held script p label line is at in
+    let a = at_kept script p label line is at in
     let w = is_whole_front script p label line first rest bytes front is at made long cut in
     let line1 = line ++ first in
     let flags_are : flags ≡ (chosen_line script label line1).logs = sf ∙ ap (λ (c : Chosen). c.logs) (ic ∙ front_chosen script label line1 front w.here w.few) in
@@ -119,7 +128,7 @@ pub full_goes_stopped : (script : List Act) (p : Place) (label : Tai64n) (line f
     → c ≡ chosen script front → flags ≡ c.logs → Stops m1 n (to_logs flags label rest) why
     → IsAt script p label line → StopsAt o n (so_far script label line) (so_far script label (line ++ bytes)) why
 full_goes_stopped script p label line first rest bytes front o o1 m m1 n c flags why is same same_m made long cut k ic sf l at =
-    let a = at_held script p label line is at in
+    let a = at_kept script p label line is at in
     let w = is_whole_front script p label line first rest bytes front is at made long cut in
     let line1 = line ++ first in
     let flags_are : flags ≡ (chosen_line script label line1).logs = sf ∙ ap (λ (c : Chosen). c.logs) (ic ∙ front_chosen script label line1 front w.here w.few) in
@@ -130,14 +139,14 @@ full_goes_stopped script p label line first rest bytes front o o1 m m1 n c flags
     (decides_at o m script label line p.front line1 front a.0 a.1 w.here w.few (subst (λ (t : Outputs). Takes t m (of_chosen script label front)) same k))
     (stops_at m n script label line1 rest flags why flags_are w.long (subst (λ (t : Outputs). Stops t n (to_logs flags label rest) why) same_m l)))
 
-pub full_at : (script : List Act) (p : Place) (label : Tai64n) (line first rest bytes front : List ℕ) (d : Bool) (c : Chosen) (held : List ℕ)
+pub full_at : (script : List Act) (p : Place) (label : Tai64n) (line first rest bytes front : List ℕ) (d : Bool) (c : Chosen) (kept : List ℕ)
     → p.decided ≡ false → front ≡ p.front ++ first → length front ≡ 1000 → first ++ rest ≡ bytes → d ≡ true → c ≡ chosen script front
-    → IsAt script p label line → IsHeldOrDecided d script c held label (line ++ bytes)
-full_at script p label line first rest bytes front d c held is made long cut id ic at =
+    → IsAt script p label line → IsKeptOrDecided d script c kept label (line ++ bytes)
+full_at script p label line first rest bytes front d c kept is made long cut id ic at =
     let w = is_whole_front script p label line first rest bytes front is at made long cut in
     let line1 = line ++ first in
-    subst (λ (l : List ℕ). IsHeldOrDecided d script c held label l) w.all
-    (is_decided script d c held label (line1 ++ rest) id
+    subst (λ (l : List ℕ). IsKeptOrDecided d script c kept label l) w.all
+    (is_decided script d c kept label (line1 ++ rest) id
     (ic ∙ front_chosen script label line1 front w.here w.few ∙ sym (same_chosen script label line1 rest w.long)) (long_on script label line1 rest w.long))
 
 -- Ends
@@ -156,15 +165,15 @@ end_stopped script p label line o o1 n flags why is same sf k at =
     subst (λ (g : Given). StopsAt o n g (of_line script label line) why) (decided_so_far script label line a.1)
     (end_stops o n script label line flags why (sf ∙ ap (λ (c : Chosen). c.logs) a.0) (subst (λ (t : Outputs). Stops t n (to_logs flags label (10 ∷ [])) why) same k))
 
-pub held_end_grows : (script : List Act) (p : Place) (label : Tai64n) (line : List ℕ) (o n : Outputs) → p.decided ≡ false
+pub kept_end_grows : (script : List Act) (p : Place) (label : Tai64n) (line : List ℕ) (o n : Outputs) → p.decided ≡ false
     → Takes o n (of_put script label p.front (p.front ++ 10 ∷ [])) → IsAt script p label line → Grows o n (so_far script label line) (of_line script label line)
-held_end_grows script p label line o n is k at =
-    let a = at_held script p label line is at in ends_whole o n script label line p.front a.0 a.1 k
+kept_end_grows script p label line o n is k at =
+    let a = at_kept script p label line is at in ends_whole o n script label line p.front a.0 a.1 k
 
-pub held_end_stopped : (script : List Act) (p : Place) (label : Tai64n) (line : List ℕ) (o n : Outputs) (why : LogFault) → p.decided ≡ false
+pub kept_end_stopped : (script : List Act) (p : Place) (label : Tai64n) (line : List ℕ) (o n : Outputs) (why : LogFault) → p.decided ≡ false
     → Stops o n (of_put script label p.front (p.front ++ 10 ∷ [])) why → IsAt script p label line → StopsAt o n (so_far script label line) (of_line script label line) why
-held_end_stopped script p label line o n why is k at =
-    let a = at_held script p label line is at in stops_whole o n script label line p.front why a.0 a.1 k
+kept_end_stopped script p label line o n why is k at =
+    let a = at_kept script p label line is at in stops_whole o n script label line p.front why a.0 a.1 k
 
 -- A line that begins behind a stamp.
 pub stamped_front : (script : List Act) (label : Tai64n) (front text : List ℕ) → stamps script ≡ true → text ≡ label_text label → front ≡ text ++ 32 ∷ [] → length text ≡ 25
@@ -177,16 +186,16 @@ stamped_front script label front text is named made long = (
 
 -- Room
 
-pub room_is : (front held bytes : List ℕ) → held ≡ front → length bytes < 1000 - length held → length front + length bytes < 1000
-room_is front held bytes is few = let e = ap length is in omega (arith, e, few)
+pub room_is : (front kept bytes : List ℕ) → kept ≡ front → length bytes < 1000 - length kept → length front + length bytes < 1000
+room_is front kept bytes is few = let e = ap length is in omega (arith, e, few)
 
-pub front_is : (front held bytes now inside : List ℕ) → held ≡ front → inside ≡ front → length inside ≤ 1000 → 1000 - length held ≤ length bytes
-    → now ≡ inside ++ take (1000 - length held) bytes
-    → (now ≡ front ++ take (1000 - length held) bytes) × (length now ≡ 1000)
-front_is front held bytes now inside is same within many made = (
-  made ∙ ap (λ (t : List ℕ). t ++ take (1000 - length held) bytes) same,
-  (let e = ap length is in let s = ap length same in let m = ap length made in let l = length-append inside (take (1000 - length held) bytes) in
-      let t = length-take (1000 - length held) bytes in omega (arith, e, s, m, l, t, within, many)),
+pub front_is : (front kept bytes now inside : List ℕ) → kept ≡ front → inside ≡ front → length inside ≤ 1000 → 1000 - length kept ≤ length bytes
+    → now ≡ inside ++ take (1000 - length kept) bytes
+    → (now ≡ front ++ take (1000 - length kept) bytes) × (length now ≡ 1000)
+front_is front kept bytes now inside is same within many made = (
+  made ∙ ap (λ (t : List ℕ). t ++ take (1000 - length kept) bytes) same,
+  (let e = ap length is in let s = ap length same in let m = ap length made in let l = length-append inside (take (1000 - length kept) bytes) in
+      let t = length-take (1000 - length kept) bytes in omega (arith, e, s, m, l, t, within, many)),
 )
 
 pub parts_are : (n : ℕ) (bytes : List ℕ) → take n bytes ++ take (length bytes - n) (drop n bytes) ≡ bytes

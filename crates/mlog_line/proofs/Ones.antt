@@ -7,8 +7,8 @@ use Rattle.tai_status.specs.Lines.{Sent, sent}
 use Rattle.mlog_script.specs.Selection.{flag_at}
 use Rattle.mlog_files.specs.Files.{Files, Step, append_steps}
 use Rattle.mlog_files.specs.Going.{Standing}
-use Rattle.mlog_files.specs.Store.{Told, Reaches, Does, DoesFront, Goes}
-use Rattle.mlog_files.specs.Tails.{size_of, keep_of, waiting_in, standing, steps_at, after_at}
+use Rattle.mlog_files.specs.Store.{StoreState, Reaches, Does, Fails}
+use Rattle.mlog_files.specs.Tails.{size_of, keep_of, waiting_in, standing, SameLimits, Puts, PutsUpTo}
 use Rattle.mlog_files.specs.declared.tail.Tail.{Tail}
 use Rattle.mlog_files.proofs.Goings.{steps_on-none, standing_on-none}
 use Rattle.mlog_line.specs.Given.{Given, nothing, joined, to_one, to_logs}
@@ -16,7 +16,7 @@ use Rattle.tai_status.specs.Counted.{Rose}
 use Rattle.mlog_files.specs.declared.tail.LogFault.{LogFault}
 use Rattle.mlog_files.specs.declared.tail.LogFault.TheVariants as fault
 use Rattle.mlog_line.specs.Outputs.{Outputs, outputs, steps_for, after, TakesIn, TakesFront, TakesInAt, TakesFrontAt, Takes, IsSpent, Stops, SameGiven}
-use Rattle.mlog_line.specs.Desk.{IsWrittenAt, IsWritten, IsWrittenUpTo}
+use Rattle.mlog_line.specs.LineRouter.{IsWrittenAt, IsWritten, IsWrittenUpTo}
 use Rattle.mlog_line.proofs.Taking.{TakesInAt-none, TakesFrontAt-none, Becomes-none, Appends-none, AppendsFront-none, Takes-none, Takes-same, Takes-then, Stops-same, Stops-then, Stops-more}
 
 pub set_here : {X : Type 0} (xs : List X) (i : ℕ) (y : X) → i < length xs → slice_get (set xs i y) i ≡ Some y
@@ -39,28 +39,28 @@ if_none true = refl
 if_none false = refl
 
 -- The log of a number took a text, and the others are as before.
-one_at : (tails now : List Tail) (old new : Told) (log other : ℕ) (text : List Sent) (b : Bool) → (other == log) ≡ b
-    → TakesInAt (slice_get tails log) (slice_get now log) (old.files log) (new.files log) text
-    → ((n : ℕ) → n ≢ log → slice_get now n ≡ slice_get tails n) → ((n : ℕ) → n ≢ log → new.files n ≡ old.files n)
-    → TakesInAt (slice_get tails other) (slice_get now other) (old.files other) (new.files other) (if other == log then text else [])
+one_at : (tails now : List Tail) (old new : StoreState) (log other : ℕ) (text : List Sent) (b : Bool) → (other == log) ≡ b
+    → TakesInAt (slice_get tails log) (slice_get now log) (old.told.files log) (new.told.files log) text
+    → ((n : ℕ) → n ≢ log → slice_get now n ≡ slice_get tails n) → ((n : ℕ) → n ≢ log → new.told.files n ≡ old.told.files n)
+    → TakesInAt (slice_get tails other) (slice_get now other) (old.told.files other) (new.told.files other) (if other == log then text else [])
 one_at tails now old new log other text true e here rest files =
     let same : other ≡ log = grind (arith, e) in
-    rw e (subst (λ (n : ℕ). TakesInAt (slice_get tails n) (slice_get now n) (old.files n) (new.files n) text) (sym same) here)
+    rw e (subst (λ (n : ℕ). TakesInAt (slice_get tails n) (slice_get now n) (old.told.files n) (new.told.files n) text) (sym same) here)
 one_at tails now old new log other text false e here rest files =
     let apart = not_same other log e in
-    rw e (subst (λ (t : Option Tail). TakesInAt (slice_get tails other) t (old.files other) (new.files other) []) (sym (rest other apart))
-    (subst (λ (f : Option Files). TakesInAt (slice_get tails other) (slice_get tails other) (old.files other) f []) (sym (files other apart))
-    (TakesInAt-none (slice_get tails other) (old.files other))))
+    rw e (subst (λ (t : Option Tail). TakesInAt (slice_get tails other) t (old.told.files other) (new.told.files other) []) (sym (rest other apart))
+    (subst (λ (f : Option Files). TakesInAt (slice_get tails other) (slice_get tails other) (old.told.files other) f []) (sym (files other apart))
+    (TakesInAt-none (slice_get tails other) (old.told.files other))))
 
-front_at : (tails : List Tail) (old new : Told) (log other : ℕ) (text : List Sent) (b : Bool) → (other == log) ≡ b
-    → TakesFrontAt (slice_get tails log) (old.files log) (new.files log) text → ((n : ℕ) → n ≢ log → new.files n ≡ old.files n)
-    → TakesFrontAt (slice_get tails other) (old.files other) (new.files other) (if other == log then text else [])
+front_at : (tails : List Tail) (old new : StoreState) (log other : ℕ) (text : List Sent) (b : Bool) → (other == log) ≡ b
+    → TakesFrontAt (slice_get tails log) (old.told.files log) (new.told.files log) text → ((n : ℕ) → n ≢ log → new.told.files n ≡ old.told.files n)
+    → TakesFrontAt (slice_get tails other) (old.told.files other) (new.told.files other) (if other == log then text else [])
 front_at tails old new log other text true e here files =
     let same : other ≡ log = grind (arith, e) in
-    rw e (subst (λ (n : ℕ). TakesFrontAt (slice_get tails n) (old.files n) (new.files n) text) (sym same) here)
+    rw e (subst (λ (n : ℕ). TakesFrontAt (slice_get tails n) (old.told.files n) (new.told.files n) text) (sym same) here)
 front_at tails old new log other text false e here files =
-    rw e (subst (λ (f : Option Files). TakesFrontAt (slice_get tails other) (old.files other) f []) (sym (files other (not_same other log e)))
-    (TakesFrontAt-none (slice_get tails other) (old.files other) []))
+    rw e (subst (λ (f : Option Files). TakesFrontAt (slice_get tails other) (old.told.files other) f []) (sym (files other (not_same other log e)))
+    (TakesFrontAt-none (slice_get tails other) (old.told.files other) []))
 
 at_here : (tails now : List Tail) (log : ℕ) (t u : Tail) (a b : Option Files) (text : List Sent) → slice_get tails log ≡ Some t → slice_get now log ≡ Some u
     → TakesIn t u a b text → TakesInAt (slice_get tails log) (slice_get now log) a b text
@@ -71,14 +71,14 @@ front_here : (tails : List Tail) (log : ℕ) (t : Tail) (a b : Option Files) (te
 front_here tails log t a b text was k = rw was k
 
 -- All outputs, where one log took a text.
-pub one_takes : (tails now : List Tail) (old new : Told) (f g log : ℕ) (t u : Tail) (text : List Sent) → slice_get tails log ≡ Some t → slice_get now log ≡ Some u
-    → ((n : ℕ) → n ≢ log → slice_get now n ≡ slice_get tails n) → ((n : ℕ) → n ≢ log → new.files n ≡ old.files n)
-    → new.statuses ≡ old.statuses → new.alerts ≡ old.alerts → f ≤ g → TakesIn t u (old.files log) (new.files log) text
-    → Takes (outputs tails old f) (outputs now new g) (to_one log text)
-one_takes tails now old new f g log t u text was is rest files statuses alerts steady k = record {
-  logs = λ other. one_at tails now old new log other text (other == log) refl (at_here tails now log t u (old.files log) (new.files log) text was is k) rest files;
-  alerts = rw alerts (Appends-none old.alerts);
-  files = λ file. rw statuses (Becomes-none (old.statuses file));
+pub one_takes : (tails now : List Tail) (old new : StoreState) (log : ℕ) (t u : Tail) (text : List Sent) → slice_get tails log ≡ Some t → slice_get now log ≡ Some u
+    → ((n : ℕ) → n ≢ log → slice_get now n ≡ slice_get tails n) → ((n : ℕ) → n ≢ log → new.told.files n ≡ old.told.files n)
+    → new.told.statuses ≡ old.told.statuses → new.told.alerts ≡ old.told.alerts → old.failures ≤ new.failures → TakesIn t u (old.told.files log) (new.told.files log) text
+    → Takes (outputs tails old) (outputs now new) (to_one log text)
+one_takes tails now old new log t u text was is rest files statuses alerts steady k = record {
+  logs = λ other. one_at tails now old new log other text (other == log) refl (at_here tails now log t u (old.told.files log) (new.told.files log) text was is k) rest files;
+  alerts = rw alerts (Appends-none old.told.alerts);
+  files = λ file. rw statuses (Becomes-none (old.told.statuses file));
   steady = steady;
 }
 
@@ -87,37 +87,36 @@ spent_here : (tails : List Tail) (log : ℕ) (t : Tail) (text : List Sent) → s
 spent_here tails log t text was none =
     let same : (log == log) ≡ true = grind arith in rw (was, same) none
 
-pub one_stops : (tails now : List Tail) (old new : Told) (f g log : ℕ) (t : Tail) (text : List Sent) (why : LogFault) → slice_get tails log ≡ Some t
-    → ((n : ℕ) → n ≢ log → new.files n ≡ old.files n) → new.alerts ≡ old.alerts → TakesFront t (old.files log) (new.files log) text
-    → (why ≡ fault.Store → Rose f g) → (why ≡ fault.LabelsSpent → after t text ≡ None)
-    → Stops (outputs tails old f) (outputs now new g) (to_one log text) why
-one_stops tails now old new f g log t text why was files alerts k store spent = record {
-  logs = λ other. front_at tails old new log other text (other == log) refl (front_here tails log t (old.files log) (new.files log) text was k) files;
-  alerts = rw alerts (AppendsFront-none old.alerts []);
+pub one_stops : (tails now : List Tail) (old new : StoreState) (log : ℕ) (t : Tail) (text : List Sent) (why : LogFault) → slice_get tails log ≡ Some t
+    → ((n : ℕ) → n ≢ log → new.told.files n ≡ old.told.files n) → new.told.alerts ≡ old.told.alerts → TakesFront t (old.told.files log) (new.told.files log) text
+    → (why ≡ fault.Store → Rose old.failures new.failures) → (why ≡ fault.LabelsSpent → after t text ≡ None)
+    → Stops (outputs tails old) (outputs now new) (to_one log text) why
+one_stops tails now old new log t text why was files alerts k store spent = record {
+  logs = λ other. front_at tails old new log other text (other == log) refl (front_here tails log t (old.told.files log) (new.told.files log) text was k) files;
+  alerts = rw alerts (AppendsFront-none old.told.alerts []);
   store = store;
   spent = λ is. record { log = log; spent = spent_here tails log t text was (spent is) };
 }
 
 -- A put
 
-pub put_takes : (tails now : List Tail) (old new : Told) (f g log : ℕ) (t u : Tail) (label : Tai64n) (bytes : List ℕ) → log < length tails
-    → slice_get tails log ≡ Some t → now ≡ set tails log u → f ≤ g → Goes old new log (waiting_in t) (waiting_in u) (steps_at t label bytes)
-    → after_at t label bytes ≡ Some (standing u) → (size_of u ≡ size_of t) × (keep_of u ≡ keep_of t)
-    → Takes (outputs tails old f) (outputs now new g) (to_one log (sent label bytes))
-put_takes tails now old new f g log t u label bytes within was is steady k stands same =
-    one_takes tails now old new f g log t u (sent label bytes) was
+pub put_takes : (tails now : List Tail) (old new : StoreState) (log : ℕ) (t u : Tail) (label : Tai64n) (bytes : List ℕ) → log < length tails
+    → slice_get tails log ≡ Some t → now ≡ set tails log u → Puts old new log t u label bytes → SameLimits t u
+    → Takes (outputs tails old) (outputs now new) (to_one log (sent label bytes))
+put_takes tails now old new log t u label bytes within was is k same =
+    let d = k.goes.does in
+    one_takes tails now old new log t u (sent label bytes) was
     (ap (λ (l : List Tail). slice_get l log) is ∙ set_here tails log u within)
     (λ n apart. ap (λ (l : List Tail). slice_get l n) is ∙ set_elsewhere tails log n u apart)
-    k.does.others k.does.statuses k.does.alerts steady
-    (record { done = k.done; reaches = k.does.here; whole = k.whole; stands = stands; size = same.0; keep = same.1 })
+    d.others d.statuses d.alerts d.stays.steady
+    (record { done = k.goes.done; reaches = d.here; whole = k.goes.whole; stands = k.stands; size = same.size; keep = same.keep })
 
-pub put_stops : (tails now : List Tail) (old new : Told) (f g log : ℕ) (t : Tail) (label : Tai64n) (bytes : List ℕ) (why : LogFault)
-    → slice_get tails log ≡ Some t → DoesFront old new log (append_steps (waiting_in t) ++ steps_at t label bytes)
-    → (why ≡ fault.Store → Rose f g) → (why ≡ fault.LabelsSpent → after_at t label bytes ≡ None)
-    → Stops (outputs tails old f) (outputs now new g) (to_one log (sent label bytes)) why
-put_stops tails now old new f g log t label bytes why was k store spent =
-    one_stops tails now old new f g log t (sent label bytes) why was k.front.others k.front.alerts
-    (record { count = k.count; reaches = k.front.here }) store spent
+pub put_stops : (tails now : List Tail) (old new : StoreState) (log : ℕ) (t : Tail) (label : Tai64n) (bytes : List ℕ) (why : LogFault)
+    → slice_get tails log ≡ Some t → PutsUpTo old new log t label bytes why
+    → Stops (outputs tails old) (outputs now new) (to_one log (sent label bytes)) why
+put_stops tails now old new log t label bytes why was s =
+    one_stops tails now old new log t (sent label bytes) why was s.front.front.others s.front.front.alerts
+    (record { count = s.front.count; reaches = s.front.front.here }) s.store s.nowhere
 
 one_nothing : (log : ℕ) → SameGiven nothing (to_one log [])
 one_nothing log = record { logs = λ other. sym (if_none (other == log)); alerts = refl; files = λ file. refl }
@@ -134,36 +133,37 @@ no_steps : (t : Tail) (waited : List Step) → waited ++ steps_for t [] ≡ wait
 no_steps t waited =
     ap (λ (s : List Step). waited ++ s) (steps_on-none (size_of t) (keep_of t) (Some (standing t))) ∙ append-nil waited
 
-pub flush_takes : (tails now : List Tail) (old new : Told) (f g log : ℕ) (t u : Tail) → log < length tails
-    → slice_get tails log ≡ Some t → now ≡ set tails log u → f ≤ g → Does old new log (append_steps (waiting_in t)) → waiting_in u ≡ []
-    → standing u ≡ standing t → (size_of u ≡ size_of t) × (keep_of u ≡ keep_of t)
-    → Takes (outputs tails old f) (outputs now new g) nothing
-flush_takes tails now old new f g log t u within was is steady k empty stands same =
-    Takes-same (outputs tails old f) (outputs now new g) (to_one log []) nothing
-    (one_takes tails now old new f g log t u [] was
+pub flush_takes : (tails now : List Tail) (old new : StoreState) (log : ℕ) (t u : Tail) → log < length tails
+    → slice_get tails log ≡ Some t → now ≡ set tails log u → Does old new log (append_steps (waiting_in t)) → waiting_in u ≡ []
+    → standing u ≡ standing t → SameLimits t u
+    → Takes (outputs tails old) (outputs now new) nothing
+flush_takes tails now old new log t u within was is k empty stands same =
+    Takes-same (outputs tails old) (outputs now new) (to_one log []) nothing
+    (one_takes tails now old new log t u [] was
     (ap (λ (l : List Tail). slice_get l log) is ∙ set_here tails log u within)
     (λ n apart. ap (λ (l : List Tail). slice_get l n) is ∙ set_elsewhere tails log n u apart)
-    k.others k.statuses k.alerts steady
+    k.others k.statuses k.alerts k.stays.steady
     (record {
       done = append_steps (waiting_in t);
       reaches = k.here;
       whole = ap (λ (w : List ℕ). append_steps (waiting_in t) ++ append_steps w) empty ∙ append-nil (append_steps (waiting_in t)) ∙ sym (no_steps t (append_steps (waiting_in t)));
       stands = standing_on-none (size_of t) (keep_of t) (Some (standing t)) ∙ ap (λ (s : Standing). Some s) (sym stands);
-      size = same.0;
-      keep = same.1;
+      size = same.size;
+      keep = same.keep;
     })) (nothing_one log)
 
-pub flush_stops : (tails now : List Tail) (old new : Told) (f g log : ℕ) (t : Tail) (why : LogFault) → slice_get tails log ≡ Some t
-    → DoesFront old new log (append_steps (waiting_in t)) → (why ≡ fault.Store) × Rose f g
-    → Stops (outputs tails old f) (outputs now new g) nothing why
-flush_stops tails now old new f g log t why was k store =
-    Stops-same (outputs tails old f) (outputs now new g) (to_one log []) nothing why
-    (one_stops tails now old new f g log t [] why was k.front.others k.front.alerts
+pub flush_stops : (tails now : List Tail) (old new : StoreState) (log : ℕ) (t : Tail) (why : LogFault) → slice_get tails log ≡ Some t
+    → Fails old new log (append_steps (waiting_in t)) → why ≡ fault.Store
+    → Stops (outputs tails old) (outputs now new) nothing why
+flush_stops tails now old new log t why was f is_store =
+    let k = f.front in
+    Stops-same (outputs tails old) (outputs now new) (to_one log []) nothing why
+    (one_stops tails now old new log t [] why was k.front.others k.front.alerts
     (record {
       count = k.count;
-      reaches = subst (λ (s : List Step). Reaches (old.files log) (new.files log) (take k.count s)) (sym (no_steps t (append_steps (waiting_in t)))) k.front.here;
+      reaches = subst (λ (s : List Step). Reaches (old.told.files log) (new.told.files log) (take k.count s)) (sym (no_steps t (append_steps (waiting_in t)))) k.front.here;
     })
-    (λ is. store.1) (λ is. cc)) (nothing_one log)
+    (λ is. f.rose) (λ is. cc)) (nothing_one log)
 
 written_by : (tails now : List Tail) (log n : ℕ) (u : Tail) → log < length tails → now ≡ set tails log u → waiting_in u ≡ []
     → IsWrittenUpTo log tails → n < log + 1 → (b : Bool) → (n == log) ≡ b → IsWrittenAt (slice_get now n)

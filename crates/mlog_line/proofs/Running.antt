@@ -2,19 +2,18 @@
 use Rattle.std.proofs.Common.{◌≡◌, ℕ, zero, suc, ◌+◌, ◌<◌, ◌≤◌, ◌==◌, nat_lt, if◌then◌else◌, Bool, true, false, List, [], ◌∷◌, ◌++◌, length, take, set, Option, Some, None, refl, sym, subst, ap, ◌∙◌, arith, append-nil, inl, inr}
 use Rattle.std.proofs.lemmas.Bool.{cases_lt}
 use Rattle.std.specs.Prelude.{slice_get}
-use Rattle.tai_status.specs.Counted.{Rose}
 use Rattle.tai_status.specs.Lines.{Sent}
 use Rattle.mlog_files.specs.Files.{Step, Append, append_steps, appends}
 use Rattle.mlog_files.specs.Going.{Standing}
-use Rattle.mlog_files.specs.Store.{Told, Reaches, DoesFront, Goes}
-use Rattle.mlog_files.specs.Tails.{size_of, keep_of, waiting_in, standing, room_in, longer}
+use Rattle.mlog_files.specs.Store.{StoreState, Reaches, Fails, Goes}
+use Rattle.mlog_files.specs.Tails.{size_of, keep_of, waiting_in, standing, room_in, longer, SameLimits}
 use Rattle.mlog_files.specs.declared.tail.Tail.{Tail}
 use Rattle.mlog_files.specs.declared.tail.LogFault.{LogFault}
 use Rattle.mlog_files.specs.declared.tail.LogFault.TheVariants as fault
 use Rattle.mlog_files.proofs.Goings.{text_in_room}
 use Rattle.mlog_line.specs.Given.{Given, nothing, joined, to_one, to_first, bytes_of}
 use Rattle.mlog_line.specs.Outputs.{Outputs, outputs, steps_for, after, Takes, Stops, SameGiven}
-use Rattle.mlog_line.specs.Desk.{HasRoomAt, HaveRoom}
+use Rattle.mlog_line.specs.LineRouter.{HasRoomAt, HaveRoom}
 use Rattle.mlog_line.proofs.Ones.{set_here, set_elsewhere, one_takes, one_stops}
 use Rattle.mlog_line.proofs.Taking.{Takes-none, Takes-same, Takes-then, Stops-same, Stops-then, Stops-more}
 
@@ -41,38 +40,39 @@ steps_are t bytes text room is =
       all.1 ∙ ap (λ (n : ℕ). Some (longer (standing t) n)) long,
     )
 
-pub within_takes : (tails now : List Tail) (old new : Told) (f g log : ℕ) (t u : Tail) (bytes : List ℕ) (text : List Sent) → log < length tails
-    → slice_get tails log ≡ Some t → now ≡ set tails log u → f ≤ g → HasRoomAt (length bytes) (slice_get tails log)
+pub within_takes : (tails now : List Tail) (old new : StoreState) (log : ℕ) (t u : Tail) (bytes : List ℕ) (text : List Sent) → log < length tails
+    → slice_get tails log ≡ Some t → now ≡ set tails log u → HasRoomAt (length bytes) (slice_get tails log)
     → Goes old new log (waiting_in t) (waiting_in u) (append_steps bytes)
-    → standing u ≡ longer (standing t) (length bytes) → (size_of u ≡ size_of t) × (keep_of u ≡ keep_of t) → bytes_of text ≡ bytes
-    → Takes (outputs tails old f) (outputs now new g) (to_one log text)
-within_takes tails now old new f g log t u bytes text within was is steady room k stands same bytes_are =
+    → standing u ≡ longer (standing t) (length bytes) → SameLimits t u → bytes_of text ≡ bytes
+    → Takes (outputs tails old) (outputs now new) (to_one log text)
+within_takes tails now old new log t u bytes text within was is room k stands same bytes_are =
     let s = steps_are t bytes text (room_at tails log (length bytes) t was room) bytes_are in
-    one_takes tails now old new f g log t u text was
+    one_takes tails now old new log t u text was
     (ap (λ (l : List Tail). slice_get l log) is ∙ set_here tails log u within)
     (λ n apart. ap (λ (l : List Tail). slice_get l n) is ∙ set_elsewhere tails log n u apart)
-    k.does.others k.does.statuses k.does.alerts steady
+    k.does.others k.does.statuses k.does.alerts k.does.stays.steady
     (record {
       done = k.done;
       reaches = k.does.here;
       whole = k.whole ∙ ap (λ (w : List Step). append_steps (waiting_in t) ++ w) (sym s.0);
       stands = s.1 ∙ ap (λ (l : Standing). Some l) (sym stands);
-      size = same.0;
-      keep = same.1;
+      size = same.size;
+      keep = same.keep;
     })
 
-pub within_stops : (tails now : List Tail) (old new : Told) (f g log : ℕ) (t : Tail) (bytes : List ℕ) (text : List Sent) (why : LogFault) → slice_get tails log ≡ Some t
+pub within_stops : (tails now : List Tail) (old new : StoreState) (log : ℕ) (t : Tail) (bytes : List ℕ) (text : List Sent) (why : LogFault) → slice_get tails log ≡ Some t
     → HasRoomAt (length bytes) (slice_get tails log)
-    → DoesFront old new log (append_steps (waiting_in t) ++ append_steps bytes) → (why ≡ fault.Store) × Rose f g → bytes_of text ≡ bytes
-    → Stops (outputs tails old f) (outputs now new g) (to_one log text) why
-within_stops tails now old new f g log t bytes text why was room k store bytes_are =
+    → Fails old new log (append_steps (waiting_in t) ++ append_steps bytes) → why ≡ fault.Store → bytes_of text ≡ bytes
+    → Stops (outputs tails old) (outputs now new) (to_one log text) why
+within_stops tails now old new log t bytes text why was room f is_store bytes_are =
+    let k = f.front in
     let s = steps_are t bytes text (room_at tails log (length bytes) t was room) bytes_are in
-    one_stops tails now old new f g log t text why was k.front.others k.front.alerts
+    one_stops tails now old new log t text why was k.front.others k.front.alerts
     (record {
       count = k.count;
-      reaches = subst (λ (w : List Step). Reaches (old.files log) (new.files log) (take k.count (append_steps (waiting_in t) ++ w))) (sym s.0) k.front.here;
+      reaches = subst (λ (w : List Step). Reaches (old.told.files log) (new.told.files log) (take k.count (append_steps (waiting_in t) ++ w))) (sym s.0) k.front.here;
     })
-    (λ is. store.1) (λ is. cc)
+    (λ is. f.rose) (λ is. cc)
 
 pub others_as_before : (tails now : List Tail) (log : ℕ) (u : Tail) → now ≡ set tails log u → (n : ℕ) → log < n → slice_get now n ≡ slice_get tails n
 others_as_before tails now log u is n above = ap (λ (l : List Tail). slice_get l n) is ∙ set_elsewhere tails log n u (λ same. omega (arith, above, same))

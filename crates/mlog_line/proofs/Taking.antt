@@ -2,18 +2,17 @@
 use Rattle.std.proofs.Common.{◌≡◌, ℕ, ◌+◌, List, [], ◌++◌, length, take, Option, Some, None, refl, sym, subst, ap, ◌∙◌, arith, append_assoc, append-nil, fold}
 use Rattle.std.proofs.Math.Seq.{take-append-add}
 use Rattle.std.proofs.lemmas.List.Sums.{fold-append}
-use Rattle.std.specs.Prelude.{slice_get, Result, Ok, Err, OnOk, OnErr, IfErr, IsErrOf}
+use Rattle.std.specs.Prelude.{slice_get, Result, Ok, Err, OnOk, OnErr, IfErr}
 use Rattle.std.specs.Io.KnownBytes.{Appends}
 use Rattle.tai_status.specs.Counted.{AppendsFront}
 use Rattle.tai_status.specs.Lines.{Sent}
 use Rattle.tai_status.proofs.Known.{Appends-then, AppendsFront-more}
 use Rattle.mlog_files.specs.Files.{Files, Step, append_steps}
 use Rattle.mlog_files.specs.Going.{Standing, steps_on, standing_on}
-use Rattle.mlog_files.specs.Store.{Reaches}
+use Rattle.mlog_files.specs.Store.{StoreState, Stays, Reaches}
 use Rattle.mlog_files.specs.Tails.{size_of, keep_of, waiting_in, standing}
 use Rattle.mlog_files.specs.declared.tail.Tail.{Tail}
 use Rattle.mlog_files.specs.declared.tail.LogFault.{LogFault}
-use Rattle.mlog_files.specs.declared.tail.LogFault.TheVariants as fault
 use Rattle.mlog_files.proofs.Doing.{Reaches-then, front_stays, rose_since}
 use Rattle.mlog_files.proofs.Goings.{steps_on-none, standing_on-none}
 use Rattle.mlog_files.proofs.Putting.{steps_parted, stands_parted, same_files}
@@ -166,45 +165,45 @@ AppendsFront-none a xs = record { count = 0; front = Appends-none a }
 
 pub Takes-then : (a b c : Outputs) (x y : Given) → Takes a b x → Takes b c y → Takes a c (joined x y)
 Takes-then a b c x y k l = record {
-  logs = λ log. TakesInAt-then (slice_get a.tails log) (slice_get b.tails log) (slice_get c.tails log) (a.told.files log) (b.told.files log) (c.told.files log)
+  logs = λ log. TakesInAt-then (slice_get a.tails log) (slice_get b.tails log) (slice_get c.tails log) (a.store.told.files log) (b.store.told.files log) (c.store.told.files log)
       (x.logs log) (y.logs log) (k.logs log) (l.logs log);
-  alerts = Appends-then a.told.alerts b.told.alerts c.told.alerts x.alerts y.alerts k.alerts l.alerts;
-  files = λ file. Becomes-then (a.told.statuses file) (b.told.statuses file) (c.told.statuses file) (x.files file) (y.files file) (k.files file) (l.files file);
+  alerts = Appends-then a.store.told.alerts b.store.told.alerts c.store.told.alerts x.alerts y.alerts k.alerts l.alerts;
+  files = λ file. Becomes-then (a.store.told.statuses file) (b.store.told.statuses file) (c.store.told.statuses file) (x.files file) (y.files file) (k.files file) (l.files file);
   steady = let s = k.steady in let t = l.steady in omega (arith, s, t);
 }
 
 pub Takes-none : (a : Outputs) → Takes a a nothing
 Takes-none a = record {
-  logs = λ log. TakesInAt-none (slice_get a.tails log) (a.told.files log);
-  alerts = Appends-none a.told.alerts;
-  files = λ file. Becomes-none (a.told.statuses file);
+  logs = λ log. TakesInAt-none (slice_get a.tails log) (a.store.told.files log);
+  alerts = Appends-none a.store.told.alerts;
+  files = λ file. Becomes-none (a.store.told.statuses file);
   steady = omega arith;
 }
 
 pub Takes-same : (a b : Outputs) (x y : Given) → Takes a b x → SameGiven x y → Takes a b y
 Takes-same a b x y k s = record {
-  logs = λ log. subst (λ (text : List Sent). TakesInAt (slice_get a.tails log) (slice_get b.tails log) (a.told.files log) (b.told.files log) text) (s.logs log) (k.logs log);
-  alerts = subst (λ (text : List ℕ). Appends a.told.alerts b.told.alerts text) s.alerts k.alerts;
-  files = λ file. subst (λ (contents : List (List ℕ)). Becomes (a.told.statuses file) (b.told.statuses file) contents) (s.files file) (k.files file);
+  logs = λ log. subst (λ (text : List Sent). TakesInAt (slice_get a.tails log) (slice_get b.tails log) (a.store.told.files log) (b.store.told.files log) text) (s.logs log) (k.logs log);
+  alerts = subst (λ (text : List ℕ). Appends a.store.told.alerts b.store.told.alerts text) s.alerts k.alerts;
+  files = λ file. subst (λ (contents : List (List ℕ)). Becomes (a.store.told.statuses file) (b.store.told.statuses file) contents) (s.files file) (k.files file);
   steady = k.steady;
 }
 
 pub Stops-then : (a b c : Outputs) (x y : Given) (why : LogFault) → Takes a b x → Stops b c y why → Stops a c (joined x y) why
 Stops-then a b c x y why k f = record {
-  logs = λ log. TakesInAt-front (slice_get a.tails log) (slice_get b.tails log) (a.told.files log) (b.told.files log) (c.told.files log)
+  logs = λ log. TakesInAt-front (slice_get a.tails log) (slice_get b.tails log) (a.store.told.files log) (b.store.told.files log) (c.store.told.files log)
       (x.logs log) (y.logs log) (k.logs log) (f.logs log);
-  alerts = Appends-front a.told.alerts b.told.alerts c.told.alerts x.alerts y.alerts k.alerts f.alerts;
-  store = λ is. rose_since a.failures b.failures c.failures k.steady (f.store is);
+  alerts = Appends-front a.store.told.alerts b.store.told.alerts c.store.told.alerts x.alerts y.alerts k.alerts f.alerts;
+  store = λ is. rose_since a.store.failures b.store.failures c.store.failures k.steady (f.store is);
   spent = λ is. let s = f.spent is in record {
     log = s.log;
-    spent = IsSpent-then (slice_get a.tails s.log) (slice_get b.tails s.log) (a.told.files s.log) (b.told.files s.log) (x.logs s.log) (y.logs s.log)
+    spent = IsSpent-then (slice_get a.tails s.log) (slice_get b.tails s.log) (a.store.told.files s.log) (b.store.told.files s.log) (x.logs s.log) (y.logs s.log)
         (k.logs s.log) s.spent;
   };
 }
 
 pub Stops-more : (a b : Outputs) (x y : Given) (why : LogFault) → Stops a b x why → Stops a b (joined x y) why
 Stops-more a b x y why f = record {
-  logs = λ log. TakesFrontAt-more (slice_get a.tails log) (a.told.files log) (b.told.files log) (x.logs log) (y.logs log) (f.logs log);
+  logs = λ log. TakesFrontAt-more (slice_get a.tails log) (a.store.told.files log) (b.store.told.files log) (x.logs log) (y.logs log) (f.logs log);
   alerts = AppendsFront-more y.alerts f.alerts;
   store = f.store;
   spent = λ is. let s = f.spent is in record {
@@ -215,8 +214,8 @@ Stops-more a b x y why f = record {
 
 pub Stops-same : (a b : Outputs) (x y : Given) (why : LogFault) → Stops a b x why → SameGiven x y → Stops a b y why
 Stops-same a b x y why f s = record {
-  logs = λ log. subst (λ (text : List Sent). TakesFrontAt (slice_get a.tails log) (a.told.files log) (b.told.files log) text) (s.logs log) (f.logs log);
-  alerts = subst (λ (text : List ℕ). AppendsFront a.told.alerts b.told.alerts text) s.alerts f.alerts;
+  logs = λ log. subst (λ (text : List Sent). TakesFrontAt (slice_get a.tails log) (a.store.told.files log) (b.store.told.files log) text) (s.logs log) (f.logs log);
+  alerts = subst (λ (text : List ℕ). AppendsFront a.store.told.alerts b.store.told.alerts text) s.alerts f.alerts;
   store = f.store;
   spent = λ is. let p = f.spent is in record {
     log = p.log;
@@ -238,12 +237,16 @@ pub if_err_weaker : {T E : Type 0} (r : Result T E) (P R : E → Type 0) → ((e
 if_err_weaker (Ok x) P R f p = tt
 if_err_weaker (Err e) P R f p = f e p
 
-err_same : (T : Type 0) (x y : LogFault) → x ≡ y → ◌≡◌ {A = Result T LogFault} (Err x) (Err y)
-err_same T x y is = cc
+-- Whether a call fails or not.
+pub either_way : {T E P R : Type 0} (r : Result T E) (Q : E → Type 0) → (P → R) → ((e : E) → Q e → R) → OnOk r P → IfErr r Q → R
+either_way (Ok x) Q f h p q = f p
+either_way (Err e) Q f h p q = h e q
 
-pub stopped_by : {T D S X Y : Type 0} (r : Result T LogFault) (R : LogFault → Type 0)
-    → ((why : LogFault) → D → (why ≡ fault.Store → S) → (why ≡ fault.LabelsSpent → X) → R why)
-    → OnErr r D → (IsErrOf r fault.Store → S) → (IsErrOf r fault.LabelsSpent → X × Y) → IfErr r R
-stopped_by (Ok x) R f d store spent = tt
-stopped_by {T} (Err e) R f d store spent =
-    f e d (λ is. store (err_same T e _ is)) (λ is. (spent (err_same T e _ is)).0)
+pub either_so : {T E P Q R : Type 0} (r : Result T E) → (P → R) → (Q → R) → OnOk r P → OnErr r Q → R
+either_so (Ok x) f h p q = f p
+either_so (Err e) f h p q = h q
+
+-- Numbers that stay.
+
+pub Stays-same : (s : StoreState) → Stays s s
+Stays-same s = record { logs = refl; status_files = refl; steady = omega arith }

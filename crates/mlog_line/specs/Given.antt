@@ -4,7 +4,8 @@ use Rattle.std.specs.List.{flat_map}
 use Rattle.tai_status.specs.Label.{Tai64n}
 use Rattle.tai_status.specs.Lines.{Sent, sent}
 use Rattle.mlog_script.specs.Script.{Act}
-use Rattle.mlog_script.specs.Selection.{shown, chosen, chosen_line, padded, flag_at, to_log, to_alerts, to_file, alert, log_text, alert_text, file_contents}
+use Rattle.mlog_script.specs.Selection.{shown, chosen, chosen_line, padded, flag_at, to_log, to_alerts, to_file}
+use Rattle.mlog_script.specs.Selection.{alert, log_text, alert_text, file_contents}
 
 -- The text that goes to each log, the text that is alerted, and the contents that each status file is given, in order.
 pub record Given : Type 0 where
@@ -49,7 +50,8 @@ of_front script label line = record {
 
 -- What a line has given that has not ended: nothing, until its first 1000 bytes are there and decide.
 abbrev pub so_far : List Act → Tai64n → List ℕ → Given
-so_far script label line = if nat_le 1000 (length (shown script label line)) then of_front script label line else nothing
+so_far script label line =
+    if nat_le 1000 (length (shown script label line)) then of_front script label line else nothing
 
 -- bytes of a line, put into the logs at which it is selected
 abbrev pub to_logs : List Bool → Tai64n → List ℕ → Given
@@ -62,6 +64,10 @@ to_logs chosen label bytes = record {
 -- a text put into one log
 abbrev pub to_one : ℕ → List Sent → Given
 to_one log text = record { logs = λ other. if other == log then text else []; alerts = []; files = λ file. [] }
+
+-- bytes of a line, put into one log, where it is selected there
+abbrev pub to_one_if : Bool → ℕ → Tai64n → List ℕ → Given
+to_one_if is_chosen log label bytes = to_one log (if is_chosen then sent label bytes else [])
 
 -- an alert for each of some flags that is set
 abbrev pub alerts_for : List Bool → List ℕ → List ℕ

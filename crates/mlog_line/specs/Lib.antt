@@ -1,4 +1,4 @@
 pub mod Given
 pub mod Outputs
 pub mod Several
-pub mod Desk
+pub mod LineRouter

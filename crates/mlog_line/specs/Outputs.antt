@@ -1,25 +1,25 @@
 -- The logs, alerts and status files of a script, and what happens to them.
-use Rattle.std.specs.Prelude.{◌≡◌, ℕ, ◌≤◌, List, [], ◌++◌, take, fold, slice_get, Option, Some, None, ⊤}
+use Rattle.std.specs.Prelude.{◌≡◌, ℕ, ◌≤◌, List, [], ◌++◌, length, take, fold, slice_get, Option, Some, None, ⊤}
+use Rattle.std.specs.Prelude.{Result, OnOk, IfErr}
 use Rattle.std.specs.Io.KnownBytes.{Appends}
 use Rattle.tai_status.specs.Counted.{AppendsFront, Rose}
 use Rattle.tai_status.specs.Lines.{Sent}
 use Rattle.mlog_files.specs.Files.{Files, Step, append_steps}
 use Rattle.mlog_files.specs.Going.{Standing, steps_on, standing_on}
-use Rattle.mlog_files.specs.Store.{Told, Reaches}
+use Rattle.mlog_files.specs.Store.{StoreState, Stays, Reaches}
 use Rattle.mlog_files.specs.Tails.{size_of, keep_of, waiting_in, standing}
 use Rattle.mlog_files.specs.declared.tail.Tail.{Tail}
 use Rattle.mlog_files.specs.declared.tail.LogFault.{LogFault}
 use Rattle.mlog_files.specs.declared.tail.LogFault.TheVariants as fault
-use Rattle.mlog_line.specs.Given.{Given, joined}
+use Rattle.mlog_line.specs.Given.{Given, joined, bytes_of}
 
--- The ends of the logs, what the store tells, and how many of its calls failed.
+-- The ends of the logs, and the store.
 pub record Outputs : Type 0 where
   pub tails : List Tail
-  pub told : Told
-  pub failures : ℕ
+  pub store : StoreState
 
-abbrev pub outputs : List Tail → Told → ℕ → Outputs
-outputs tails told failures = record { tails = tails; told = told; failures = failures }
+abbrev pub outputs : List Tail → StoreState → Outputs
+outputs tails store = record { tails = tails; store = store }
 
 -- the steps of a log for a text
 abbrev pub steps_for : Tail → List Sent → List Step
@@ -63,10 +63,11 @@ Becomes (Some old) (Some new) contents = new ≡ fold (λ before content. conten
 
 -- This was given to the outputs.
 pub record Takes (old new : Outputs) (given : Given) : Type 0 where
-  pub logs : (log : ℕ) → TakesInAt (slice_get old.tails log) (slice_get new.tails log) (old.told.files log) (new.told.files log) (given.logs log)
-  pub alerts : Appends old.told.alerts new.told.alerts given.alerts
-  pub files : (file : ℕ) → Becomes (old.told.statuses file) (new.told.statuses file) (given.files file)
-  pub steady : old.failures ≤ new.failures
+  pub logs : (log : ℕ) → TakesInAt (slice_get old.tails log) (slice_get new.tails log)
+      (old.store.told.files log) (new.store.told.files log) (given.logs log)
+  pub alerts : Appends old.store.told.alerts new.store.told.alerts given.alerts
+  pub files : (file : ℕ) → Becomes (old.store.told.statuses file) (new.store.told.statuses file) (given.files file)
+  pub steady : old.store.failures ≤ new.store.failures
 
 -- There is no label for an old file that a text fills.
 abbrev pub IsSpent : Option Tail → List Sent → Type 0
@@ -80,10 +81,30 @@ pub record Spends (old : Outputs) (given : Given) : Type 0 where
 
 -- Giving this ended early: each log took a front of the steps, and a front was alerted; and why.
 pub record Stops (old new : Outputs) (given : Given) (why : LogFault) : Type 0 where
-  pub logs : (log : ℕ) → TakesFrontAt (slice_get old.tails log) (old.told.files log) (new.told.files log) (given.logs log)
-  pub alerts : AppendsFront old.told.alerts new.told.alerts given.alerts
-  pub store : why ≡ fault.Store → Rose old.failures new.failures
+  pub logs : (log : ℕ)
+      → TakesFrontAt (slice_get old.tails log) (old.store.told.files log) (new.store.told.files log) (given.logs log)
+  pub alerts : AppendsFront old.store.told.alerts new.store.told.alerts given.alerts
+  pub store : why ≡ fault.Store → Rose old.store.failures new.store.failures
   pub spent : why ≡ fault.LabelsSpent → Spends old given
+
+-- What a call comes to that gives this to the outputs: all of it was given, or it stopped, and why. The logs and the
+-- status files are as many as before.
+pub record Hands {T : Type 0} (result : Result T LogFault) (tails now : List Tail) (was is : StoreState) (given : Given)
+    : Type 0 where
+  pub ok : OnOk result (Takes (outputs tails was) (outputs now is) given)
+  pub stopped : IfErr result (λ why. Stops (outputs tails was) (outputs now is) given why)
+  pub length : length now ≡ length tails
+  pub stays : Stays was is
+
+-- The same, of bytes that may be those of any text: what a text of them gives.
+pub record HandsText {T : Type 0} (result : Result T LogFault) (tails now : List Tail) (was is : StoreState)
+    (bytes : List ℕ) (given : List Sent → Given) : Type 0 where
+  pub ok : OnOk result ((text : List Sent) → bytes_of text ≡ bytes
+      → Takes (outputs tails was) (outputs now is) (given text))
+  pub stopped : IfErr result (λ why. (text : List Sent) → bytes_of text ≡ bytes
+      → Stops (outputs tails was) (outputs now is) (given text) why)
+  pub length : length now ≡ length tails
+  pub stays : Stays was is
 
 -- two that give the same
 pub record SameGiven (a b : Given) : Type 0 where

@@ -1,6 +1,5 @@
 //! Alerts of a line.
 ghost use Rattle.std.specs.Prelude.{◌≡◌, ◌≤◌, ◌++◌, ◌∷◌, [], length, take, if◌then◌else◌, OnOk, OnErr};
-ghost use Rattle.tai_status.specs.Counted.{Rose};
 ghost use Rattle.mlog_script.specs.Selection.{alert};
 ghost use Rattle.mlog_files.specs.Store.{Alerts};
 ghost use Rattle.mlog_line.specs.Given.{alerts_for};
@@ -13,11 +12,8 @@ const ALERT: usize = 200;
 
 /// Alerts the whole text.
 fn alert_all<S: LogStore>(store: &mut S, text: &[u8]) -> Result<(), StoreFault>
-    ensures ok { OnOk result (Alerts (S.told store.old) (S.told store.new) text.now) }
-    ensures err { OnErr result (AlertsFront (S.told store.old) (S.told store.new) text.now) }
-    ensures fault { OnErr result (Rose (S.failures store.old) (S.failures store.new)) }
-    ensures steady { S.failures store.old ≤ S.failures store.new }
-    ensures counts { (S.logs store.new ≡ S.logs store.old) × (S.status_files store.new ≡ S.status_files store.old) }
+    ensures ok { OnOk result (Alerts (S.state store.old) (S.state store.new) text.now) }
+    ensures err { OnErr result (AlertsFront (S.state store.old) (S.state store.new) text.now) }
 {
     let mut at = 0;
     while at < text.len() {
@@ -32,11 +28,8 @@ fn alert_all<S: LogStore>(store: &mut S, text: &[u8]) -> Result<(), StoreFault>
 
 /// Alerts a line with this front: its first 200 bytes and a newline.
 fn alert_front<S: LogStore>(store: &mut S, front: &[u8]) -> Result<(), StoreFault>
-    ensures ok { OnOk result (Alerts (S.told store.old) (S.told store.new) (alert front.now)) }
-    ensures err { OnErr result (AlertsFront (S.told store.old) (S.told store.new) (alert front.now)) }
-    ensures fault { OnErr result (Rose (S.failures store.old) (S.failures store.new)) }
-    ensures steady { S.failures store.old ≤ S.failures store.new }
-    ensures counts { (S.logs store.new ≡ S.logs store.old) × (S.status_files store.new ≡ S.status_files store.old) }
+    ensures ok { OnOk result (Alerts (S.state store.old) (S.state store.new) (alert front.now)) }
+    ensures err { OnErr result (AlertsFront (S.state store.old) (S.state store.new) (alert front.now)) }
 {
     let len = front.len().min(ALERT);
     let mut text = [b'\n'; ALERT + 1];
@@ -50,11 +43,8 @@ pub fn alert_chosen<S: LogStore>(
     chosen: &[bool],
     front: &[u8],
 ) -> Result<(), StoreFault>
-    ensures ok { OnOk result (Alerts (S.told store.old) (S.told store.new) (alerts_for chosen.now front.now)) }
-    ensures err { OnErr result (AlertsFront (S.told store.old) (S.told store.new) (alerts_for chosen.now front.now)) }
-    ensures fault { OnErr result (Rose (S.failures store.old) (S.failures store.new)) }
-    ensures steady { S.failures store.old ≤ S.failures store.new }
-    ensures counts { (S.logs store.new ≡ S.logs store.old) × (S.status_files store.new ≡ S.status_files store.old) }
+    ensures ok { OnOk result (Alerts (S.state store.old) (S.state store.new) (alerts_for chosen.now front.now)) }
+    ensures err { OnErr result (AlertsFront (S.state store.old) (S.state store.new) (alerts_for chosen.now front.now)) }
 {
     for is_chosen in chosen {
         alert_if(store, *is_chosen, front)?;
@@ -65,12 +55,9 @@ pub fn alert_chosen<S: LogStore>(
 /// Alerts a line with this front, where it is selected.
 fn alert_if<S: LogStore>(store: &mut S, is_chosen: bool, front: &[u8]) -> Result<(), StoreFault>
     ensures ok { OnOk result
-        (Alerts (S.told store.old) (S.told store.new) (if is_chosen then alert front.now else [])) }
+        (Alerts (S.state store.old) (S.state store.new) (if is_chosen then alert front.now else [])) }
     ensures err { OnErr result
-        (AlertsFront (S.told store.old) (S.told store.new) (if is_chosen then alert front.now else [])) }
-    ensures fault { OnErr result (Rose (S.failures store.old) (S.failures store.new)) }
-    ensures steady { S.failures store.old ≤ S.failures store.new }
-    ensures counts { (S.logs store.new ≡ S.logs store.old) × (S.status_files store.new ≡ S.status_files store.old) }
+        (AlertsFront (S.state store.old) (S.state store.new) (if is_chosen then alert front.now else [])) }
 {
     if is_chosen {
         alert_front(store, front)

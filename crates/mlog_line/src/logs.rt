@@ -1,10 +1,9 @@
 //! The ends of the logs of a script.
-ghost use Rattle.std.specs.Prelude.{◌≡◌, ◌≤◌, ◌<◌, ◌+◌, [], ℕ, List, length, count_by, slice_get, if◌then◌else◌, OnOk, IfOk, OnErr, IfErr};
-ghost use Rattle.tai_status.specs.Lines.{Sent, sent};
+ghost use Rattle.std.specs.Prelude.{◌≡◌, ◌≤◌, ◌<◌, ◌+◌, ℕ, length, count_by, slice_get, OnOk, IfOk};
 ghost use Rattle.mlog_script.specs.Script.{is_log};
-ghost use Rattle.mlog_line.specs.Given.{nothing, to_one, to_logs, to_first, bytes_of};
-ghost use Rattle.mlog_line.specs.Outputs.{outputs, Takes, Stops};
-ghost use Rattle.mlog_line.specs.Desk.{AreOpened, IsWritten, IsWrittenUpTo, HasRoomAt, HaveRoom};
+ghost use Rattle.mlog_line.specs.Given.{nothing, to_one, to_one_if, to_logs, to_first};
+ghost use Rattle.mlog_line.specs.Outputs.{Hands, HandsText};
+ghost use Rattle.mlog_line.specs.LineRouter.{AreOpened, IsWritten, IsWrittenUpTo, HasRoomAt, HaveRoom};
 
 use mlog_files::{LogFault, LogStore, Tail};
 use mlog_script::Script;
@@ -17,8 +16,8 @@ pub fn open_all<A: Allocator + Clone, B: Allocator + Clone, S: LogStore>(
     script: &Script<B>,
     store: &S,
 ) -> Result<Vec<Tail, A>, AllocError>
-    requires logs { count_by is_log script.now ≤ S.logs store.now }
-    ensures opened { IfOk result (λ tails. AreOpened script.now (S.told store.now) tails.items) }
+    requires logs { count_by is_log script.now ≤ (S.state store.now).logs }
+    ensures opened { IfOk result (λ tails. AreOpened script.now (S.state store.now).told tails.items) }
     ensures count { IfOk result (λ tails. length tails.items ≡ count_by is_log script.now) }
 {
     let mut tails = Vec::new(alloc);
@@ -39,15 +38,9 @@ fn put_one<A: Allocator, S: LogStore>(
     bytes: &[u8],
 ) -> Result<(), LogFault>
     requires log { log < length tails.old.items }
-    requires logs { length tails.old.items ≤ S.logs store.old }
-    ensures ok { OnOk result (Takes (outputs tails.old.items (S.told store.old) (S.failures store.old))
-        (outputs tails.new.items (S.told store.new) (S.failures store.new))
-        (to_one log (if is_chosen then sent label.now bytes.now else []))) }
-    ensures stopped { IfErr result (Stops (outputs tails.old.items (S.told store.old) (S.failures store.old))
-        (outputs tails.new.items (S.told store.new) (S.failures store.new))
-        (to_one log (if is_chosen then sent label.now bytes.now else []))) }
-    ensures length { length tails.new.items ≡ length tails.old.items }
-    ensures counts { (S.logs store.new ≡ S.logs store.old) × (S.status_files store.new ≡ S.status_files store.old) }
+    requires logs { length tails.old.items ≤ (S.state store.old).logs }
+    ensures { Hands result tails.old.items tails.new.items (S.state store.old) (S.state store.new)
+        (to_one_if is_chosen log label.now bytes.now) }
 {
     if is_chosen {
         tails[log].put(store, log, label, bytes)
@@ -65,15 +58,9 @@ pub fn put_chosen<A: Allocator, S: LogStore>(
     bytes: &[u8],
 ) -> Result<(), LogFault>
     requires chosen { length chosen.now ≤ length tails.old.items }
-    requires logs { length tails.old.items ≤ S.logs store.old }
-    ensures ok { OnOk result (Takes (outputs tails.old.items (S.told store.old) (S.failures store.old))
-        (outputs tails.new.items (S.told store.new) (S.failures store.new))
-        (to_logs chosen.now label.now bytes.now)) }
-    ensures stopped { IfErr result (Stops (outputs tails.old.items (S.told store.old) (S.failures store.old))
-        (outputs tails.new.items (S.told store.new) (S.failures store.new))
-        (to_logs chosen.now label.now bytes.now)) }
-    ensures length { length tails.new.items ≡ length tails.old.items }
-    ensures counts { (S.logs store.new ≡ S.logs store.old) × (S.status_files store.new ≡ S.status_files store.old) }
+    requires logs { length tails.old.items ≤ (S.state store.old).logs }
+    ensures { Hands result tails.old.items tails.new.items (S.state store.old) (S.state store.new)
+        (to_logs chosen.now label.now bytes.now) }
 {
     for (log, is_chosen) in chosen.iter().enumerate() {
         put_one(tails, log, *is_chosen, store, label, bytes)?;
@@ -100,17 +87,11 @@ fn put_one_within<A: Allocator, S: LogStore>(
     bytes: &[u8],
 ) -> Result<(), LogFault>
     requires log { log < length tails.old.items }
-    requires logs { length tails.old.items ≤ S.logs store.old }
+    requires logs { length tails.old.items ≤ (S.state store.old).logs }
     requires room { HasRoomAt (length bytes.now) (slice_get tails.old.items log) }
-    ensures ok { OnOk result ((text : List Sent) → bytes_of text ≡ bytes.now
-        → Takes (outputs tails.old.items (S.told store.old) (S.failures store.old))
-        (outputs tails.new.items (S.told store.new) (S.failures store.new)) (to_one log text)) }
-    ensures stopped { IfErr result (λ why. (text : List Sent) → bytes_of text ≡ bytes.now
-        → Stops (outputs tails.old.items (S.told store.old) (S.failures store.old))
-        (outputs tails.new.items (S.told store.new) (S.failures store.new)) (to_one log text) why) }
+    ensures hands { HandsText result tails.old.items tails.new.items (S.state store.old) (S.state store.new) bytes.now
+        (to_one log) }
     ensures others { (n : ℕ) → log < n → slice_get tails.new.items n ≡ slice_get tails.old.items n }
-    ensures length { length tails.new.items ≡ length tails.old.items }
-    ensures counts { (S.logs store.new ≡ S.logs store.old) × (S.status_files store.new ≡ S.status_files store.old) }
 {
     tails[log].put_within(store, log, bytes)
 }
@@ -121,17 +102,10 @@ pub fn put_all_within<A: Allocator, S: LogStore>(
     store: &mut S,
     bytes: &[u8],
 ) -> Result<(), LogFault>
-    requires logs { length tails.old.items ≤ S.logs store.old }
+    requires logs { length tails.old.items ≤ (S.state store.old).logs }
     requires room { HaveRoom (length bytes.now) tails.old.items }
-    ensures ok { OnOk result ((text : List Sent) → bytes_of text ≡ bytes.now
-        → Takes (outputs tails.old.items (S.told store.old) (S.failures store.old))
-        (outputs tails.new.items (S.told store.new) (S.failures store.new)) (to_first (length tails.old.items) text)) }
-    ensures stopped { IfErr result (λ why. (text : List Sent) → bytes_of text ≡ bytes.now
-        → Stops (outputs tails.old.items (S.told store.old) (S.failures store.old))
-        (outputs tails.new.items (S.told store.new) (S.failures store.new))
-        (to_first (length tails.old.items) text) why) }
-    ensures length { length tails.new.items ≡ length tails.old.items }
-    ensures counts { (S.logs store.new ≡ S.logs store.old) × (S.status_files store.new ≡ S.status_files store.old) }
+    ensures { HandsText result tails.old.items tails.new.items (S.state store.old) (S.state store.new) bytes.now
+        (to_first (length tails.old.items)) }
 {
     let count = tails.len();
     for log in 0..count {
@@ -147,14 +121,9 @@ fn flush_one<A: Allocator, S: LogStore>(
     store: &mut S,
 ) -> Result<(), LogFault>
     requires log { log < length tails.old.items }
-    requires logs { length tails.old.items ≤ S.logs store.old }
-    ensures ok { OnOk result (Takes (outputs tails.old.items (S.told store.old) (S.failures store.old))
-        (outputs tails.new.items (S.told store.new) (S.failures store.new)) nothing) }
-    ensures stopped { IfErr result (Stops (outputs tails.old.items (S.told store.old) (S.failures store.old))
-        (outputs tails.new.items (S.told store.new) (S.failures store.new)) nothing) }
+    requires logs { length tails.old.items ≤ (S.state store.old).logs }
+    ensures hands { Hands result tails.old.items tails.new.items (S.state store.old) (S.state store.new) nothing }
     ensures written { OnOk result (IsWrittenUpTo log tails.old.items → IsWrittenUpTo (log + 1) tails.new.items) }
-    ensures length { length tails.new.items ≡ length tails.old.items }
-    ensures counts { (S.logs store.new ≡ S.logs store.old) × (S.status_files store.new ≡ S.status_files store.old) }
 {
     tails[log].flush(store, log)
 }
@@ -164,14 +133,9 @@ pub fn flush_all<A: Allocator, S: LogStore>(
     tails: &mut Vec<Tail, A>,
     store: &mut S,
 ) -> Result<(), LogFault>
-    requires logs { length tails.old.items ≤ S.logs store.old }
-    ensures ok { OnOk result (Takes (outputs tails.old.items (S.told store.old) (S.failures store.old))
-        (outputs tails.new.items (S.told store.new) (S.failures store.new)) nothing) }
-    ensures stopped { IfErr result (Stops (outputs tails.old.items (S.told store.old) (S.failures store.old))
-        (outputs tails.new.items (S.told store.new) (S.failures store.new)) nothing) }
+    requires logs { length tails.old.items ≤ (S.state store.old).logs }
+    ensures hands { Hands result tails.old.items tails.new.items (S.state store.old) (S.state store.new) nothing }
     ensures written { OnOk result (IsWritten tails.new.items) }
-    ensures length { length tails.new.items ≡ length tails.old.items }
-    ensures counts { (S.logs store.new ≡ S.logs store.old) × (S.status_files store.new ≡ S.status_files store.old) }
 {
     for log in 0..tails.len() {
         flush_one(tails, log, store)?;

@@ -1,6 +1,5 @@
 //! Status files of a line.
 ghost use Rattle.std.specs.Prelude.{◌≡◌, ◌≤◌, ◌<◌, length, OnOk, OnErr};
-ghost use Rattle.tai_status.specs.Counted.{Rose};
 ghost use Rattle.mlog_script.specs.Selection.{padded};
 ghost use Rattle.mlog_files.specs.Store.{Replaces};
 ghost use Rattle.mlog_line.specs.Several.{Replaced, OnlyStatuses};
@@ -16,13 +15,10 @@ pub fn replace_chosen<S: LogStore>(
     chosen: &[bool],
     front: &[u8],
 ) -> Result<(), StoreFault>
-    requires files { length chosen.now ≤ S.status_files store.old }
+    requires files { length chosen.now ≤ (S.state store.old).status_files }
     requires front { length front.now ≤ 1000 }
-    ensures ok { OnOk result (Replaced (S.told store.old) (S.told store.new) chosen.now (padded front.now)) }
-    ensures err { OnErr result (OnlyStatuses (S.told store.old) (S.told store.new)) }
-    ensures fault { OnErr result (Rose (S.failures store.old) (S.failures store.new)) }
-    ensures steady { S.failures store.old ≤ S.failures store.new }
-    ensures counts { (S.logs store.new ≡ S.logs store.old) × (S.status_files store.new ≡ S.status_files store.old) }
+    ensures ok { OnOk result (Replaced (S.state store.old) (S.state store.new) chosen.now (padded front.now)) }
+    ensures err { OnErr result (OnlyStatuses (S.state store.old) (S.state store.new)) }
 {
     for (file, is_chosen) in chosen.iter().enumerate() {
         if *is_chosen {
@@ -34,13 +30,10 @@ pub fn replace_chosen<S: LogStore>(
 
 /// Gives the content for a line with this front to a status file.
 fn replace_one<S: LogStore>(store: &mut S, file: usize, front: &[u8]) -> Result<(), StoreFault>
-    requires file { file < S.status_files store.old }
+    requires file { file < (S.state store.old).status_files }
     requires front { length front.now ≤ 1000 }
-    ensures ok { OnOk result (Replaces (S.told store.old) (S.told store.new) file (padded front.now)) }
-    ensures err { OnErr result (OnlyStatuses (S.told store.old) (S.told store.new)) }
-    ensures fault { OnErr result (Rose (S.failures store.old) (S.failures store.new)) }
-    ensures steady { S.failures store.old ≤ S.failures store.new }
-    ensures counts { (S.logs store.new ≡ S.logs store.old) × (S.status_files store.new ≡ S.status_files store.old) }
+    ensures ok { OnOk result (Replaces (S.state store.old) (S.state store.new) file (padded front.now)) }
+    ensures err { OnErr result (OnlyStatuses (S.state store.old) (S.state store.new)) }
 {
     let mut content = [b'\n'; CONTENT];
     content[..front.len()].copy_from_slice(front);

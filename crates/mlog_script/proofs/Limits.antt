@@ -3,7 +3,7 @@ use Rattle.std.proofs.Common.{◌≡◌, ℕ, zero, suc, ◌≤◌, ◌==◌, na
 use Rattle.std.specs.Prelude.{unwrap_or, slice_get, IfSome}
 use Rattle.std.specs.List.{list_all, last_or, filter_map, cons_option}
 use Rattle.star_match.specs.Star.{has_adjacent_stars}
-use Rattle.mlog_script.specs.Script.{Act, Stamp, Alert, Size, Keep, Select, Deselect, Status, Log, Plan, said, in_range, sets, alone, on_pattern, on_path, is_number, number, is_within_limits, size_set, keep_set, size_after, keep_after, plan_behind, log_plans}
+use Rattle.mlog_script.specs.Script.{Act, Stamp, Alert, Size, Keep, Select, Deselect, Status, Log, Plan, said, in_range, sets, alone, on_path, is_number, number, is_within_limits, size_set, keep_set, size_after, keep_after, plan_behind, log_plans}
 use Rattle.mlog_script.specs.declared.fault.ScriptFaultKind.{ScriptFaultKind}
 use Rattle.mlog_script.specs.declared.fault.ScriptFaultKind.TheVariants.{SizeRange, CountRange, BadNumber, Processor, UnknownAction, Pattern}
 use Rattle.mlog_script.proofs.Plans.{plans_behind}

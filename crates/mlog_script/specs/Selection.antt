@@ -1,6 +1,7 @@
 -- Which lines a script selects, and what comes of them, by the multilog page of daemontools
 -- (cr.yp.to/daemontools/multilog.html). A line is here without its newline.
-use Rattle.std.specs.Prelude.{◌≡◌, ℕ, ◌-◌, ◌==◌, Bool, true, false, if◌then◌else◌, List, [], ◌∷◌, ◌++◌, length, take, replicate, fold, count_by, unwrap_or, slice_get, Option, Some, None}
+use Rattle.std.specs.Prelude.{◌≡◌, ℕ, ◌-◌, ◌==◌, Bool, true, false, if◌then◌else◌, List, [], ◌∷◌, ◌++◌, length, take}
+use Rattle.std.specs.Prelude.{replicate, fold, count_by, unwrap_or, slice_get, Option, Some, None}
 use Rattle.std.specs.List.{list_any, filter_map, flat_map}
 use Rattle.star_match.specs.Star.{star_matches}
 use Rattle.tai_status.specs.Label.{Tai64n}

@@ -1,4 +1,5 @@
-ghost use Rattle.std.specs.Prelude.{◌≡◌, ◌<◌, ◌≤◌, ◌++◌, ◌∷◌, [], true, if◌then◌else◌, map, length, count_by, vec_capacity, IsErr, IfOk};
+ghost use Rattle.std.specs.Prelude.{◌≡◌, ◌<◌, ◌≤◌, ◌++◌, ◌∷◌, [], true, if◌then◌else◌, map, length, count_by};
+ghost use Rattle.std.specs.Prelude.{vec_capacity, IsErr, IfOk};
 ghost use Rattle.mlog_script.specs.Script.{is_alert, is_log, is_file};
 ghost use Rattle.mlog_script.specs.Selection.{chosen, choices, Fits};
 ghost use Rattle.mlog_script.specs.Action.{act};
@@ -91,9 +92,9 @@ impl<A: Allocator + Clone> Marks<A> {
     /// Forgets the choices, and keeps their room.
     fn clear(&mut self)
         ensures empty { (self.new.alerts.items ≡ []) × (self.new.logs.items ≡ []) × (self.new.files.items ≡ []) }
-        ensures room { (vec_capacity self.new.alerts ≡ vec_capacity self.old.alerts)
-            × (vec_capacity self.new.logs ≡ vec_capacity self.old.logs)
-            × (vec_capacity self.new.files ≡ vec_capacity self.old.files) }
+        ensures alert_room { vec_capacity self.new.alerts ≡ vec_capacity self.old.alerts }
+        ensures log_room { vec_capacity self.new.logs ≡ vec_capacity self.old.logs }
+        ensures file_room { vec_capacity self.new.files ≡ vec_capacity self.old.files }
     {
         self.alerts.clear();
         self.logs.clear();
@@ -114,9 +115,9 @@ impl<A: Allocator + Clone> Marks<A> {
             ≡ self.old.logs.items ++ (if is_log (act action.now) then chosen ∷ [] else []) }
         ensures files { self.new.files.items
             ≡ self.old.files.items ++ (if is_file (act action.now) then chosen ∷ [] else []) }
-        ensures room { (vec_capacity self.new.alerts ≡ vec_capacity self.old.alerts)
-            × (vec_capacity self.new.logs ≡ vec_capacity self.old.logs)
-            × (vec_capacity self.new.files ≡ vec_capacity self.old.files) }
+        ensures alert_room { vec_capacity self.new.alerts ≡ vec_capacity self.old.alerts }
+        ensures log_room { vec_capacity self.new.logs ≡ vec_capacity self.old.logs }
+        ensures file_room { vec_capacity self.new.files ≡ vec_capacity self.old.files }
     {
         match action {
             Action::Alert => self.alerts.push_reserved(chosen),

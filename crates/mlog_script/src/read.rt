@@ -1,5 +1,6 @@
 //! The actions of words that are not bad.
-ghost use Rattle.std.specs.Prelude.{◌≡◌, ◌<◌, ◌≤◌, ◌++◌, ◌∷◌, [], Ok, true, is_ok, length, map, IfOk, IfErr, OnOk, IsOkUnless};
+ghost use Rattle.std.specs.Prelude.{◌≡◌, ◌<◌, ◌≤◌, ◌++◌, ◌∷◌, [], Ok, true, is_ok, length, map, IfOk, IfErr, OnOk};
+ghost use Rattle.std.specs.Prelude.{IsOkUnless};
 ghost use Rattle.mlog_script.specs.Script.{texts, said, faults};
 ghost use Rattle.mlog_script.specs.Action.{act};
 

@@ -1,6 +1,8 @@
-ghost use Rattle.std.specs.Prelude.{◌≡◌, ◌<◌, ◌≤◌, ◌↔◌, Ok, true, length, map, count_by, slice_get, option_copied, IfOk, IfErr, IsErrOf, IfSome, IsSome, MatchOption};
+ghost use Rattle.std.specs.Prelude.{◌≡◌, ◌<◌, ◌≤◌, ◌↔◌, Ok, true, length, map, count_by, slice_get, option_copied};
+ghost use Rattle.std.specs.Prelude.{IfOk, IfErr, IsErrOf, IfSome, IsSome, MatchOption};
 ghost use Rattle.std.specs.List.{list_any, list_all};
-ghost use Rattle.mlog_script.specs.Script.{texts, said, first_fault, is_stamp, is_alert, is_pattern, is_log, is_file, is_within_limits, log_plans, file_paths};
+ghost use Rattle.mlog_script.specs.Script.{texts, said, first_fault, is_stamp, is_alert, is_pattern, is_log, is_file};
+ghost use Rattle.mlog_script.specs.Script.{is_within_limits, log_plans, file_paths};
 ghost use Rattle.mlog_script.specs.Selection.{stamps};
 ghost use Rattle.mlog_script.specs.Action.{act};
 
@@ -93,8 +95,8 @@ impl<A: Allocator + Clone> Script<A> {
         count_files(&self.actions)
     }
 
-    /// What the script asks of the log of this number: `Some` for each number below [`Script::logs`]. Its size is at least
-    /// 4096, and it keeps at least 2 old files.
+    /// What the script asks of the log of this number: `Some` for each number below [`Script::logs`]. Its size is at
+    /// least 4096, and it keeps at least 2 old files.
     pub fn log(&self, log: usize) -> Option<LogPlan<'_>>
         ensures plan { result ≡ slice_get (log_plans self.now) log }
         ensures there { IsSome result ↔ log < count_by is_log self.now }

@@ -1,5 +1,6 @@
 //! Words: what each asks by itself.
-ghost use Rattle.std.specs.Prelude.{◌≡◌, ◌-◌, ◌*◌, ◌+◌, ◌<◌, ◌^◌, ℕ, Ok, Err, length, min, false, true, if◌then◌else◌, IfOk, IfErr};
+ghost use Rattle.std.specs.Prelude.{◌≡◌, ◌-◌, ◌*◌, ◌+◌, ◌<◌, ◌^◌, ℕ, Ok, Err, length, min, false, true};
+ghost use Rattle.std.specs.Prelude.{if◌then◌else◌, IfOk, IfErr};
 ghost use Rattle.std.specs.List.{list_all};
 ghost use Rattle.star_match.specs.Star.{has_adjacent_stars};
 ghost use Rattle.mlog_script.specs.Script.{number, is_digit, is_number, in_range, said};

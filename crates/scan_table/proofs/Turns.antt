@@ -95,12 +95,12 @@ row-new slots rows i d within =
     ap (λ n. length (new_rows slots (take i rows)) + n) (count-one slots (slice_index_or rows i d))
 
 -- a row's gift, and those of the rest
-turn-gifts : {T : Type 0} (slots : List SlotState) (rows : List Row) (gift : ℕ → Row → List T) (n : ℕ) (before : List Row) (row : Row) (after : List Row) →
+turn-assigned : {T : Type 0} (slots : List SlotState) (rows : List Row) (gift : ℕ → Row → List T) (n : ℕ) (before : List Row) (row : Row) (after : List Row) →
     before ++ row ∷ after ≡ rows → AreRising rows →
     in_turn (need slots rows) gift n (eligible (row ∷ after)) ≡
     (if is_eligible row then gift n row else []) ++
     in_turn (need slots rows) gift (n + turn_need slots (nat_le (room slots rows) (length (new_rows slots before))) row) (eligible after)
-turn-gifts slots rows gift n before row after whole rising =
+turn-assigned slots rows gift n before row after whole rising =
     elim (is_eligible row) as (λ b. is_eligible row ≡ b →
     in_turn (need slots rows) gift n (if b then row ∷ eligible after else eligible after) ≡
     (if b then gift n row else []) ++
@@ -111,13 +111,13 @@ turn-gifts slots rows gift n before row after whole rising =
           ap (λ m. in_turn (need slots rows) gift m (eligible after)) e
     ] refl
 
-pub row-gifts : {T : Type 0} (slots : List SlotState) (rows : List Row) (gift : ℕ → Row → List T) (n : ℕ) (i : ℕ) (d : Row) → i < length rows → AreRising rows →
+pub row-assigned : {T : Type 0} (slots : List SlotState) (rows : List Row) (gift : ℕ → Row → List T) (n : ℕ) (i : ℕ) (d : Row) → i < length rows → AreRising rows →
     in_turn (need slots rows) gift n (eligible (drop i rows)) ≡
     (if is_eligible (slice_index_or rows i d) then gift n (slice_index_or rows i d) else []) ++
     in_turn (need slots rows) gift (n + turn_need slots (nat_le (room slots rows) (length (new_rows slots (take i rows)))) (slice_index_or rows i d)) (eligible (drop (i + 1) rows))
-row-gifts slots rows gift n i d within rising =
+row-assigned slots rows gift n i d within rising =
     ap (λ xs. in_turn (need slots rows) gift n (eligible xs)) (drop-next rows i d within) ∙
-    turn-gifts slots rows gift n (take i rows) (slice_index_or rows i d) (drop (i + 1) rows) (parted rows i d within) rising
+    turn-assigned slots rows gift n (take i rows) (slice_index_or rows i d) (drop (i + 1) rows) (parted rows i d within) rising
 
 pub past-need : (left need rest whole : ℕ) → whole ≡ need + rest → left < need → true ≡ nat_lt left whole
 past-need left need rest whole e h = grind (arith, nat_tests)
@@ -146,7 +146,7 @@ pub row-slots : (slots : List SlotState) (rows : List Row) (n i : ℕ) (d : Row)
     turn_slots slots (nat_le (room slots rows) (length (new_rows slots (take i rows)))) n (slice_index_or rows i d) ++
     in_turn (need slots rows) (new_slots_at slots rows) (n + turn_need slots (nat_le (room slots rows) (length (new_rows slots (take i rows)))) (slice_index_or rows i d)) (eligible (drop (i + 1) rows))
 row-slots slots rows n i d within rising =
-    row-gifts slots rows (new_slots_at slots rows) n i d within rising ∙
+    row-assigned slots rows (new_slots_at slots rows) n i d within rising ∙
     ap (λ (xs : List SlotState). xs ++ in_turn (need slots rows) (new_slots_at slots rows) (n + turn_need slots (nat_le (room slots rows) (length (new_rows slots (take i rows)))) (slice_index_or rows i d)) (eligible (drop (i + 1) rows)))
     (turn-slots slots rows n (take i rows) (slice_index_or rows i d) (drop (i + 1) rows) (parted rows i d within) rising)
 
@@ -197,7 +197,7 @@ pub restarts-turned : (slots : List SlotState) (rows : List Row) (n n' i made r 
 restarts-turned slots rows n n' i made r d row list list' whole within rising at made-is r-is n-is all more =
     turned list list' (turn_restarts slots n row) (in_turn (need slots rows) (restarts_at slots rows) n (eligible (drop i rows)))
     (in_turn (need slots rows) (restarts_at slots rows) n' (eligible (drop (i + 1) rows))) whole all
-    (rw (n-is, sym at, made-is, r-is) (row-gifts slots rows (restarts_at slots rows) n i d within rising)) more
+    (rw (n-is, sym at, made-is, r-is) (row-assigned slots rows (restarts_at slots rows) n i d within rising)) more
 
 -- what is left behind a place of a list with one more element
 drop-one : {T : Type 0} (r : ℕ) (xs : List T) (y : T) → drop r (xs ++ y ∷ []) ≡ drop r xs ++ (if nat_le r (length xs) then y ∷ [] else [])

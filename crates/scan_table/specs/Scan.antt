@@ -1,7 +1,8 @@
 -- What a scan starts, restarts, drops and refuses, as svscan does (cr.yp.to/daemontools/svscan.html): each directory
--- without a service gets one, up to 1000; a part that has ended starts again while its directory is there; a service goes
--- when its directory is gone and its parts have ended. Slots and lives are numbered from one counter.
-use Rattle.std.specs.Prelude.{◌≡◌, ℕ, ◌+◌, ◌-◌, ◌^◌, ◌<◌, ◌&&◌, Bool, true, false, not, List, [], ◌∷◌, ◌++◌, map, length, drop, nat_lt, if◌then◌else◌, Option, Some, None, is_none, slice_index_or}
+-- without a service gets one, up to 1000; a part that has ended starts again while its directory is there; a service
+-- goes when its directory is gone and its parts have ended. Slots and lives are numbered from one counter.
+use Rattle.std.specs.Prelude.{◌≡◌, ℕ, ◌+◌, ◌-◌, ◌^◌, ◌<◌, ◌&&◌, Bool, true, false, not, List, [], ◌∷◌, ◌++◌, map}
+use Rattle.std.specs.Prelude.{length, drop, nat_lt, if◌then◌else◌, Option, Some, None, is_none, slice_index_or}
 use Rattle.std.specs.List.{filter, list_any, sum_by, flat_map, AllAdjacentBelow}
 use Rattle.std.specs.declared.cmp.Ordering.{Ordering}
 use Rattle.std.specs.declared.cmp.Ordering.TheVariants.{Less, Equal, Greater}
@@ -9,7 +10,8 @@ use Rattle.scan_table.specs.declared.part.Role.{Role}
 use Rattle.scan_table.specs.declared.part.PartId.{PartId}
 use Rattle.scan_table.specs.declared.fault.ScanFault.{ScanFault}
 use Rattle.scan_table.specs.declared.fault.ScanFault.TheVariants as fault
-use Rattle.scan_table.specs.Slots.{name_order, is_name, Row, eligible, is_pair, roles_of, SlotState, all_ended, ended_roles, ids_of}
+use Rattle.scan_table.specs.Slots.{name_order, is_name, Row, eligible, is_pair, roles_of, SlotState, all_ended}
+use Rattle.scan_table.specs.Slots.{ended_roles, ids_of}
 
 abbrev pub IsBelow : Row → Row → Type 0
 IsBelow a b = name_order a.name b.name ≡ Less
@@ -73,7 +75,8 @@ refused slots rows = map (λ (row : Row). row.name) (refused_rows slots rows)
 abbrev pub is_refused : List SlotState → List Row → Row → Bool
 is_refused slots rows row = list_any (λ other. is_name row.name other.name) (refused_rows slots rows)
 
--- how many numbers a row needs: one for each ended part of its slot, or one for a new slot and one for each of its parts
+-- how many numbers a row needs: one for each ended part of its slot, or one for a new slot and one for each of its
+-- parts
 abbrev pub need_where : Bool → Row → Option SlotState → ℕ
 need_where is_refused row (Some slot) = length (ended_roles slot)
 need_where is_refused row None = if is_refused then 0 else (1 + length (roles_of row))

@@ -1,6 +1,7 @@
 -- What a scan finds, and the slots that it keeps services in, as svscan has them (cr.yp.to/daemontools/svscan.html).
 -- A name is its bytes.
-use Rattle.std.specs.Prelude.{ℕ, ◌==◌, ◌&&◌, Bool, true, false, not, List, [], ◌∷◌, map, length, nat_le, if◌then◌else◌, Option, Some, None}
+use Rattle.std.specs.Prelude.{ℕ, ◌==◌, ◌&&◌, Bool, true, false, not, List, [], ◌∷◌, map, length, nat_le}
+use Rattle.std.specs.Prelude.{if◌then◌else◌, Option, Some, None}
 use Rattle.std.specs.List.{filter, list_all}
 use Rattle.std.specs.Str.{bytes_eq}
 use Rattle.std.specs.Ordering.{nat_cmp}
@@ -73,11 +74,13 @@ parts_of slot = record { role = Main; life = slot.main } ∷ log_parts slot.log
 
 -- the parts of a slot by slot, role and life
 abbrev pub ids_of : SlotState → List PartId
-ids_of slot = map (λ (part : SlotPart). record { slot = slot.number; role = part.role; life = part.life.number }) (parts_of slot)
+ids_of slot =
+    map (λ (part : SlotPart). record { slot = slot.number; role = part.role; life = part.life.number }) (parts_of slot)
 
 abbrev pub all_ended : SlotState → Bool
 all_ended slot = list_all (λ part. part.life.has_ended) (parts_of slot)
 
 -- the parts of a slot that have ended
 abbrev pub ended_roles : SlotState → List Role
-ended_roles slot = map (λ (part : SlotPart). part.role) (filter (λ (part : SlotPart). part.life.has_ended) (parts_of slot))
+ended_roles slot =
+    map (λ (part : SlotPart). part.role) (filter (λ (part : SlotPart). part.life.has_ended) (parts_of slot))

@@ -1,5 +1,6 @@
 -- A table of slots, and what scans and ends do to it.
-use Rattle.std.specs.Prelude.{ℕ, ◌+◌, ◌<◌, ◌≤◌, ◌==◌, ◌&&◌, ◌||◌, Bool, false, not, List, [], ◌∷◌, ◌++◌, map, if◌then◌else◌, Option, Some, None, is_some}
+use Rattle.std.specs.Prelude.{ℕ, ◌+◌, ◌<◌, ◌≤◌, ◌==◌, ◌&&◌, ◌||◌, Bool, false, not, List, [], ◌∷◌, ◌++◌, map}
+use Rattle.std.specs.Prelude.{if◌then◌else◌, Option, Some, None, is_some}
 use Rattle.std.specs.List.{list_any, All}
 use Rattle.std.specs.Option.{option_map}
 use Rattle.scan_table.specs.declared.part.Role.{Role}
@@ -27,7 +28,8 @@ is_at part number Log = not (is_main part.role) && part.slot == number
 abbrev pub restarted : List PartId → ℕ → Role → Life → Life
 restarted [] number role life = life
 restarted (part ∷ parts) number role life =
-    restarted parts number role (if is_at part number role then record { number = part.life; has_ended = false } else life)
+    restarted parts number role
+    (if is_at part number role then record { number = part.life; has_ended = false } else life)
 
 -- a slot after these parts restarted
 abbrev pub renewed : List PartId → SlotState → SlotState
@@ -43,7 +45,8 @@ renewed parts slot =
 abbrev pub scanned : TableState → List Row → TableState
 scanned table rows =
     record {
-      slots = map (renewed (restarts table.slots table.next rows)) (kept table.slots rows) ++ new_slots table.slots table.next rows;
+      slots = map (renewed (restarts table.slots table.next rows)) (kept table.slots rows)
+          ++ new_slots table.slots table.next rows;
       next = table.next + needs table.slots rows;
     }
 
@@ -60,7 +63,12 @@ life_ended part role life = record { number = life.number; has_ended = life.has_
 abbrev pub slot_ended : PartId → SlotState → SlotState
 slot_ended part slot =
     if slot.number == part.slot then
-    record { number = slot.number; name = slot.name; main = life_ended part Main slot.main; log = option_map (life_ended part Log) slot.log }
+    record {
+      number = slot.number;
+      name = slot.name;
+      main = life_ended part Main slot.main;
+      log = option_map (life_ended part Log) slot.log;
+    }
     else slot
 
 -- A table after the end of a part: only that part's flag changes.
@@ -70,7 +78,8 @@ after_end table part = record { slots = map (slot_ended part) table.slots; next 
 -- whether a slot has this part, and it has not ended
 abbrev pub has_running : PartId → SlotState → Bool
 has_running part slot =
-    slot.number == part.slot && list_any (λ (own : SlotPart). is_life part own.role own.life && not own.life.has_ended) (parts_of slot)
+    slot.number == part.slot
+    && list_any (λ (own : SlotPart). is_life part own.role own.life && not own.life.has_ended) (parts_of slot)
 
 -- whether a table has this part, and it has not ended
 abbrev pub is_running : TableState → PartId → Bool

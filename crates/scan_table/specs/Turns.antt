@@ -1,8 +1,8 @@
 -- What a row is worth where it is known whether a new name is refused there.
-use Rattle.std.specs.Prelude.{◌≡◌, ◌+◌, ℕ, ◌&&◌, Bool, List, [], ◌∷◌, if◌then◌else◌}
+use Rattle.std.specs.Prelude.{ℕ, ◌&&◌, Bool, List, [], ◌∷◌, if◌then◌else◌}
 use Rattle.scan_table.specs.declared.part.PartId.{PartId}
 use Rattle.scan_table.specs.Slots.{Row, is_eligible, SlotState}
-use Rattle.scan_table.specs.Scan.{slot_of, is_new, need_where, restarts_where, new_slots_where, new_slots, starts, restarts, drops, refused, needs}
+use Rattle.scan_table.specs.Scan.{slot_of, is_new, need_where, restarts_where, new_slots_where}
 
 abbrev pub turn_need : List SlotState → Bool → Row → ℕ
 turn_need slots is_refused row = if is_eligible row then need_where is_refused row (slot_of slots row) else 0
@@ -20,12 +20,3 @@ turn_restarts slots n row = if is_eligible row then restarts_where n (slot_of sl
 -- a row's name, where it is refused
 abbrev pub turn_refused : List SlotState → Bool → Row → List (List ℕ)
 turn_refused slots is_refused row = if is_counted slots row && is_refused then row.name ∷ [] else []
-
--- a plan of a scan: the new slots, their parts, the restarts, the drops, the refused names, and the number after those that are given
-pub record IsPlan (slots : List SlotState) (next : ℕ) (rows : List Row) (new : List SlotState) (begun again : List PartId) (gone : List ℕ) (names : List (List ℕ)) (after : ℕ) : Type 0 where
-  pub made : new ≡ new_slots slots next rows
-  pub started : begun ≡ starts slots next rows
-  pub restarted : again ≡ restarts slots next rows
-  pub dropped : gone ≡ drops slots rows
-  pub turned_away : names ≡ refused slots rows
-  pub counter : after ≡ next + needs slots rows

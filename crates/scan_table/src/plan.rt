@@ -1,11 +1,15 @@
 //! What a scan does, planned before anything changes.
-ghost use Rattle.std.specs.Prelude.{◌≡◌, ◌+◌, ◌<◌, ◌≤◌, ◌++◌, ◌^◌, ◌∷◌, [], if◌then◌else◌, length, map, take, drop, nat_le, None, false, IfOk, OnOk, IfErr, option_copied, List, ℕ, vec_len, vec_capacity};
+ghost use Rattle.std.specs.Prelude.{◌≡◌, ◌+◌, ◌<◌, ◌≤◌, ◌++◌, ◌^◌, ◌∷◌, [], if◌then◌else◌, length, map, take, drop};
+ghost use Rattle.std.specs.Prelude.{nat_le, None, false, IfOk, OnOk, IfErr, option_copied, List, ℕ, vec_len};
+ghost use Rattle.std.specs.Prelude.{vec_capacity};
 ghost use Rattle.std.specs.List.{flat_map};
 ghost use Rattle.scan_table.specs.Slots.{is_pair, roles_of, ended_roles, ids_of};
-ghost use Rattle.scan_table.specs.Scan.{AreRising, has_row, is_dropped, drops, kept, slot_of, room, need_where, needs, is_exhausted, IsCause, lives_from, new_slot, new_slots_where, new_slots, restarts, refused, starts};
+ghost use Rattle.scan_table.specs.Scan.{AreRising, has_row, is_dropped, drops, kept, slot_of, room, need_where};
+ghost use Rattle.scan_table.specs.Scan.{needs, is_exhausted, IsCause, lives_from, new_slot, new_slots_where};
+ghost use Rattle.scan_table.specs.Scan.{new_slots, restarts, refused, starts};
 ghost use Rattle.scan_table.specs.Index.{names_of, IsIndex, ArePassed};
 ghost use Rattle.scan_table.specs.Order.{fault_of, scan_refusal};
-ghost use Rattle.scan_table.specs.Turns.{turn_need, turn_slots, turn_restarts, turn_refused, is_counted, IsPlan};
+ghost use Rattle.scan_table.specs.Turns.{turn_need, turn_slots, turn_restarts, turn_refused, is_counted};
 
 use crate::fault::ScanFault;
 use crate::index::slot_of;
@@ -154,9 +158,9 @@ fn is_exhausted<A: Allocator>(
     false
 }
 
-/// What a scan gives, so far.
+/// What a scan has assigned so far.
 #[derive(Drop)]
-pub(crate) struct Gifts<A: Allocator = Global> {
+pub(crate) struct Assignments<A: Allocator = Global> {
     pub(crate) slots: Vec<Slot<A>, A>,
     pub(crate) restarts: Vec<PartId, A>,
     pub(crate) refused: Vec<Name<A>, A>,
@@ -223,9 +227,9 @@ fn new_slot<A: Allocator>(alloc: A, row: &DirRow<A>, number: u64) -> Result<Slot
     })
 }
 
-impl<A: Allocator + Clone> Gifts<A> {
-    /// Gives a row with a slot its restarts.
-    fn give_restarts(&mut self, slot: &Slot<A>) -> Result<(), AllocError>
+impl<A: Allocator + Clone> Assignments<A> {
+    /// Assigns a row with a slot its restarts.
+    fn assign_restarts(&mut self, slot: &Slot<A>) -> Result<(), AllocError>
         requires { self.old.number + length (ended_roles slot.now) < 2 ^ 64 }
         ensures restarts { OnOk result (self.new.restarts.items
             ≡ self.old.restarts.items ++ lives_from self.old.number slot.now.number (ended_roles slot.now)) }
@@ -239,8 +243,8 @@ impl<A: Allocator + Clone> Gifts<A> {
         Ok(())
     }
 
-    /// Gives a row with a new name its slot.
-    fn give_slot(&mut self, alloc: &A, row: &DirRow<A>) -> Result<(), AllocError>
+    /// Assigns a row with a new name its slot.
+    fn assign_slot(&mut self, alloc: &A, row: &DirRow<A>) -> Result<(), AllocError>
         requires fits { self.old.number + 1 + length (roles_of row.now) < 2 ^ 64 }
         ensures slots { OnOk result (self.new.slots.items
             ≡ self.old.slots.items ++ new_slot self.old.number row.now ∷ []) }
@@ -255,8 +259,8 @@ impl<A: Allocator + Clone> Gifts<A> {
         Ok(())
     }
 
-    /// Gives a row with a new name its slot where there is room, and refuses the name elsewhere.
-    fn give_new(&mut self, alloc: &A, row: &DirRow<A>, room: usize) -> Result<(), AllocError>
+    /// Assigns a row with a new name its slot where there is room, and refuses the name elsewhere.
+    fn assign_new(&mut self, alloc: &A, row: &DirRow<A>, room: usize) -> Result<(), AllocError>
         requires fits { self.old.number + need_where (nat_le room self.old.made) row.now None < 2 ^ 64 }
         requires made { self.old.made + 1 < 2 ^ 64 }
         ensures slots { OnOk result (self.new.slots.items
@@ -269,7 +273,7 @@ impl<A: Allocator + Clone> Gifts<A> {
         ensures made { OnOk result (self.new.made ≡ self.old.made + 1) }
     {
         if self.made < room {
-            self.give_slot(alloc, row)?;
+            self.assign_slot(alloc, row)?;
         } else {
             self.refused.push(copy_name(alloc.clone()?, row.name())?)?;
         }
@@ -277,8 +281,8 @@ impl<A: Allocator + Clone> Gifts<A> {
         Ok(())
     }
 
-    /// Gives a row what it needs.
-    fn give(
+    /// Assigns a row what it needs.
+    fn assign(
         &mut self,
         alloc: &A,
         slots: &[Slot<A>],
@@ -309,32 +313,32 @@ impl<A: Allocator + Clone> Gifts<A> {
             return Ok(());
         }
         match slot_of(slots, index, at, row) {
-            Some(slot) => self.give_restarts(slot),
-            None => self.give_new(alloc, row, room),
+            Some(slot) => self.assign_restarts(slot),
+            None => self.assign_new(alloc, row, room),
         }
     }
 }
 
-/// Gives each row what it needs, in order.
-fn give_all<A: Allocator + Clone>(
+/// Assigns each row what it needs, in order.
+fn assign_all<A: Allocator + Clone>(
     alloc: &A,
     slots: &[Slot<A>],
     index: &[usize],
     rows: &[DirRow<A>],
     room: usize,
     next: u64,
-) -> Result<Gifts<A>, AllocError>
+) -> Result<Assignments<A>, AllocError>
     requires index { IsIndex (names_of slots.now) index.now }
     requires whole { length index.now ≡ length slots.now }
     requires rising { AreRising rows.now }
     requires room { room ≡ Rattle.scan_table.specs.Scan.room slots.now rows.now }
     requires numbers { next + needs slots.now rows.now < 2 ^ 64 }
-    ensures slots { IfOk result (λ gifts. gifts.slots.items ≡ new_slots slots.now next rows.now) }
-    ensures restarts { IfOk result (λ gifts. gifts.restarts.items ≡ restarts slots.now next rows.now) }
-    ensures refused { IfOk result (λ gifts. gifts.refused.items ≡ refused slots.now rows.now) }
-    ensures number { IfOk result (λ gifts. gifts.number ≡ next + needs slots.now rows.now) }
+    ensures slots { IfOk result (λ assigned. assigned.slots.items ≡ new_slots slots.now next rows.now) }
+    ensures restarts { IfOk result (λ assigned. assigned.restarts.items ≡ restarts slots.now next rows.now) }
+    ensures refused { IfOk result (λ assigned. assigned.refused.items ≡ refused slots.now rows.now) }
+    ensures number { IfOk result (λ assigned. assigned.number ≡ next + needs slots.now rows.now) }
 {
-    let mut gifts = Gifts {
+    let mut assigned = Assignments {
         slots: Vec::new(alloc.clone()?),
         restarts: Vec::new(alloc.clone()?),
         refused: Vec::new(alloc.clone()?),
@@ -343,9 +347,9 @@ fn give_all<A: Allocator + Clone>(
     };
     let mut at = 0;
     for row in rows {
-        gifts.give(alloc, slots, index, &mut at, row, room)?;
+        assigned.assign(alloc, slots, index, &mut at, row, room)?;
     }
-    Ok(gifts)
+    Ok(assigned)
 }
 
 /// What a scan does, with all that it needs of memory but for the slots' own room.
@@ -353,7 +357,7 @@ fn give_all<A: Allocator + Clone>(
 pub(crate) struct Plan<A: Allocator = Global> {
     pub(crate) starts: Vec<PartId, A>,
     pub(crate) drops: Vec<u64, A>,
-    pub(crate) gifts: Gifts<A>,
+    pub(crate) assigned: Assignments<A>,
 }
 
 /// Puts the parts of a slot at the end.
@@ -400,16 +404,20 @@ fn gather<A: Allocator + Clone>(
     requires rising { AreRising rows.now }
     requires room { room ≡ Rattle.scan_table.specs.Scan.room slots.now rows.now }
     requires numbers { next + needs slots.now rows.now < 2 ^ 64 }
-    ensures { IfOk result (λ plan. IsPlan slots.now next rows.now
-        plan.gifts.slots.items plan.starts.items plan.gifts.restarts.items plan.drops.items plan.gifts.refused.items plan.gifts.number) }
+    ensures slots { IfOk result (λ plan. plan.assigned.slots.items ≡ new_slots slots.now next rows.now) }
+    ensures starts { IfOk result (λ plan. plan.starts.items ≡ starts slots.now next rows.now) }
+    ensures restarts { IfOk result (λ plan. plan.assigned.restarts.items ≡ restarts slots.now next rows.now) }
+    ensures drops { IfOk result (λ plan. plan.drops.items ≡ drops slots.now rows.now) }
+    ensures refused { IfOk result (λ plan. plan.assigned.refused.items ≡ refused slots.now rows.now) }
+    ensures number { IfOk result (λ plan. plan.assigned.number ≡ next + needs slots.now rows.now) }
 {
     let drops = drops(alloc.clone()?, slots, rows)?;
-    let gifts = give_all(alloc, slots, index, rows, room, next)?;
-    let starts = parts_of(alloc.clone()?, &gifts.slots)?;
+    let assigned = assign_all(alloc, slots, index, rows, room, next)?;
+    let starts = parts_of(alloc.clone()?, &assigned.slots)?;
     Ok(Plan {
         starts,
         drops,
-        gifts,
+        assigned,
     })
 }
 
@@ -453,8 +461,12 @@ pub(crate) fn plan_scan<A: Allocator + Clone>(
     requires whole { length index.now ≡ length slots.now }
     ensures rising { OnOk result (AreRising rows.now) }
     ensures enough { OnOk result (is_exhausted slots.now next rows.now ≡ false) }
-    ensures plan { IfOk result (λ plan. IsPlan slots.now next rows.now
-        plan.gifts.slots.items plan.starts.items plan.gifts.restarts.items plan.drops.items plan.gifts.refused.items plan.gifts.number) }
+    ensures slots { IfOk result (λ plan. plan.assigned.slots.items ≡ new_slots slots.now next rows.now) }
+    ensures starts { IfOk result (λ plan. plan.starts.items ≡ starts slots.now next rows.now) }
+    ensures restarts { IfOk result (λ plan. plan.assigned.restarts.items ≡ restarts slots.now next rows.now) }
+    ensures drops { IfOk result (λ plan. plan.drops.items ≡ drops slots.now rows.now) }
+    ensures refused { IfOk result (λ plan. plan.assigned.refused.items ≡ refused slots.now rows.now) }
+    ensures number { IfOk result (λ plan. plan.assigned.number ≡ next + needs slots.now rows.now) }
     ensures cause { IfErr result (λ fault. IsCause slots.now next rows.now fault) }
 {
     check_order(rows)?;

@@ -1,9 +1,12 @@
 //! The table of slots.
-ghost use Rattle.std.specs.Prelude.{◌≡◌, ◌+◌, ◌<◌, ◌≤◌, ◌^◌, ◌++◌, [], false, length, map, vec_len, vec_capacity, option_copied, IfOk, OnOk, OnErr, IfErr, is_some};
+ghost use Rattle.std.specs.Prelude.{◌≡◌, ◌+◌, ◌<◌, ◌≤◌, ◌^◌, ◌++◌, [], false, length, map, vec_len, vec_capacity};
+ghost use Rattle.std.specs.Prelude.{option_copied, IfOk, OnOk, OnErr, IfErr, is_some};
 ghost use Rattle.std.specs.List.{AllPairs, list_any};
 ghost use Rattle.std.specs.Option.{option_map};
-ghost use Rattle.scan_table.specs.Scan.{AreRising, is_exhausted, starts, restarts, drops, refused, kept, new_slots, IsCause};
-ghost use Rattle.scan_table.specs.Table.{new_table, scanned, after_end, is_running, slot_ended, has_running, renewed, slot_at, has_log, name_of, AreFresh};
+ghost use Rattle.scan_table.specs.Scan.{AreRising, is_exhausted, starts, restarts, drops, refused, kept, new_slots};
+ghost use Rattle.scan_table.specs.Scan.{IsCause};
+ghost use Rattle.scan_table.specs.Table.{new_table, scanned, after_end, is_running, slot_ended, has_running, renewed};
+ghost use Rattle.scan_table.specs.Table.{slot_at, has_log, name_of, AreFresh};
 ghost use Rattle.scan_table.specs.Order.{fault_of, scan_refusal};
 ghost use Rattle.scan_table.specs.Index.{IsBefore, IsTable, AreDistinct, names_of, IsIndex};
 ghost use Rattle.scan_table.specs.Whole.{is_whole, WholeNeedNoRow};
@@ -12,7 +15,7 @@ use crate::fault::ScanFault;
 use crate::index::{index_all, slot_named};
 use crate::part::{Numbers, PartId, Parts};
 use crate::place::{end_part, restart_all, slot_at};
-use crate::plan::{Gifts, Plan, check_scan, keep, plan_scan};
+use crate::plan::{Assignments, Plan, check_scan, keep, plan_scan};
 use crate::row::DirRow;
 use crate::slot::{Slot, copy_slots};
 use std::alloc::{AllocError, Allocator, Global};
@@ -183,8 +186,8 @@ impl<A: Allocator + Clone> ScanTable<A> {
         }
     }
 
-    /// A law: a scan does the same without the rows of the services of which no part has ended. So who lists a folder need
-    /// not look at these.
+    /// A law: a scan does the same without the rows of the services of which no part has ended. So who lists a folder
+    /// need not look at these.
     pub fn whole_need_no_row(&self)
         ensures { WholeNeedNoRow self.now }
     {
@@ -221,14 +224,14 @@ impl<A: Allocator + Clone> ScanTable<A> {
 
     /// Takes in what the folder holds, whose rows are to rise by the byte order of their names.
     ///
-    /// A service without a row goes once its parts have ended. Each eligible row in order then restarts each part of its
-    /// service that has ended, or gets a new slot, where there are fewer than `MAX_SLOTS`; where there are as many, its
-    /// name is refused. A row is eligible where it is a directory whose name is not empty and does not begin with a dot;
-    /// a new slot is a pair, the service and its logger, where the row has a log and its name at most 255 bytes.
+    /// A service without a row goes once its parts have ended. Each eligible row in order then restarts each part of
+    /// its service that has ended, or gets a new slot, where there are fewer than `MAX_SLOTS`; where there are as many,
+    /// its name is refused. A row is eligible where it is a directory whose name is not empty and does not begin with a
+    /// dot; a new slot is a pair, the service and its logger, where the row has a log and its name at most 255 bytes.
     ///
     /// `Unsorted` and `Twice` tell the first place where the names do not rise, and come first; then `Exhausted`, where
-    /// there are fewer numbers than the scan needs; `OutOfMemory` only where nothing else is wrong. At a fault the table
-    /// is as it was.
+    /// there are fewer numbers than the scan needs; `OutOfMemory` only where nothing else is wrong. At a fault the
+    /// table is as it was.
     pub fn scan(&mut self, rows: &[DirRow<A>]) -> Result<ScanOut<A>, ScanFault>
         ensures starts { IfOk result (λ out. out.starts ≡ starts self.old.slots self.old.next rows.now) }
         ensures restarts { IfOk result (λ out. out.restarts ≡ restarts self.old.slots self.old.next rows.now) }
@@ -246,15 +249,15 @@ impl<A: Allocator + Clone> ScanTable<A> {
         let Plan {
             starts,
             drops,
-            gifts,
+            assigned,
         } = plan;
-        let Gifts {
+        let Assignments {
             slots,
             restarts,
             refused,
             number,
             ..
-        } = gifts;
+        } = assigned;
         let Ok(()) = carry_out(&mut self.slots, &mut self.index, rows, &restarts, slots) else {
             return Err(ScanFault::OutOfMemory);
         };

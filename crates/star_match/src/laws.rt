@@ -1,5 +1,7 @@
 //! What a match means, as facts about all patterns and texts. The functions do nothing: each contract is a law.
-ghost use Rattle.star_match.specs.Laws.{MatchesConcatenations, HasOneCut, WordMatchesItself, StarMatchesAll, WordAndStarMatchFront, WordStandsAtFirst, AdjacentStarsStand, ComputesMatches};
+ghost use Rattle.star_match.specs.Laws.{MatchesConcatenations, HasOneCut, WordMatchesItself, StarMatchesAll};
+ghost use Rattle.star_match.specs.Laws.{WordAndStarMatchFront, WordStandsAtFirst, AdjacentStarsStand};
+ghost use Rattle.star_match.specs.Laws.{ComputesMatches};
 
 /// A pattern matches exactly the concatenations of what its bytes take, in the same order: a star at the end takes
 /// any bytes, a star before c any bytes without c, and every other byte itself. So the multilog page says it.

@@ -1,37 +1,32 @@
 -- Each part that a scan begins is there after it.
-use Rattle.std.proofs.Common.{◌≡◌, ◌≢◌, ℕ, zero, suc, ◌+◌, ◌*◌, ◌<◌, ◌≤◌, Bool, true, false, not, ◌&&◌, ◌||◌, ◌==◌, List, [], ◌∷◌, ◌++◌, length, get_or, take, map, refl, sym, subst, ap, ◌∙◌, arith, Option, Some, None, if◌then◌else◌, inl, inr, ◌⊎◌}
-use Rattle.std.specs.Prelude.{slice_get}
-use Rattle.std.specs.List.{All, AllByRecursion, AllPairs, filter, list_any, flat_map}
-use Rattle.std.specs.declared.cmp.Ordering.{Ordering}
+use Rattle.std.proofs.Common.{◌≡◌, ◌≢◌, ℕ, suc, ◌+◌, ◌<◌, Bool, true, false, not, ◌||◌, List, [], ◌∷◌, ◌++◌, get_or, take, map, refl, sym, subst, ap, ◌∙◌, arith, Option, Some, None, if◌then◌else◌, inl, inr, ◌⊎◌}
+use Rattle.std.specs.List.{All, AllPairs, filter, list_any, flat_map}
 use Rattle.std.specs.declared.cmp.Ordering.TheVariants.{Less, Equal, Greater}
 use Rattle.std.proofs.lemmas.Bool.Decides.{nat_tests}
 use Rattle.std.proofs.lemmas.Cmp.{nat_list_cmp_total}
-use Rattle.std.proofs.lemmas.List.{get_or-map, length-map}
 use Rattle.std.proofs.lemmas.List.Elements.{recursion_from_All, All-nil, All-cons, All-head, All-tail, All-append, All-weaker}
 use Rattle.std.proofs.lemmas.List.Kept.{AllPairs-cons, AllPairs-filter}
 use Rattle.tai_status.specs.Label.{Tai64n}
 use Rattle.sup_core.specs.History.{state_of}
-use Rattle.sup_trace.specs.Trace.{Kept, new_trace}
+use Rattle.sup_trace.specs.Trace.{new_trace}
 use Rattle.scan_table.specs.declared.part.PartId.{PartId}
 use Rattle.scan_table.specs.declared.part.Role.{Role}
 use Rattle.scan_table.specs.declared.part.Role.TheVariants.{Main, Log}
 use Rattle.scan_table.specs.declared.slot.Life.{Life}
-use Rattle.scan_table.specs.declared.fault.ScanFault.{ScanFault}
-use Rattle.scan_table.specs.Slots.{Row, SlotState, SlotPart, parts_of, log_parts, ended_roles, is_name, name_order, eligible, is_eligible}
-use Rattle.scan_table.specs.Scan.{IsBelow, slot_of, has_row, is_dropped, kept, drops, need, in_turn, lives_from, restarts_at, restarts_where, starts, restarts}
+use Rattle.scan_table.specs.Slots.{Row, SlotState, SlotPart, log_parts, ended_roles, is_name, name_order, eligible, is_eligible}
+use Rattle.scan_table.specs.Scan.{IsBelow, slot_of, has_row, is_dropped, kept, drops, need, in_turn, lives_from, restarts_at, restarts_where, restarts}
 use Rattle.scan_table.specs.Order.{fault_at, order_fault_after, order_fault, numbers_fault, scan_refusal}
 use Rattle.scan_table.specs.Table.{TableState, scanned}
 use Rattle.scan_table.specs.Index.{IsBefore}
 use Rattle.scan_table.proofs.Given.{AllPairs-append, pairs-head, pairs-tail}
 use Rattle.scan_table.proofs.Orders.{below-differs, named-same}
 use Rattle.suite_lines.specs.declared.event.SuiteEvent.{SuiteEvent}
-use Rattle.suite_lines.specs.declared.event.SuiteEvent.TheVariants.{Scan, At}
+use Rattle.suite_lines.specs.declared.event.SuiteEvent.TheVariants.{Scan}
 use Rattle.suite_core.specs.Parts.{PartState, is_part, is_place, trace_of, restarted_in, is_of}
-use Rattle.suite_core.specs.Suite.{SuiteState, IsSuiteEvent, told_of_scan, refusal_of_scan, Beginning, beginning, beginnings, begun_part, opening, parts_scanned, scan_starts, scan_restarts, suite_scanned}
+use Rattle.suite_core.specs.Suite.{SuiteState, IsSuiteEvent, told_of_scan, refusal_of_scan, Beginning, beginning, begun_part, opening, parts_scanned, scan_starts, scan_restarts, suite_scanned}
 use Rattle.suite_core.specs.Run.{suite_along, AreAccepted, BeginAsRowsSay}
-use Rattle.suite_core.specs.Places.{rank, rank_in, AreRising, IsPartAt, Seen, seen, seen_life, seen_in, IsSuite}
+use Rattle.suite_core.specs.Places.{rank, AreRising, Seen, seen, seen_life, seen_in, IsSuite}
 use Rattle.suite_core.proofs.Names.{is_part-self, is_part-same, is_place-rank, is_place-same}
-use Rattle.suite_core.proofs.Placed.{trace-here}
 use Rattle.suite_core.proofs.Tied.{parts-rise, parts-stay, rank-bound}
 use Rattle.suite_core.proofs.Runs.{IsSuite-scanned, at-place, next-place, suite_along-append, accepted-at}
 

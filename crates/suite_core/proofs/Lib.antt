@@ -1,5 +1,5 @@
-mod Names
-mod Traces
+pub mod Names
+pub mod Traces
 mod Tied
 mod Runs
 mod Placed

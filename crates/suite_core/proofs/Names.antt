@@ -1,13 +1,12 @@
 -- Names of parts.
-use Rattle.std.proofs.Common.{◌≡◌, ◌≢◌, ℕ, ◌+◌, ◌*◌, ◌<◌, Bool, true, false, not, ◌&&◌, ◌==◌, refl, sym, ap, ◌∙◌, arith}
+use Rattle.std.proofs.Common.{◌≡◌, ℕ, ◌<◌, Bool, true, false, ◌&&◌, ◌==◌, refl, arith}
 use Rattle.std.proofs.lemmas.Bool.Decides.{nat_tests}
 use Rattle.scan_table.specs.declared.part.PartId.{PartId}
 use Rattle.scan_table.specs.declared.part.Role.{Role}
 use Rattle.scan_table.specs.declared.part.Role.TheVariants.{Main, Log}
-use Rattle.scan_table.specs.Slots.{is_main}
 use Rattle.scan_table.specs.Table.{is_at}
 use Rattle.suite_core.specs.Parts.{is_role, is_part, is_place}
-use Rattle.suite_core.specs.Places.{rank, rank_in}
+use Rattle.suite_core.specs.Places.{rank}
 
 pub and-false : (b : Bool) → (b && false) ≡ false
 and-false true = refl

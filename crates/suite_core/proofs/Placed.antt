@@ -1,12 +1,9 @@
 -- What is done at the place of a part.
-use Rattle.std.proofs.Common.{◌≡◌, ◌≢◌, ℕ, ◌+◌, ◌<◌, ◌≤◌, Bool, true, false, not, ◌&&◌, ◌==◌, nat_lt, List, [], ◌∷◌, length, get_or, set, map, drop, sym, subst, ap, ◌∙◌, refl, arith, zero, suc, inl, inr, Option, Some, None, is_none, if◌then◌else◌}
-use Rattle.std.specs.List.{AllPairs, All}
+use Rattle.std.proofs.Common.{◌≡◌, ◌≢◌, ℕ, ◌+◌, ◌<◌, ◌≤◌, Bool, true, false, ◌==◌, nat_lt, List, [], ◌∷◌, length, get_or, set, map, sym, subst, ap, ◌∙◌, refl, arith, zero, suc, inl, inr, Option, Some, None, is_none, if◌then◌else◌}
 use Rattle.std.specs.Option.{IfSome}
 use Rattle.std.proofs.lemmas.Bool.{cases_lt}
 use Rattle.std.proofs.lemmas.Bool.Decides.{nat_tests}
 use Rattle.std.proofs.lemmas.List.{get_or_default, get_or-map, length-map}
-use Rattle.std.proofs.Math.Seq.{drop-cons}
-use Rattle.std.proofs.Math.ListN.{drop_of_length-le}
 use Rattle.sup_core.specs.declared.event.Event.{Event}
 use Rattle.sup_trace.specs.Trace.{Kept, noted_if_taken}
 use Rattle.scan_table.specs.declared.part.PartId.{PartId}

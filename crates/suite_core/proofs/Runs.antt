@@ -1,18 +1,18 @@
 -- Runs of a suite.
-use Rattle.std.proofs.Common.{◌≡◌, ◌≢◌, ℕ, zero, suc, ◌+◌, ◌<◌, ◌≤◌, Bool, true, false, not, ◌&&◌, ◌||◌, ◌==◌, List, [], ◌∷◌, ◌++◌, length, take, drop, get_or, map, refl, sym, subst, ap, ◌∙◌, arith, Option, Some, None, if◌then◌else◌, is_none, length-append, length-take, append_assoc, append-nil, add-one}
+use Rattle.std.proofs.Common.{◌≡◌, ℕ, zero, suc, ◌+◌, ◌<◌, ◌≤◌, true, false, not, ◌||◌, List, [], ◌∷◌, ◌++◌, length, take, drop, get_or, map, refl, sym, subst, ap, ◌∙◌, arith, Option, Some, None, if◌then◌else◌, is_none, length-append, length-take, append_assoc, append-nil}
 use Rattle.std.specs.Prelude.{slice_get}
 use Rattle.std.specs.List.{All, AllByRecursion, AllPairs, filter, list_any}
 use Rattle.std.specs.Option.{option_map}
-use Rattle.std.proofs.lemmas.List.Elements.{recursion_from_All, All-nil, All-cons, All-head, All-tail, All-append, All-weaker, All-filter}
-use Rattle.std.proofs.lemmas.List.{take_more, take-take, take-append-drop, get_or-map, length-map}
+use Rattle.std.proofs.lemmas.List.Elements.{recursion_from_All, All-nil, All-cons, All-head, All-tail, All-append, All-filter}
+use Rattle.std.proofs.lemmas.List.{take_more, take-take, take-append-drop}
 use Rattle.tai_status.specs.Label.{Tai64n}
 use Rattle.sup_core.specs.declared.event.Event.{Event}
-use Rattle.sup_core.specs.History.{History, state_of, phase_of}
-use Rattle.sup_core.specs.Runs.{after, taken_of}
+use Rattle.sup_core.specs.History.{state_of, phase_of}
+use Rattle.sup_core.specs.Runs.{after}
 use Rattle.sup_core.specs.Rules.{IsEvent, next, reply_to}
 use Rattle.sup_core.specs.State.{State}
 use Rattle.sup_core.proofs.Laws.{reply_to-state, next-state}
-use Rattle.sup_trace.specs.Trace.{Kept, IsTrace, history_of, replay, noted, noted_if_taken, noted_along, new_trace}
+use Rattle.sup_trace.specs.Trace.{Kept, IsTrace, history_of, replay, noted_if_taken, noted_along}
 use Rattle.sup_trace.proofs.Laws.{IsTrace-new, IsTrace-noted_if_taken, replay-noted_along, noted_along-taken, replay-noted_if_taken}
 use Rattle.scan_table.specs.declared.part.PartId.{PartId}
 use Rattle.scan_table.specs.Slots.{Row, SlotState}
@@ -25,12 +25,11 @@ use Rattle.suite_lines.specs.declared.event.SuiteEvent.{SuiteEvent}
 use Rattle.suite_lines.specs.declared.event.SuiteEvent.TheVariants.{Scan, At}
 use Rattle.suite_lines.specs.declared.out.StepOut.{StepOut}
 use Rattle.suite_lines.specs.declared.out.StepOut.TheVariants as out
-use Rattle.suite_core.specs.declared.fault.StepFault.{StepFault}
 use Rattle.suite_core.specs.declared.fault.StepFault.TheVariants as fault
 use Rattle.suite_core.specs.Parts.{PartState, is_part, is_place, trace_of, has_ended, part_after, parts_after, restarted_in, is_of}
-use Rattle.suite_core.specs.Suite.{SuiteState, IsSuiteEvent, refusal, Beginning, beginning, beginnings, begun_part, opening, outs_at, outs_of, suite_at, suite_scanned, table_told, changed, parts_scanned, scan_starts, scan_restarts, suite_after}
-use Rattle.suite_core.specs.Run.{suite_along, outs_along, AreAccepted, Ran, own_events, own_between, trace_at, Follows, FollowsIfThere, GoByOwnEvents, ReplyByOwnHistory, is_taken_away, is_named, LeaveOthers}
-use Rattle.suite_core.specs.Places.{AreTied, IsSuite}
+use Rattle.suite_core.specs.Suite.{SuiteState, IsSuiteEvent, refusal, Beginning, beginning, begun_part, opening, outs_at, outs_of, suite_at, suite_scanned, table_told, changed, parts_scanned, scan_starts, scan_restarts, suite_after}
+use Rattle.suite_core.specs.Run.{suite_along, outs_along, AreAccepted, Ran, own_events, own_between, Follows, FollowsIfThere, GoByOwnEvents, ReplyByOwnHistory, is_taken_away, is_named, LeaveOthers}
+use Rattle.suite_core.specs.Places.{IsSuite}
 use Rattle.suite_core.proofs.Names.{is_part-same, is_part-later}
 use Rattle.suite_core.proofs.Traces.{noted_where, trace_of-after, AreOthers, is_among, is_replaced, restarted-one, trace_of-changed}
 use Rattle.suite_core.proofs.Tied.{tied-at, tied-scan, parts-rise, parts-below}

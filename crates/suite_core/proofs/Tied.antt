@@ -1,34 +1,34 @@
 -- The parts of a suite are those of its table.
-use Rattle.std.proofs.Common.{◌≡◌, ◌≢◌, ℕ, ◌+◌, ◌*◌, ◌<◌, ◌≤◌, Bool, true, false, not, ◌&&◌, ◌||◌, ◌==◌, List, [], ◌∷◌, ◌++◌, length, get_or, map, append_assoc, refl, sym, subst, ap, ◌∙◌, arith, Option, Some, None, if◌then◌else◌, zero, suc}
+use Rattle.std.proofs.Common.{◌≡◌, ℕ, ◌+◌, ◌<◌, Bool, true, false, not, ◌||◌, ◌==◌, List, [], ◌∷◌, ◌++◌, get_or, map, append_assoc, refl, sym, subst, ap, ◌∙◌, arith, Option, Some, None, if◌then◌else◌}
 use Rattle.std.specs.List.{All, AllPairs, filter, list_any, flat_map}
 use Rattle.std.specs.Option.{option_map}
 use Rattle.std.proofs.lemmas.Bool.Decides.{nat_tests}
 use Rattle.std.proofs.lemmas.List.{get_or-map, length-map}
-use Rattle.std.proofs.lemmas.List.Elements.{All-nil, All-cons, All-head, All-tail, All-append, All-weaker}
+use Rattle.std.proofs.lemmas.List.Elements.{All-nil, All-cons, All-head, All-tail, All-weaker}
 use Rattle.std.proofs.lemmas.List.Kept.{AllPairs-cons}
 use Rattle.tai_status.specs.Label.{Tai64n}
 use Rattle.sup_core.specs.declared.event.Event.{Event}
 use Rattle.sup_core.specs.State.{is_gone}
-use Rattle.sup_core.specs.declared.machine.Phase.{Phase}
-use Rattle.sup_core.specs.declared.machine.Phase.TheVariants as phase
-use Rattle.sup_core.specs.History.{Begin, phase_of, state_of}
+use Rattle.tai_status.specs.declared.phase.Phase.{Phase}
+use Rattle.tai_status.specs.declared.phase.Phase.TheVariants as phase
+use Rattle.sup_core.specs.History.{Begin, phase_of}
 use Rattle.sup_core.specs.Rules.{takes}
 use Rattle.sup_core.proofs.Laws.{takes-gone, begin-not_gone}
-use Rattle.sup_trace.specs.Trace.{Kept, noted_if_taken, history_of, replay, new_trace}
+use Rattle.sup_trace.specs.Trace.{Kept, noted_if_taken, history_of, replay}
 use Rattle.sup_trace.proofs.Laws.{noted_if_taken-held}
 use Rattle.scan_table.specs.declared.part.PartId.{PartId}
 use Rattle.scan_table.specs.declared.part.Role.{Role}
 use Rattle.scan_table.specs.declared.part.Role.TheVariants.{Main, Log}
 use Rattle.scan_table.specs.declared.slot.Life.{Life}
-use Rattle.scan_table.specs.Slots.{Row, SlotState, SlotPart, parts_of, log_parts, ids_of, is_pair, eligible}
+use Rattle.scan_table.specs.Slots.{Row, SlotState, SlotPart, log_parts, ids_of, is_pair, eligible}
 use Rattle.scan_table.specs.Scan.{drops, kept, is_dropped, need, new_slot, new_slots, new_slots_at, in_turn, starts, restarts}
-use Rattle.scan_table.specs.Table.{TableState, scanned, after_end, slot_ended, life_ended, is_life, renewed, restarted, is_at}
+use Rattle.scan_table.specs.Table.{TableState, scanned, after_end, slot_ended, life_ended, renewed, restarted, is_at}
 use Rattle.scan_table.specs.Index.{IsBefore, IsNumbered}
 use Rattle.scan_table.proofs.Given.{AllPairs-append, pairs-head, pairs-tail, all-flat, all-slots}
-use Rattle.suite_core.specs.Parts.{PartState, is_part, is_place, is_role, trace_of, has_ended, part_after, parts_after, restarted_in, is_of}
-use Rattle.suite_core.specs.Suite.{SuiteState, Beginning, begun_part, beginnings, beginning, opening, table_told, changed, parts_scanned, scan_starts, scan_restarts}
+use Rattle.suite_core.specs.Parts.{PartState, is_part, is_place, trace_of, has_ended, part_after, parts_after, restarted_in, is_of}
+use Rattle.suite_core.specs.Suite.{SuiteState, Beginning, begun_part, beginning, table_told, parts_scanned}
 use Rattle.suite_core.specs.Places.{rank, rank_in, AreRising, Seen, seen, seen_life, seen_in, AreTied}
-use Rattle.suite_core.proofs.Names.{is_part-same, is_at-same, is_place-same}
+use Rattle.suite_core.proofs.Names.{is_part-same, is_at-same}
 use Rattle.suite_core.proofs.Traces.{is_among}
 
 map-append : {X Y : Type 0} (f : X → Y) (xs ys : List X) → map f (xs ++ ys) ≡ map f xs ++ map f ys

@@ -1,14 +1,14 @@
 -- The traces of parts after events and scans.
-use Rattle.std.proofs.Common.{◌≡◌, ℕ, ◌+◌, ◌<◌, ◌≤◌, Bool, true, false, not, ◌&&◌, ◌||◌, ◌==◌, List, [], ◌∷◌, ◌++◌, map, refl, sym, subst, ap, ◌∙◌, arith, Option, Some, None, if◌then◌else◌}
+use Rattle.std.proofs.Common.{◌≡◌, ℕ, Bool, true, false, not, ◌||◌, ◌==◌, List, [], ◌∷◌, ◌++◌, map, refl, sym, ap, ◌∙◌, Option, Some, None, if◌then◌else◌}
 use Rattle.std.specs.List.{All, filter, list_any}
 use Rattle.std.specs.Option.{option_map}
-use Rattle.std.proofs.lemmas.List.Elements.{All-nil, All-cons, All-head, All-tail, All-append, All-weaker}
+use Rattle.std.proofs.lemmas.List.Elements.{All-head, All-tail}
 use Rattle.sup_core.specs.declared.event.Event.{Event}
 use Rattle.sup_trace.specs.Trace.{Kept, noted_if_taken}
 use Rattle.scan_table.specs.declared.part.PartId.{PartId}
 use Rattle.suite_core.specs.Parts.{PartState, is_part, is_place, trace_of, part_after, parts_after, restarted_in, is_of}
 use Rattle.suite_core.specs.Suite.{changed}
-use Rattle.suite_core.proofs.Names.{is_part-same, is_part-self, is_part-later}
+use Rattle.suite_core.proofs.Names.{is_part-same, is_part-self}
 
 -- what an event at a part is to the trace of any part
 abbrev pub noted_where : Bool → Event → Kept → Kept

@@ -1,5 +1,6 @@
 -- Runs of a suite, and what they are to one part.
-use Rattle.std.specs.Prelude.{◌≡◌, ◌≢◌, ℕ, ◌<◌, ◌≤◌, Bool, true, false, List, [], ◌∷◌, ◌++◌, length, take, drop, map, if◌then◌else◌, Option, Some, None, Result, Ok, Err, slice_get, ⊤, suc, ◌==◌, ◌||◌}
+use Rattle.std.specs.Prelude.{◌≡◌, ℕ, ◌<◌, ◌≤◌, Bool, false, List, [], ◌∷◌, ◌++◌, length, take, drop}
+use Rattle.std.specs.Prelude.{if◌then◌else◌, Option, Some, None, Result, Ok, Err, slice_get, ⊤, suc, ◌==◌, ◌||◌}
 use Rattle.std.specs.List.{All, list_any}
 use Rattle.tai_status.specs.Label.{Tai64n}
 use Rattle.sup_core.specs.declared.event.Event.{Event}
@@ -16,7 +17,8 @@ use Rattle.suite_lines.specs.declared.out.StepOut.{StepOut}
 use Rattle.suite_lines.specs.declared.out.StepOut.TheVariants as out
 use Rattle.suite_core.specs.declared.fault.SuiteFault.{SuiteFault}
 use Rattle.suite_core.specs.Parts.{is_part, is_place, trace_of}
-use Rattle.suite_core.specs.Suite.{SuiteState, Beginning, opening, scan_starts, scan_restarts, outs_of, suite_after, refusal}
+use Rattle.suite_core.specs.Suite.{SuiteState, Beginning, opening, scan_starts, scan_restarts, outs_of, suite_after}
+use Rattle.suite_core.specs.Suite.{refusal}
 
 -- the suite after these events, one after another
 abbrev pub suite_along : {A : Type 0} → SuiteState → List (SuiteEvent A) → SuiteState
@@ -34,7 +36,8 @@ AreAccepted suite [] = ⊤
 AreAccepted suite (event ∷ events) = (refusal suite event ≡ None) × AreAccepted (suite_after suite event) events
 
 -- The first n of these events are taken, with one output each.
-pub record Ran {A : Type 0} (suite left : SuiteState) (outs outs_left : List (StepOut A)) (events : List (SuiteEvent A)) (n : ℕ) : Type 0 where
+pub record Ran {A : Type 0} (suite left : SuiteState) (outs outs_left : List (StepOut A))
+    (events : List (SuiteEvent A)) (n : ℕ) : Type 0 where
   pub within : n ≤ length events
   pub accepted : AreAccepted suite (take n events)
   pub state : left ≡ suite_along suite (take n events)
@@ -84,7 +87,8 @@ ReplyByOwnHistory suite events n =
     (id : PartId) (from place : ℕ) (kept : Kept) (event : Event) → from ≤ place → place < n
     → trace_at suite events from id ≡ Some kept → slice_get events place ≡ Some (At id event)
     → let past = after (history_of kept) (own_between id events from place) in
-    slice_get (outs_along suite (take n events)) place ≡ Some (out.At id (reply_to past event) (phase_of (next past event)))
+    slice_get (outs_along suite (take n events)) place
+    ≡ Some (out.At id (reply_to past event) (phase_of (next past event)))
 
 -- whether a scan takes a part away: it drops its slot, or restarts it in a new life
 abbrev pub is_taken_away : SuiteState → List Row → PartId → Bool
@@ -104,7 +108,8 @@ LeaveOthers {A = A} suite events n =
     → is_named (suite_along suite (take place events)) event id ≡ false → trace_at suite events place id ≡ Some kept
     → trace_at suite events (suc place) id ≡ Some kept
 
--- Each part that a scan begins is there after it, and its history opens with the `down` of its row, at the scan's label.
+-- Each part that a scan begins is there after it, and its history opens with the `down` of its row, at the scan's
+-- label.
 abbrev pub BeginAsRowsSay : {A : Type 0} → SuiteState → List (SuiteEvent A) → ℕ → Type 0
 BeginAsRowsSay suite events n =
     (place : ℕ) (rows : List Row) (label : Tai64n) → place < n → slice_get events place ≡ Some (Scan rows label)

@@ -1,11 +1,12 @@
 -- A suite of services, and its steps.
-use Rattle.std.specs.Prelude.{◌≡◌, ℕ, ◌<◌, ◌≤◌, Bool, true, false, not, List, [], ◌∷◌, ◌++◌, map, if◌then◌else◌, Option, Some, None, is_none, ⊤}
-use Rattle.std.specs.List.{filter, flat_map, All, AllPairs}
+use Rattle.std.specs.Prelude.{◌≡◌, ℕ, Bool, false, not, List, [], ◌∷◌, ◌++◌, map, if◌then◌else◌}
+use Rattle.std.specs.Prelude.{Option, Some, None, is_none, ⊤}
+use Rattle.std.specs.List.{filter}
 use Rattle.tai_status.specs.Label.{Tai64n}
 use Rattle.sup_core.specs.declared.event.Event.{Event}
 use Rattle.sup_core.specs.History.{History, Begin, state_of, phase_of}
 use Rattle.sup_core.specs.Rules.{IsEvent, asks_of_begin, reply_to}
-use Rattle.sup_trace.specs.Trace.{Kept, IsTrace, history_of, replay, noted_if_taken, new_trace}
+use Rattle.sup_trace.specs.Trace.{Kept, history_of, replay, noted_if_taken, new_trace}
 use Rattle.scan_table.specs.declared.part.PartId.{PartId}
 use Rattle.scan_table.specs.declared.part.Role.{Role}
 use Rattle.scan_table.specs.declared.part.Role.TheVariants.{Main, Log}
@@ -73,7 +74,8 @@ table_told table id event (Some kept) = if has_ended (noted_if_taken kept event)
 -- what is answered at a part whose trace is this
 abbrev pub outs_at : {A : Type 0} → PartId → Event → Option Kept → List (StepOut A)
 outs_at id event None = []
-outs_at id event (Some kept) = out.At id (reply_to (history_of kept) event) (replay (noted_if_taken kept event)).phase ∷ []
+outs_at id event (Some kept) =
+    out.At id (reply_to (history_of kept) event) (replay (noted_if_taken kept event)).phase ∷ []
 
 -- A scan
 

@@ -1,5 +1,7 @@
 //! A suite of services.
-ghost use Rattle.std.specs.Prelude.{◌≡◌, if◌then◌else◌, ◌+◌, ◌<◌, ◌≤◌, ◌∷◌, ◌++◌, [], None, length, map, slice_index_or, vec_len, vec_capacity, option_copied, IfSome, IfOk, OnOk, OnErr, IfErr};
+ghost use Rattle.std.specs.Prelude.{◌≡◌, if◌then◌else◌, ◌+◌, ◌<◌, ◌≤◌, ◌∷◌, ◌++◌, [], None, length, map};
+ghost use Rattle.std.specs.Prelude.{slice_index_or, vec_len, vec_capacity, option_copied, IfSome, IfOk, OnOk, OnErr};
+ghost use Rattle.std.specs.Prelude.{IfErr};
 ghost use Rattle.std.specs.Option.{option_map};
 ghost use Rattle.std.specs.List.{All};
 ghost use Rattle.sup_core.specs.Rules.{IsEvent};
@@ -9,7 +11,9 @@ ghost use Rattle.scan_table.specs.Table.{scanned, after_end};
 ghost use Rattle.suite_lines.specs.declared.event.SuiteEvent.{SuiteEvent};
 ghost use Rattle.suite_core.specs.Parts.{trace_of, parts_after, has_ended};
 ghost use Rattle.suite_core.specs.Places.{AreRising, IsPartAt};
-ghost use Rattle.suite_core.specs.Suite.{new_suite, IsSuiteEvent, refusal, refusal_at, refusal_of_scan, IsCause, scan_out, scan_starts, scan_restarts, scan_begun, begun_part, outs_at, outs_of_scan, outs_of, suite_at, suite_scanned, suite_after};
+ghost use Rattle.suite_core.specs.Suite.{new_suite, IsSuiteEvent, refusal, refusal_at, refusal_of_scan, IsCause};
+ghost use Rattle.suite_core.specs.Suite.{scan_out, scan_starts, scan_restarts, scan_begun, begun_part, outs_at};
+ghost use Rattle.suite_core.specs.Suite.{outs_of_scan, outs_of, suite_at, suite_scanned, suite_after};
 ghost use Rattle.suite_core.specs.Run.{Ran, done, GoByOwnEvents, ReplyByOwnHistory, LeaveOthers, BeginAsRowsSay};
 
 use crate::fault::{StepFault, SuiteFault};
@@ -125,8 +129,8 @@ fn scan<A: Allocator + Clone>(
 }
 
 impl<A: Allocator + Clone> Suite<A> {
-    /// A suite without parts, whose first number is this one, and whose traces keep as many events as the capacity says,
-    /// 1 to 65,536.
+    /// A suite without parts, whose first number is this one, and whose traces keep as many events as the capacity
+    /// says, 1 to 65,536.
     pub fn new(alloc: A, next: u64, trace_capacity: usize) -> Result<Suite<A>, AllocError>
         requires room { 0 < trace_capacity }
         requires limit { trace_capacity ≤ 65536 }
@@ -267,8 +271,8 @@ impl<A: Allocator + Clone> Suite<A> {
 
     /// Takes one event, and puts what it is answered with behind `out`.
     ///
-    /// At a fault nothing changed. `NoSuchPart` comes exactly where the event is at a part that is not there, `Scan` exactly
-    /// where the table refuses the scan, and `OutOfMemory` only where neither is so.
+    /// At a fault nothing changed. `NoSuchPart` comes exactly where the event is at a part that is not there, `Scan`
+    /// exactly where the table refuses the scan, and `OutOfMemory` only where neither is so.
     pub fn step(
         &mut self,
         event: &SuiteEvent<A>,
@@ -289,8 +293,8 @@ impl<A: Allocator + Clone> Suite<A> {
 
     /// Takes the events in order, and puts one output for each behind `out`.
     ///
-    /// At a fault the events before the place that it names stand, with their outputs; the event there and those after it
-    /// did nothing.
+    /// At a fault the events before the place that it names stand, with their outputs; the event there and those after
+    /// it did nothing.
     pub fn run(
         &mut self,
         events: &[SuiteEvent<A>],

@@ -14,10 +14,13 @@ line_fault why.Line = fault.Line
 line_fault why.Number = fault.Number
 line_fault why.Label = fault.Label
 
+-- An event is read, or memory is missed.
+abbrev pub ReadsIfMemory : {A : Type 0} → SuiteEvent A → Result (SuiteEvent A) SuiteLineFault → Type 0
+ReadsIfMemory event answer = MatchResult answer (λ read. read ≡ event) (λ why. why ≡ fault.OutOfMemory)
+
 -- A line is answered with the event that it tells, or with its first fault. Memory is missed only at a scan that is
 -- told.
 abbrev pub IsRead : {A : Type 0} → Result (SuiteEvent A) EventFault → Result (SuiteEvent A) SuiteLineFault → Type 0
-IsRead (Ok (Scan rows label)) answer =
-    MatchResult answer (λ event. event ≡ Scan rows label) (λ why. why ≡ fault.OutOfMemory)
+IsRead (Ok (Scan rows label)) answer = ReadsIfMemory (Scan rows label) answer
 IsRead (Ok (At part event)) answer = answer ≡ Ok (At part event)
 IsRead (Err why) answer = answer ≡ Err (line_fault why)

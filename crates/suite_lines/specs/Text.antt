@@ -1,6 +1,7 @@
 -- The texts of a suite's events, and of what its steps give. The forms of a part, of a row and of the lines are this
 -- project's own.
-use Rattle.std.specs.Prelude.{◌≡◌, ℕ, ◌<◌, ◌^◌, ◌&&◌, nat_le, Bool, true, false, if◌then◌else◌, List, [], ◌∷◌, ◌++◌, map, length, codes, decimal}
+use Rattle.std.specs.Prelude.{◌≡◌, ℕ, ◌<◌, ◌^◌, ◌&&◌, nat_le, Bool, true, false, if◌then◌else◌, List, [], ◌∷◌, ◌++◌}
+use Rattle.std.specs.Prelude.{map, length, codes, decimal}
 use Rattle.std.specs.List.{AllByRecursion, list_all, join_with_byte}
 use Rattle.tai_status.specs.Label.{IsLabel, label_text}
 use Rattle.scan_table.specs.declared.part.Role.{Role}

@@ -6,7 +6,7 @@ ghost use Rattle.sup_core.specs.Fields.{fields_after};
 ghost use Rattle.suite_lines.specs.declared.event.SuiteEvent.{SuiteEvent};
 ghost use Rattle.suite_lines.specs.Text.{IsSpellable, suite_event_text};
 ghost use Rattle.suite_lines.specs.Reading.{rows_of_texts, scan_from, at_from, suite_event_from};
-ghost use Rattle.suite_lines.specs.Answers.{IsRead};
+ghost use Rattle.suite_lines.specs.Answers.{IsRead, ReadsIfMemory};
 ghost use Rattle.suite_lines.specs.Fields.{are_rows};
 
 use crate::event::{Rows, SuiteEvent};
@@ -97,8 +97,8 @@ fn tell_suite_event<A: Allocator + Clone>(
 /// | `at PART EVENT` | at this part happened what the line EVENT tells, as `sup_core::read_event` reads it |
 ///
 /// PART is a slot's number, `main` or `log`, and a life's number, parted by dots. ROW is the four flags `d` (a
-/// directory), `l` (has a log), `n` (has a file `down`) and `m` (its log has one), each its letter or `-`, then a colon,
-/// and a name of at least one byte, all from `!` to `~`.
+/// directory), `l` (has a log), `n` (has a file `down`) and `m` (its log has one), each its letter or `-`, then a
+/// colon, and a name of at least one byte, all from `!` to `~`.
 ///
 /// The first fault is told: another first word; for a scan no field of a label, a wrong label, a field that is no row's
 /// text; at a part fewer than three fields or no part, then a slot or a life that is no number of 64 bits, then the
@@ -109,7 +109,7 @@ pub fn read_suite_event<A: Allocator + Clone>(
 ) -> Result<SuiteEvent<A>, SuiteLineFault>
     ensures found { IfOk result (λ event. IsSpellable event × (line.now ≡ suite_event_text event)) }
     ensures only { (event : SuiteEvent A) → IsSpellable event → line.now ≡ suite_event_text event
-        → MatchResult result (λ read. read ≡ event) (λ why. why ≡ SuiteLineFault.OutOfMemory) }
+        → ReadsIfMemory event result }
     // Which fault it is. Memory is asked for once the line is known to be a scan's.
     ensures exact { IsRead (suite_event_from (fields line.now)) result }
 {

@@ -7,8 +7,8 @@ use Rattle.sup_core.specs.declared.event.Event.{Event}
 use Rattle.sup_core.specs.declared.event.Event.TheVariants.{Byte, Started, StartFailed, Death, Clock}
 use Rattle.sup_core.specs.declared.asks.Ask.{Ask}
 use Rattle.sup_core.specs.declared.asks.Reply.TheVariants.{Took, Held}
-use Rattle.sup_core.specs.declared.machine.Phase.{Phase}
-use Rattle.sup_core.specs.declared.machine.Phase.TheVariants as phase
+use Rattle.tai_status.specs.declared.phase.Phase.{Phase}
+use Rattle.tai_status.specs.declared.phase.Phase.TheVariants as phase
 use Rattle.sup_core.specs.History.{History, Begin, Opened, Then, state_of, ends_in_failure, is_resting, phase_of, until_of}
 use Rattle.sup_core.specs.Runs.{AreTaken, after, asks_along, followed_by, replies_to, taken_of}
 use Rattle.sup_core.specs.Rules.{reply_to, IsEvent, next, is_taken, takes, asks_of}

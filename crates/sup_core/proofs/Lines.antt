@@ -10,18 +10,19 @@ use Rattle.std.proofs.lemmas.Slice.Eq.{bytes_eq-Decides}
 use Rattle.std.proofs.lemmas.List.Splits.{slice_split-cons_no, slice_split-cons_yes, join_with_byte-slice_split}
 use Rattle.hex.specs.Hex.{encode_with, encode_lower}
 use Rattle.tai_status.specs.Label.{Tai64n, IsLabel, packed, label_text}
+use Rattle.tai_status.specs.Phase.{phase_name}
 use Rattle.tai_status.specs.Reading.{from_text, is_lower_digit}
 use Rattle.tai_status.proofs.Spelled.{from_text-label_text}
 use Rattle.sup_core.specs.declared.event.Event.{Event}
 use Rattle.sup_core.specs.declared.event.Event.TheVariants.{Byte, Started, StartFailed, Death, Clock}
 use Rattle.sup_core.specs.declared.reading.EventFault.{EventFault}
 use Rattle.sup_core.specs.declared.reading.EventFault.TheVariants as fault
-use Rattle.sup_core.specs.declared.machine.Phase.{Phase}
-use Rattle.sup_core.specs.declared.machine.Phase.TheVariants as phase
+use Rattle.tai_status.specs.declared.phase.Phase.{Phase}
+use Rattle.tai_status.specs.declared.phase.Phase.TheVariants as phase
 use Rattle.sup_core.specs.declared.reading.Word.{Word}
 use Rattle.sup_core.specs.declared.reading.Word.TheVariants as kind
 use Rattle.sup_core.specs.Rules.{IsEvent}
-use Rattle.sup_core.specs.Text.{byte_text, event_fields, event_text, begin_fields, begin_text, phase_name}
+use Rattle.sup_core.specs.Text.{byte_text, event_fields, event_text, begin_fields, begin_text}
 use Rattle.sup_core.specs.Fields.{word_name}
 use Rattle.sup_core.specs.Reading.{fields, IsInRange, byte_of_text, pid_of_text, label_of_text, byte_event, started, start_event, label_event, event_of, event_from, side_of, begun, side_event, begin_from}
 use Rattle.sup_core.proofs.Spelling.{all_below, all_below-at, TellsByte, TellsPid, TellsLabel, byte_of_text-found, byte_of_text-only, pid_of_text-found, pid_of_text-only, label_of_text-found, label_of_text-only}

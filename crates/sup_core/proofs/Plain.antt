@@ -6,17 +6,18 @@ use Rattle.std.proofs.lemmas.Bool.Decides.{nat_tests}
 use Rattle.std.proofs.lemmas.List.Folds.{list_all-append}
 use Rattle.hex.specs.Hex.{encode_with, encode_lower, lower_digits}
 use Rattle.tai_status.specs.Label.{Tai64n, packed, label_text}
+use Rattle.tai_status.specs.Phase.{phase_name}
 use Rattle.tai_status.specs.LineReader.{IsPlain}
 use Rattle.sup_core.specs.declared.asks.Ask.{Ask}
 use Rattle.sup_core.specs.declared.asks.Ask.TheVariants.{Signal, Start, Write}
 use Rattle.sup_core.specs.declared.asks.Reply.{Reply}
 use Rattle.sup_core.specs.declared.asks.Reply.TheVariants.{Held, Took}
 use Rattle.sup_core.specs.declared.asks.Sig.{Sig}
-use Rattle.sup_core.specs.declared.asks.Sig.TheVariants.{Term, Cont, Stop, Hup, Alrm, Int, Kill}
+use Rattle.sup_core.specs.declared.asks.Sig.TheVariants.{Term, Cont, Stop, Hup, Alrm, Int, Kill, Usr1, Usr2, Quit}
 use Rattle.sup_core.specs.declared.event.Event.{Event}
 use Rattle.sup_core.specs.declared.event.Event.TheVariants.{Byte, Started, StartFailed, Death, Clock}
-use Rattle.sup_core.specs.declared.machine.Phase.{Phase}
-use Rattle.sup_core.specs.Text.{byte_text, event_fields, event_text, signal_name, ask_text, asks_text, reply_text, phase_name, answer_text}
+use Rattle.tai_status.specs.declared.phase.Phase.{Phase}
+use Rattle.sup_core.specs.Text.{byte_text, event_fields, event_text, signal_name, ask_text, asks_text, reply_text, answer_text}
 use Rattle.sup_core.proofs.Lines.{avoids-solid, decimal-solid, phase_name-solid}
 
 abbrev is_plain_byte : ℕ → Bool
@@ -93,6 +94,9 @@ plain-signal_name Hup = refl
 plain-signal_name Alrm = refl
 plain-signal_name Int = refl
 plain-signal_name Kill = refl
+plain-signal_name Usr1 = refl
+plain-signal_name Usr2 = refl
+plain-signal_name Quit = refl
 
 pub plain-ask_text : (ask : Ask) → IsPlain (ask_text ask)
 plain-ask_text (Signal sig pid) =

@@ -1,16 +1,18 @@
 -- A history of a service, and what it says: each fact by the last event that speaks of it. The facts
 -- are those of the pages on supervise and svc.
-use Rattle.std.specs.Prelude.{ℕ, Bool, true, false, not, ◌&&◌, ◌==◌, nat_lt, if◌then◌else◌, List, codes, Option, Some, None}
+use Rattle.std.specs.Prelude.{ℕ, Bool, true, false, not, ◌&&◌, ◌==◌, nat_lt, if◌then◌else◌, List, codes, Option, Some}
+use Rattle.std.specs.Prelude.{None}
 use Rattle.std.specs.List.{list_any}
 use Rattle.tai_status.specs.Label.{Tai64n, plus_second}
 use Rattle.tai_status.specs.Record.{Status}
+use Rattle.tai_status.specs.Full.{FullStatus}
 use Rattle.tai_status.specs.declared.record.Want.{Want}
 use Rattle.tai_status.specs.declared.record.Want.TheVariants as want
 use Rattle.sup_core.specs.declared.event.Event.{Event}
 use Rattle.sup_core.specs.declared.event.Event.TheVariants.{Byte, Started, StartFailed, Death, Clock}
-use Rattle.sup_core.specs.declared.machine.Phase.{Phase}
-use Rattle.sup_core.specs.declared.machine.Phase.TheVariants as phase
-use Rattle.sup_core.specs.State.{State}
+use Rattle.tai_status.specs.declared.phase.Phase.{Phase}
+use Rattle.tai_status.specs.declared.phase.Phase.TheVariants as phase
+use Rattle.sup_core.specs.State.{State, full_in, is_up}
 
 -- A history is an opening and the events taken since, the last one outermost. It opens where
 -- supervise begins, with or without the `down` file, or with a machine as it stands.
@@ -46,10 +48,6 @@ want_of (Then past (Byte byte)) =
     else if is_among (codes "o") byte then want.Once
     else want_of past
 want_of (Then past event) = want_of past
-
-abbrev pub is_up : Want → Bool
-is_up want.Up = true
-is_up other = false
 
 abbrev pub wants_up : History → Bool
 wants_up history = is_up (want_of history)
@@ -141,3 +139,7 @@ state_of history = record {
   exiting = exiting_of history;
   until = until_of history;
 }
+
+-- what the full record tells
+abbrev pub full_of : History → FullStatus
+full_of history = full_in (state_of history)

@@ -1,5 +1,6 @@
 -- Reading an event's line and a begin line: what it is the text of, or else why it is the text of nothing.
-use Rattle.std.specs.Prelude.{ℕ, ◌<◌, ◌^◌, nat_lt, ◌==◌, ◌&&◌, ◌||◌, Bool, true, false, if◌then◌else◌, List, [], ◌∷◌, codes, decimal, bytes_eq, Option, Some, None, option_map, is_some, Result, Err, ok_or}
+use Rattle.std.specs.Prelude.{ℕ, ◌<◌, ◌^◌, nat_lt, ◌==◌, ◌&&◌, ◌||◌, Bool, true, false, if◌then◌else◌, List, [], ◌∷◌}
+use Rattle.std.specs.Prelude.{codes, decimal, bytes_eq, Option, Some, None, option_map, is_some, Result, Err, ok_or}
 use Rattle.std.specs.List.{slice_split}
 use Rattle.std.specs.Result.{result_ok}
 use Rattle.std.specs.Str.Parse.{digits_value}

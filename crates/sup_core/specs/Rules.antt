@@ -1,18 +1,19 @@
 -- What supervise takes and asks, by the history so far: the table of the pages on supervise and svc.
-use Rattle.std.specs.Prelude.{ℕ, ◌<◌, Bool, true, false, not, if◌then◌else◌, List, [], ◌∷◌, ◌++◌, map, codes, Option, Some, None, ⊤}
+use Rattle.std.specs.Prelude.{ℕ, ◌<◌, Bool, true, false, not, if◌then◌else◌, List, [], ◌∷◌, ◌++◌, map, codes, Option}
+use Rattle.std.specs.Prelude.{Some, None, ⊤}
 use Rattle.tai_status.specs.Label.{Tai64n, is_earlier}
-use Rattle.tai_status.specs.Record.{status_record}
+use Rattle.tai_status.specs.Full.{full_record}
 use Rattle.sup_core.specs.declared.asks.Sig.{Sig}
-use Rattle.sup_core.specs.declared.asks.Sig.TheVariants.{Term, Cont, Stop, Hup, Alrm, Int, Kill}
+use Rattle.sup_core.specs.declared.asks.Sig.TheVariants.{Term, Cont, Stop, Hup, Alrm, Int, Kill, Usr1, Usr2, Quit}
 use Rattle.sup_core.specs.declared.asks.Ask.{Ask}
 use Rattle.sup_core.specs.declared.asks.Ask.TheVariants.{Signal, Start, Write}
 use Rattle.sup_core.specs.declared.asks.Reply.{Reply}
 use Rattle.sup_core.specs.declared.asks.Reply.TheVariants.{Held, Took}
 use Rattle.sup_core.specs.declared.event.Event.{Event}
 use Rattle.sup_core.specs.declared.event.Event.TheVariants.{Byte, Started, StartFailed, Death, Clock}
-use Rattle.sup_core.specs.declared.machine.Phase.{Phase}
-use Rattle.sup_core.specs.declared.machine.Phase.TheVariants as phase
-use Rattle.sup_core.specs.History.{History, Then, is_among, pid_of, runs, status_of, calls_for_start, phase_of, until_of}
+use Rattle.tai_status.specs.declared.phase.Phase.{Phase}
+use Rattle.tai_status.specs.declared.phase.Phase.TheVariants as phase
+use Rattle.sup_core.specs.History.{History, Then, is_among, pid_of, runs, full_of, calls_for_start, phase_of, until_of}
 
 -- The condition on an event: a process has a number of at least 1.
 abbrev pub IsEvent : Event → Type 0
@@ -56,6 +57,9 @@ signals_of byte =
     else if is_among (codes "i") byte then Int ∷ []
     else if is_among (codes "t") byte then Term ∷ []
     else if is_among (codes "k") byte then Kill ∷ []
+    else if is_among (codes "1") byte then Usr1 ∷ []
+    else if is_among (codes "2") byte then Usr2 ∷ []
+    else if is_among (codes "q") byte then Quit ∷ []
     else []
 
 abbrev pub signals_after : History → Event → List Ask
@@ -63,15 +67,13 @@ signals_after past (Byte byte) =
     if runs past then map (λ sig. Signal sig (pid_of past)) (signals_of byte) else []
 signals_after past event = []
 
--- whether an event has a status record written
+-- whether an event has a status record written: a control byte that can change what it tells, and any other event
 abbrev pub writes : Event → Bool
 writes (Byte byte) = is_among (codes "udopcx") byte
-writes (Started pid label) = true
-writes (Death label) = true
-writes event = false
+writes event = true
 
 abbrev pub record_of : History → List Ask
-record_of history = Write (status_record (status_of history)) ∷ []
+record_of history = Write (full_record (full_of history)) ∷ []
 
 abbrev pub start_of : History → List Ask
 start_of history = if calls_for_start history then Start ∷ [] else []

@@ -3,16 +3,16 @@ use Rattle.std.specs.Prelude.{ℕ, Bool, not, ◌&&◌, nat_le, if◌then◌else
 use Rattle.std.specs.List.{flat_map, join_with_byte}
 use Rattle.hex.specs.Hex.{encode_lower}
 use Rattle.tai_status.specs.Label.{Tai64n, label_text}
+use Rattle.tai_status.specs.Phase.{phase_name}
 use Rattle.sup_core.specs.declared.asks.Sig.{Sig}
-use Rattle.sup_core.specs.declared.asks.Sig.TheVariants.{Term, Cont, Stop, Hup, Alrm, Int, Kill}
+use Rattle.sup_core.specs.declared.asks.Sig.TheVariants.{Term, Cont, Stop, Hup, Alrm, Int, Kill, Usr1, Usr2, Quit}
 use Rattle.sup_core.specs.declared.asks.Ask.{Ask}
 use Rattle.sup_core.specs.declared.asks.Ask.TheVariants.{Signal, Start, Write}
 use Rattle.sup_core.specs.declared.asks.Reply.{Reply}
 use Rattle.sup_core.specs.declared.asks.Reply.TheVariants.{Held, Took}
 use Rattle.sup_core.specs.declared.event.Event.{Event}
 use Rattle.sup_core.specs.declared.event.Event.TheVariants.{Byte, Started, StartFailed, Death, Clock}
-use Rattle.sup_core.specs.declared.machine.Phase.{Phase}
-use Rattle.sup_core.specs.declared.machine.Phase.TheVariants as phase
+use Rattle.tai_status.specs.declared.phase.Phase.{Phase}
 use Rattle.sup_core.specs.declared.reading.EventFault.{EventFault}
 use Rattle.sup_core.specs.declared.reading.EventFault.TheVariants as why
 use Rattle.sup_core.specs.History.{is_among}
@@ -52,19 +52,14 @@ signal_name Hup = codes "HUP"
 signal_name Alrm = codes "ALRM"
 signal_name Int = codes "INT"
 signal_name Kill = codes "KILL"
+signal_name Usr1 = codes "USR1"
+signal_name Usr2 = codes "USR2"
+signal_name Quit = codes "QUIT"
 
 abbrev pub ask_text : Ask → List ℕ
 ask_text (Signal sig pid) = signal_name sig ++ codes ":" ++ decimal pid
 ask_text Start = codes "start"
 ask_text (Write bytes) = codes "record:" ++ encode_lower bytes
-
-abbrev pub phase_name : Phase → List ℕ
-phase_name phase.Starting = codes "starting"
-phase_name phase.Settling = codes "settling"
-phase_name phase.Resting = codes "resting"
-phase_name phase.Up = codes "up"
-phase_name phase.Down = codes "down"
-phase_name phase.Gone = codes "gone"
 
 -- why a line is refused
 abbrev pub fault_name : EventFault → List ℕ
@@ -89,7 +84,7 @@ answer_text reply phase = reply_text reply ++ codes " -> " ++ phase_name phase
 abbrev pub longest : Ask → ℕ
 longest (Signal sig pid) = 15
 longest Start = 5
-longest (Write bytes) = 43
+longest (Write bytes) = 47
 
 -- The printed table
 

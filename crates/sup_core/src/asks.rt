@@ -13,6 +13,9 @@ pub enum Sig {
     Alrm,
     Int,
     Kill,
+    Usr1,
+    Usr2,
+    Quit,
 }
 
 /// What a machine asks of the system.
@@ -24,7 +27,7 @@ pub enum Ask {
     #[default]
     Start,
     /// Write these bytes as the status record.
-    Write([u8; 18]),
+    Write([u8; 20]),
 }
 
 impl Ask {

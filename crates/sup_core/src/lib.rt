@@ -1,8 +1,8 @@
 //! What supervise does at each event of a service: the decisions, with no process and no clock.
 //!
-//! A `Machine` is where supervise stands with one service. `Machine::step` takes an event and answers what to ask of the
-//! system: signals, the status record, a start. Contracts speak of histories: `specs/History` says what a history tells,
-//! and `specs/Rules` what is taken and asked after it. Lines of text tell events and answers.
+//! A `Machine` is where supervise stands with one service. `Machine::step` takes an event and answers what to ask of
+//! the system: signals, the status record, a start. Contracts speak of histories: `specs/History` says what a history
+//! tells, and `specs/Rules` what is taken and asked after it. Lines of text tell events and answers.
 #![tactic(auto)]
 
 mod asks;
@@ -17,10 +17,11 @@ mod text;
 pub use asks::{Ask, Asks, Reply, Sig};
 pub use event::Event;
 pub use law::histories_of_one_state;
-pub use machine::{Machine, Phase};
+pub use machine::Machine;
 pub use reading::{
     EventFault, read_begin, read_byte, read_event, read_label, read_number, read_phase, read_sig,
     split_field,
 };
 pub use table::table_line;
-pub use text::{answer_text, event_text, fault_name, phase_name, sig_name, took_text};
+pub use tai_status::{Phase, phase_name};
+pub use text::{answer_text, event_text, fault_name, sig_name, took_text};

@@ -1,15 +1,18 @@
-ghost use Rattle.std.specs.Prelude.{◌≡◌, ◌≢◌, ◌<◌, ◌^◌, ◌⊎◌, ◌↔◌, ◌∷◌, [], ◌++◌, List, IsTrue, IsSome, IfSome, Bool, false, true};
+ghost use Rattle.std.specs.Prelude.{◌≡◌, ◌≢◌, ◌<◌, ◌^◌, ◌⊎◌, ◌↔◌, ◌∷◌, [], ◌++◌, List, IsTrue, IsSome, IfSome, Bool};
+ghost use Rattle.std.specs.Prelude.{false, true};
 ghost use Rattle.std.specs.List.{AllByRecursion};
 ghost use Rattle.tai_status.specs.Label.{Tai64n, IsLabel};
-ghost use Rattle.tai_status.specs.Record.{IsStatus, status_record};
-ghost use Rattle.sup_core.specs.State.{IsState, is_gone};
+ghost use Rattle.tai_status.specs.Record.{IsStatus};
+ghost use Rattle.tai_status.specs.Full.{IsFull, StandsIn, full_record, full_with};
+ghost use Rattle.tai_status.specs.declared.phase.Phase.{Phase};
+ghost use Rattle.sup_core.specs.State.{IsState, WaitsUntil, full_in, is_gone, phase_after_death, phase_after_pause};
 
 use crate::asks::{Ask, Asks, Reply, Sig};
 use crate::event::Event;
 use crate::ranges::{label_in_range, view_in_range};
 use crate::table::{control_bytes, taken_events};
 use std::marker::Model;
-use tai_status::{Label, View, Want, encode};
+use tai_status::{Full, Label, Phase, View, Want, encode_full};
 
 /// Makes a row's changes to a machine.
 macro_rules! change {
@@ -21,7 +24,7 @@ macro_rules! change {
 
 /// One ask of a row.
 macro_rules! ask {
-    ($machine:ident, record) => { Ask::Write(encode(&$machine.view)) };
+    ($machine:ident, record) => { record_ask($machine.phase, &$machine.view, $machine.exiting) };
     ($machine:ident, start) => { Ask::Start };
     ($machine:ident, TERM) => { signal!($machine, Term) };
     ($machine:ident, CONT) => { signal!($machine, Cont) };
@@ -30,6 +33,9 @@ macro_rules! ask {
     ($machine:ident, ALRM) => { signal!($machine, Alrm) };
     ($machine:ident, INT) => { signal!($machine, Int) };
     ($machine:ident, KILL) => { signal!($machine, Kill) };
+    ($machine:ident, USR1) => { signal!($machine, Usr1) };
+    ($machine:ident, USR2) => { signal!($machine, Usr2) };
+    ($machine:ident, QUIT) => { signal!($machine, Quit) };
 }
 
 /// A signal to the machine's process.
@@ -84,23 +90,6 @@ macro_rules! is_time {
     (at_its_end, $machine:ident, $event:ident) => { $machine.is_reached($event) };
 }
 
-/// Where supervise stands with a service.
-#[derive(Clone, Copy, Debug, PartialEq, Eq)]
-pub enum Phase {
-    /// A start was asked for and not answered.
-    Starting,
-    /// A process was started less than a second ago.
-    Settling,
-    /// A start failed less than a second ago.
-    Resting,
-    /// There is a process.
-    Up,
-    /// There is none, and none is wanted.
-    Down,
-    /// There is none, and supervise is done.
-    Gone,
-}
-
 /// Supervise's state for one service: where it stands, what its status record tells, whether it is to end, and until
 /// when it settles or rests. Only the states in which supervise can stand have a machine.
 #[derive(Clone, Copy, Debug, PartialEq, Eq)]
@@ -144,6 +133,18 @@ impl Machine {
         ensures stands { IsState self.now }
     {
         view_in_range(&self.view)
+    }
+
+    /// What its full status record tells.
+    pub fn full(&self) -> Full
+        ensures full { result ≡ full_in self.now }
+        ensures range { IsFull result }
+    {
+        Full {
+            view: view_in_range(&self.view),
+            phase: self.phase,
+            exiting: self.exiting,
+        }
     }
 
     /// Whether supervise is done, and takes nothing more.
@@ -247,7 +248,7 @@ impl Machine {
             want: self.view.want,
         };
         let mut asks = Asks::new();
-        asks.push(Ask::Write(encode(&self.view)));
+        asks.push(record_ask(self.phase, &self.view, self.exiting));
         asks
     }
 
@@ -259,7 +260,9 @@ impl Machine {
     {
         self.phase = Phase::Resting;
         self.until = Some(label.plus_second());
-        Asks::new()
+        let mut asks = Asks::new();
+        asks.push(record_ask(self.phase, &self.view, self.exiting));
+        asks
     }
 
     /// Takes the death of the process.
@@ -274,15 +277,9 @@ impl Machine {
             paused: false,
             want: self.view.want,
         };
-        self.phase = if self.exiting {
-            Phase::Gone
-        } else if self.view.want == Want::Up {
-            Phase::Starting
-        } else {
-            Phase::Down
-        };
+        self.phase = phase_after_death(&self.view, self.exiting);
         let mut asks = Asks::new();
-        asks.push(Ask::Write(encode(&self.view)));
+        asks.push(record_ask(self.phase, &self.view, self.exiting));
         if self.phase == Phase::Starting {
             asks.push(Ask::Start);
         }
@@ -297,14 +294,11 @@ impl Machine {
         ensures asks { result ≡ asks_of (Opened self.old) (Event.Clock self.old.status.label) }
     {
         self.until = None;
+        self.phase = phase_after_pause(self.phase, &self.view, self.exiting);
         let mut asks = Asks::new();
-        if self.phase == Phase::Settling {
-            self.phase = Phase::Up;
-        } else if self.view.want == Want::Up {
-            self.phase = Phase::Starting;
+        asks.push(record_ask(self.phase, &self.view, self.exiting));
+        if self.phase == Phase::Starting {
             asks.push(Ask::Start);
-        } else {
-            self.phase = Phase::Down;
         }
         asks
     }
@@ -331,7 +325,7 @@ impl Machine {
             until: None,
         };
         let mut asks = Asks::new();
-        asks.push(Ask::Write(encode(&machine.view)));
+        asks.push(record_ask(machine.phase, &machine.view, machine.exiting));
         if !down_file {
             asks.push(Ask::Start);
         }
@@ -347,13 +341,14 @@ impl Machine {
         ensures state { (past : History) → state_of past ≡ self.old → self.new ≡ state_of (next past event) }
 
         // The record is written where what it tells may have changed, and then once, as it stands after the step.
-        ensures unwritten { records_in result ≡ [] → self.new.status ≡ self.old.status }
-        ensures written { records_in result ≢ [] → records_in result ≡ status_record self.new.status ∷ [] }
-        ensures range { IsStatus self.new.status }
+        ensures unwritten { records_in result ≡ [] → full_in self.new ≡ full_in self.old }
+        ensures written { records_in result ≢ [] → records_in result ≡ full_record (full_in self.new) ∷ [] }
+        ensures range { IsFull (full_in self.new) }
     {
+        // What it tells is lawful, before and after: `unwritten` stands on the first, and `range` is the second.
+        let _ = self.full();
         let reply = self.advance(event);
-        // What it tells is in range: the last clause.
-        let _ = self.view();
+        let _ = self.full();
         reply
     }
 
@@ -386,21 +381,64 @@ impl Machine {
     }
 }
 
+/// Where a service goes whose process died.
+fn phase_after_death(view: &View, exiting: bool) -> Phase
+    requires { view.now.pid ≡ 0 }
+    ensures phase { result ≡ phase_after_death view.now exiting }
+    ensures stands { StandsIn result view.now exiting }
+{
+    if exiting {
+        Phase::Gone
+    } else if view.want == Want::Up {
+        Phase::Starting
+    } else {
+        Phase::Down
+    }
+}
+
+/// Where a service goes that has settled or rested.
+fn phase_after_pause(phase: Phase, view: &View, exiting: bool) -> Phase
+    requires pauses { (phase ≡ Phase.Settling) ⊎ (phase ≡ Phase.Resting) }
+    requires stands { StandsIn phase view.now exiting }
+    ensures phase { result ≡ phase_after_pause phase view.now }
+    ensures stands { StandsIn result view.now exiting }
+{
+    if phase == Phase::Settling {
+        Phase::Up
+    } else if view.want == Want::Up {
+        Phase::Starting
+    } else {
+        Phase::Down
+    }
+}
+
+/// The status record of these parts, to be written.
+fn record_ask(phase: Phase, view: &View, exiting: bool) -> Ask
+    requires { StandsIn phase view.now exiting }
+    ensures { result ≡ Ask.Write (full_record (full_with view.now phase exiting)) }
+{
+    Ask::Write(encode_full(&Full {
+        view: *view,
+        phase,
+        exiting,
+    }))
+}
+
 /// Whether a machine can have these parts.
 fn can_stand(phase: Phase, view: &View, exiting: bool, until: &Option<Label>) -> bool
     ensures { IsTrue result ↔
         IsState (record { phase = phase; status = view.now; exiting = exiting; until = until.now }) }
 {
-    let idle = view.pid == 0;
-    let restarts = !exiting && view.want != Want::Down;
+    Full::new(*view, phase, exiting).is_some() && can_wait(phase, view, until)
+}
+
+/// Whether a machine can settle or rest until then.
+fn can_wait(phase: Phase, view: &View, until: &Option<Label>) -> bool
+    ensures { IsTrue result ↔ WaitsUntil phase view.now until.now }
+{
     match phase {
-        Phase::Starting => idle && restarts && until.is_none(),
-        Phase::Settling => {
-            !idle && !view.paused && restarts && *until == Some(view.label.plus_second())
-        }
-        Phase::Resting => idle && restarts && until.is_some_and(|until| until.sec >= 1),
-        Phase::Up => !idle && until.is_none(),
-        Phase::Down => idle && !exiting && view.want != Want::Up && until.is_none(),
-        Phase::Gone => idle && exiting && until.is_none(),
+        Phase::Settling => *until == Some(view.label.plus_second()),
+        Phase::Resting => until.is_some_and(|until| until.sec >= 1),
+        _ => until.is_none(),
     }
 }

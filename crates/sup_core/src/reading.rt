@@ -1,25 +1,27 @@
-ghost use Rattle.std.specs.Prelude.{◌≡◌, ◌^◌, ℕ, decimal, Bool, Some, IfOk, Ok, ◌==◌, ◌<◌, ◌∷◌, [], length, position, IfSome, IsTrue, ◌↔◌, ok_or};
+ghost use Rattle.std.specs.Prelude.{◌≡◌, ◌^◌, ℕ, decimal, Bool, Some, IfOk, Ok, ◌==◌, ◌<◌, ◌∷◌, [], length, position};
+ghost use Rattle.std.specs.Prelude.{IfSome, IsTrue, ◌↔◌, ok_or};
 ghost use Rattle.hex.specs.Hex.{encode_lower};
 ghost use Rattle.std.specs.Option.{option_copied};
 ghost use Rattle.tai_status.specs.Label.{Tai64n, IsLabel, label_text};
+ghost use Rattle.tai_status.specs.Phase.{phase_name};
 ghost use Rattle.sup_core.specs.declared.asks.Sig.{Sig};
-ghost use Rattle.sup_core.specs.declared.machine.Phase.{Phase};
+ghost use Rattle.tai_status.specs.declared.phase.Phase.{Phase};
 ghost use Rattle.sup_core.specs.declared.event.Event.{Event};
 ghost use Rattle.sup_core.specs.declared.reading.Word.{Word};
 ghost use Rattle.sup_core.specs.Rules.{IsEvent};
-ghost use Rattle.sup_core.specs.Text.{byte_text, event_text, begin_text, signal_name, phase_name};
+ghost use Rattle.sup_core.specs.Text.{byte_text, event_text, begin_text, signal_name};
 ghost use Rattle.sup_core.specs.Fields.{word_name, fields_after, sole, sole_label, sole_byte};
-ghost use Rattle.sup_core.specs.Reading.{fields, IsInRange, byte_of_text, pid_of_text, label_of_text, start_event, start_fault, side_event, side_fault, event_from, begin_from};
+ghost use Rattle.sup_core.specs.Reading.{fields, IsInRange, byte_of_text, pid_of_text, label_of_text, start_event};
+ghost use Rattle.sup_core.specs.Reading.{start_fault, side_event, side_fault, event_from, begin_from};
 
 use crate::asks::Sig;
 use crate::event::Event;
-use crate::machine::Phase;
 use crate::text::push_byte;
 use arrayvec::ArrayString;
 use hex::FromHex;
 use itoa::Buffer;
 use std::str;
-use tai_status::{Label, read_text};
+use tai_status::{Label, Phase, read_text};
 
 /// Why a line is the text of nothing. The first of these that applies is told.
 #[derive(Clone, Copy, Debug, PartialEq, Eq)]
@@ -57,6 +59,9 @@ pub fn read_sig(name: &[u8]) -> Option<Sig>
         b"ALRM" => Some(Sig::Alrm),
         b"INT" => Some(Sig::Int),
         b"KILL" => Some(Sig::Kill),
+        b"USR1" => Some(Sig::Usr1),
+        b"USR2" => Some(Sig::Usr2),
+        b"QUIT" => Some(Sig::Quit),
         _ => None,
     }
 }
@@ -289,7 +294,8 @@ fn read_rest(word: Word, rest: Option<&[u8]>) -> Result<Event, EventFault>
     }
 }
 
-/// Whether there is a `down` file, and the label, of a line `begin up LABEL` or `begin down LABEL`, without its newline.
+/// Whether there is a `down` file, and the label, of a line `begin up LABEL` or `begin down LABEL`, without its
+/// newline.
 pub fn read_begin(line: &[u8]) -> Result<(bool, Label), EventFault>
     ensures found { IfOk result (λ (down, label). IsLabel label × (line.now ≡ begin_text down label)) }
     ensures only { (down : Bool) (label : Tai64n) → IsLabel label → line.now ≡ begin_text down label

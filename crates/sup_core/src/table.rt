@@ -26,6 +26,9 @@ macro_rules! control_bytes {
             b't' running [TERM] {} idle [] {};
             b'k' running [KILL] {} idle [] {};
             b'x' running [record] {exiting = true} idle [record] {exiting = true, phase = Gone};
+            b'1' running [USR1] {} idle [] {};
+            b'2' running [USR2] {} idle [] {};
+            b'q' running [QUIT] {} idle [] {};
         }
     };
 }

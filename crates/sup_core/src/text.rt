@@ -2,20 +2,21 @@ ghost use Rattle.std.specs.Prelude.{◌≡◌, ◌+◌, ◌^◌, ◌<◌, ◌≤
 ghost use Rattle.hex.specs.Hex.{encode_lower};
 ghost use Rattle.arrayvec.specs.ArrayString.{array_string_len};
 ghost use Rattle.tai_status.specs.Label.{IsLabel, label_text};
+ghost use Rattle.tai_status.specs.Phase.{phase_name};
 ghost use Rattle.sup_core.specs.Rules.{IsEvent};
 ghost use Rattle.sup_core.specs.Reading.{IsInRange};
-ghost use Rattle.sup_core.specs.Text.{byte_text, event_text, answer_text, ask_text, asks_text, signal_name, phase_name, fault_name, longest};
+ghost use Rattle.sup_core.specs.Text.{byte_text, event_text, answer_text, ask_text, asks_text, signal_name};
+ghost use Rattle.sup_core.specs.Text.{fault_name, longest};
 
 use crate::asks::{Ask, Asks, Reply, Sig};
 use crate::event::Event;
-use crate::machine::Phase;
 use crate::ranges::label_in_range;
 use crate::reading::EventFault;
 use arrayvec::ArrayString;
 use itoa::Buffer;
 use std::error::Error;
 use std::{fmt, str};
-use tai_status::{Label, text};
+use tai_status::{Label, Phase, phase_name, text};
 
 /// The name of a signal, without its `SIG`.
 pub fn sig_name(sig: Sig) -> &'static str
@@ -30,21 +31,9 @@ pub fn sig_name(sig: Sig) -> &'static str
         Sig::Alrm => "ALRM",
         Sig::Int => "INT",
         Sig::Kill => "KILL",
-    }
-}
-
-/// The name of a phase.
-pub fn phase_name(phase: Phase) -> &'static str
-    ensures name { result.now ≡ phase_name phase }
-    ensures short { length result.now ≤ 8 }
-{
-    match phase {
-        Phase::Starting => "starting",
-        Phase::Settling => "settling",
-        Phase::Resting => "resting",
-        Phase::Up => "up",
-        Phase::Down => "down",
-        Phase::Gone => "gone",
+        Sig::Usr1 => "USR1",
+        Sig::Usr2 => "USR2",
+        Sig::Quit => "QUIT",
     }
 }
 
@@ -69,17 +58,6 @@ impl fmt::Display for Sig {
 
     fn fmt<W: fmt::Write>(&self, f: &mut fmt::Formatter<W>) -> fmt::Result {
         f.write_str(sig_name(*self))
-    }
-}
-
-impl fmt::Display for Phase {
-    ghost use Rattle.std.specs.Prelude.{Some};
-    ghost use Rattle.sup_core.specs.Text.{phase_name};
-
-    ghost output = { λ s. Some (phase_name s) };
-
-    fn fmt<W: fmt::Write>(&self, f: &mut fmt::Formatter<W>) -> fmt::Result {
-        f.write_str(phase_name(*self))
     }
 }
 
@@ -200,7 +178,7 @@ pub fn event_text(event: &Event) -> ArrayString<48>
 }
 
 /// The text of an ask, as an answer has it.
-fn ask_text(ask: &Ask) -> ArrayString<43>
+fn ask_text(ask: &Ask) -> ArrayString<47>
     ensures { result.bytes ≡ ask_text ask.now }
 {
     let mut out = ArrayString::new();
@@ -229,12 +207,12 @@ fn push_ask<const N: usize>(out: &mut ArrayString<N>, ask: &Ask)
 }
 
 /// Writes the digits of a record at the end of a text.
-fn push_record<const N: usize>(out: &mut ArrayString<N>, bytes: &[u8; 18])
-    requires { array_string_len out.old + 36 ≤ N }
+fn push_record<const N: usize>(out: &mut ArrayString<N>, bytes: &[u8; 20])
+    requires { array_string_len out.old + 40 ≤ N }
     ensures text { out.new.bytes ≡ out.old.bytes ++ encode_lower bytes.now }
-    ensures len { array_string_len out.new ≡ array_string_len out.old + 36 }
+    ensures len { array_string_len out.new ≡ array_string_len out.old + 40 }
 {
-    let mut digits = [0; 36];
+    let mut digits = [0; 40];
     hex::encode_to_slice(bytes, &mut digits).unwrap();
     out.push_str(ascii(&digits));
 }

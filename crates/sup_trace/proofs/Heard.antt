@@ -7,7 +7,7 @@ use Rattle.std.proofs.lemmas.List.Splits.{join_with_byte-slice_split}
 use Rattle.tai_status.specs.Label.{Tai64n, IsLabel}
 use Rattle.tai_status.specs.Record.{Status, IsStatus}
 use Rattle.sup_core.specs.declared.event.Event.{Event}
-use Rattle.sup_core.specs.declared.machine.Phase.{Phase}
+use Rattle.tai_status.specs.declared.phase.Phase.{Phase}
 use Rattle.sup_core.specs.declared.reading.EventFault.{EventFault}
 use Rattle.sup_core.specs.State.{State, IsState, is_state}
 use Rattle.sup_core.specs.History.{Opened}

@@ -11,14 +11,14 @@ use Rattle.hex.specs.declared.error.FromHexError.{FromHexError}
 use Rattle.hex.proofs.HexLemmas.{decode_sized-encode_lower, decode_sized-ok, decode_pairs-ok}
 use Rattle.hex.proofs.Pairs.{decode_sized-pairs}
 use Rattle.tai_status.specs.Label.{Tai64n, IsLabel, label_text}
+use Rattle.tai_status.specs.Phase.{phase_name}
 use Rattle.tai_status.specs.Record.{Status, IsStatus, IsRecord, status_record}
 use Rattle.tai_status.specs.declared.record.RecordFault.{RecordFault}
 use Rattle.tai_status.proofs.Recorded.{found_recorded, status_from-record, IsRecord-status_record}
 use Rattle.tai_status.proofs.Spelled.{IsBytes-status_record}
 use Rattle.tai_status.specs.Decoding.{status_from}
-use Rattle.sup_core.specs.declared.machine.Phase.{Phase}
-use Rattle.sup_core.specs.declared.machine.Phase.TheVariants as phase
-use Rattle.sup_core.specs.Text.{phase_name}
+use Rattle.tai_status.specs.declared.phase.Phase.{Phase}
+use Rattle.tai_status.specs.declared.phase.Phase.TheVariants as phase
 use Rattle.sup_core.specs.Reading.{fields, label_of_text}
 use Rattle.sup_core.proofs.Fields.{split_some_part}
 use Rattle.sup_core.proofs.Spelling.{TellsLabel, label_of_text-found, label_of_text-only}

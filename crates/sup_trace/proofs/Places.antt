@@ -8,7 +8,7 @@ use Rattle.std.proofs.lemmas.List.FromFn.{get_or-enumerate_from, length-enumerat
 use Rattle.std.proofs.lemmas.Option.{slice_get_past, slice_get_read}
 use Rattle.sup_core.specs.declared.asks.Reply.{Reply}
 use Rattle.sup_core.specs.declared.event.Event.{Event}
-use Rattle.sup_core.specs.declared.machine.Phase.{Phase}
+use Rattle.tai_status.specs.declared.phase.Phase.{Phase}
 use Rattle.sup_core.specs.History.{History, Opened, phase_of}
 use Rattle.sup_core.specs.Rules.{IsEvent, next, reply_to}
 use Rattle.sup_core.specs.Text.{answer_text}

@@ -16,10 +16,14 @@ before told place = followed_by (Opened told.base) (take place told.entries)
 abbrev pub answer_at : History → Event → List ℕ
 answer_at past event = answer_text (reply_to past event) (phase_of (next past event))
 
--- the line of the entry at a place: its number from 1, the event, and the answer
+-- the line of an entry: its number, the event, and the answer
+abbrev pub numbered_line : ℕ → History → Event → List ℕ
+numbered_line number past event =
+    decimal number ++ codes " " ++ event_text event ++ codes ": " ++ answer_at past event
+
+-- the line of the entry at a place, whose number is from 1
 abbrev pub explained_line : Told → ℕ → Event → List ℕ
-explained_line told place event =
-    decimal (place + 1) ++ codes " " ++ event_text event ++ codes ": " ++ answer_at (before told place) event
+explained_line told place event = numbered_line (place + 1) (before told place) event
 
 -- a line for each entry
 abbrev pub explained : Told → List (List ℕ)

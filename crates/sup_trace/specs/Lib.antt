@@ -4,3 +4,4 @@ pub mod Trace
 pub mod Explained
 pub mod Breaks
 pub mod Reading
+pub mod Laws

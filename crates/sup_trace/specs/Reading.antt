@@ -1,5 +1,7 @@
 -- Reading the text of a trace: what it tells, or else its first faulty line and why that is refused.
-use Rattle.std.specs.Prelude.{◌≡◌, ◌≢◌, ℕ, ◌+◌, ◌^◌, ◌<◌, ◌==◌, ◌&&◌, nat_lt, nat_le, bytes_eq, Bool, true, false, not, if◌then◌else◌, List, [], ◌∷◌, ◌++◌, length, codes, decimal, Option, Some, None, option_map, Result, Ok, Err}
+use Rattle.std.specs.Prelude.{◌≡◌, ◌≢◌, ℕ, ◌+◌, ◌^◌, ◌<◌, ◌==◌, ◌&&◌, nat_lt, nat_le, bytes_eq, Bool, true, false}
+use Rattle.std.specs.Prelude.{not, if◌then◌else◌, List, [], ◌∷◌, ◌++◌, length, codes, decimal, Option, Some, None}
+use Rattle.std.specs.Prelude.{option_map, Result, Ok, Err}
 use Rattle.std.specs.List.{slice_split}
 use Rattle.std.specs.Result.{result_ok}
 use Rattle.std.specs.Str.Parse.{digits_value}
@@ -9,8 +11,8 @@ use Rattle.tai_status.specs.Label.{Tai64n}
 use Rattle.tai_status.specs.Record.{Status, status_record}
 use Rattle.tai_status.specs.Decoding.{status_from}
 use Rattle.sup_core.specs.declared.event.Event.{Event}
-use Rattle.sup_core.specs.declared.machine.Phase.{Phase}
-use Rattle.sup_core.specs.declared.machine.Phase.TheVariants as phase
+use Rattle.tai_status.specs.declared.phase.Phase.{Phase}
+use Rattle.tai_status.specs.declared.phase.Phase.TheVariants as phase
 use Rattle.sup_core.specs.declared.reading.EventFault.{EventFault}
 use Rattle.sup_core.specs.declared.reading.EventFault.TheVariants as why
 use Rattle.sup_core.specs.State.{State, is_state}
@@ -78,6 +80,10 @@ pub data Heard : Type 0 where
   Entries : Told → Heard
   Whole : Told → Heard
 
+-- the base of so many folded events, and no entries yet
+abbrev pub at_base : ℕ → State → Heard
+at_base folded base = Entries (told_of base folded [])
+
 -- with one more entry
 abbrev pub with_entry : Told → Event → Told
 with_entry told event = told_of told.base told.folded (told.entries ++ event ∷ [])
@@ -94,7 +100,7 @@ state_of_parts (phase, status, exiting) until =
 
 abbrev pub base_at : ℕ → State → Result Heard TraceFaultKind
 base_at folded state =
-    if is_state state then Ok (Entries (told_of state folded [])) else Err kind.Line
+    if is_state state then Ok (at_base folded state) else Err kind.Line
 
 -- The base of what its fields tell, or the first fault: no number; no phase, record or word of staying; no label;
 -- no state in which a machine stands.
@@ -223,6 +229,18 @@ pub record ReadsEntry (at number : ℕ) (heard : Heard) (parts : List (List ℕ)
   pub some : 0 < length told.entries
   pub is : heard_along heard lines ≡ Ok (Entries told)
   pub place : at + 1 ≡ number + length lines
+
+-- What is told from here is told from there: by the number of a line, what the lines before it told, and the text
+-- that begins with it.
+abbrev pub TellsAlike : (number : ℕ) (heard : Heard) (text : List ℕ) (later : ℕ) (more : Heard) (rest : List ℕ) → Type 0
+TellsAlike number heard text later more rest =
+    told_by_parts number heard (parts_of text) ≡ told_by_parts later more (parts_of rest)
+
+-- An entry that is read from there is read from here.
+abbrev pub ReadsItsEntries :
+    (number : ℕ) (heard : Heard) (text : List ℕ) (later : ℕ) (more : Heard) (rest : List ℕ) → Type 0
+ReadsItsEntries number heard text later more rest =
+    (at : ℕ) → ReadsEntry at later more (parts_of rest) → ReadsEntry at number heard (parts_of text)
 
 -- What is told of faults
 

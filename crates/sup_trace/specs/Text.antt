@@ -1,12 +1,14 @@
 -- The text of a trace: a header, a line for the base, one line for each entry, oldest first, and an
 -- end line with the number of entries. Every line ends in a newline.
-use Rattle.std.specs.Prelude.{ℕ, Bool, if◌then◌else◌, List, [], ◌∷◌, ◌++◌, map, length, flat_map, codes, decimal, Option, Some, None}
+use Rattle.std.specs.Prelude.{ℕ, Bool, if◌then◌else◌, List, [], ◌∷◌, ◌++◌, map, length, flat_map, codes, decimal}
+use Rattle.std.specs.Prelude.{Option, Some, None}
 use Rattle.std.specs.List.{join_with_byte}
 use Rattle.hex.specs.Hex.{encode_lower}
 use Rattle.tai_status.specs.Label.{Tai64n, label_text}
+use Rattle.tai_status.specs.Phase.{phase_name}
 use Rattle.tai_status.specs.Record.{Status, status_record}
 use Rattle.sup_core.specs.State.{State}
-use Rattle.sup_core.specs.Text.{event_text, phase_name}
+use Rattle.sup_core.specs.Text.{event_text}
 use Rattle.sup_trace.specs.Told.{Told}
 
 -- the first line

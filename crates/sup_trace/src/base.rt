@@ -1,4 +1,6 @@
-ghost use Rattle.std.specs.Prelude.{◌≡◌, ◌≢◌, ◌↔◌, ◌+◌, ◌^◌, ◌<◌, ◌≤◌, [], ◌∷◌, ℕ, List, length, codes, decimal, Option, Some, None, IfSome, IfOk, IfErr, MatchOption, MatchResult, true, false, Ok, Err, IsErrOf, IsTrue};
+ghost use Rattle.std.specs.Prelude.{◌≡◌, ◌≢◌, ◌↔◌, ◌+◌, ◌^◌, ◌<◌, ◌≤◌, [], ◌∷◌, ℕ, List, length, codes, decimal};
+ghost use Rattle.std.specs.Prelude.{Option, Some, None, IfSome, IfOk, IfErr, MatchOption, ⊤, true, false};
+ghost use Rattle.std.specs.Prelude.{Ok, Err, IsErrOf, IsTrue};
 ghost use Rattle.std.specs.Option.{option_copied};
 ghost use Rattle.tai_status.specs.Label.{Tai64n, IsLabel};
 ghost use Rattle.hex.specs.Hex.{encode_lower, decode_sized};
@@ -6,7 +8,9 @@ ghost use Rattle.tai_status.specs.Record.{Status, IsStatus, status_record};
 ghost use Rattle.sup_core.specs.Reading.{fields};
 ghost use Rattle.sup_trace.specs.declared.fault.TraceFaultKind.TheVariants as kind;
 ghost use Rattle.sup_trace.specs.Told.{Told, told_of};
-ghost use Rattle.sup_trace.specs.Reading.{folded_of_text, phase_of_text, status_of_bytes, status_of_text, exiting_of_text, until_of_text, standing, state_of_parts, Entries, base_result};
+ghost use Rattle.sup_trace.specs.Reading.{folded_of_text, phase_of_text, status_of_bytes, status_of_text};
+ghost use Rattle.sup_trace.specs.Reading.{exiting_of_text, until_of_text, standing, state_of_parts, Entries};
+ghost use Rattle.sup_trace.specs.Reading.{at_base, base_result};
 ghost use Rattle.sup_core.specs.State.{is_state};
 
 use crate::fault::TraceFaultKind;
@@ -85,9 +89,9 @@ fn read_until(text: &[u8]) -> Option<Option<Label>>
 /// The fields of a base's line.
 #[tactic(auto, using(crate::proofs::Parts::base_result_many))]
 fn base_fields(line: &[u8]) -> Option<BaseFields<'_>>
-    ensures { MatchOption result (base_result (fields line.now) ≡ Err TraceFaultKind.Line)
-        (λ f. fields line.now
+    ensures five { IfSome result (λ f. fields line.now
         ≡ codes "base" ∷ f.folded.now ∷ f.phase.now ∷ f.status.now ∷ f.stay.now ∷ f.until.now ∷ []) }
+    ensures other { MatchOption result (base_result (fields line.now) ≡ Err TraceFaultKind.Line) (λ _. ⊤) }
 {
     let (word, Some(rest)) = split_field(line) else {
         return None;
@@ -139,8 +143,9 @@ fn read_standing(fields: &BaseFields<'_>) -> Option<(Phase, View, bool)>
 
 /// The machine of these parts.
 fn machine_of(standing: (Phase, View, bool), until: Option<Label>) -> Option<Machine>
-    ensures { MatchOption result (is_state (state_of_parts standing until) ≡ false)
-        (λ base. (is_state (state_of_parts standing until) ≡ true) × (base ≡ state_of_parts standing until)) }
+    ensures base { IfSome result (λ base. base ≡ state_of_parts standing until) }
+    ensures state { MatchOption result (is_state (state_of_parts standing until) ≡ false)
+        (λ _. is_state (state_of_parts standing until) ≡ true) }
 {
     let (phase, view, exiting) = standing;
     Machine::of_parts(phase, view, exiting, until)
@@ -148,9 +153,8 @@ fn machine_of(standing: (Phase, View, bool), until: Option<Label>) -> Option<Mac
 
 /// The base and the count of folded events of a line.
 pub(crate) fn read_base(line: &[u8]) -> Result<(u64, Machine), TraceFaultKind>
-    ensures base { MatchResult result
-        (λ (folded, base). base_result (fields line.now) ≡ Ok (Entries (told_of base folded [])))
-        (λ kind. base_result (fields line.now) ≡ Err kind) }
+    ensures base { IfOk result (λ (folded, base). base_result (fields line.now) ≡ Ok (at_base folded base)) }
+    ensures fault { IfErr result (λ kind. base_result (fields line.now) ≡ Err kind) }
     ensures memory { IfErr result (λ why. why ≢ kind.OutOfMemory) }
 {
     let Some(fields) = base_fields(line) else {

@@ -1,10 +1,9 @@
-ghost use Rattle.std.specs.Prelude.{◌≡◌, ◌+◌, ◌^◌, ◌<◌, ◌++◌, length, codes, decimal, string_bytes, IfOk};
+ghost use Rattle.std.specs.Prelude.{◌≡◌, ◌+◌, ◌^◌, ◌<◌, length, string_bytes, IfOk};
 ghost use Rattle.std.specs.List.{AllByRecursion};
 ghost use Rattle.tai_status.specs.LineReader.{IsPlain};
 ghost use Rattle.sup_core.specs.History.{History, state_of};
 ghost use Rattle.sup_core.specs.Rules.{IsEvent, next};
-ghost use Rattle.sup_core.specs.Text.{event_text};
-ghost use Rattle.sup_trace.specs.Explained.{answer_at, explained};
+ghost use Rattle.sup_trace.specs.Explained.{explained, numbered_line};
 
 use crate::told::TraceText;
 use std::alloc::{AllocError, Allocator};
@@ -36,8 +35,8 @@ fn explained_line<A: Allocator + Clone>(
     event: &Event,
 ) -> Result<String<A>, AllocError>
     requires { IsEvent event.now }
-    ensures line { (past : History) → state_of past ≡ machine.old → IfOk result (λ line. string_bytes line
-        ≡ decimal number ++ codes " " ++ event_text event.now ++ codes ": " ++ answer_at past event.now) }
+    ensures line { (past : History) → state_of past ≡ machine.old
+        → IfOk result (λ line. string_bytes line ≡ numbered_line number past event.now) }
     ensures state { (past : History) → state_of past ≡ machine.old → machine.new ≡ state_of (next past event.now) }
 {
     let reply = machine.step(*event);

@@ -1,27 +1,21 @@
-ghost use Rattle.std.specs.Prelude.{◌≡◌, ◌<◌, ◌≤◌, ◌++◌, ℕ, List, Ok};
-ghost use Rattle.std.specs.List.{AllByRecursion};
+ghost use Rattle.std.specs.Prelude.{◌≡◌, ◌++◌, ℕ, List, Ok};
 ghost use Rattle.sup_core.specs.declared.event.Event.{Event};
 ghost use Rattle.sup_core.specs.State.{State};
 ghost use Rattle.sup_core.specs.History.{Opened, state_of};
-ghost use Rattle.sup_core.specs.Rules.{IsEvent};
-ghost use Rattle.sup_core.specs.Runs.{after, followed_by, taken_of};
+ghost use Rattle.sup_core.specs.Runs.{after, followed_by};
 ghost use Rattle.sup_trace.specs.Told.{Told, IsTold, replay_of};
 ghost use Rattle.sup_trace.specs.Text.{trace_text};
 ghost use Rattle.sup_trace.specs.Reading.{told_from};
-ghost use Rattle.sup_trace.specs.Trace.{Kept, IsTrace, history_of, new_trace, noted, noted_along, replay, told_by, trace_after};
+ghost use Rattle.sup_trace.specs.Trace.{Kept, history_of, noted, noted_along, replay, told_by};
+ghost use Rattle.sup_trace.specs.Trace.{trace_after};
+ghost use Rattle.sup_trace.specs.Laws.{EachComesAsAll, NewTraceKeepsTheTaken};
 
-use crate::trace::MAX_CAPACITY;
-
-/// A law of traces. After any events, one at a time, the last of those that were taken are the entries, as many as there
-/// is room for; the base is the machine after those before them, which are counted up to `2 ^ 63`. So it makes no
+/// A law of traces. After any events, one at a time, the last of those that were taken are the entries, as many as
+/// there is room for; the base is the machine after those before them, which are counted up to `2 ^ 63`. So it makes no
 /// difference how the events came, and whatever was folded, base and entries replay to the machine after all events.
 pub fn traces_after_events()
-    ensures new { (machine : State) (capacity : ℕ) (events : List Event) →
-        0 < capacity → capacity ≤ MAX_CAPACITY → AllByRecursion IsEvent events →
-        noted_along (new_trace machine capacity) events
-        ≡ trace_after machine capacity (taken_of (Opened machine) events) }
-    ensures any { (kept : Kept) (events : List Event) → IsTrace kept → AllByRecursion IsEvent events →
-        noted_along kept events ≡ noted kept (taken_of (history_of kept) events) }
+    ensures new { NewTraceKeepsTheTaken }
+    ensures any { EachComesAsAll }
     ensures in_two_goes { (kept : Kept) (xs ys : List Event) → noted (noted kept xs) ys ≡ noted kept (xs ++ ys) }
     ensures replays { (kept : Kept) (events : List Event) →
         replay (noted_along kept events) ≡ state_of (after (history_of kept) events) }
@@ -29,8 +23,9 @@ pub fn traces_after_events()
         replay (trace_after machine capacity events) ≡ state_of (followed_by (Opened machine) events) }
 {}
 
-/// A law of texts. What a text tells is read from it, and a text that is read is the one text of what it tells. A trace's
-/// text tells its base, its entries and its count of folded events, which replay to the machine after all events.
+/// A law of texts. What a text tells is read from it, and a text that is read is the one text of what it tells. A
+/// trace's text tells its base, its entries and its count of folded events, which replay to the machine after all
+/// events.
 pub fn texts_of_traces()
     ensures read { (told : Told) → IsTold told → told_from (trace_text told) ≡ Ok told }
     ensures told { (text : List ℕ) (told : Told) → told_from text ≡ Ok told → IsTold told × (text ≡ trace_text told) }

@@ -1,4 +1,5 @@
-ghost use Rattle.std.specs.Prelude.{◌≡◌, ◌≢◌, ◌+◌, ◌^◌, ◌<◌, [], ℕ, length, bytes_eq, Ok, Err, OnOk, OnErr, IfOk, IfErr, MatchResult};
+ghost use Rattle.std.specs.Prelude.{◌≡◌, ◌≢◌, ◌+◌, ◌^◌, ◌<◌, [], ℕ, length, bytes_eq, Ok, Err, OnOk, OnErr, IfOk};
+ghost use Rattle.std.specs.Prelude.{IfErr, MatchResult};
 ghost use Rattle.std.specs.Option.{option_copied};
 ghost use Rattle.sup_core.specs.Reading.{fields, event_from};
 ghost use Rattle.sup_core.specs.Fields.{fields_after};
@@ -6,7 +7,10 @@ ghost use Rattle.sup_trace.specs.declared.fault.TraceFault.{TraceFault};
 ghost use Rattle.sup_trace.specs.declared.fault.TraceFaultKind.TheVariants as kind;
 ghost use Rattle.sup_trace.specs.Told.{Told, IsTold, IsTraceText, told_of};
 ghost use Rattle.sup_trace.specs.Text.{header, trace_text};
-ghost use Rattle.sup_trace.specs.Reading.{Nothing, Header, Entries, Whole, line_result, heard_of, entry_result, end_result, kind_of, told_by_parts, parts_of, told_from, HasEntryAt, AddsEntry, ReadsLine, ReadsEntry};
+ghost use Rattle.sup_trace.specs.Reading.{Nothing, Header, Entries, Whole, line_result, heard_of, entry_result};
+ghost use Rattle.sup_trace.specs.Reading.{end_result, kind_of, told_by_parts, parts_of, told_from, HasEntryAt};
+ghost use Rattle.sup_trace.specs.Reading.{AddsEntry, at_base, ReadsLine, ReadsEntry, ReadsItsEntries};
+ghost use Rattle.sup_trace.specs.Reading.{TellsAlike};
 
 use crate::base::read_base;
 use crate::fault::{TraceFault, TraceFaultKind};
@@ -121,9 +125,8 @@ impl<A: Allocator> Reading<A> {
     /// Takes the fields after the first word of the end line.
     #[tactic(auto, using(crate::proofs::Steps::end_result_many))]
     fn take_end(&self, rest: Option<&[u8]>) -> Result<(), TraceFaultKind>
-        ensures { MatchResult result
-            (λ u. end_result self.now (fields_after (option_copied rest.entry)) ≡ Ok (Whole self.now))
-            (λ why. end_result self.now (fields_after (option_copied rest.entry)) ≡ Err why) }
+        ensures ok { OnOk result (end_result self.now (fields_after (option_copied rest.entry)) ≡ Ok (Whole self.now)) }
+        ensures fault { IfErr result (λ why. end_result self.now (fields_after (option_copied rest.entry)) ≡ Err why) }
     {
         let Some(rest) = rest else {
             return Err(TraceFaultKind::Line);
@@ -207,7 +210,7 @@ fn take_header(lines: &mut Lines<'_>) -> Result<(), TraceFault>
 fn take_base(lines: &mut Lines<'_>) -> Result<(u64, Machine), TraceFault>
     requires { lines.old.number + length lines.old.rest.now < 2 ^ 64 }
     ensures ok { IfOk result (λ (folded, base). ReadsLine lines.old.number lines.new.number
-        lines.old.rest.now lines.new.rest.now Header (Entries (told_of base folded []))) }
+        lines.old.rest.now lines.new.rest.now Header (at_base folded base)) }
     ensures room { OnOk result (lines.new.number + length lines.new.rest.now < 2 ^ 64) }
     ensures fault { IfErr result (λ fault.
         told_by_parts lines.old.number Header (parts_of lines.old.rest.now) ≡ Err fault) }
@@ -224,11 +227,10 @@ fn take_base(lines: &mut Lines<'_>) -> Result<(u64, Machine), TraceFault>
 /// Takes the two lines before the entries.
 fn take_opening(lines: &mut Lines<'_>) -> Result<(u64, Machine), TraceFault>
     requires { lines.old.number + length lines.old.rest.now < 2 ^ 64 }
-    ensures ok { IfOk result (λ (folded, base). told_by_parts lines.old.number Nothing (parts_of lines.old.rest.now)
-        ≡ told_by_parts lines.new.number (Entries (told_of base folded [])) (parts_of lines.new.rest.now)) }
-    ensures entry { IfOk result (λ (folded, base). (at : ℕ)
-        → ReadsEntry at lines.new.number (Entries (told_of base folded [])) (parts_of lines.new.rest.now)
-        → ReadsEntry at lines.old.number Nothing (parts_of lines.old.rest.now)) }
+    ensures ok { IfOk result (λ (folded, base). TellsAlike lines.old.number Nothing lines.old.rest.now
+        lines.new.number (at_base folded base) lines.new.rest.now) }
+    ensures entry { IfOk result (λ (folded, base). ReadsItsEntries lines.old.number Nothing lines.old.rest.now
+        lines.new.number (at_base folded base) lines.new.rest.now) }
     ensures room { OnOk result (lines.new.number + length lines.new.rest.now < 2 ^ 64) }
     ensures fault { IfErr result (λ fault.
         told_by_parts lines.old.number Nothing (parts_of lines.old.rest.now) ≡ Err fault) }
@@ -242,8 +244,8 @@ impl<A: Allocator> Reading<A> {
     /// Takes the lines after the base's, up to the end line.
     fn take_entries(&mut self, lines: &mut Lines<'_>) -> Result<(), TraceFault>
         requires room { lines.old.number + length lines.old.rest.now < 2 ^ 64 }
-        ensures ok { OnOk result (told_by_parts lines.old.number (Entries self.old) (parts_of lines.old.rest.now)
-            ≡ told_by_parts lines.new.number (Whole self.new) (parts_of lines.new.rest.now)) }
+        ensures ok { OnOk result (TellsAlike lines.old.number (Entries self.old) lines.old.rest.now
+            lines.new.number (Whole self.new) lines.new.rest.now) }
         ensures fault { IfErr result (λ fault. fault.kind ≢ kind.OutOfMemory
             → told_by_parts lines.old.number (Entries self.old) (parts_of lines.old.rest.now) ≡ Err fault) }
         ensures memory { IfErr result (λ fault. fault.kind ≡ kind.OutOfMemory
@@ -281,8 +283,8 @@ fn read_lines<A: Allocator>(alloc: A, text: &[u8]) -> Result<TraceText<A>, Trace
 /// and a line `end` with the number of the entries; every line ends in a newline.
 ///
 /// The base's line is `base FOLDED PHASE RECORD STAY UNTIL`: the count of events before the entries, at most `2 ^ 63`;
-/// the phase; the 36 lower-case digits of the status record; `exit` where the machine is to end, else `stay`; and the label
-/// until which it settles or rests, or `-`. An event line is one that `read_event` reads.
+/// the phase; the 36 lower-case digits of the status record; `exit` where the machine is to end, else `stay`; and the
+/// label until which it settles or rests, or `-`. An event line is one that `read_event` reads.
 ///
 /// The first faulty line is told. Want of memory for an entry is told as a fault of its line.
 pub fn read_text<A: Allocator>(alloc: A, text: &[u8]) -> Result<TraceText<A>, TraceFault>

@@ -1,11 +1,13 @@
-ghost use Rattle.std.specs.Prelude.{◌≡◌, ◌≤◌, ◌+◌, [], ◌∷◌, ◌++◌, List, ℕ, length, decimal, OnOk, IfOk, IfSome, flat_map};
+ghost use Rattle.std.specs.Prelude.{◌≡◌, ◌≤◌, ◌+◌, [], ◌∷◌, ◌++◌, List, ℕ, length, decimal, OnOk, IfOk, IfSome};
+ghost use Rattle.std.specs.Prelude.{flat_map};
 ghost use Rattle.std.specs.List.{AllByRecursion};
 ghost use Rattle.tai_status.specs.Label.{Tai64n, IsLabel, label_text};
 ghost use Rattle.tai_status.specs.Record.{Status, IsStatus};
 ghost use Rattle.sup_core.specs.State.{IsState};
 ghost use Rattle.sup_core.specs.Rules.{IsEvent};
 ghost use Rattle.sup_core.specs.Reading.{IsInRange};
-ghost use Rattle.sup_core.specs.Text.{event_text, phase_name};
+ghost use Rattle.tai_status.specs.Phase.{phase_name};
+ghost use Rattle.sup_core.specs.Text.{event_text};
 ghost use Rattle.sup_trace.specs.Told.{told_of};
 ghost use Rattle.sup_trace.specs.Text.{record_digits, base_text, end_text, stay_text, until_text, trace_text};
 
@@ -60,8 +62,8 @@ fn push_entries<A: Allocator>(out: &mut Vec<u8, A>, entries: &[Event]) -> Result
     Ok(())
 }
 
-/// Writes the base's line at the end of a text: how many events were folded, the phase, the digits of the status record,
-/// whether the machine is to end, and until when it settles or rests.
+/// Writes the base's line at the end of a text: how many events were folded, the phase, the digits of the status
+/// record, whether the machine is to end, and until when it settles or rests.
 fn push_base<A: Allocator>(
     out: &mut Vec<u8, A>,
     folded: u64,
@@ -80,8 +82,8 @@ fn push_base<A: Allocator>(
     out.extend_from_slice(b"\n")
 }
 
-/// Writes a space and a field at the end of a text, for the phase, the digits of the status record, and whether the machine
-/// is to end.
+/// Writes a space and a field at the end of a text, for the phase, the digits of the status record, and whether the
+/// machine is to end.
 fn push_standing<A: Allocator>(
     out: &mut Vec<u8, A>,
     phase: Phase,

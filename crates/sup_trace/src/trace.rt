@@ -123,8 +123,8 @@ impl<A: Allocator> Trace<A> {
         reply
     }
 
-    /// The text of the trace, as `TraceText` writes it. `AllocError` comes only where the allocator refuses the memory for
-    /// it, which is asked for at once.
+    /// The text of the trace, as `TraceText` writes it. `AllocError` comes only where the allocator refuses the memory
+    /// for it, which is asked for at once.
     pub fn write_text<B: Allocator>(&self, alloc: B) -> Result<Vec<u8, B>, AllocError>
         ensures text { IfOk result (λ bytes. bytes.items ≡ trace_text (told_by self.now)) }
         // Such a text is read as what it tells.
@@ -134,7 +134,8 @@ impl<A: Allocator> Trace<A> {
         trace_text(alloc, &self.base, self.folded, first, second)
     }
 
-    /// What the text of the trace tells. `AllocError` comes only where the allocator refuses the memory for the entries.
+    /// What the text of the trace tells. `AllocError` comes only where the allocator refuses the memory for the
+    /// entries.
     pub fn copy_text<B: Allocator>(&self, alloc: B) -> Result<TraceText<B>, AllocError>
         ensures { IfOk result (λ text. text ≡ told_by self.now) }
     {

@@ -8,8 +8,8 @@ use Rattle.std.specs.Counts.{IsPrefixLen}
 use Rattle.std.specs.IoError.{error_kind}
 use Rattle.std.specs.Io.KnownBytes.{Consumes, Keeps, ReadConsumes}
 use Rattle.tai_status.proofs.Known.{Keeps-then, Keeps-Consumes}
-use Rattle.svc_door.specs.declared.guest.Heard.{Heard}
-use Rattle.svc_door.specs.declared.guest.Heard.TheVariants.{Bytes, Nothing, End, Fault}
+use Rattle.svc_door.specs.declared.byte_source.Heard.{Heard}
+use Rattle.svc_door.specs.declared.byte_source.Heard.TheVariants.{Bytes, Nothing, End, Fault}
 use Rattle.svc_door.specs.Hearing.{Hears, heard_at, heard_of}
 
 -- no bytes were read

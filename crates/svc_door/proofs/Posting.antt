@@ -1,8 +1,11 @@
--- A visit goes on: a byte is posted, bytes are read, or none are.
-use Rattle.std.proofs.Common.{◌≡◌, ℕ, ◌+◌, ◌<◌, ◌≤◌, List, [], ◌∷◌, ◌++◌, length, take, drop, slice_index, refl, sym, ap, ◌∙◌, subst, append_assoc, add-one, arith, length-append}
+-- A connection goes on: a byte is posted, bytes are read, or none are.
+use Rattle.std.proofs.Common.{◌≡◌, ℕ, ◌+◌, ◌<◌, ◌≤◌, List, [], ◌∷◌, ◌++◌, length, take, drop, slice_index, Option, refl, sym, ap, ◌∙◌, subst, append_assoc, append-nil, add-one, arith, length-append}
 use Rattle.std.proofs.Math.Seq.{drop-cons}
-use Rattle.std.proofs.lemmas.List.{get_or-take, drop-append-le, length-drop, length-take-le}
-use Rattle.svc_door.specs.Visiting.{Visiting, IsVisit, posted_in}
+use Rattle.std.specs.List.{concat}
+use Rattle.std.specs.Io.KnownBytes.{Consumes}
+use Rattle.std.proofs.lemmas.List.{get_or-take, length-drop, length-take-le}
+use Rattle.tai_status.proofs.Stamped.{Consumes-then, Consumes-none}
+use Rattle.svc_door.specs.Connection.{ConnectionState, GoesOn, Posts, GoesOnAlong, HasPosted}
 
 -- the first byte that is kept
 pub kept-first : (piece : List ℕ) (from to : ℕ) → from < to → to ≤ length piece
@@ -11,28 +14,73 @@ kept-first piece from to less within =
     let inside : from < length (take to piece) = subst (λ n. from < n) (sym (length-take-le to piece within)) less in
     rw (add-one, drop-cons (take to piece) from 0 inside, get_or-take to piece from 0 less) refl
 
--- what was posted, once one more byte was accepted
-pub posted-more : (v w : Visiting) (bytes : List ℕ) → IsVisit v → w.before ≡ v.before → w.accepted ≡ v.accepted ++ bytes
-    → posted_in w ≡ posted_in v ++ bytes
-posted-more v w bytes is before accepted =
-    let whole : length v.accepted ≡ length v.before + length (posted_in v) = ap length is.posts ∙ length-append v.before (posted_in v) in
-    let within : length v.before ≤ length v.accepted = omega (arith, whole) in
-    ap (λ l. drop (length l) w.accepted) before ∙ ap (drop (length v.before)) accepted ∙ drop-append-le (length v.before) v.accepted bytes within
-
--- the first byte that was kept was accepted
-pub posts_one : (v w : Visiting) (byte : ℕ) → IsVisit v → w.opening ≡ v.opening → w.left ≡ v.left → w.before ≡ v.before
-    → w.taken ≡ v.taken → w.accepted ≡ v.accepted ++ byte ∷ [] → v.kept ≡ byte ∷ w.kept → IsVisit w
-posts_one v w byte is opening left before taken accepted kept =
-    let posted = posted-more v w (byte ∷ []) is before accepted in
-    let same : posted_in w ++ w.kept ≡ posted_in v ++ v.kept =
-    ap (λ l. l ++ w.kept) posted ∙ append_assoc (posted_in v) (byte ∷ []) w.kept ∙ ap (λ l. posted_in v ++ l) (sym kept) in
-    record {
-      posts = accepted ∙ ap (λ l. l ++ byte ∷ []) is.posts ∙ append_assoc v.before (posted_in v) (byte ∷ []) ∙ cc;
-      gives = simp (opening, left, same) is.gives;
-      count = ap length same ∙ is.count ∙ sym taken;
-      most = subst (λ n. n ≤ 4096) (sym taken) is.most;
-    }
-
 -- what is left of the piece is kept
 pub kept-some : (piece : List ℕ) (from to : ℕ) → from < to → to ≤ length piece → 0 < length (drop from (take to piece))
 kept-some piece from to less within = simp (length-drop, length-take-le to piece within) (omega arith)
+
+-- nothing was read or posted
+pub GoesOn-same : (v : ConnectionState) → v.taken ≤ 4096 → GoesOn [] v v
+GoesOn-same v most = record { read = []; gives = Consumes-none v.left; count = omega arith; most = most; order = sym (append-nil v.kept) }
+
+pub Posts-same : (a : List ℕ) (v : ConnectionState) → v.taken ≤ 4096 → Posts a a v v
+Posts-same a v most = record { posted = []; accepts = sym (append-nil a); on = GoesOn-same v most }
+
+-- the first byte that was kept was posted
+pub Posts-one : (a b c : List ℕ) (u v w : ConnectionState) (byte : ℕ) → Posts a b u v → w.left ≡ v.left → w.taken ≡ v.taken
+    → c ≡ b ++ byte ∷ [] → v.kept ≡ byte ∷ w.kept → Posts a c u w
+Posts-one a b c u v w byte p left taken accepts kept = record {
+  posted = p.posted ++ byte ∷ [];
+  accepts = accepts ∙ ap (λ l. l ++ byte ∷ []) p.accepts ∙ append_assoc a p.posted (byte ∷ []);
+  on = record {
+    read = p.on.read;
+    gives = subst (λ l. Consumes u.left l p.on.read) (sym left) p.on.gives;
+    count = taken ∙ p.on.count;
+    most = subst (λ n. n ≤ 4096) (sym taken) p.on.most;
+    order = append_assoc p.posted (byte ∷ []) w.kept ∙ ap (λ l. p.posted ++ l) (sym kept) ∙ p.on.order;
+  };
+}
+
+-- bytes were read, with nothing kept
+pub Posts-read : (a : List ℕ) (u w : ConnectionState) → u.kept ≡ [] → Consumes u.left w.left w.kept → w.taken ≡ u.taken + length w.kept
+    → w.taken ≤ 4096 → Posts a a u w
+Posts-read a u w none gives count most = record {
+  posted = [];
+  accepts = sym (append-nil a);
+  on = record { read = w.kept; gives = gives; count = count; most = most; order = ap (λ l. l ++ w.kept) (sym none) };
+}
+
+-- one goes on, and then another
+pub Posts-then : (a b c : List ℕ) (u v w : ConnectionState) → Posts a b u v → Posts b c v w → Posts a c u w
+Posts-then a b c u v w p q = record {
+  posted = p.posted ++ q.posted;
+  accepts = q.accepts ∙ ap (λ l. l ++ q.posted) p.accepts ∙ append_assoc a p.posted q.posted;
+  on = record {
+    read = p.on.read ++ q.on.read;
+    gives = Consumes-then u.left v.left w.left p.on.read q.on.read p.on.gives q.on.gives;
+    count = omega (arith, p.on.count, q.on.count, length-append p.on.read q.on.read);
+    most = q.on.most;
+    order = append_assoc p.posted q.posted w.kept ∙ ap (λ l. p.posted ++ l) q.on.order ∙ sym (append_assoc p.posted v.kept q.on.read)
+        ∙ ap (λ l. l ++ q.on.read) p.on.order ∙ append_assoc u.kept p.on.read q.on.read;
+  };
+}
+
+-- Over turns
+
+posted-then : (opening : Option (List ℕ)) (posted more : List ℕ) (v w : ConnectionState) → HasPosted opening posted v → GoesOn more v w
+    → HasPosted opening (posted ++ more) w
+posted-then opening posted more v w h g =
+    let same : (posted ++ more) ++ w.kept ≡ (posted ++ v.kept) ++ g.read =
+    append_assoc posted more w.kept ∙ ap (λ l. posted ++ l) g.order ∙ sym (append_assoc posted v.kept g.read) in
+    record {
+      gives = subst (λ l. Consumes opening w.left l) (sym same) (Consumes-then opening v.left w.left (posted ++ v.kept) g.read h.gives g.gives);
+      count = ap length same ∙ (omega (arith, length-append (posted ++ v.kept) g.read, h.count, g.count));
+      most = g.most;
+    }
+
+pub posted-along : (opening : Option (List ℕ)) (posted : List ℕ) (turns : List (List ℕ)) (first last : ConnectionState) → HasPosted opening posted first
+    → GoesOnAlong turns first last → HasPosted opening (posted ++ concat turns) last
+posted-along opening posted [] first last h is =
+    subst (λ v. HasPosted opening (posted ++ []) v) (sym is) (subst (λ l. HasPosted opening l first) (sym (append-nil posted)) h)
+posted-along opening posted (more ∷ later) first last h on =
+    let next = posted-along opening (posted ++ more) later on.0 last (posted-then opening posted more first on.0 h on.1) on.2 in
+    subst (λ l. HasPosted opening l last) (append_assoc posted more (concat later)) next

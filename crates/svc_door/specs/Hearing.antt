@@ -5,8 +5,8 @@ use Rattle.std.specs.declared.io.ErrorKind.TheVariants.{Interrupted, WouldBlock}
 use Rattle.std.specs.declared.io.Error.{Error}
 use Rattle.std.specs.IoError.{error_kind}
 use Rattle.std.specs.Io.KnownBytes.{Consumes, Keeps, IsAtEnd}
-use Rattle.svc_door.specs.declared.guest.Heard.{Heard}
-use Rattle.svc_door.specs.declared.guest.Heard.TheVariants.{Bytes, Nothing, End, Fault}
+use Rattle.svc_door.specs.declared.byte_source.Heard.{Heard}
+use Rattle.svc_door.specs.declared.byte_source.Heard.TheVariants.{Bytes, Nothing, End, Fault}
 
 -- what an error of a read tells: that it would wait is no fault, and one that was interrupted tells nothing
 abbrev pub heard_at : ErrorKind → Option Heard
@@ -19,8 +19,8 @@ abbrev pub heard_of : Result ℕ Error → Option Heard
 heard_of (Ok count) = if count == 0 then Some End else Some (Bytes count)
 heard_of (Err fault) = heard_at (error_kind fault)
 
--- What a connection said, by the bytes that it had left and has left, and the buffer: it gave so many bytes, 1 at least,
--- which are at the buffer's front; or none, and at its end none is left.
+-- What a connection said, by the bytes that it had left and has left, and the buffer: it gave so many bytes, 1 at
+-- least, which are at the buffer's front; or none, and at its end none is left.
 abbrev pub Hears : (old new : Option (List ℕ)) → Heard → List ℕ → Type 0
 Hears old new (Bytes count) into = (0 < count) × (count ≤ length into) × Consumes old new (take count into)
 Hears old new Nothing into = Keeps old new

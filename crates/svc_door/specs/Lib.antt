@@ -1,4 +1,3 @@
 pub mod Hearing
 pub mod Rests
-pub mod Sitting
-pub mod Visiting
+pub mod Connection

@@ -2,8 +2,8 @@
 use Rattle.std.specs.Prelude.{ℕ, ◌+◌, ◌-◌, ◌^◌, min, nat_le, Bool, true, false, if◌then◌else◌, Option, Some, None}
 use Rattle.std.specs.declared.io.ErrorKind.{ErrorKind}
 use Rattle.std.specs.declared.io.ErrorKind.TheVariants.{Interrupted, WouldBlock, ConnectionAborted}
-use Rattle.svc_door.specs.declared.visit.Turn.{Turn}
-use Rattle.svc_door.specs.declared.visit.Turn.TheVariants.{Waits, Full, Ended}
+use Rattle.svc_door.specs.declared.connection.Turn.{Turn}
+use Rattle.svc_door.specs.declared.connection.Turn.TheVariants.{Waits, Full, Ended}
 
 -- the sooner of two times
 abbrev pub sooner_of : Option ℕ → Option ℕ → Option ℕ
@@ -23,7 +23,7 @@ refused_until Interrupted now = Some now
 refused_until ConnectionAborted now = Some now
 refused_until _ now = Some (after now 100)
 
--- when a connection spoke last: now, where it gave bytes or some of its bytes still wait for the post
+-- when a connection spoke last: now, where it gave bytes or some of its bytes still wait for the sink
 abbrev pub spoke_at : Turn → (gave : Bool) → (spoke now : ℕ) → ℕ
 spoke_at Full gave spoke now = now
 spoke_at Waits gave spoke now = if gave then now else spoke

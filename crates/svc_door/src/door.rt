@@ -1,6 +1,6 @@
 //! The door's thread, and the handle to it.
+use crate::byte_sink::ByteSink;
 use crate::part::Part;
-use crate::post::Post;
 use crate::table::{Table, WAKER};
 use mio::net::UnixListener;
 use mio::{Events, Poll, Registry, Waker};
@@ -19,7 +19,7 @@ const FAILED: u64 = 100;
 
 // What the handle and the thread share.
 #[derive(Drop)]
-struct Desk<P: Post> {
+struct DoorShared<P: ByteSink> {
     table: Mutex<Table<P>>,
     registry: Registry,
     waker: Waker,
@@ -29,12 +29,12 @@ struct Desk<P: Post> {
 ///
 /// A door that is dropped, and not closed, goes on with its parts for as long as the process runs.
 #[derive(Drop)]
-pub struct Door<P: Post> {
-    desk: Arc<Desk<P>, Global>,
-    keeper: JoinHandle<()>,
+pub struct Door<P: ByteSink> {
+    shared: Arc<DoorShared<P>, Global>,
+    thread: JoinHandle<()>,
 }
 
-impl<P: Post + Send + Drop + 'static> Door<P> {
+impl<P: ByteSink + Send + Drop + 'static> Door<P> {
     /// Opens a door with no part, and starts its thread.
     pub fn open<R>(rt: &R, alloc: Global) -> io::Result<Door<P>>
     where
@@ -42,17 +42,17 @@ impl<P: Post + Send + Drop + 'static> Door<P> {
     {
         let poll = Poll::new(rt)?;
         let events = Events::with_capacity(alloc, EVENTS)?;
-        let desk = Arc::new(
+        let shared = Arc::new(
             alloc,
-            Desk {
+            DoorShared {
                 table: Mutex::new(Table::new(alloc)),
                 registry: poll.registry().try_clone()?,
                 waker: Waker::new(poll.registry(), WAKER)?,
             },
         )?;
-        let theirs = Arc::try_clone(&desk)?;
-        let keeper = start(*rt, poll, events, theirs)?;
-        Ok(Door { desk, keeper })
+        let theirs = Arc::try_clone(&shared)?;
+        let thread = start(*rt, poll, events, theirs)?;
+        Ok(Door { shared, thread })
     }
 
     /// Answers at the sockets of a part from now on. `number`, which no other part at the door has, names it.
@@ -62,26 +62,29 @@ impl<P: Post + Send + Drop + 'static> Door<P> {
         &self,
         rt: &R,
         number: u64,
-        post: P,
+        sink: P,
         control: UnixListener,
         ok: UnixListener,
     ) -> io::Result<()> {
-        let part = Part::new(number, post, control, ok);
-        self.desk.table.lock(rt).admit(part, &self.desk.registry)
+        let part = Part::new(number, sink, control, ok);
+        self.shared
+            .table
+            .lock(rt)
+            .admit(part, &self.shared.registry)
     }
 
-    /// Closes the listeners and the connection of a part, and hands its post back: nothing is posted by it any more.
+    /// Closes the listeners and the connection of a part, and hands its sink back: nothing is posted by it any more.
     /// None: no part of this number is at the door.
     pub fn dismiss<R: Wait>(&self, rt: &R, number: u64) -> Option<P> {
-        self.desk.table.lock(rt).dismiss(number)
+        self.shared.table.lock(rt).dismiss(number)
     }
 
     /// Ends the thread, joins it, and closes all listeners and connections.
     pub fn close<R: Wait + Threads>(self, rt: &R) {
-        let Door { desk, keeper } = self;
-        desk.table.lock(rt).ends = true;
-        let _ = desk.waker.wake();
-        keeper.join(rt)
+        let Door { shared, thread } = self;
+        shared.table.lock(rt).ends = true;
+        let _ = shared.waker.wake();
+        thread.join(rt)
     }
 }
 
@@ -98,23 +101,23 @@ fn start<R, P>(
     rt: R,
     poll: Poll,
     events: Events<Global>,
-    desk: Arc<Desk<P>, Global>,
+    shared: Arc<DoorShared<P>, Global>,
 ) -> io::Result<JoinHandle<()>>
 where
     R: Threads + Wait + Clock + Copy + Send + Drop + 'static,
-    P: Post + Send + Drop + 'static,
+    P: ByteSink + Send + Drop + 'static,
 {
     Builder::new()
         .stack_size(1)
-        .spawn(&rt, move || keep(&rt, poll, events, &desk))
+        .spawn(&rt, move || run(&rt, poll, events, &shared))
 }
 
 /// What the door's thread does.
-fn keep<R: Wait + Clock, P: Post + Drop>(
+fn run<R: Wait + Clock, P: ByteSink + Drop>(
     rt: &R,
     mut poll: Poll,
     mut events: Events<Global>,
-    desk: &Desk<P>,
+    shared: &DoorShared<P>,
 ) {
     let mut due: Option<u64> = None;
     for _ in rt.forever() {
@@ -125,7 +128,7 @@ fn keep<R: Wait + Clock, P: Post + Drop>(
         if poll.poll(&mut events, limit).is_err() {
             thread::sleep(rt, Duration::from_millis(FAILED));
         }
-        let mut table = desk.table.lock(rt);
+        let mut table = shared.table.lock(rt);
         if table.ends {
             return;
         }

@@ -1,10 +1,10 @@
 //! The door of all services: one thread that answers at the control and ok sockets of every part.
 //!
-//! Each part has one control connection at a time, in the order of their coming. A [`Visit`] is what one connection
-//! does: its first 4096 bytes are posted, in order and each once; a byte that is refused is kept and offered again.
-//! Contracts see a visit as `Visiting` (specs/Visiting).
+//! Each part has one control connection at a time, in the order of their coming. Of a [`Connection`] the first 4096
+//! bytes are posted, in order and each once; a byte that is refused is kept and offered again. Contracts see it as
+//! `ConnectionState` (specs/Connection).
 //!
-//! The thread sleeps without a limit while nothing happens. It rests 1 ms while a post is full, 100 ms where there
+//! The thread sleeps without a limit while nothing happens. It rests 1 ms while a sink is full, 100 ms where there
 //! are no descriptors for a connection, and up to the end of the shortest silence while connections are silent; a
 //! connection that is silent for 5 s is dropped (specs/Rests says when a connection is looked at again).
 //!
@@ -12,16 +12,16 @@
 //! part is heard no more.
 #![tactic(auto)]
 
+mod byte_sink;
+mod byte_source;
+mod connection;
 mod door;
-mod guest;
+pub mod law;
 mod part;
-mod post;
 mod rests;
-mod sitting;
 mod table;
-mod visit;
 
+pub use byte_sink::ByteSink;
+pub use byte_source::{ByteSource, Heard};
+pub use connection::{Connection, Turn};
 pub use door::Door;
-pub use guest::{Guest, Heard};
-pub use post::Post;
-pub use visit::{Turn, Visit};

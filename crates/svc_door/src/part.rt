@@ -1,7 +1,7 @@
 //! One part at the door.
-use crate::post::Post;
+use crate::byte_sink::ByteSink;
+use crate::connection::Connection;
 use crate::rests::{after_refusal, sooner};
-use crate::sitting::Sitting;
 use mio::net::{UnixListener, UnixStream};
 use mio::{Interest, Registry, Token};
 use std::sync::Wait;
@@ -11,28 +11,27 @@ const GREETED: u32 = 16;
 
 /// A part: its two listeners, and its control connection, where there is one.
 #[derive(Drop)]
-pub struct Part<P: Post> {
+pub struct Part<P: ByteSink> {
     /// The life that it is of.
     pub number: u64,
     /// When it is to have a turn without an event. None: only at an event.
     pub due: Option<u64>,
     control: UnixListener,
     ok: UnixListener,
-    // Where nobody sits, the post is here; else the connection's visit has it.
-    post: Option<P>,
-    sitting: Option<Sitting<UnixStream, P>>,
+    sink: P,
+    connection: Option<Connection<UnixStream>>,
 }
 
-impl<P: Post + Drop> Part<P> {
+impl<P: ByteSink + Drop> Part<P> {
     /// A part with no connection.
-    pub fn new(number: u64, post: P, control: UnixListener, ok: UnixListener) -> Part<P> {
+    pub fn new(number: u64, sink: P, control: UnixListener, ok: UnixListener) -> Part<P> {
         Part {
             number,
             due: None,
             control,
             ok,
-            post: Some(post),
-            sitting: None,
+            sink,
+            connection: None,
         }
     }
 
@@ -42,11 +41,10 @@ impl<P: Post + Drop> Part<P> {
         registry.register(&mut self.ok, token, Interest::READABLE)
     }
 
-    /// Its post. Its listeners and its connection are closed.
-    pub fn post(mut self) -> Option<P> {
-        self.see_off();
-        let Part { post, .. } = self;
-        post
+    /// Its sink. Its listeners and its connection are closed.
+    pub fn into_sink(self) -> P {
+        let Part { sink, .. } = self;
+        sink
     }
 
     /// Accepts some connections to `ok`, which are closed, and goes on with the control connection, or begins with the
@@ -60,7 +58,7 @@ impl<P: Post + Drop> Part<P> {
     fn greet(&self, now: u64) -> Option<u64> {
         for _ in 0..GREETED {
             match self.ok.accept() {
-                Ok(_guest) => {}
+                Ok(_source) => {}
                 Err(fault) => return after_refusal(&fault, now),
             }
         }
@@ -74,39 +72,32 @@ impl<P: Post + Drop> Part<P> {
         token: Token,
         now: u64,
     ) -> Option<u64> {
-        if self.sitting.is_none() {
+        if self.connection.is_none() {
             match self.control.accept() {
-                Ok((stream, _)) => self.seat(stream, registry, token, now),
+                Ok((stream, _)) => self.begin(stream, registry, token, now),
                 Err(fault) => return after_refusal(&fault, now),
             }
         }
         self.hear(rt, now)
     }
 
-    fn seat(&mut self, mut stream: UnixStream, registry: &Registry, token: Token, now: u64) {
+    fn begin(&mut self, mut stream: UnixStream, registry: &Registry, token: Token, now: u64) {
         let watched = registry
             .register(&mut stream, token, Interest::READABLE)
             .is_ok();
-        if let Some(post) = self.post.take() {
-            self.sitting = Some(Sitting::new(stream, post, watched, now));
-        }
+        self.connection = Some(Connection::new(stream, watched, now));
     }
 
     fn hear<R: Wait>(&mut self, rt: &R, now: u64) -> Option<u64> {
-        let Some(sitting) = &mut self.sitting else {
+        let Some(connection) = &mut self.connection else {
             return Some(now);
         };
-        let due = sitting.turn(rt, now);
+        let turn = connection.turn(rt, &mut self.sink, now);
+        let due = connection.next_look(turn, now);
         if due.is_some() {
             return due;
         }
-        self.see_off();
+        self.connection = None;
         Some(now)
-    }
-
-    fn see_off(&mut self) {
-        if let Some(sitting) = self.sitting.take() {
-            self.post = Some(sitting.visit.post());
-        }
     }
 }

@@ -3,7 +3,7 @@ ghost use Rattle.std.specs.Prelude.{◌≡◌};
 ghost use Rattle.std.specs.IoError.{error_kind};
 ghost use Rattle.svc_door.specs.Rests.{sooner_of, spoke_at, looked_at, refused_until};
 
-use crate::visit::Turn;
+use crate::connection::Turn;
 use std::io;
 use std::io::ErrorKind;
 

@@ -1,6 +1,6 @@
 //! The parts at the door.
+use crate::byte_sink::ByteSink;
 use crate::part::Part;
-use crate::post::Post;
 use crate::rests::sooner;
 use mio::{Registry, Token};
 use slab::Slab;
@@ -12,14 +12,14 @@ pub const WAKER: Token = Token(usize::MAX);
 
 /// The parts, each in a slot, and the slots of those that are to have a turn without an event.
 #[derive(Drop)]
-pub struct Table<P: Post> {
+pub struct Table<P: ByteSink> {
     pub ends: bool,
     parts: Slab<Part<P>>,
     // Each such slot once. There is room for all.
     open: Vec<usize>,
 }
 
-impl<P: Post + Drop> Table<P> {
+impl<P: ByteSink + Drop> Table<P> {
     /// A table with no part.
     pub fn new(alloc: Global) -> Table<P> {
         Table {
@@ -52,7 +52,7 @@ impl<P: Post + Drop> Table<P> {
     pub fn dismiss(&mut self, number: u64) -> Option<P> {
         let slot = self.slot_of(number)?;
         self.open.retain(|open| *open != slot);
-        self.parts.try_remove(slot)?.post()
+        Some(self.parts.try_remove(slot)?.into_sink())
     }
 
     fn slot_of(&self, number: u64) -> Option<usize> {
@@ -93,7 +93,7 @@ impl<P: Post + Drop> Table<P> {
 }
 
 // Gives a part its turn, where that is due, and answers when it is to have the next one.
-fn turn<R: Wait, P: Post + Drop>(
+fn turn<R: Wait, P: ByteSink + Drop>(
     rt: &R,
     parts: &mut Slab<Part<P>>,
     registry: &Registry,

@@ -6,7 +6,7 @@ use Rattle.std.proofs.lemmas.List.{append-nil, map-append}
 use Rattle.tai_status.specs.Label.{Tai64n}
 use Rattle.scan_table.specs.declared.part.PartId.{PartId}
 use Rattle.scan_table.specs.Slots.{Row, SlotState}
-use Rattle.svc_host.specs.Seats.{SeatState}
+use Rattle.svc_host.specs.Parts.{HostPart}
 use Rattle.svc_host.specs.Begun.{BeginsByRow}
 use Rattle.svc_host.specs.Rounds.{AreBegun, IsBegunOne, IsParted, chosen}
 
@@ -58,60 +58,60 @@ module _ {A : Type 0} (all ones others : List A) (x : A) (parted : IsParted all 
             ∙ sym (ap (λ l. chosen l (all ++ x ∷ [])) (nots parted.flags false));
       }
 
-abbrev part_in : SeatState → PartId
-part_in seat = seat.part
+abbrev id_of : HostPart → PartId
+id_of part = part.id
 
-pub begun_none : (slots : List SlotState) (rows : List Row) (label : Tai64n) (seats : List SeatState) → AreBegun slots rows label [] seats seats []
-begun_none slots rows label seats =
+pub begun_none : (slots : List SlotState) (rows : List Row) (label : Tai64n) (parts : List HostPart) → AreBegun slots rows label [] parts parts []
+begun_none slots rows label parts =
     record {
       begun = [];
-      seats = sym (append-nil seats);
+      parts = sym (append-nil parts);
       each = (λ k d less. absurd (omega (arith, less)));
       parted = record { flags = []; each = refl; set = refl; not_set = refl };
     }
 
-module _ (slots : List SlotState) (rows : List Row) (label : Tai64n) (done : List PartId) (part : PartId) (old mid : List SeatState)
+module _ (slots : List SlotState) (rows : List Row) (label : Tai64n) (done : List PartId) (id : PartId) (old mid : List HostPart)
     (failed : List PartId) (before : AreBegun slots rows label done old mid failed) where
-  pub begun_more : (seat : SeatState) → BeginsByRow slots rows label seat → seat.part ≡ part
-      → AreBegun slots rows label (done ++ part ∷ []) old (mid ++ seat ∷ []) failed
-  begun_more seat begins is =
+  pub begun_more : (part : HostPart) → BeginsByRow slots rows label part → part.id ≡ id
+      → AreBegun slots rows label (done ++ id ∷ []) old (mid ++ part ∷ []) failed
+  begun_more part begins is =
       record {
-        begun = before.begun ++ seat ∷ [];
-        seats = ap (λ l. l ++ seat ∷ []) before.seats ∙ append_assoc old before.begun (seat ∷ []);
-        each = All-append (BeginsByRow slots rows label) before.begun (seat ∷ []) before.each one;
-        parted = subst (λ l. IsParted (done ++ part ∷ []) l failed)
-            (ap (λ p. map part_in before.begun ++ p ∷ []) (sym is) ∙ sym (map-append part_in before.begun (seat ∷ [])))
-            (one_is_set done (map part_in before.begun) failed part before.parted);
+        begun = before.begun ++ part ∷ [];
+        parts = ap (λ l. l ++ part ∷ []) before.parts ∙ append_assoc old before.begun (part ∷ []);
+        each = All-append (BeginsByRow slots rows label) before.begun (part ∷ []) before.each one;
+        parted = subst (λ l. IsParted (done ++ id ∷ []) l failed)
+            (ap (λ p. map id_of before.begun ++ p ∷ []) (sym is) ∙ sym (map-append id_of before.begun (part ∷ [])))
+            (one_is_set done (map id_of before.begun) failed id before.parted);
       }
     where
-      one : (k : ℕ) (d : SeatState) → k < length (seat ∷ []) → BeginsByRow slots rows label (slice_index_or (seat ∷ []) k d)
+      one : (k : ℕ) (d : HostPart) → k < length (part ∷ []) → BeginsByRow slots rows label (slice_index_or (part ∷ []) k d)
       one zero d less = begins
       one (suc k) d less = absurd (omega (arith, less))
 
-  pub failed_more : AreBegun slots rows label (done ++ part ∷ []) old mid (failed ++ part ∷ [])
+  pub failed_more : AreBegun slots rows label (done ++ id ∷ []) old mid (failed ++ id ∷ [])
   failed_more =
       record {
         begun = before.begun;
-        seats = before.seats;
+        parts = before.parts;
         each = before.each;
-        parted = one_is_not done (map part_in before.begun) failed part before.parted;
+        parted = one_is_not done (map id_of before.begun) failed id before.parted;
       }
 
-  pub next_begun : (news : List SeatState) (new : List PartId) → IsBegunOne slots rows label part mid failed news new
-      → AreBegun slots rows label (done ++ part ∷ []) old news new
+  pub next_begun : (news : List HostPart) (new : List PartId) → IsBegunOne slots rows label id mid failed news new
+      → AreBegun slots rows label (done ++ id ∷ []) old news new
   next_begun news new (inl more) =
-      subst (λ f. AreBegun slots rows label (done ++ part ∷ []) old news f) (sym more.4)
-      (subst (λ s. AreBegun slots rows label (done ++ part ∷ []) old s failed) (sym more.3) (begun_more more.0 more.2 more.1))
+      subst (λ f. AreBegun slots rows label (done ++ id ∷ []) old news f) (sym more.4)
+      (subst (λ s. AreBegun slots rows label (done ++ id ∷ []) old s failed) (sym more.3) (begun_more more.0 more.2 more.1))
   next_begun news new (inr none) =
-      subst (λ f. AreBegun slots rows label (done ++ part ∷ []) old news f) (sym none.1)
-      (subst (λ s. AreBegun slots rows label (done ++ part ∷ []) old s (failed ++ part ∷ [])) (sym none.0) failed_more)
+      subst (λ f. AreBegun slots rows label (done ++ id ∷ []) old news f) (sym none.1)
+      (subst (λ s. AreBegun slots rows label (done ++ id ∷ []) old s (failed ++ id ∷ [])) (sym none.0) failed_more)
 
 -- the same, said of what is equal
-pub begun_as : (slots slots' : List SlotState) (rows : List Row) (label : Tai64n) (parts parts' : List PartId) (olds olds' news : List SeatState) (failed failed' : List PartId)
-    → AreBegun slots rows label parts olds news failed → slots ≡ slots' → parts ≡ parts' → olds ≡ olds' → failed ≡ failed'
-    → AreBegun slots' rows label parts' olds' news failed'
-begun_as slots slots' rows label parts parts' olds olds' news failed failed' begun a b c d =
-    subst (λ s. AreBegun s rows label parts' olds' news failed') a
+pub begun_as : (slots slots' : List SlotState) (rows : List Row) (label : Tai64n) (ids ids' : List PartId) (olds olds' news : List HostPart) (failed failed' : List PartId)
+    → AreBegun slots rows label ids olds news failed → slots ≡ slots' → ids ≡ ids' → olds ≡ olds' → failed ≡ failed'
+    → AreBegun slots' rows label ids' olds' news failed'
+begun_as slots slots' rows label ids ids' olds olds' news failed failed' begun a b c d =
+    subst (λ s. AreBegun s rows label ids' olds' news failed') a
     (subst (λ p. AreBegun slots rows label p olds' news failed') b
-    (subst (λ o. AreBegun slots rows label parts o news failed') c
-    (subst (λ f. AreBegun slots rows label parts olds news f) d begun)))
+    (subst (λ o. AreBegun slots rows label ids o news failed') c
+    (subst (λ f. AreBegun slots rows label ids olds news f) d begun)))

@@ -1,28 +1,29 @@
 -- Parts whose events go on.
-use Rattle.std.proofs.Common.{◌≡◌, ℕ, zero, suc, ◌<◌, List, [], ◌∷◌, length, refl, sym, ap, ◌∙◌, subst, arith, slice_index_or, slice_set}
-use Rattle.svc_station.proofs.Fronts.{prefix_self, prefix_trans}
+use Rattle.std.proofs.Common.{◌≡◌, true, ℕ, zero, suc, ◌<◌, List, [], ◌∷◌, length, refl, sym, ap, ◌∙◌, subst, arith, slice_index_or, slice_set}
+use Rattle.svc_station.proofs.Prefixes.{prefix_self, prefix_trans}
 use Rattle.sup_core.specs.State.{State}
-use Rattle.sup_core.specs.History.{state_of}
+use Rattle.tai_status.specs.declared.phase.Phase.TheVariants as phase
+use Rattle.sup_core.specs.History.{phase_of, state_of}
 use Rattle.scan_table.specs.declared.part.PartId.{PartId}
-use Rattle.svc_host.specs.Seats.{SeatState, SeatGoesOn, HasPosted, GoOn, IsNowhere, IsPlace, IsPost, IsReading, IsStep, history_of}
+use Rattle.svc_host.specs.Parts.{HostPart, PartGoesOn, HasPosted, GoOn, IsNowhere, IsPlace, IsPost, IsReading, IsStep, history_of}
 
-pub stays_same : (seat : SeatState) → SeatGoesOn seat seat
-stays_same seat = record { part = refl; station = refl; known = prefix_self seat.known; posted = refl }
+pub stays_same : (part : HostPart) → PartGoesOn part part
+stays_same part = record { id = refl; station = refl; known = prefix_self part.known; posted = refl }
 
-pub goes_on_then : (a b c : SeatState) → SeatGoesOn a b → SeatGoesOn b c → SeatGoesOn a c
+pub goes_on_then : (a b c : HostPart) → PartGoesOn a b → PartGoesOn b c → PartGoesOn a c
 goes_on_then a b c p q =
     record {
-      part = q.part ∙ p.part;
+      id = q.id ∙ p.id;
       station = q.station ∙ p.station;
       known = prefix_trans a.known b.known c.known p.known q.known;
       posted = q.posted ∙ p.posted;
     }
 
-pub all_same : (seats : List SeatState) → GoOn seats seats
+pub all_same : (parts : List HostPart) → GoOn parts parts
 all_same [] = tt
-all_same (seat ∷ seats) = (stays_same seat, all_same seats)
+all_same (part ∷ parts) = (stays_same part, all_same parts)
 
-pub go_on_then : (xs ys zs : List SeatState) → GoOn xs ys → GoOn ys zs → GoOn xs zs
+pub go_on_then : (xs ys zs : List HostPart) → GoOn xs ys → GoOn ys zs → GoOn xs zs
 go_on_then [] [] [] p q = tt
 go_on_then [] (y ∷ ys) zs p q = absurd p
 go_on_then [] [] (z ∷ zs) p q = absurd q
@@ -31,59 +32,63 @@ go_on_then (x ∷ xs) (y ∷ ys) [] p q = absurd q
 go_on_then (x ∷ xs) (y ∷ ys) (z ∷ zs) p q = (goes_on_then x y z p.0 q.0, go_on_then xs ys zs p.1 q.1)
 
 -- one of them goes on
-pub one_goes_on : (seats : List SeatState) (place : ℕ) (new : SeatState) → place < length seats
-    → ((d : SeatState) → SeatGoesOn (slice_index_or seats place d) new) → GoOn seats (slice_set seats place new)
+pub one_goes_on : (parts : List HostPart) (place : ℕ) (new : HostPart) → place < length parts
+    → ((d : HostPart) → PartGoesOn (slice_index_or parts place d) new) → GoOn parts (slice_set parts place new)
 one_goes_on [] place new within goes = absurd (omega arith)
-one_goes_on (seat ∷ seats) zero new within goes = (goes seat, all_same seats)
-one_goes_on (seat ∷ seats) (suc place) new within goes = (stays_same seat, one_goes_on seats place new (omega arith) goes)
+one_goes_on (part ∷ parts) zero new within goes = (goes part, all_same parts)
+one_goes_on (part ∷ parts) (suc place) new within goes = (stays_same part, one_goes_on parts place new (omega arith) goes)
 
 -- what the others are then
-pub others_stay : (seats : List SeatState) (place : ℕ) (new : SeatState) (k : ℕ) (d : SeatState) → place < k
-    → slice_index_or (slice_set seats place new) k d ≡ slice_index_or seats k d
+pub others_stay : (parts : List HostPart) (place : ℕ) (new : HostPart) (k : ℕ) (d : HostPart) → place < k
+    → slice_index_or (slice_set parts place new) k d ≡ slice_index_or parts k d
 others_stay [] place new k d less = refl
-others_stay (seat ∷ seats) zero new zero d less = absurd (omega arith)
-others_stay (seat ∷ seats) zero new (suc k) d less = refl
-others_stay (seat ∷ seats) (suc place) new zero d less = refl
-others_stay (seat ∷ seats) (suc place) new (suc k) d less = others_stay seats place new k d (omega arith)
+others_stay (part ∷ parts) zero new zero d less = absurd (omega arith)
+others_stay (part ∷ parts) zero new (suc k) d less = refl
+others_stay (part ∷ parts) (suc place) new zero d less = refl
+others_stay (part ∷ parts) (suc place) new (suc k) d less = others_stay parts place new k d (omega arith)
 
 -- what stands at the place then
-pub here_then : (seats : List SeatState) (place : ℕ) (new d : SeatState) → place < length seats → slice_index_or (slice_set seats place new) place d ≡ new
+pub here_then : (parts : List HostPart) (place : ℕ) (new d : HostPart) → place < length parts → slice_index_or (slice_set parts place new) place d ≡ new
 here_then [] place new d within = absurd (omega arith)
-here_then (seat ∷ seats) zero new d within = refl
-here_then (seat ∷ seats) (suc place) new d within = here_then seats place new d (omega arith)
+here_then (part ∷ parts) zero new d within = refl
+here_then (part ∷ parts) (suc place) new d within = here_then parts place new d (omega arith)
 
-pub set_length : (seats : List SeatState) (place : ℕ) (new : SeatState) → length (slice_set seats place new) ≡ length seats
+pub set_length : (parts : List HostPart) (place : ℕ) (new : HostPart) → length (slice_set parts place new) ≡ length parts
 set_length [] place new = refl
-set_length (seat ∷ seats) zero new = refl
-set_length (seat ∷ seats) (suc place) new = ap suc (set_length seats place new)
+set_length (part ∷ parts) zero new = refl
+set_length (part ∷ parts) (suc place) new = ap suc (set_length parts place new)
 
 -- a part that stands at a place is somewhere
-pub not_nowhere : (part : PartId) (seats : List SeatState) (place : ℕ) → IsPlace part seats place → IsNowhere part seats → ⊥
-not_nowhere part [] place at nowhere = absurd (omega (arith, at.within))
-not_nowhere part (seat ∷ seats) place at nowhere = nowhere place seat at.within (at.here seat)
+pub not_nowhere : (id : PartId) (parts : List HostPart) (place : ℕ) → IsPlace id parts place → IsNowhere id parts → ⊥
+not_nowhere id [] place at nowhere = absurd (omega (arith, at.within))
+not_nowhere id (part ∷ parts) place at nowhere = nowhere place part at.within (at.here part)
 
-pub step_goes : (seats : List SeatState) (place : ℕ) (news : List SeatState) → place < length seats → IsStep seats place news → GoOn seats news
-step_goes seats place news within step = subst (GoOn seats) (sym step.seats) (one_goes_on seats place step.seat within step.goes_on)
+pub step_goes : (parts : List HostPart) (place : ℕ) (news : List HostPart) → place < length parts → IsStep parts place news → GoOn parts news
+step_goes parts place news within step = subst (GoOn parts) (sym step.parts) (one_goes_on parts place step.part within step.goes_on)
 
-pub reads : (part : PartId) (seats : List SeatState) (place : ℕ) (news : List SeatState) (machine : State) → IsPlace part seats place
-    → IsStep seats place news → ((d : SeatState) → machine ≡ state_of (history_of (slice_index_or news place d)))
-    → IsReading part news machine.status
-reads part seats place news machine at step reading =
+pub reads : (id : PartId) (parts : List HostPart) (place : ℕ) (news : List HostPart) (machine : State) → IsPlace id parts place
+    → IsStep parts place news → ((d : HostPart) → machine ≡ state_of (history_of (slice_index_or news place d)))
+    → ((d : HostPart) → (slice_index_or news place d).has_ended ≡ true
+    → phase_of (history_of (slice_index_or news place d)) ≡ phase.Gone)
+    → IsReading id news machine.status
+reads id parts place news machine at step reading gone =
     record {
-      seat = step.seat;
+      part = step.part;
       is = record {
         place = place;
-        within = subst (λ n. place < n) (sym (ap length step.seats ∙ set_length seats place step.seat)) at.within;
+        within = subst (λ n. place < n) (sym (ap length step.parts ∙ set_length parts place step.part)) at.within;
         here = here;
-        is = (step.goes_on step.seat).part ∙ at.here step.seat;
+        is = (step.goes_on step.part).id ∙ at.here step.part;
       };
-      reading = ap (λ m. m.status) (reading step.seat ∙ ap (λ seat. state_of (history_of seat)) (here step.seat));
+      reading = ap (λ m. m.status) (reading step.part ∙ ap (λ part. state_of (history_of part)) (here step.part));
+      gone = subst (λ (part : HostPart). part.has_ended ≡ true → phase_of (history_of part) ≡ phase.Gone) (here step.part)
+          (gone step.part);
     }
   where
-    here : (d : SeatState) → slice_index_or news place d ≡ step.seat
-    here d = ap (λ l. slice_index_or l place d) step.seats ∙ here_then seats place step.seat d at.within
+    here : (d : HostPart) → slice_index_or news place d ≡ step.part
+    here d = ap (λ l. slice_index_or l place d) step.parts ∙ here_then parts place step.part d at.within
 
-pub posts : (part : PartId) (seats : List SeatState) (place : ℕ) (byte : ℕ) (new : SeatState) → IsPlace part seats place
-    → ((d : SeatState) → HasPosted (slice_index_or seats place d) byte new) → IsPost seats part byte (slice_set seats place new)
-posts part seats place byte new at has =
-    record { place = place; seat = new; here = has; is = (has new).part ∙ at.here new; seats = refl }
+pub posts : (id : PartId) (parts : List HostPart) (place : ℕ) (byte : ℕ) (new : HostPart) → IsPlace id parts place
+    → ((d : HostPart) → HasPosted (slice_index_or parts place d) byte new) → IsPost parts id byte (slice_set parts place new)
+posts id parts place byte new at has =
+    record { place = place; part = new; here = has; is = (has new).id ∙ at.here new; parts = refl }

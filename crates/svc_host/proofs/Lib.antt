@@ -5,3 +5,4 @@ pub mod Going
 pub mod OneReader
 pub mod Rows
 pub mod Tables
+pub mod LastReading

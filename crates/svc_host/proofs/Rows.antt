@@ -8,31 +8,32 @@ use Rattle.scan_table.specs.declared.part.PartId.{PartId}
 use Rattle.scan_table.specs.Slots.{Row, SlotState}
 use Rattle.scan_table.specs.Order.{row_of}
 use Rattle.scan_table.specs.Table.{name_of, slot_at}
-use Rattle.svc_host.specs.Seats.{SeatState}
+use Rattle.svc_host.specs.Parts.{HostPart}
 use Rattle.svc_host.specs.Begun.{BeginsByRow, IsBegun, is_down, row_at}
 
 row_named : (rows : List Row) (slot : Option SlotState) (name : List ℕ) → option_map name_of slot ≡ Some name → row_at rows slot ≡ row_of rows name
 row_named rows None name is = absurd (cc is)
 row_named rows (Some slot) name is = ap (row_of rows) (cc is)
 
-pub begins : (slots : List SlotState) (rows : List Row) (label : Tai64n) (part : PartId) (name : List ℕ) (row : Row) (seat : SeatState)
-    → option_map name_of (slot_at slots part.slot) ≡ Some name → row_of rows name ≡ Some row
-    → IsBegun part (Begin (is_down part.role row) label) seat → BeginsByRow slots rows label seat
-begins slots rows label part name row seat named found begun =
+pub begins : (slots : List SlotState) (rows : List Row) (label : Tai64n) (id : PartId) (name : List ℕ) (row : Row) (part : HostPart)
+    → option_map name_of (slot_at slots id.slot) ≡ Some name → row_of rows name ≡ Some row
+    → IsBegun id (Begin (is_down id.role row) label) part → BeginsByRow slots rows label part
+begins slots rows label id name row part named found begun =
     record {
       row = row;
-      found = ap (λ (p : PartId). row_at rows (slot_at slots p.slot)) begun.is ∙ row_named rows (slot_at slots part.slot) name named ∙ found;
+      found = ap (λ (p : PartId). row_at rows (slot_at slots p.slot)) begun.is ∙ row_named rows (slot_at slots id.slot) name named ∙ found;
       begun = record {
         is = refl;
         opening = begun.opening ∙ sym (ap (λ (p : PartId). state_of (Begin (is_down p.role row) label)) begun.is);
         known = begun.known;
         posted = begun.posted;
         has_ended = begun.has_ended;
+        loss = begun.loss;
       };
     }
 
-pub begins_if : (slots : List SlotState) (rows : List Row) (label : Tai64n) (part : PartId) (name : List ℕ) (row : Row) (made : Option SeatState)
-    → option_map name_of (slot_at slots part.slot) ≡ Some name → row_of rows name ≡ Some row
-    → IfSome made (λ seat. IsBegun part (Begin (is_down part.role row) label) seat) → IfSome made (λ seat. BeginsByRow slots rows label seat)
-begins_if slots rows label part name row None named found begun = tt
-begins_if slots rows label part name row (Some seat) named found begun = begins slots rows label part name row seat named found begun
+pub begins_if : (slots : List SlotState) (rows : List Row) (label : Tai64n) (id : PartId) (name : List ℕ) (row : Row) (made : Option HostPart)
+    → option_map name_of (slot_at slots id.slot) ≡ Some name → row_of rows name ≡ Some row
+    → IfSome made (λ part. IsBegun id (Begin (is_down id.role row) label) part) → IfSome made (λ part. BeginsByRow slots rows label part)
+begins_if slots rows label id name row None named found begun = tt
+begins_if slots rows label id name row (Some part) named found begun = begins slots rows label id name row part named found begun

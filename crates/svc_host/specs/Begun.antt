@@ -8,7 +8,7 @@ use Rattle.scan_table.specs.declared.part.PartId.{PartId}
 use Rattle.scan_table.specs.Slots.{Row, SlotState}
 use Rattle.scan_table.specs.Order.{row_of}
 use Rattle.scan_table.specs.Table.{slot_at}
-use Rattle.svc_host.specs.Seats.{SeatState}
+use Rattle.svc_host.specs.Parts.{HostPart, no_loss}
 
 -- whether the row has the `down` file of a part of this role
 abbrev pub is_down : Role → Row → Bool
@@ -21,15 +21,16 @@ row_at rows None = None
 row_at rows (Some slot) = row_of rows slot.name
 
 -- A part that was just begun: its station was opened with the machine of this beginning, and nothing was posted to it.
-pub record IsBegun (part : PartId) (beginning : History) (seat : SeatState) : Type 0 where
-  pub is : seat.part ≡ part
-  pub opening : seat.station.opening ≡ state_of beginning
-  pub known : seat.known ≡ []
-  pub posted : seat.posted ≡ []
-  pub has_ended : seat.has_ended ≡ false
+pub record IsBegun (id : PartId) (beginning : History) (part : HostPart) : Type 0 where
+  pub is : part.id ≡ id
+  pub opening : part.station.opening ≡ state_of beginning
+  pub known : part.known ≡ []
+  pub posted : part.posted ≡ []
+  pub has_ended : part.has_ended ≡ false
+  pub loss : part.loss ≡ no_loss
 
 -- It begins with or without its `down` file, as the row of its slot says, at the label of the round.
-pub record BeginsByRow (slots : List SlotState) (rows : List Row) (label : Tai64n) (seat : SeatState) : Type 0 where
+pub record BeginsByRow (slots : List SlotState) (rows : List Row) (label : Tai64n) (part : HostPart) : Type 0 where
   pub row : Row
-  pub found : row_at rows (slot_at slots seat.part.slot) ≡ Some row
-  pub begun : IsBegun seat.part (Begin (is_down seat.part.role row) label) seat
+  pub found : row_at rows (slot_at slots part.id.slot) ≡ Some row
+  pub begun : IsBegun part.id (Begin (is_down part.id.role row) label) part

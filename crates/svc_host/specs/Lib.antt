@@ -1,6 +1,8 @@
 pub mod Answers
 pub mod Begun
+pub mod Growth
+pub mod Parts
 pub mod Rests
 pub mod Rounds
-pub mod Seats
-pub mod Stands
+pub mod Served
+pub mod Threads

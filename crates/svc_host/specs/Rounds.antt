@@ -11,36 +11,36 @@ use Rattle.scan_table.specs.Order.{scan_refusal}
 use Rattle.scan_table.specs.Scan.{starts, restarts, drops, refused}
 use Rattle.scan_table.specs.Table.{TableState, after_end, scanned}
 use Rattle.svc_host.specs.declared.host.HostOut.{HostOut}
-use Rattle.svc_host.specs.Seats.{SeatState, GoOn, IsSeat, stays}
+use Rattle.svc_host.specs.Parts.{HostPart, GoOn, IsPart, stays}
 use Rattle.svc_host.specs.Begun.{BeginsByRow}
 
 -- the table of slots, and the parts that are there
 pub record HostState : Type 0 where
   pub table : TableState
-  pub seats : List SeatState
+  pub parts : List HostPart
 
-abbrev pub host_of : TableState → List SeatState → HostState
-host_of table seats = record { table = table; seats = seats }
+abbrev pub host_of : TableState → List HostPart → HostState
+host_of table parts = record { table = table; parts = parts }
 
 -- a table after these parts have ended
 abbrev pub after_ends : List PartId → TableState → TableState
 after_ends [] table = table
-after_ends (part ∷ parts) table = after_ends parts (after_end table part)
+after_ends (id ∷ ids) table = after_ends ids (after_end table id)
 
 -- a part that was there and ran
-abbrev pub Ran : List SeatState → PartId → Type 0
-Ran seats part = (seat : SeatState) × IsSeat part seats seat × (seat.has_ended ≡ false)
+abbrev pub Ran : List HostPart → PartId → Type 0
+Ran parts id = (part : HostPart) × IsPart id parts part × (part.has_ended ≡ false)
 
 -- Threads were joined, of parts that ran, and the table was told that these have ended.
-pub record AreCollected (old : TableState) (olds : List SeatState) (new : TableState) (news : List SeatState)
+pub record AreCollected (old : TableState) (olds : List HostPart) (new : TableState) (news : List HostPart)
     : Type 0 where
   pub joined : List PartId
   pub ran : All (Ran olds) joined
   pub table : new ≡ after_ends joined old
-  pub seats : GoOn olds news
+  pub parts : GoOn olds news
 
 abbrev pub Collected : HostState → HostState → Type 0
-Collected old new = AreCollected old.table old.seats new.table new.seats
+Collected old new = AreCollected old.table old.parts new.table new.parts
 
 -- what a scan of a table answers
 pub record IsScan {A : Type 0} (table : TableState) (rows : List Row) (out : ScanOut A) : Type 0 where
@@ -50,8 +50,8 @@ pub record IsScan {A : Type 0} (table : TableState) (rows : List Row) (out : Sca
   pub refused : out.refused ≡ refused table.slots rows
 
 -- the parts that stay at a scan
-abbrev pub staying : {A : Type 0} → ScanOut A → List SeatState → List SeatState
-staying out seats = filter (λ (seat : SeatState). stays out.drops out.restarts seat.part) seats
+abbrev pub staying : {A : Type 0} → ScanOut A → List HostPart → List HostPart
+staying out parts = filter (λ (part : HostPart). stays out.drops out.restarts part.id) parts
 
 -- the items whose flags are set
 abbrev pub chosen : {A : Type 0} → List Bool → List A → List A
@@ -67,34 +67,29 @@ pub record IsParted {A : Type 0} (all ones others : List A) : Type 0 where
   pub not_set : others ≡ chosen (map not flags) all
 
 -- Of the parts that a scan began each is there now, begun by its row, or failed.
-pub record AreBegun (slots : List SlotState) (rows : List Row) (label : Tai64n) (parts : List PartId)
-    (old new : List SeatState) (failed : List PartId) : Type 0 where
-  pub begun : List SeatState
-  pub seats : new ≡ old ++ begun
+pub record AreBegun (slots : List SlotState) (rows : List Row) (label : Tai64n) (ids : List PartId)
+    (old new : List HostPart) (failed : List PartId) : Type 0 where
+  pub begun : List HostPart
+  pub parts : new ≡ old ++ begun
   pub each : All (BeginsByRow slots rows label) begun
-  pub parted : IsParted parts (map (λ (seat : SeatState). seat.part) begun) failed
+  pub parted : IsParted ids (map (λ (part : HostPart). part.id) begun) failed
 
 -- One part is there now, begun by its row, or it failed.
 abbrev pub IsBegunOne : List SlotState → List Row → Tai64n → PartId
-    → List SeatState → List PartId → List SeatState → List PartId → Type 0
-IsBegunOne slots rows label part olds old news new =
-    ((seat : SeatState) × (seat.part ≡ part) × BeginsByRow slots rows label seat
-    × (news ≡ olds ++ seat ∷ []) × (new ≡ old))
-    ⊎ ((news ≡ olds) × (new ≡ old ++ part ∷ []))
+    → List HostPart → List PartId → List HostPart → List PartId → Type 0
+IsBegunOne slots rows label id olds old news new =
+    ((part : HostPart) × (part.id ≡ id) × BeginsByRow slots rows label part
+    × (news ≡ olds ++ part ∷ []) × (new ≡ old))
+    ⊎ ((news ≡ olds) × (new ≡ old ++ id ∷ []))
 
--- A scan: the rows are scanned, and each part that starts or restarts is there now, begun by its row, or failed, and then
--- it has ended. Of the other parts those are there that stay.
-pub record IsScanned (old : HostState) (rows : List Row) (label : Tai64n) (out : HostOut) (new : HostState) : Type 0 where
+-- A scan: the rows are scanned, and each part that starts or restarts is there now, begun by its row, or failed, and
+-- then it has ended. Of the other parts those are there that stay.
+pub record IsScanned (old : HostState) (rows : List Row) (label : Tai64n) (out : HostOut) (new : HostState)
+    : Type 0 where
   pub scan : IsScan old.table rows out.scan
   pub table : new.table ≡ after_ends out.failed (scanned old.table rows)
   pub begun : AreBegun (scanned old.table rows).slots rows label (out.scan.starts ++ out.scan.restarts)
-      (staying out.scan old.seats) new.seats out.failed
-
--- A round: threads are joined, and then the rows are scanned.
-pub record IsRound (old : HostState) (rows : List Row) (label : Tai64n) (out : HostOut) (new : HostState) : Type 0 where
-  pub middle : HostState
-  pub joins : Collected old middle
-  pub scans : IsScanned middle rows label out new
+      (staying out.scan old.parts) new.parts out.failed
 
 -- Why a scan is refused: what the table says, and memory only where nothing else is wrong.
 abbrev pub IsCause : TableState → List Row → ScanFault → Type 0

@@ -3,7 +3,7 @@ ghost use Rattle.std.specs.Prelude.{◌≡◌, ◌≤◌, ◌<◌, [], IfSome};
 ghost use Rattle.svc_mail.specs.Ends.{posted, taken_by};
 ghost use Rattle.svc_station.specs.Ends.{known_to, opening_of, published, reader_station, station};
 
-use crate::running::{Eye, eye_of};
+use crate::running::{StatusReader, status_reader_of};
 use std::alloc::Global;
 use std::sync::Wait;
 use sup_core::Machine;
@@ -58,7 +58,7 @@ pub(crate) fn open_station<R: Wait>(
     alloc: Global,
     machine: Machine,
     room: usize,
-) -> Option<(Writer, Eye)>
+) -> Option<(Writer, StatusReader)>
     requires { (0 < room) × (room ≤ 65536) }
     ensures opening { IfSome result (λ ends. opening_of ends.0 ≡ machine) }
     ensures unpublished { IfSome result (λ ends. published ends.0 ≡ []) }
@@ -68,6 +68,6 @@ pub(crate) fn open_station<R: Wait>(
     let Ok((writer, readers)) = Station::open(rt, alloc, machine, room, 1) else {
         return None;
     };
-    let eye = eye_of(readers, &writer);
-    Some((writer, eye))
+    let status_reader = status_reader_of(readers, &writer);
+    Some((writer, status_reader))
 }

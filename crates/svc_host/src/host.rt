@@ -4,22 +4,22 @@ ghost use Rattle.std.specs.Prelude.{IfOk, OnOk, MatchBool, IfErr, OnErr, length,
 ghost use Rattle.scan_table.specs.Scan.{AreRising};
 ghost use Rattle.scan_table.specs.Order.{scan_refusal};
 ghost use Rattle.scan_table.specs.Table.{after_end, scanned};
-ghost use Rattle.svc_host.specs.Seats.{SeatState, IsStep};
+ghost use Rattle.svc_host.specs.Parts.{GoOn, HostPart, IsStep};
 ghost use Rattle.svc_host.specs.Rounds.{AreBegun, AreCollected, IsBegunOne, IsCause, IsScan, IsScanned};
 ghost use Rattle.svc_host.specs.Rounds.{after_ends, host_of, staying};
 
+use crate::factory::{PartFactory, Rooms};
 use crate::maker::Maker;
-use crate::seat::Seat;
-use crate::seats::{post_to, running, status_of, stays, tell_end};
-use crate::workshop::{Rooms, Workshop};
+use crate::part::{Loss, Part};
+use crate::parts::{post_end, post_to, running, status_of, stays, take_loss};
 use scan_table::{DirRow, PartId, Parts, ScanFault, ScanOut, ScanTable};
 use std::alloc::{AllocError, Global};
 use std::marker::Model;
 use std::sync::{Arc, Wait};
 use std::thread::Threads;
 use std::time::{Clock, Duration};
-use svc_house::Bell;
-use tai_status::{Label, View};
+use svc_house::Notifier;
+use tai_status::{Label, Name, View};
 use thiserror::Error;
 
 /// How long a host rests where a mailbox was full.
@@ -49,9 +49,9 @@ pub enum PostFault {
 /// there.
 #[derive(Drop)]
 pub struct Host<M: Maker + Drop, R: Threads + Wait + Clock + Copy + Drop + Send + 'static> {
-    workshop: Workshop<M, R>,
+    factory: PartFactory<M, R>,
     table: ScanTable,
-    seats: Vec<Seat<R>>,
+    parts: Vec<Part<R>>,
 }
 
 impl<M: Maker + Drop, R: Threads + Wait + Clock + Copy + Drop + Send + 'static> Model
@@ -60,7 +60,7 @@ impl<M: Maker + Drop, R: Threads + Wait + Clock + Copy + Drop + Send + 'static> 
 
     ghost Value = { HostState };
 
-    ghost view = { λ host. record { table = host.table; seats = host.seats.items } };
+    ghost view = { λ host. record { table = host.table; parts = host.parts.items } };
 }
 
 /// What a scan found, with the room that the rest of its round needs.
@@ -69,7 +69,7 @@ struct Scanned {
     table: ScanTable,
     scan: ScanOut,
     // The parts that start, and then those that restart.
-    parts: Vec<PartId>,
+    ids: Vec<PartId>,
     // Room for as many parts.
     failed: Vec<PartId>,
 }
@@ -80,177 +80,203 @@ fn scan<T: Drop>(
     alloc: Global,
     table: &ScanTable,
     rows: &[DirRow],
-    seats: &mut Vec<T>,
+    parts: &mut Vec<T>,
 ) -> Result<Scanned, AllocError>
     requires { scan_refusal table.now rows.now ≡ None }
     ensures rising { OnOk result (AreRising rows.now) }
     ensures scan { IfOk result (λ found. IsScan table.now rows.now found.scan) }
     ensures table { IfOk result (λ found. found.table ≡ scanned table.now rows.now) }
-    ensures parts { IfOk result (λ found. found.parts.items ≡ found.scan.starts ++ found.scan.restarts) }
+    ensures ids { IfOk result (λ found. found.ids.items ≡ found.scan.starts ++ found.scan.restarts) }
     ensures failed { IfOk result (λ found. found.failed.items ≡ []) }
-    ensures failed_room { IfOk result (λ found. vec_len found.parts ≤ vec_capacity found.failed) }
-    ensures seats { seats.new.items ≡ seats.old.items }
-    ensures seats_room { IfOk result (λ found. vec_len seats.new + vec_len found.parts ≤ vec_capacity seats.new) }
+    ensures failed_room { IfOk result (λ found. vec_len found.ids ≤ vec_capacity found.failed) }
+    ensures parts { parts.new.items ≡ parts.old.items }
+    ensures parts_room { IfOk result (λ found. vec_len parts.new + vec_len found.ids ≤ vec_capacity parts.new) }
 {
     let mut copy = table.copy()?;
     let Ok(scan) = copy.scan(rows) else {
         return Err(AllocError);
     };
     let count = scan.starts.len() + scan.restarts.len();
-    let mut parts = Vec::with_capacity(alloc, count)?;
-    parts.extend_from_slice(scan.starts.as_slice())?;
-    parts.extend_from_slice(scan.restarts.as_slice())?;
-    seats.reserve(parts.len())?;
+    let mut ids = Vec::with_capacity(alloc, count)?;
+    ids.extend_from_slice(scan.starts.as_slice())?;
+    ids.extend_from_slice(scan.restarts.as_slice())?;
+    parts.reserve(ids.len())?;
     Ok(Scanned {
         table: copy,
-        failed: Vec::with_capacity(alloc, parts.len())?,
+        failed: Vec::with_capacity(alloc, ids.len())?,
         scan,
-        parts,
+        ids,
     })
 }
 
 /// Takes away the parts that go at a scan, and forgets the slots that it drops.
 fn take_away<M: Maker + Drop, R: Threads + Wait + Clock + Copy + Drop + Send + 'static>(
-    workshop: &mut Workshop<M, R>,
-    seats: &mut Vec<Seat<R>>,
+    factory: &mut PartFactory<M, R>,
+    parts: &mut Vec<Part<R>>,
     scan: &ScanOut,
 )
-    ensures seats { seats.new.items ≡ staying scan.now seats.old.items }
-    ensures room { vec_len seats.new + (vec_capacity seats.old - vec_len seats.old) ≤ vec_capacity seats.new }
+    ensures parts { parts.new.items ≡ staying scan.now parts.old.items }
+    ensures room { vec_len parts.new + (vec_capacity parts.old - vec_len parts.old) ≤ vec_capacity parts.new }
 {
     let drops = scan.drops.as_slice();
     let restarts = scan.restarts.as_slice();
-    seats.retain(|seat| stays(seat.part(), drops, restarts));
+    parts.retain(|part| stays(part.id(), drops, restarts));
     for slot in drops {
-        workshop.forget(*slot);
+        factory.forget(*slot);
     }
 }
 
 /// Begins a part, or notes that it can't be made.
 fn begin_one<M: Maker + Drop, R: Threads + Wait + Clock + Copy + Drop + Send + 'static>(
-    workshop: &mut Workshop<M, R>,
+    factory: &mut PartFactory<M, R>,
     table: &ScanTable,
     rows: &[DirRow],
     label: Label,
-    part: PartId,
-    seats: &mut Vec<Seat<R>>,
+    id: PartId,
+    parts: &mut Vec<Part<R>>,
     failed: &mut Vec<PartId>,
 )
     requires rising { AreRising rows.now }
-    requires seats_room { vec_len seats.old < vec_capacity seats.old }
+    requires parts_room { vec_len parts.old < vec_capacity parts.old }
     requires failed_room { vec_len failed.old < vec_capacity failed.old }
-    ensures begun { IsBegunOne table.now.slots rows.now label part
-        seats.old.items failed.old.items seats.new.items failed.new.items }
-    ensures seats_len { vec_len seats.new ≤ vec_len seats.old + 1 }
+    ensures begun { IsBegunOne table.now.slots rows.now label id
+        parts.old.items failed.old.items parts.new.items failed.new.items }
+    ensures parts_len { vec_len parts.new ≤ vec_len parts.old + 1 }
     ensures failed_len { vec_len failed.new ≤ vec_len failed.old + 1 }
-    ensures seats_room { vec_capacity seats.new ≡ vec_capacity seats.old }
+    ensures parts_room { vec_capacity parts.new ≡ vec_capacity parts.old }
     ensures failed_room { vec_capacity failed.new ≡ vec_capacity failed.old }
 {
-    match workshop.begin(table, rows, label, part) {
-        Some(seat) => seats.push_reserved(seat),
-        None => failed.push_reserved(part),
+    match factory.begin(table, rows, label, id) {
+        Some(part) => parts.push_reserved(part),
+        None => failed.push_reserved(id),
     }
 }
 
 /// Begins parts, each after the other, and notes those that can't be made.
 fn begin_all<M: Maker + Drop, R: Threads + Wait + Clock + Copy + Drop + Send + 'static>(
-    workshop: &mut Workshop<M, R>,
+    factory: &mut PartFactory<M, R>,
     table: &ScanTable,
     rows: &[DirRow],
     label: Label,
-    parts: &[PartId],
-    seats: &mut Vec<Seat<R>>,
+    ids: &[PartId],
+    parts: &mut Vec<Part<R>>,
     failed: &mut Vec<PartId>,
 )
     requires rising { AreRising rows.now }
-    requires seats_room { vec_len seats.old + length parts.now ≤ vec_capacity seats.old }
-    requires failed_room { vec_len failed.old + length parts.now ≤ vec_capacity failed.old }
+    requires parts_room { vec_len parts.old + length ids.now ≤ vec_capacity parts.old }
+    requires failed_room { vec_len failed.old + length ids.now ≤ vec_capacity failed.old }
     requires failed { failed.old.items ≡ [] }
-    ensures { AreBegun table.now.slots rows.now label parts.now seats.old.items seats.new.items failed.new.items }
+    ensures { AreBegun table.now.slots rows.now label ids.now parts.old.items parts.new.items failed.new.items }
 {
-    for part in parts {
-        begin_one(workshop, table, rows, label, *part, seats, failed);
+    for id in ids {
+        begin_one(factory, table, rows, label, *id, parts, failed);
     }
 }
 
 /// Tells the table that parts have ended.
-fn end_all(table: &mut ScanTable, parts: &[PartId])
-    ensures { table.new ≡ after_ends parts.now table.old }
+fn end_all(table: &mut ScanTable, ids: &[PartId])
+    ensures { table.new ≡ after_ends ids.now table.old }
 {
-    for part in parts {
-        table.ended(*part);
+    for id in ids {
+        table.ended(*id);
     }
 }
 
-/// Keeps the trace of the part at a place, where it has grown, and joins its thread, where it has ended. Whether it was
-/// joined.
-fn look<M: Maker + Drop, R: Threads + Wait + Clock + Copy + Drop + Send + 'static>(
-    workshop: &mut Workshop<M, R>,
+/// Joins the thread of the part at a place, where it has ended, and keeps its last trace. Nothing comes to its mailbox
+/// then, and what was lost is noted. Whether it was joined.
+fn reap<M: Maker + Drop, R: Threads + Wait + Clock + Copy + Drop + Send + 'static>(
+    factory: &mut PartFactory<M, R>,
     table: &mut ScanTable,
-    seats: &mut Vec<Seat<R>>,
+    parts: &mut Vec<Part<R>>,
     place: usize,
 ) -> bool
-    requires { place < length seats.old.items }
-    ensures seats { IsStep seats.old.items place seats.new.items }
+    requires { place < length parts.old.items }
+    ensures parts { IsStep parts.old.items place parts.new.items }
     ensures table { MatchBool result
-        ((d : SeatState) → table.new ≡ after_end table.old (slice_index_or seats.old.items place d).part)
+        ((d : HostPart) → table.new ≡ after_end table.old (slice_index_or parts.old.items place d).id)
         (table.new ≡ table.old) }
-    ensures ran { result ≡ true → (d : SeatState) → (slice_index_or seats.old.items place d).has_ended ≡ false }
+    ensures ran { result ≡ true → (d : HostPart) → (slice_index_or parts.old.items place d).has_ended ≡ false }
 {
-    let seat = &mut seats[place];
-    let ends = seat.is_to_be_joined();
-    workshop.keep_trace(seat);
+    let part = &mut parts[place];
+    let ends = part.is_to_be_joined();
     if ends {
-        seat.join(&workshop.rt);
-        let part = seat.part();
-        table.ended(part);
-        workshop.maker.ended(part);
+        part.join(&factory.rt, factory.alloc);
+        let has_trace = factory.keep_trace(part);
+        let id = part.id();
+        table.ended(id);
+        factory.maker.ended(id);
+        part.note_loss(&factory.rt, factory.rooms.mail, has_trace);
     }
     ends
 }
 
-/// Joins the threads of the parts that have ended, and keeps the traces that have grown.
+/// Joins the threads of the parts that have ended.
 fn collect<M: Maker + Drop, R: Threads + Wait + Clock + Copy + Drop + Send + 'static>(
-    workshop: &mut Workshop<M, R>,
+    factory: &mut PartFactory<M, R>,
     table: &mut ScanTable,
-    seats: &mut Vec<Seat<R>>,
+    parts: &mut Vec<Part<R>>,
 )
-    ensures { AreCollected table.old seats.old.items table.new seats.new.items }
+    ensures { AreCollected table.old parts.old.items table.new parts.new.items }
 {
-    for place in 0..seats.len() {
-        look(workshop, table, seats, place);
+    for place in 0..parts.len() {
+        reap(factory, table, parts, place);
+    }
+}
+
+/// Keeps the trace of the part at a place, where that has grown.
+fn keep_trace<M: Maker + Drop, R: Threads + Wait + Clock + Copy + Drop + Send + 'static>(
+    factory: &mut PartFactory<M, R>,
+    parts: &mut Vec<Part<R>>,
+    place: usize,
+)
+    requires { place < length parts.old.items }
+    ensures { IsStep parts.old.items place parts.new.items }
+{
+    let part = &mut parts[place];
+    factory.keep_trace(part);
+}
+
+/// Keeps the traces that have grown.
+fn keep_traces<M: Maker + Drop, R: Threads + Wait + Clock + Copy + Drop + Send + 'static>(
+    factory: &mut PartFactory<M, R>,
+    parts: &mut Vec<Part<R>>,
+)
+    ensures { GoOn parts.old.items parts.new.items }
+{
+    for place in 0..parts.len() {
+        keep_trace(factory, parts, place);
     }
 }
 
 /// One scan of a host.
 fn run_scan<M: Maker + Drop, R: Threads + Wait + Clock + Copy + Drop + Send + 'static>(
-    workshop: &mut Workshop<M, R>,
+    factory: &mut PartFactory<M, R>,
     table: &mut ScanTable,
-    seats: &mut Vec<Seat<R>>,
+    parts: &mut Vec<Part<R>>,
     rows: &[DirRow],
     label: Label,
 ) -> Result<HostOut, ScanFault>
     ensures scanned { IfOk result (λ out.
-        IsScanned (host_of table.old seats.old.items) rows.now label out (host_of table.new seats.new.items)) }
+        IsScanned (host_of table.old parts.old.items) rows.now label out (host_of table.new parts.new.items)) }
     ensures table { OnErr result (table.new ≡ table.old) }
-    ensures seats { OnErr result (seats.new.items ≡ seats.old.items) }
+    ensures parts { OnErr result (parts.new.items ≡ parts.old.items) }
     ensures cause { IfErr result (λ fault. IsCause table.new rows.now fault) }
 {
     if let Err(fault) = table.check(rows) {
         return Err(fault);
     }
-    let Ok(found) = scan(workshop.alloc, table, rows, seats) else {
+    let Ok(found) = scan(factory.alloc, table, rows, parts) else {
         return Err(ScanFault::OutOfMemory);
     };
     let Scanned {
         table: next,
         scan,
-        parts,
+        ids,
         mut failed,
     } = found;
     *table = next;
-    take_away(workshop, seats, &scan);
-    begin_all(workshop, table, rows, label, &parts, seats, &mut failed);
+    take_away(factory, parts, &scan);
+    begin_all(factory, table, rows, label, &ids, parts, &mut failed);
     end_all(table, &failed);
     Ok(HostOut {
         scan,
@@ -260,9 +286,10 @@ fn run_scan<M: Maker + Drop, R: Threads + Wait + Clock + Copy + Drop + Send + 's
 
 impl<M: Maker + Drop, R: Threads + Wait + Clock + Copy + Drop + Send + 'static> Host<M, R> {
     ghost use Rattle.std.specs.Prelude.{◌≡◌, ◌↔◌, ◌<◌, ◌≤◌, [], Err, IfOk, IfErr, OnErr, MatchOption};
-    ghost use Rattle.scan_table.specs.Table.{new_table};
-    ghost use Rattle.svc_host.specs.Seats.{GoOn, IsNowhere, IsPost, IsReading, count_running};
-    ghost use Rattle.svc_host.specs.Rounds.{Collected, HostState, IsCause, IsRound, IsScanned};
+    ghost use Rattle.std.specs.Prelude.{⊤, IfSome, option_copied, option_map};
+    ghost use Rattle.scan_table.specs.Table.{name_of, new_table, slot_at};
+    ghost use Rattle.svc_host.specs.Parts.{AllTold, IsNowhere, IsPost, IsReading, IsToldLoss, count_running};
+    ghost use Rattle.svc_host.specs.Rounds.{Collected, HostState, IsCause, IsScanned};
     ghost use Rattle.scan_table.specs.Whole.{is_whole};
 
     /// A host without parts, over a maker. Each part gets a mailbox with room for so many control bytes and a trace of
@@ -276,44 +303,44 @@ impl<M: Maker + Drop, R: Threads + Wait + Clock + Copy + Drop + Send + 'static> 
     ) -> Result<Host<M, R>, AllocError>
         requires mail { 0 < mail_capacity }
         requires trace { (0 < trace_capacity) × (trace_capacity ≤ 65536) }
-        ensures { IfOk result (λ host. host ≡ record { table = new_table 0; seats = [] }) }
+        ensures { IfOk result (λ host. host ≡ record { table = new_table 0; parts = [] }) }
     {
         Ok(Host {
-            workshop: Workshop {
+            factory: PartFactory {
                 rt,
                 alloc,
                 maker,
                 pairs: Vec::new(alloc),
-                bell: Arc::new(alloc, Bell::new())?,
+                notifier: Arc::new(alloc, Notifier::new())?,
                 rooms: Rooms {
                     mail: mail_capacity,
                     trace: trace_capacity,
                 },
             },
             table: ScanTable::new(alloc, 0)?,
-            seats: Vec::new(alloc),
+            parts: Vec::new(alloc),
         })
     }
 
     /// Posts a control byte to a part. `NoSuchPart` exactly where it is not there; `Full` where its mailbox is.
-    pub fn post(&mut self, part: PartId, byte: u8) -> Result<(), PostFault>
-        ensures there { (result ≡ Err PostFault.NoSuchPart) ↔ IsNowhere part self.old.seats }
-        ensures posted { IfOk result (λ _. IsPost self.old.seats part byte self.new.seats) }
+    pub fn post(&mut self, id: PartId, byte: u8) -> Result<(), PostFault>
+        ensures there { (result ≡ Err PostFault.NoSuchPart) ↔ IsNowhere id self.old.parts }
+        ensures posted { IfOk result (λ _. IsPost self.old.parts id byte self.new.parts) }
         ensures table { self.new.table ≡ self.old.table }
         ensures unchanged { OnErr result (self.new ≡ self.old) }
     {
-        post_to(&self.workshop.rt, &mut self.seats, part, byte)
+        post_to(&self.factory.rt, &mut self.parts, id, byte)
     }
 
     /// What the status record of a part tells: none exactly where the part is not there, else after what was read of
     /// its events, which begin with all that was read of them before.
-    pub fn status(&mut self, part: PartId) -> Option<View>
+    pub fn status(&mut self, id: PartId) -> Option<View>
         ensures table { self.new.table ≡ self.old.table }
-        ensures seats { GoOn self.old.seats self.new.seats }
-        ensures there { MatchOption result (IsNowhere part self.old.seats)
-            (λ view. IsReading part self.new.seats view) }
+        ensures parts { GoOn self.old.parts self.new.parts }
+        ensures there { MatchOption result (IsNowhere id self.old.parts)
+            (λ view. IsReading id self.new.parts view) }
     {
-        status_of(&mut self.seats, part)
+        status_of(&mut self.parts, id)
     }
 
     /// Asks the maker for something. The parts are as they were.
@@ -321,19 +348,27 @@ impl<M: Maker + Drop, R: Threads + Wait + Clock + Copy + Drop + Send + 'static> 
         requires { F.IsAlwaysCallable ask }
         ensures { self.new ≡ self.old }
     {
-        ask(&mut self.workshop.maker)
+        ask(&mut self.factory.maker)
     }
 
     /// Rests until a part has ended, and no longer than so long. It may come back early.
     pub fn rest(&self, longest: Duration) {
-        self.workshop.bell.rest(&self.workshop.rt, Some(longest));
+        self.factory.notifier.wait(&self.factory.rt, Some(longest));
     }
 
-    /// Joins the threads of the parts that have ended since the last time, and keeps the traces that have grown.
+    /// Keeps the traces that have grown, of the services that run.
+    pub fn keep_traces(&mut self)
+        ensures table { self.new.table ≡ self.old.table }
+        ensures parts { GoOn self.old.parts self.new.parts }
+    {
+        keep_traces(&mut self.factory, &mut self.parts);
+    }
+
+    /// Joins the threads of the parts that have ended since the last time, and keeps their last traces.
     pub fn collect(&mut self)
         ensures { Collected self.old self.new }
     {
-        collect(&mut self.workshop, &mut self.table, &mut self.seats);
+        collect(&mut self.factory, &mut self.table, &mut self.parts);
     }
 
     /// Whether there is a service of this name, and no part of it has ended, as far as threads were joined. Then a scan
@@ -354,53 +389,58 @@ impl<M: Maker + Drop, R: Threads + Wait + Clock + Copy + Drop + Send + 'static> 
         ensures cause { IfErr result (λ fault. IsCause self.new.table rows.now fault) }
     {
         run_scan(
-            &mut self.workshop,
+            &mut self.factory,
             &mut self.table,
-            &mut self.seats,
+            &mut self.parts,
             rows,
             label,
         )
     }
 
-    /// One round. The threads of the parts that have ended are joined, and then the rows of the folder are scanned.
-    ///
-    /// At a fault of the scan the joins stand.
-    pub fn round(&mut self, rows: &[DirRow], label: Label) -> Result<HostOut, ScanFault>
-        ensures round { IfOk result (λ out. IsRound self.old rows.now label out self.new) }
-        ensures refused { OnErr result (Collected self.old self.new) }
-        ensures cause { IfErr result (λ fault. IsCause self.new.table rows.now fault) }
+    /// What a part lost at its end, which is told by this, once. None: all that was lost is told.
+    pub fn take_loss(&mut self) -> Option<(PartId, Loss)>
+        ensures none { MatchOption result (AllTold self.old.parts) (λ _. ⊤) }
+        ensures same { MatchOption result (self.new ≡ self.old) (λ _. ⊤) }
+        ensures told { IfSome result (λ lost. IsToldLoss self.old.parts lost.0 lost.1 self.new.parts) }
+        ensures table { self.new.table ≡ self.old.table }
     {
-        self.collect();
-        self.scan(rows, label)
+        take_loss(&mut self.parts)
+    }
+
+    /// The name of the service in a slot.
+    pub fn name(&self, slot: u64) -> Option<&Name>
+        ensures { option_copied result ≡ option_map name_of (slot_at self.now.table.slots slot) }
+    {
+        self.table.name(slot)
     }
 
     /// Ends all services: each is sent `d` and `x`, and once all have ended, their threads are joined. It answers how
     /// many there were.
     pub fn finish(self) -> u64
-        ensures { result ≡ count_running self.seats }
+        ensures { result ≡ count_running self.parts }
     {
         let mut host = self;
-        let count = running(&host.seats);
+        let count = running(&host.parts);
         host.end_services();
-        host.workshop.forget_all();
+        host.factory.forget_all();
         count as u64
     }
 
     // Sends to each part what ends it, until all have ended.
     fn end_services(&mut self) {
-        let rt = self.workshop.rt;
+        let rt = self.factory.rt;
         for _ in rt.forever() {
-            let told = tell_end(&rt, &mut self.seats);
+            let all_posted = post_end(&rt, &mut self.parts);
             self.collect();
-            if running(&self.seats) == 0 {
+            if running(&self.parts) == 0 {
                 return;
             }
-            let longest = if told {
+            let longest = if all_posted {
                 None
             } else {
                 Some(Duration::from_millis(SHORT_MILLIS))
             };
-            self.workshop.bell.rest(&rt, longest);
+            self.factory.notifier.wait(&rt, longest);
         }
     }
 }

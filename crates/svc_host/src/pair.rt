@@ -3,8 +3,8 @@ ghost use Rattle.std.specs.Prelude.{◌≡◌, ◌<◌, [], IfSome};
 ghost use Rattle.svc_mail.specs.Ends.{posted, taken_by};
 
 use crate::ends::open_box;
-use crate::line::PairLine;
 use crate::maker::{Maker, Outlets};
+use crate::shared::PairShared;
 use std::alloc::{AllocError, Global};
 use std::io::{BufReader, Read};
 use std::sync::{Arc, Wait};
@@ -29,7 +29,7 @@ const BLOCK: usize = 32_768;
 struct Taking<D: Read + Drop> {
     output: BufReader<D>,
     sender: Sender<Piece>,
-    line: Arc<PairLine, Global>,
+    shared: Arc<PairShared, Global>,
     ghost unposted: { posted sender ≡ [] },
 }
 
@@ -38,7 +38,7 @@ struct Taking<D: Read + Drop> {
 struct Putting<S: Drop> {
     receiver: Receiver<Piece>,
     outlets: S,
-    line: Arc<PairLine, Global>,
+    shared: Arc<PairShared, Global>,
     ghost untaken: { taken_by receiver ≡ [] },
 }
 
@@ -47,17 +47,17 @@ fn take_in<D: Read + Drop, R: Wait>(rt: &R, task: Taking<D>) {
     let Taking {
         output,
         sender,
-        line,
+        shared,
     } = task;
     let mut intake = Intake::new(Input::new(output), sender);
     for _ in rt.forever() {
         match intake.turn(rt) {
-            Ok(IntakeTurn::Moved(_)) => line.filled.ring(),
+            Ok(IntakeTurn::Moved(_)) => shared.filled.notify(),
             Ok(IntakeTurn::Idle) => {
-                if line.leaves() {
+                if shared.leaves() {
                     return;
                 }
-                line.emptied.rest(rt, None);
+                shared.emptied.wait(rt, None);
             }
             Ok(IntakeTurn::Ended) | Err(_) => return,
         }
@@ -68,7 +68,7 @@ fn take_in<D: Read + Drop, R: Wait>(rt: &R, task: Taking<D>) {
 fn next_outlet<O: Outlet + Drop, S: Outlets<O>, R: Wait>(
     rt: &R,
     outlets: &mut S,
-    line: &PairLine,
+    shared: &PairShared,
 ) -> Option<O>
     ensures { IfSome result (λ outlet. IfSome (O.bytes outlet) (λ bytes. bytes ≡ [])) }
 {
@@ -76,10 +76,10 @@ fn next_outlet<O: Outlet + Drop, S: Outlets<O>, R: Wait>(
         if let Some(outlet) = outlets.next() {
             return Some(outlet);
         }
-        if line.leaves() {
+        if shared.leaves() {
             return None;
         }
-        line.filled.rest(rt, None);
+        shared.filled.wait(rt, None);
     }
     unreachable!()
 }
@@ -89,22 +89,22 @@ fn put_out<O: Outlet + Drop, S: Outlets<O> + Drop, R: Wait>(rt: &R, task: Puttin
     let Putting {
         receiver,
         mut outlets,
-        line,
+        shared,
     } = task;
-    let Some(first) = next_outlet::<O, S, R>(rt, &mut outlets, &line) else {
+    let Some(first) = next_outlet::<O, S, R>(rt, &mut outlets, &shared) else {
         return;
     };
     let mut relay = Relay::new(receiver, first);
     for _ in rt.forever() {
         match relay.turn(rt) {
-            RelayTurn::Moved(_) => line.emptied.ring(),
+            RelayTurn::Moved(_) => shared.emptied.notify(),
             RelayTurn::Idle => {
-                if line.leaves() {
+                if shared.leaves() {
                     return;
                 }
-                line.filled.rest(rt, None);
+                shared.filled.wait(rt, None);
             }
-            RelayTurn::Broken => match next_outlet::<O, S, R>(rt, &mut outlets, &line) {
+            RelayTurn::Broken => match next_outlet::<O, S, R>(rt, &mut outlets, &shared) {
                 Some(outlet) => drop(relay.replace(outlet)),
                 None => return,
             },
@@ -112,11 +112,11 @@ fn put_out<O: Outlet + Drop, S: Outlets<O> + Drop, R: Wait>(rt: &R, task: Puttin
     }
 }
 
-/// A pair whose threads stand.
+/// A pair whose threads run.
 #[derive(Drop)]
 pub(crate) struct Pair {
     pub(crate) slot: u64,
-    line: Arc<PairLine, Global>,
+    shared: Arc<PairShared, Global>,
 }
 
 impl Pair {
@@ -130,20 +130,20 @@ impl Pair {
     ) -> Option<Pair>
         requires { 0 < capacity }
     {
-        let line = Arc::new(alloc, PairLine::new(alloc).ok()?).ok()?;
+        let shared = Arc::new(alloc, PairShared::new(alloc).ok()?).ok()?;
         let (sender, receiver) = open_box(alloc, capacity)?;
-        let (output, outlets) = maker.pair(slot, Arc::try_clone(&line.filled).ok()?)?;
+        let (output, outlets) = maker.pair(slot, Arc::try_clone(&shared.filled).ok()?)?;
         let taking = Taking {
             output: BufReader::with_capacity(alloc, BLOCK, output).ok()?,
             sender,
-            line: Arc::try_clone(&line).ok()?,
+            shared: Arc::try_clone(&shared).ok()?,
         };
         let putting = Putting {
             receiver,
             outlets,
-            line: Arc::try_clone(&line).ok()?,
+            shared: Arc::try_clone(&shared).ok()?,
         };
-        let pair = Pair { slot, line };
+        let pair = Pair { slot, shared };
         Builder::new()
             .stack_size(STACK)
             .spawn(
@@ -163,6 +163,6 @@ impl Pair {
 
     /// Both threads end.
     pub(crate) fn leave(&self) {
-        self.line.leave();
+        self.shared.leave();
     }
 }

@@ -1,24 +1,24 @@
 //! A service that runs, as the host knows it.
 ghost use Rattle.std.specs.Prelude.{◌≡◌, ◌+◌, ◌≤◌, [], length, vec_capacity, IfSome};
-ghost use Rattle.svc_station.specs.Parking.{GoesOn, writer_in};
+ghost use Rattle.svc_station.specs.Parking.{writer_in};
+ghost use Rattle.svc_host.specs.Served.{ServesOut};
 ghost use mathlib.Core.List.{IsPrefix};
 ghost use Rattle.svc_station.specs.Ends.{AreNewReaders, IsNewReader, known_to, number_of, reader_station, station};
 
-use crate::line::Line;
-use crate::service::{Task, serve};
-use crate::stand::Last;
+use crate::part_thread::Last;
+use crate::service::{Served, ServesToItsEnd, Task, serve};
+use crate::shared::PartShared;
 use std::alloc::Global;
 use std::sync::{Arc, Wait};
 use std::thread::{Builder, PromisedHandle, Threads};
 use std::time::Clock;
 use svc_house::{Gate, World};
-use svc_station::parked::{Parked, SameStation};
 use svc_station::reader::Reader;
 use svc_station::writer::Writer;
 
 /// The reader of a station of one reader, and the vector in which it goes back.
 #[derive(Drop)]
-pub(crate) struct Eye {
+pub(crate) struct StatusReader {
     pub(crate) reader: Reader,
     room: Vec<Reader>,
     ghost empty: { room.items ≡ [] },
@@ -28,23 +28,23 @@ pub(crate) struct Eye {
 }
 
 /// The reader of a station that was just opened.
-pub(crate) fn eye_of(mut readers: Vec<Reader>, writer: &Writer) -> Eye
+pub(crate) fn status_reader_of(mut readers: Vec<Reader>, writer: &Writer) -> StatusReader
     requires one { (length readers.items ≡ 1) × ((station writer.now).readers ≡ 1) }
     requires new { AreNewReaders (station writer.now) readers.items }
     ensures { IsNewReader (station writer.now) 0 result.reader }
 {
     let reader = readers.pop().unwrap();
-    Eye {
+    StatusReader {
         reader,
         room: readers,
     }
 }
 
 /// Ends a station of one reader.
-pub(crate) fn end<R: Wait>(rt: &R, writer: Writer, eye: Eye)
-    requires { reader_station eye.reader ≡ station writer }
+pub(crate) fn end<R: Wait>(rt: &R, writer: Writer, status_reader: StatusReader)
+    requires { reader_station status_reader.reader ≡ station writer }
 {
-    let Eye { reader, mut room } = eye;
+    let StatusReader { reader, mut room } = status_reader;
     room.push_reserved(reader);
     writer.end(rt, room);
 }
@@ -52,10 +52,10 @@ pub(crate) fn end<R: Wait>(rt: &R, writer: Writer, eye: Eye)
 /// A service in a thread of its own.
 #[derive(Drop)]
 pub(crate) struct Running<R: Wait + Drop> {
-    pub(crate) eye: Eye,
-    pub(crate) line: Arc<Line, Global>,
-    thread: PromisedHandle<Parked<R>, SameStation<R>>,
-    ghost home: { station (writer_in thread.promise.went.value) ≡ reader_station eye.reader },
+    pub(crate) status_reader: StatusReader,
+    pub(crate) shared: Arc<PartShared, Global>,
+    thread: PromisedHandle<Served<R>, ServesToItsEnd<R>>,
+    ghost home: { station (writer_in thread.promise.went.value) ≡ reader_station status_reader.reader },
 }
 
 impl<R: Threads + Wait + Clock + Copy + Drop + Send + 'static> Running<R> {
@@ -63,45 +63,57 @@ impl<R: Threads + Wait + Clock + Copy + Drop + Send + 'static> Running<R> {
     pub(crate) fn start<W: World + Drop + Send + 'static, G: Gate + Drop + Send + 'static>(
         rt: R,
         task: Task<W, G, R>,
-        eye: Eye,
-        line: Arc<Line, Global>,
+        status_reader: StatusReader,
+        shared: Arc<PartShared, Global>,
     ) -> Option<Running<R>>
-        requires { reader_station eye.reader ≡ station (writer_in task.parked) }
-        ensures { IfSome result (λ running. running.eye ≡ eye) }
+        requires { reader_station status_reader.reader ≡ station (writer_in task.parked) }
+        ensures { IfSome result (λ running. running.status_reader ≡ status_reader) }
     {
-        let promise = SameStation::of(&task.parked);
+        let promise = ServesToItsEnd::of(&task.parked);
         let spawned = Builder::new().stack_size(1).spawn_with(
             &rt,
             promise,
-            move || -> Parked<R>
-                ensures { GoesOn (writer_in task.parked) (writer_in result) }
+            move || -> Served<R>
+                ensures { ServesOut (writer_in task.parked) result }
             { serve(rt, task) },
         );
         match spawned {
-            Ok(thread) => Some(Running { eye, line, thread }),
+            Ok(thread) => Some(Running {
+                status_reader,
+                shared,
+                thread,
+            }),
             Err(refused) => {
-                line.stay_out();
-                let writer = (refused.value)().into_writer();
-                end(&rt, writer, eye);
+                shared.stay_out();
+                end(&rt, (refused.value)().into_writer(), status_reader);
                 None
             }
         }
     }
 
-    /// Joins the thread of a service that has ended, and ends its station: what its reader knows then.
-    pub(crate) fn join(self, rt: &R) -> Last
-        ensures home { reader_station result.reader.value ≡ reader_station self.eye.reader }
-        ensures known { IsPrefix (known_to self.eye.reader) (known_to result.reader.value) }
+    /// Joins the thread of a service that has ended, and ends its station: what its reader knows then, which is all
+    /// that was ever published there.
+    pub(crate) fn join(self, rt: &R, alloc: Global) -> Last
+        ensures home { reader_station result.reader.value ≡ reader_station self.status_reader.reader }
+        ensures known { IsPrefix (known_to self.status_reader.reader) (known_to result.reader.value) }
+        ensures untaken { result.untaken ≡ 0 }
     {
         let Running {
-            mut eye,
-            line: _line,
+            mut status_reader,
+            shared: _shared,
             thread,
         } = self;
-        let mut writer = thread.join(rt).into_writer();
-        eye.reader.learn(writer.tell());
-        let last = Last::of(&mut eye.reader);
-        end(rt, writer, eye);
+        let (parked, receiver) = match thread.join(rt) {
+            Served::Gone(parked, receiver) => (parked, receiver),
+            // A service that has a thread begins.
+            Served::NotBegun(_parked) => {
+                for _ in rt.forever() {}
+                unreachable!()
+            }
+        };
+        let mut writer = parked.into_writer();
+        let last = Last::of(alloc, &mut status_reader.reader, &mut writer, receiver);
+        end(rt, writer, status_reader);
         last
     }
 }

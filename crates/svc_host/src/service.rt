@@ -1,24 +1,27 @@
 //! The thread of a service.
 ghost use Rattle.std.specs.Prelude.{◌≡◌, []};
 ghost use mathlib.Core.List.{IsPrefix};
-ghost use Rattle.sup_core.specs.declared.machine.Phase.{Phase};
+ghost use Rattle.tai_status.specs.declared.phase.Phase.{Phase};
 ghost use Rattle.sup_core.specs.History.{Begin, state_of};
-ghost use Rattle.svc_house.specs.Calls.{Grew, told};
+ghost use Rattle.svc_house.specs.Calls.{ExtendedWhileKept, told};
 ghost use Rattle.sup_core.specs.Rules.{asks_of_begin};
 ghost use Rattle.svc_station.specs.Ends.{opening_of, published, station};
-ghost use Rattle.svc_station.specs.Parking.{GoesOn, writer_in};
+ghost use Rattle.svc_station.specs.Parking.{writer_in};
 ghost use Rattle.svc_mail.specs.Ends.{taken_by};
 ghost use Rattle.svc_host.specs.Answers.{answered};
+ghost use Rattle.svc_host.specs.Served.{ServesOut};
 ghost use Rattle.svc_house.specs.Turn.{IsSameHouse, phase_in};
 
-use crate::line::Line;
 use crate::rest::rest_before;
+use crate::shared::PartShared;
 use cmd_base::SystemClock;
 use std::alloc::Global;
+use std::snapshot::Snapshot;
 use std::sync::{Arc, Wait};
+use std::thread::Promise;
 use std::time::{Clock, Duration};
 use sup_core::Machine;
-use svc_house::{Bell, Gate, House, HouseFault, Inbox, MailInbox, Turned, World};
+use svc_house::{Gate, House, HouseFault, Inbox, MailInbox, Notifier, Turned, World};
 use svc_mail::receiver::Receiver;
 use svc_station::parked::Parked;
 use svc_station::writer::Writer;
@@ -34,24 +37,75 @@ pub(crate) struct Task<W: World + Drop, G: Gate + Drop, R: Wait + Drop> {
     pub(crate) receiver: Receiver<u8>,
     pub(crate) down: bool,
     pub(crate) label: Label,
-    pub(crate) line: Arc<Line, Global>,
+    pub(crate) shared: Arc<PartShared, Global>,
     ghost begun: { opening_of (writer_in parked) ≡ state_of (Begin down label) },
     ghost unpublished: { published (writer_in parked) ≡ [] },
     ghost untaken: { taken_by receiver ≡ [] },
     ghost unanswered: { answered (W.calls world) ≡ [] },
 }
 
-/// How long a service rests that found nothing: until a ring, or where it settles or rests until the end of that.
+/// What the thread of a service gives back.
+#[derive(Drop)]
+pub(crate) enum Served<R: Wait> {
+    /// The service is gone: the writer of its station, and the receiver of its mailbox.
+    Gone(Parked<R>, Receiver<u8>),
+    /// It did not begin: the writer.
+    NotBegun(Parked<R>),
+}
+
+impl<R: Wait + Drop> Served<R> {
+    ghost use Rattle.std.specs.Prelude.{◌≡◌};
+    ghost use Rattle.svc_host.specs.Served.{writer_of};
+
+    /// The writer of the station.
+    pub(crate) fn into_writer(self) -> Writer
+        ensures { result ≡ writer_of self }
+    {
+        match self {
+            Served::Gone(parked, _receiver) => parked.into_writer(),
+            Served::NotBegun(parked) => parked.into_writer(),
+        }
+    }
+}
+
+/// The writer comes back as the one that went, and the service is gone, if it began. For `spawn_with`.
+#[derive(Drop)]
+pub(crate) struct ServesToItsEnd<R: Wait> {
+    pub(crate) went: Snapshot<Parked<R>>,
+}
+
+impl<R: Wait> Promise<Served<R>> for ServesToItsEnd<R> {
+    ghost use Rattle.svc_station.specs.Parking.{writer_in};
+    ghost use Rattle.svc_host.specs.Served.{ServesOut};
+
+    ghost kept_by = { λ promise back. ServesOut (writer_in promise.went.value) back };
+}
+
+impl<R: Wait> ServesToItsEnd<R> {
+    ghost use Rattle.std.specs.Prelude.{◌≡◌};
+
+    /// The writer as it is before the thread has it.
+    pub(crate) fn of(parked: &Parked<R>) -> ServesToItsEnd<R>
+        ensures { result.went.value ≡ parked.now }
+    {
+        ServesToItsEnd {
+            went: Snapshot::of(parked),
+        }
+    }
+}
+
+/// How long a service rests that found nothing: until a notification, or where it settles or rests until the end of
+/// that.
 fn rest<W: World, I: Inbox, G: Gate + Drop, R: Wait + Clock + Copy + Drop>(
     rt: R,
     house: &House<W, I, G>,
-    bell: &Bell,
+    notifier: &Notifier,
 ) {
     match house.until() {
-        None => bell.rest(&rt, None),
+        None => notifier.wait(&rt, None),
         Some(until) => {
             let now = SystemClock::new(rt).now();
-            bell.rest(&rt, Some(Duration::from_nanos(rest_before(now, until))));
+            notifier.wait(&rt, Some(Duration::from_nanos(rest_before(now, until))));
         }
     }
 }
@@ -60,7 +114,7 @@ fn rest<W: World, I: Inbox, G: Gate + Drop, R: Wait + Clock + Copy + Drop>(
 fn run<W: World, I: Inbox, G: Gate + Drop, R: Wait + Clock + Copy + Drop>(
     rt: R,
     house: &mut House<W, I, G>,
-    bell: &Bell,
+    notifier: &Notifier,
 )
     ensures same { IsSameHouse house.old house.new }
     ensures more { IsPrefix house.old.events house.new.events }
@@ -70,8 +124,8 @@ fn run<W: World, I: Inbox, G: Gate + Drop, R: Wait + Clock + Copy + Drop>(
         match house.turn(&rt) {
             Ok(Turned::Took(_)) => {}
             Ok(Turned::Ended) => return,
-            Ok(Turned::Idle) => rest(rt, house, bell),
-            Err(HouseFault::OutOfMemory) => bell.rest(&rt, Some(Duration::from_millis(1))),
+            Ok(Turned::Idle) => rest(rt, house, notifier),
+            Err(HouseFault::OutOfMemory) => notifier.wait(&rt, Some(Duration::from_millis(1))),
         }
     }
 }
@@ -89,20 +143,21 @@ fn open<W: World + Drop, G: Gate + Drop>(
     requires unpublished { published writer ≡ [] }
     requires untaken { taken_by receiver ≡ [] }
     requires unanswered { answered (W.calls world) ≡ [] }
-    ensures asks { Grew (W.calls world) result.calls (told (asks_of_begin (Begin down label))) }
+    ensures asks { ExtendedWhileKept (W.calls world) result.calls (told (asks_of_begin (Begin down label))) }
     ensures station { (result.station ≡ station writer) × (result.events ≡ []) }
 {
     let (_machine, first) = Machine::begin(down, label);
     House::open(world, MailInbox::new(receiver), gate, writer, first)
 }
 
-/// The life of a service in its thread. It ends once the service is gone, and gives the writer of its station back. A
-/// task that stays out gives it back at once.
+/// The life of a service in its thread. It ends once the service is gone, and gives back the writer of its station, and
+/// the receiver of its mailbox, which took the control bytes of its whole history. A task that stays out gives the
+/// writer back at once.
 pub(crate) fn serve<W: World + Drop, G: Gate + Drop, R: Wait + Clock + Copy + Drop>(
     rt: R,
     task: Task<W, G, R>,
-) -> Parked<R>
-    ensures { GoesOn (writer_in task.parked) (writer_in result) }
+) -> Served<R>
+    ensures { ServesOut (writer_in task.parked) result }
 {
     let Task {
         parked,
@@ -111,14 +166,14 @@ pub(crate) fn serve<W: World + Drop, G: Gate + Drop, R: Wait + Clock + Copy + Dr
         receiver,
         down,
         label,
-        line,
+        shared,
     } = task;
-    if line.stays_out() {
-        return parked;
+    if shared.stays_out() {
+        return Served::NotBegun(parked);
     }
     let mut house = open(world, receiver, gate, parked.into_writer(), down, label);
-    run(rt, &mut house, &line.bell);
-    let (_world, _inbox, writer, _hand) = house.take_apart();
-    line.end();
-    Parked::new(writer, rt)
+    run(rt, &mut house, &shared.notifier);
+    let (writer, receiver) = house.leave();
+    shared.end();
+    Served::Gone(Parked::new(writer, rt), receiver)
 }

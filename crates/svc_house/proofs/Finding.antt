@@ -4,26 +4,26 @@ use Rattle.std.proofs.lemmas.List.{append-nil}
 use Rattle.tai_status.specs.Label.{Tai64n}
 use Rattle.sup_core.specs.declared.event.Event.{Event}
 use Rattle.sup_core.specs.declared.event.Event.TheVariants.{Byte, Started, StartFailed, Death, Clock}
-use Rattle.sup_core.specs.declared.machine.Phase.{Phase}
-use Rattle.sup_core.specs.declared.machine.Phase.TheVariants as phase
+use Rattle.tai_status.specs.declared.phase.Phase.{Phase}
+use Rattle.tai_status.specs.declared.phase.Phase.TheVariants as phase
 use Rattle.sup_core.specs.State.{State}
 use Rattle.sup_core.specs.History.{History, Then, pid_of, phase_of, state_of, until_of}
 use Rattle.sup_core.specs.Rules.{is_taken}
 use Rattle.sup_core.specs.Runs.{AreTaken}
 use Rattle.svc_house.specs.declared.call.Call.{Call}
 use Rattle.svc_house.specs.declared.call.Call.TheVariants.{NoStart, NoDeath, Read}
-use Rattle.svc_house.specs.declared.hand.Hand.{Hand}
-use Rattle.svc_house.specs.declared.hand.Hand.TheVariants.{Empty, One, ByteThenDeath}
-use Rattle.svc_house.specs.Calls.{Grew, answers_in, bytes_in, outcomes_in, polls_before, polls_for, readings_in, IsLastReading}
+use Rattle.svc_house.specs.declared.pending.Pending.{Pending}
+use Rattle.svc_house.specs.declared.pending.Pending.TheVariants.{Empty, One, ByteThenDeath}
+use Rattle.svc_house.specs.Calls.{ExtendedWhileKept, answers_in, bytes_in, outcomes_in, polls_before, polls_for, readings_in, IsLastReading}
 use Rattle.svc_house.specs.Find.{IsReady}
-use Rattle.svc_house.specs.Hand.{events_in}
+use Rattle.svc_house.specs.Pending.{events_in}
 use Rattle.svc_house.specs.Standing.{HoldsLastReading}
 use Rattle.svc_house.specs.Turn.{PolledInVain}
-use Rattle.svc_house.proofs.Lists.{bytes_in-append, outcomes_in-append, answers-grew, readings_in-append}
+use Rattle.svc_house.proofs.Lists.{bytes_in-append, outcomes_in-append, answers-extended, readings_in-append}
 
 -- The control bytes
 
-pub look_bytes : (events : List Event) (found : Hand) (before after : List ℕ) → bytes_in (events ++ []) ≡ before
+pub look_bytes : (events : List Event) (found : Pending) (before after : List ℕ) → bytes_in (events ++ []) ≡ before
     → after ≡ before ++ bytes_in (events_in found) → bytes_in (events ++ events_in found) ≡ after
 look_bytes events found before after known more =
     bytes_in-append events (events_in found)
@@ -45,7 +45,7 @@ event-found (StartFailed label) phase = refl
 event-found (Death label) phase = refl
 event-found (Clock label) phase = refl
 
-polls-found : (found : Hand) (phase : Phase) → outcomes_in (events_in found) ≡ answers_in (polls_before found phase)
+polls-found : (found : Pending) (phase : Phase) → outcomes_in (events_in found) ≡ answers_in (polls_before found phase)
 polls-found Empty phase = refl
 polls-found (One event) phase = event-found event phase
 polls-found (ByteThenDeath byte label) phase = refl
@@ -59,21 +59,21 @@ polls-vain : (phase : Phase) (until : Option Tai64n) (old new : Option (List Cal
     → PolledInVain phase until old new → IfSome old (λ calls. events ≡ answers_in calls)
     → IfSome new (λ calls. events ≡ answers_in calls)
 polls-vain phase.Starting until old new events vain known =
-    answers-grew old new (NoStart ∷ []) events events vain known (sym (append-nil events))
+    answers-extended old new (NoStart ∷ []) events events vain known (sym (append-nil events))
 polls-vain phase.Settling until old new events vain known =
-    answers-grew old new (Read vain.0 ∷ []) events events vain.1 known (sym (append-nil events))
+    answers-extended old new (Read vain.0 ∷ []) events events vain.1 known (sym (append-nil events))
 polls-vain phase.Resting until old new events vain known =
-    answers-grew old new (Read vain.0 ∷ []) events events vain.1 known (sym (append-nil events))
+    answers-extended old new (Read vain.0 ∷ []) events events vain.1 known (sym (append-nil events))
 polls-vain phase.Up until old new events vain known =
-    answers-grew old new (NoDeath ∷ []) events events vain known (sym (append-nil events))
+    answers-extended old new (NoDeath ∷ []) events events vain known (sym (append-nil events))
 polls-vain phase.Down until old new events vain known = same_answers old new events vain known
 polls-vain phase.Gone until old new events vain known = same_answers old new events vain known
 
-found_outcomes : (events : List Event) (found : Hand) (phase : Phase) (old new : Option (List Call))
-    → IfSome old (λ calls. outcomes_in (events ++ []) ≡ answers_in calls) → Grew old new (polls_before found phase)
+found_outcomes : (events : List Event) (found : Pending) (phase : Phase) (old new : Option (List Call))
+    → IfSome old (λ calls. outcomes_in (events ++ []) ≡ answers_in calls) → ExtendedWhileKept old new (polls_before found phase)
     → IfSome new (λ calls. outcomes_in (events ++ events_in found) ≡ answers_in calls)
 found_outcomes events found phase old new known polls =
-    answers-grew old new (polls_before found phase) (outcomes_in (events ++ [])) (outcomes_in (events ++ events_in found)) polls known
+    answers-extended old new (polls_before found phase) (outcomes_in (events ++ [])) (outcomes_in (events ++ events_in found)) polls known
     (outcomes_in-append events (events_in found)
     ∙ ap (λ l. l ++ outcomes_in (events_in found)) (ap outcomes_in (sym (append-nil events)))
     ∙ ap (λ l. outcomes_in (events ++ []) ++ l) (polls-found found phase))
@@ -84,9 +84,9 @@ one-some event e = grind (arith, e)
 both-some : (byte : ℕ) (label : Tai64n) → ByteThenDeath byte label ≢ Empty
 both-some byte label e = grind (arith, e)
 
-pub look_outcomes : (events : List Event) (found : Hand) (phase : Phase) (until : Option Tai64n) (old new : Option (List Call))
+pub look_outcomes : (events : List Event) (found : Pending) (phase : Phase) (until : Option Tai64n) (old new : Option (List Call))
     → IfSome old (λ calls. outcomes_in (events ++ []) ≡ answers_in calls)
-    → (found ≢ Empty → Grew old new (polls_before found phase)) → (found ≡ Empty → PolledInVain phase until old new)
+    → (found ≢ Empty → ExtendedWhileKept old new (polls_before found phase)) → (found ≡ Empty → PolledInVain phase until old new)
     → IfSome new (λ calls. outcomes_in (events ++ events_in found) ≡ answers_in calls)
 look_outcomes events Empty phase until old new known polls vain =
     polls-vain phase until old new (outcomes_in (events ++ [])) (vain refl) known
@@ -110,7 +110,7 @@ both-taken past byte label runs up = (
   (tt, ap (λ p. is_taken p (until_of (Then past (Byte byte))) (Death label)) (up-stays past byte runs), tt),
 )
 
-pub look_ready : (past : History) (state : State) (found : Hand) → state ≡ state_of past → IsReady state found
+pub look_ready : (past : History) (state : State) (found : Pending) → state ≡ state_of past → IsReady state found
     → AreTaken past (events_in found)
 look_ready past state Empty same ready = tt
 look_ready past state (One event) same ready =
@@ -120,7 +120,7 @@ look_ready past state (ByteThenDeath byte label) same ready =
 
 -- Readings
 
-last_reading : (event : Event) (phase : Phase) (old new : Option (List Call)) → Grew old new (polls_for event phase)
+last_reading : (event : Event) (phase : Phase) (old new : Option (List Call)) → ExtendedWhileKept old new (polls_for event phase)
     → IfSome new (IsLastReading event)
 last_reading event phase old None found = tt
 last_reading event phase None (Some new) found = absurd found
@@ -131,8 +131,8 @@ last_reading (Started pid label) phase (Some old) (Some new) found = tt
 last_reading (StartFailed label) phase (Some old) (Some new) found = tt
 last_reading (Death label) phase (Some old) (Some new) found = tt
 
-pub look_reading : (found : Hand) (phase : Phase) (old new : Option (List Call))
-    → (found ≢ Empty → Grew old new (polls_before found phase)) → HoldsLastReading found new
+pub look_reading : (found : Pending) (phase : Phase) (old new : Option (List Call))
+    → (found ≢ Empty → ExtendedWhileKept old new (polls_before found phase)) → HoldsLastReading found new
 look_reading Empty phase old new polls = tt
 look_reading (One event) phase old new polls = last_reading event phase old new (polls (one-some event))
 look_reading (ByteThenDeath byte label) phase old new polls = tt

@@ -1,49 +1,49 @@
--- A turn, of its two halves: what was in hand, or was found, and its publication.
+-- A turn, of its two halves: what was pending, or was found, and its publication.
 use Rattle.std.proofs.Common.{◌≡◌, ◌≢◌, ℕ, Option, [], ◌∷◌, ◌++◌, Result, Ok, Err, IfSome, IfOk, OnOk, OnErr, refl, sym, ap, ◌∙◌, subst, arith}
 use Rattle.tai_status.specs.Counted.{Rose}
 use Rattle.sup_core.specs.declared.event.Event.{Event}
 use Rattle.sup_core.specs.History.{History, Opened}
 use Rattle.sup_core.specs.Rules.{asks_of}
 use Rattle.sup_core.specs.Runs.{followed_by}
-use Rattle.svc_house.specs.declared.hand.Hand.{Hand}
-use Rattle.svc_house.specs.declared.hand.Hand.TheVariants.{Empty, One, ByteThenDeath}
+use Rattle.svc_house.specs.declared.pending.Pending.{Pending}
+use Rattle.svc_house.specs.declared.pending.Pending.TheVariants.{Empty, One, ByteThenDeath}
 use Rattle.svc_house.specs.declared.turned.Turned.{Turned}
 use Rattle.svc_house.specs.declared.turned.Turned.TheVariants.{Took}
 use Rattle.svc_house.specs.declared.turned.HouseFault.{HouseFault}
-use Rattle.svc_house.specs.Calls.{Grew, told, IsLastReading}
-use Rattle.svc_house.specs.Hand.{events_in, rest_of}
+use Rattle.svc_house.specs.Calls.{ExtendedWhileKept, told, IsLastReading}
+use Rattle.svc_house.specs.Pending.{events_in, rest_of}
 use Rattle.svc_house.specs.Standing.{Standing, past_of}
 use Rattle.svc_house.specs.Turn.{phase_in, polls_of, IsAbout, IsRefused, IsSameHouse, IsTurn, Listens, PassesGate, Takes}
-use Rattle.svc_house.proofs.Grown.{grew-append}
+use Rattle.svc_house.proofs.Extended.{extended-append}
 
--- what is known once the next event of a hand was published, or there was no memory for it
+-- what is known once the next event of those pending was published, or there was no memory for it
 pub record Published {I : Type 0} (mid : Standing I) (event : Event) (result : Result Turned HouseFault) (new : Standing I) : Type 0 where
   pub took : IfOk result (λ turned. turned ≡ Took event)
   pub events : OnOk result (new.events ≡ mid.events ++ event ∷ [])
-  pub told : OnOk result (Grew mid.calls new.calls (told (asks_of (past_of mid) event)))
+  pub told : OnOk result (ExtendedWhileKept mid.calls new.calls (told (asks_of (past_of mid) event)))
   pub reading : OnOk result (IfSome new.calls (IsLastReading event))
-  pub hand : OnOk result (new.hand ≡ rest_of mid.hand)
+  pub pending : OnOk result (new.pending ≡ rest_of mid.pending)
   pub nones : OnOk result (new.nones ≡ mid.nones)
   pub gate : OnOk result (new.passes ≡ mid.passes)
   pub refused : OnErr result (new ≡ mid)
 
 -- what is known once something was found
 pub record Found {I : Type 0} (old : Standing I) (event : Event) (mid : Standing I) : Type 0 where
-  pub none : old.hand ≡ Empty
+  pub none : old.pending ≡ Empty
   pub same : IsSameHouse old mid
   pub events : mid.events ≡ old.events
-  pub next : events_in mid.hand ≡ event ∷ events_in (rest_of mid.hand)
-  pub polls : mid.hand ≢ Empty → Grew old.calls mid.calls (polls_of old mid.hand)
-  pub listens : Listens old mid.hand mid
+  pub next : events_in mid.pending ≡ event ∷ events_in (rest_of mid.pending)
+  pub polls : mid.pending ≢ Empty → ExtendedWhileKept old.calls mid.calls (polls_of old mid.pending)
+  pub listens : Listens old mid.pending mid
   pub gate : PassesGate Empty (phase_in old) old.passes mid.passes
 
-some-hand : (hand : Hand) (event : Event) → events_in hand ≡ event ∷ events_in (rest_of hand) → hand ≢ Empty
-some-hand Empty event next = λ e. grind (arith, next)
-some-hand (One one) event next = λ e. grind (arith, e)
-some-hand (ByteThenDeath byte label) event next = λ e. grind (arith, e)
+some-pending : (pending : Pending) (event : Event) → events_in pending ≡ event ∷ events_in (rest_of pending) → pending ≢ Empty
+some-pending Empty event next = λ e. grind (arith, next)
+some-pending (One one) event next = λ e. grind (arith, e)
+some-pending (ByteThenDeath byte label) event next = λ e. grind (arith, e)
 
-about-empty : (hand found : Hand) → hand ≡ Empty → IsAbout hand found
-about-empty hand found none = subst (λ (h : Hand). IsAbout h found) (sym none) tt
+about-empty : (pending found : Pending) → pending ≡ Empty → IsAbout pending found
+about-empty pending found none = subst (λ (h : Pending). IsAbout h found) (sym none) tt
 
 module _ {I : Type 0} where
   same_past : (old mid : Standing I) → IsSameHouse old mid → mid.events ≡ old.events → past_of mid ≡ past_of old
@@ -53,16 +53,16 @@ module _ {I : Type 0} where
   takes-found : (old mid new : Standing I) (event : Event) → Found old event mid → Published mid event (Ok (Took event)) new
       → Takes old event new
   takes-found old mid new event found done =
-      let asks : Grew mid.calls new.calls (told (asks_of (past_of old) event)) =
-      subst (λ (past : History). Grew mid.calls new.calls (told (asks_of past event))) (same_past old mid found.same found.events) done.told in record {
-        hand = mid.hand;
-        about = about-empty old.hand mid.hand found.none;
-        next = found.next ∙ ap (λ h. event ∷ events_in h) (sym done.hand);
+      let asks : ExtendedWhileKept mid.calls new.calls (told (asks_of (past_of old) event)) =
+      subst (λ (past : History). ExtendedWhileKept mid.calls new.calls (told (asks_of past event))) (same_past old mid found.same found.events) done.told in record {
+        pending = mid.pending;
+        about = about-empty old.pending mid.pending found.none;
+        next = found.next ∙ ap (λ h. event ∷ events_in h) (sym done.pending);
         listens = λ none bytes without. subst (λ n. Rose old.nones n) (sym done.nones) (found.listens none bytes without);
-        gate = subst (λ (t : Hand × Option ℕ). PassesGate t.0 (phase_in old) old.passes t.1) (λ i. (sym found.none i, sym done.gate i)) found.gate;
+        gate = subst (λ (t : Pending × Option ℕ). PassesGate t.0 (phase_in old) old.passes t.1) (λ i. (sym found.none i, sym done.gate i)) found.gate;
         events = done.events ∙ ap (λ l. l ++ event ∷ []) found.events;
-        calls = grew-append old.calls mid.calls new.calls (polls_of old mid.hand) (told (asks_of (past_of old) event))
-            (found.polls (some-hand mid.hand event found.next)) asks;
+        calls = extended-append old.calls mid.calls new.calls (polls_of old mid.pending) (told (asks_of (past_of old) event))
+            (found.polls (some-pending mid.pending event found.next)) asks;
         reading = done.reading;
       }
 
@@ -76,7 +76,7 @@ module _ {I : Type 0} where
         events = done.events;
         told = done.told;
         reading = done.reading;
-        hand = done.hand;
+        pending = done.pending;
         nones = done.nones;
         gate = done.gate;
         refused = tt;
@@ -88,10 +88,10 @@ module _ {I : Type 0} where
   refused-found old mid new event (Ok turned) found done = tt
   refused-found old mid new event (Err fault) found done =
       subst (λ (s : Standing I). IsRefused old s) (sym done.refused) (record {
-        about = about-empty old.hand mid.hand found.none;
-        held = some-hand mid.hand event found.next;
+        about = about-empty old.pending mid.pending found.none;
+        some = some-pending mid.pending event found.next;
         listens = found.listens;
-        gate = subst (λ (h : Hand). PassesGate h (phase_in old) old.passes mid.passes) (sym found.none) found.gate;
+        gate = subst (λ (h : Pending). PassesGate h (phase_in old) old.passes mid.passes) (sym found.none) found.gate;
         events = found.events;
-        calls = found.polls (some-hand mid.hand event found.next);
+        calls = found.polls (some-pending mid.pending event found.next);
       })

@@ -1,5 +1,5 @@
 pub mod Lists
-pub mod Grown
+pub mod Extended
 pub mod Asking
 pub mod Finding
 pub mod Publishing

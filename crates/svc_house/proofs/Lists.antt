@@ -5,7 +5,7 @@ use Rattle.sup_core.specs.declared.event.Event.{Event}
 use Rattle.sup_core.specs.declared.event.Event.TheVariants.{Byte, Started, StartFailed, Death, Clock}
 use Rattle.svc_house.specs.declared.call.Call.{Call}
 use Rattle.svc_house.specs.declared.call.Call.TheVariants.{Asked, Answered, NoStart, NoDeath, Read}
-use Rattle.svc_house.specs.Calls.{Grew, told, answers_in, bytes_in, outcomes_in, readings_in}
+use Rattle.svc_house.specs.Calls.{ExtendedWhileKept, told, answers_in, bytes_in, outcomes_in, readings_in}
 
 pub bytes_in-append : (xs ys : List Event) → bytes_in (xs ++ ys) ≡ bytes_in xs ++ bytes_in ys
 bytes_in-append [] ys = refl
@@ -48,13 +48,13 @@ readings_in-told [] = refl
 readings_in-told (ask ∷ asks) = readings_in-told asks
 
 -- What is known of the world's answers goes on with its calls.
-pub answers-grew : (old new : Option (List Call)) (more : List Call) (events others : List Event) → Grew old new more
+pub answers-extended : (old new : Option (List Call)) (more : List Call) (events others : List Event) → ExtendedWhileKept old new more
     → IfSome old (λ calls. events ≡ answers_in calls) → others ≡ events ++ answers_in more
     → IfSome new (λ calls. others ≡ answers_in calls)
-answers-grew old None more events others grew known same = tt
-answers-grew None (Some new) more events others grew known same = absurd grew
-answers-grew (Some old) (Some new) more events others grew known same =
-    same ∙ ap (λ l. l ++ answers_in more) known ∙ sym (answers_in-append old more) ∙ ap answers_in (sym grew)
+answers-extended old None more events others extended known same = tt
+answers-extended None (Some new) more events others extended known same = absurd extended
+answers-extended (Some old) (Some new) more events others extended known same =
+    same ∙ ap (λ l. l ++ answers_in more) known ∙ sym (answers_in-append old more) ∙ ap answers_in (sym extended)
 
 -- a world that has answered nothing
 pub answered-none : (calls : Option (List Call)) → IfSome calls (λ calls. answers_in calls ≡ [])

@@ -9,45 +9,45 @@ use Rattle.sup_core.specs.History.{History, Opened}
 use Rattle.sup_core.specs.Runs.{AreTaken, followed_by}
 use Rattle.sup_core.proofs.Laws.{followed_by-append}
 use Rattle.svc_house.specs.declared.call.Call.{Call}
-use Rattle.svc_house.specs.declared.hand.Hand.{Hand}
-use Rattle.svc_house.specs.declared.hand.Hand.TheVariants.{Empty, One, ByteThenDeath}
-use Rattle.svc_house.specs.Calls.{Grew, told, answers_in, outcomes_in, readings_in, IsLastReading}
-use Rattle.svc_house.specs.Hand.{events_in, rest_of}
+use Rattle.svc_house.specs.declared.pending.Pending.{Pending}
+use Rattle.svc_house.specs.declared.pending.Pending.TheVariants.{Empty, One, ByteThenDeath}
+use Rattle.svc_house.specs.Calls.{ExtendedWhileKept, told, answers_in, outcomes_in, readings_in, IsLastReading}
+use Rattle.svc_house.specs.Pending.{events_in, rest_of}
 use Rattle.svc_house.specs.Standing.{HoldsLastReading}
-use Rattle.svc_house.proofs.Lists.{answers-grew, answers_in-told, readings_in-append, readings_in-told}
+use Rattle.svc_house.proofs.Lists.{answers-extended, answers_in-told, readings_in-append, readings_in-told}
 
--- What was published, and then what is in hand, stays.
-pub found-same : (events : List Event) (event : Event) (hand : Hand) → events_in hand ≡ event ∷ events_in (rest_of hand)
-    → (events ++ event ∷ []) ++ events_in (rest_of hand) ≡ events ++ events_in hand
-found-same events event hand next =
-    append_assoc events (event ∷ []) (events_in (rest_of hand)) ∙ ap (λ l. events ++ l) (sym next)
+-- What was published, and then what is pending, stays.
+pub found-same : (events : List Event) (event : Event) (pending : Pending) → events_in pending ≡ event ∷ events_in (rest_of pending)
+    → (events ++ event ∷ []) ++ events_in (rest_of pending) ≡ events ++ events_in pending
+found-same events event pending next =
+    append_assoc events (event ∷ []) (events_in (rest_of pending)) ∙ ap (λ l. events ++ l) (sym next)
 
 pub publish_outcomes : (events after : List Event) (asks : List Ask) (old new : Option (List Call)) → after ≡ events
-    → Grew old new (told asks) → IfSome old (λ calls. outcomes_in events ≡ answers_in calls)
+    → ExtendedWhileKept old new (told asks) → IfSome old (λ calls. outcomes_in events ≡ answers_in calls)
     → IfSome new (λ calls. outcomes_in after ≡ answers_in calls)
-publish_outcomes events after asks old new same grew known =
-    answers-grew old new (told asks) (outcomes_in events) (outcomes_in after) grew known
+publish_outcomes events after asks old new same extended known =
+    answers-extended old new (told asks) (outcomes_in events) (outcomes_in after) extended known
     (ap outcomes_in same ∙ sym (append-nil (outcomes_in events)) ∙ ap (λ l. outcomes_in events ++ l) (sym (answers_in-told asks)))
 
--- What is left in hand is taken after the event.
-left_taken : (opening : State) (events : List Event) (event : Event) (hand : Hand)
-    → events_in hand ≡ event ∷ events_in (rest_of hand) → AreTaken (followed_by (Opened opening) events) (events_in hand)
-    → AreTaken (followed_by (Opened opening) (events ++ event ∷ [])) (events_in (rest_of hand))
-left_taken opening events event hand next taken =
+-- What is left pending is taken after the event.
+left_taken : (opening : State) (events : List Event) (event : Event) (pending : Pending)
+    → events_in pending ≡ event ∷ events_in (rest_of pending) → AreTaken (followed_by (Opened opening) events) (events_in pending)
+    → AreTaken (followed_by (Opened opening) (events ++ event ∷ [])) (events_in (rest_of pending))
+left_taken opening events event pending next taken =
     let past = followed_by (Opened opening) events in
-    let all : AreTaken past (event ∷ events_in (rest_of hand)) = subst (λ (l : List Event). AreTaken past l) next taken in
-    subst (λ (h : History). AreTaken h (events_in (rest_of hand))) (sym (followed_by-append (Opened opening) events (event ∷ []))) all.2
+    let all : AreTaken past (event ∷ events_in (rest_of pending)) = subst (λ (l : List Event). AreTaken past l) next taken in
+    subst (λ (h : History). AreTaken h (events_in (rest_of pending))) (sym (followed_by-append (Opened opening) events (event ∷ []))) all.2
 
-pub publish_ready : (opening other : State) (events after : List Event) (event : Event) (hand rest : Hand) → other ≡ opening
-    → after ≡ events ++ event ∷ [] → rest ≡ rest_of hand → events_in hand ≡ event ∷ events_in (rest_of hand)
-    → AreTaken (followed_by (Opened opening) events) (events_in hand)
+pub publish_ready : (opening other : State) (events after : List Event) (event : Event) (pending rest : Pending) → other ≡ opening
+    → after ≡ events ++ event ∷ [] → rest ≡ rest_of pending → events_in pending ≡ event ∷ events_in (rest_of pending)
+    → AreTaken (followed_by (Opened opening) events) (events_in pending)
     → AreTaken (followed_by (Opened other) after) (events_in rest)
-publish_ready opening other events after event hand rest same more is next taken =
-    subst (λ (t : State × List Event × Hand). AreTaken (followed_by (Opened t.0) t.1) (events_in t.2))
-    (λ i. (sym same i, sym more i, sym is i)) (left_taken opening events event hand next taken)
+publish_ready opening other events after event pending rest same more is next taken =
+    subst (λ (t : State × List Event × Pending). AreTaken (followed_by (Opened t.0) t.1) (events_in t.2))
+    (λ i. (sym same i, sym more i, sym is i)) (left_taken opening events event pending next taken)
 
--- Nothing that is left in hand is a reading.
-pub rest_reading : (hand : Hand) (calls : Option (List Call)) → HoldsLastReading (rest_of hand) calls
+-- Nothing that is left pending is a reading.
+pub rest_reading : (pending : Pending) (calls : Option (List Call)) → HoldsLastReading (rest_of pending) calls
 rest_reading Empty calls = tt
 rest_reading (One event) calls = tt
 rest_reading (ByteThenDeath byte label) None = tt
@@ -61,13 +61,13 @@ same_readings (Started pid label) old new same last = tt
 same_readings (StartFailed label) old new same last = tt
 same_readings (Death label) old new same last = tt
 
-published_reading : (event : Event) (asks : List Ask) (old new : Option (List Call)) → Grew old new (told asks)
+published_reading : (event : Event) (asks : List Ask) (old new : Option (List Call)) → ExtendedWhileKept old new (told asks)
     → IfSome old (IsLastReading event) → IfSome new (IsLastReading event)
-published_reading event asks old None grew known = tt
-published_reading event asks None (Some new) grew known = absurd grew
-published_reading event asks (Some old) (Some new) grew known =
+published_reading event asks old None extended known = tt
+published_reading event asks None (Some new) extended known = absurd extended
+published_reading event asks (Some old) (Some new) extended known =
     same_readings event old new
-    (ap readings_in grew ∙ readings_in-append old (told asks) ∙ ap (λ l. readings_in old ++ l) (readings_in-told asks) ∙ append-nil (readings_in old)) known
+    (ap readings_in extended ∙ readings_in-append old (told asks) ∙ ap (λ l. readings_in old ++ l) (readings_in-told asks) ∙ append-nil (readings_in old)) known
 
 -- the first of two lists that are the same
 first-same : (a b : Event) (xs ys : List Event) → ◌≡◌ {A = List Event} (a ∷ xs) (b ∷ ys) → a ≡ b
@@ -80,13 +80,13 @@ byte_reading : (byte : ℕ) (calls : Option (List Call)) → IfSome calls (IsLas
 byte_reading byte None = tt
 byte_reading byte (Some calls) = tt
 
-pub publish_reading : (hand : Hand) (event : Event) (asks : List Ask) (old new : Option (List Call))
-    → events_in hand ≡ event ∷ events_in (rest_of hand) → Grew old new (told asks) → HoldsLastReading hand old
+pub publish_reading : (pending : Pending) (event : Event) (asks : List Ask) (old new : Option (List Call))
+    → events_in pending ≡ event ∷ events_in (rest_of pending) → ExtendedWhileKept old new (told asks) → HoldsLastReading pending old
     → IfSome new (IsLastReading event)
-publish_reading Empty event asks old new next grew known = absurd (none-first event [] next)
-publish_reading (One one) event asks old new next grew known =
-    published_reading event asks old new grew
+publish_reading Empty event asks old new next extended known = absurd (none-first event [] next)
+publish_reading (One one) event asks old new next extended known =
+    published_reading event asks old new extended
     (subst (λ (e : Event). IfSome old (IsLastReading e)) (first-same one event [] [] next) known)
-publish_reading (ByteThenDeath byte label) event asks old new next grew known =
+publish_reading (ByteThenDeath byte label) event asks old new next extended known =
     subst (λ (e : Event). IfSome new (IsLastReading e))
     (first-same (Byte byte) event (Death label ∷ []) (Death label ∷ []) next) (byte_reading byte new)

@@ -1,7 +1,7 @@
 -- What a reader knows of a service that is gone.
 use Rattle.std.proofs.Common.{◌≡◌, true, ap, sym, ◌∙◌}
 use mathlib.Core.List.{IsPrefix}
-use Rattle.sup_core.specs.declared.machine.Phase.TheVariants as phase
+use Rattle.tai_status.specs.declared.phase.Phase.TheVariants as phase
 use Rattle.sup_core.specs.History.{Opened, phase_of, state_of}
 use Rattle.sup_core.specs.Runs.{followed_by}
 use Rattle.sup_trace.specs.Trace.{are_taken}
@@ -22,7 +22,10 @@ whole-known note reader same gone starts taken =
     (ap (λ m. are_taken (Opened m) (known_to reader)) (opening-same note reader same) ∙ taken) gone
 
 -- So it is at the same history.
+pub same-history : (note : Note) (reader : Reader) → note_station note ≡ reader_station reader
+    → known_to reader ≡ told_by note → history_at reader ≡ history_in note
+same-history note reader same known = λ i. followed_by (Opened (sym (opening-same note reader same) i)) (known i)
+
 pub whole-history : (note : Note) (reader : Reader) → note_station note ≡ reader_station reader
     → known_to reader ≡ told_by note → state_of (history_at reader) ≡ state_of (history_in note)
-whole-history note reader same known =
-    λ i. state_of (followed_by (Opened (sym (opening-same note reader same) i)) (known i))
+whole-history note reader same known = ap state_of (same-history note reader same known)

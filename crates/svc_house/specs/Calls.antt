@@ -5,20 +5,21 @@ use Rattle.sup_core.specs.declared.asks.Ask.{Ask}
 use Rattle.sup_core.specs.declared.asks.Ask.TheVariants.{Signal}
 use Rattle.sup_core.specs.declared.event.Event.{Event}
 use Rattle.sup_core.specs.declared.event.Event.TheVariants.{Byte, Started, StartFailed, Death, Clock}
-use Rattle.sup_core.specs.declared.machine.Phase.{Phase}
-use Rattle.sup_core.specs.declared.machine.Phase.TheVariants as phase
+use Rattle.tai_status.specs.declared.phase.Phase.{Phase}
+use Rattle.tai_status.specs.declared.phase.Phase.TheVariants as phase
 use Rattle.svc_house.specs.declared.call.Call.{Call}
 use Rattle.svc_house.specs.declared.call.Call.TheVariants.{Asked, Answered, NoStart, NoDeath, Read}
 use Rattle.svc_house.specs.declared.call.StartAnswer.{StartAnswer}
 use Rattle.svc_house.specs.declared.call.StartAnswer.TheVariants as start
-use Rattle.svc_house.specs.declared.hand.Hand.{Hand}
-use Rattle.svc_house.specs.declared.hand.Hand.TheVariants.{Empty, One, ByteThenDeath}
+use Rattle.svc_house.specs.declared.pending.Pending.{Pending}
+use Rattle.svc_house.specs.declared.pending.Pending.TheVariants.{Empty, One, ByteThenDeath}
 
--- A list that is kept grew by these. It may stop to be kept, as where there is no memory for more, and is not kept again.
-abbrev pub Grew : {A : Type 0} → Option (List A) → Option (List A) → List A → Type 0
-Grew old None more = ⊤
-Grew None (Some new) more = ⊥
-Grew (Some old) (Some new) more = new ≡ old ++ more
+-- A list that is kept was extended by these. It may stop to be kept, as where there is no memory for more, and is not
+-- kept again.
+abbrev pub ExtendedWhileKept : {A : Type 0} → Option (List A) → Option (List A) → List A → Type 0
+ExtendedWhileKept old None more = ⊤
+ExtendedWhileKept None (Some new) more = ⊥
+ExtendedWhileKept (Some old) (Some new) more = new ≡ old ++ more
 
 -- A count that is kept rose by one. It goes on being kept.
 abbrev pub CountsOne : Option ℕ → Option ℕ → Type 0
@@ -32,9 +33,9 @@ unless true xs = None
 unless false xs = Some xs
 
 -- what there is, as a list
-abbrev pub held : {A : Type 0} → Option A → List A
-held None = []
-held (Some x) = x ∷ []
+abbrev pub as_list : {A : Type 0} → Option A → List A
+as_list None = []
+as_list (Some x) = x ∷ []
 
 -- Calls
 
@@ -101,8 +102,8 @@ outcomes_in (event ∷ events) = event ∷ outcomes_in events
 
 -- Polls
 
--- The calls with which one event is found. While the service is up a death is polled before a control byte is looked for;
--- while it is down no call of the world is made.
+-- The calls with which one event is found. While the service is up a death is polled before a control byte is looked
+-- for; while it is down no call of the world is made.
 abbrev pub polls_for : Event → Phase → List Call
 polls_for (Byte byte) phase.Up = NoDeath ∷ []
 polls_for (Byte byte) other = []
@@ -110,7 +111,7 @@ polls_for (Clock label) other = Read label ∷ []
 polls_for event other = Answered event ∷ []
 
 -- the calls with which this was found
-abbrev pub polls_before : Hand → Phase → List Call
+abbrev pub polls_before : Pending → Phase → List Call
 polls_before Empty phase = []
 polls_before (One event) phase = polls_for event phase
 polls_before (ByteThenDeath byte label) phase = Answered (Death label) ∷ []

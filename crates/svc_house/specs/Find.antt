@@ -1,14 +1,14 @@
 -- What a turn may find.
 use Rattle.std.specs.Prelude.{◌≡◌, ◌<◌, true, ⊤}
 use Rattle.sup_core.specs.State.{State}
-use Rattle.sup_core.specs.declared.machine.Phase.TheVariants as phase
+use Rattle.tai_status.specs.declared.phase.Phase.TheVariants as phase
 use Rattle.sup_core.specs.Rules.{IsEvent, is_taken}
-use Rattle.svc_house.specs.declared.hand.Hand.{Hand}
-use Rattle.svc_house.specs.declared.hand.Hand.TheVariants.{Empty, One, ByteThenDeath}
+use Rattle.svc_house.specs.declared.pending.Pending.{Pending}
+use Rattle.svc_house.specs.declared.pending.Pending.TheVariants.{Empty, One, ByteThenDeath}
 
--- What was found is an event that a machine takes where it stands so; a control byte and a death come together while the
--- service is up, and it has a process then.
-abbrev pub IsReady : State → Hand → Type 0
+-- What was found is an event that a machine takes where it stands so; a control byte and a death come together while
+-- the service is up, and it has a process then.
+abbrev pub IsReady : State → Pending → Type 0
 IsReady state Empty = ⊤
 IsReady state (One event) = IsEvent event × (is_taken state.phase state.until event ≡ true)
 IsReady state (ByteThenDeath byte label) = (state.phase ≡ phase.Up) × (0 < state.status.pid)

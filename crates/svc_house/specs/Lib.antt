@@ -1,6 +1,6 @@
 pub mod Calls
 pub mod Find
-pub mod Hand
+pub mod Pending
 pub mod Mail
 pub mod Standing
 pub mod Turn

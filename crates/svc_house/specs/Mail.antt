@@ -1,9 +1,9 @@
--- What an inbox over a mailbox gives, and by which sender a caller posts.
+-- What an inbox over a mailbox gives, and by which sender a control byte is posted.
 use Rattle.std.specs.Prelude.{ℕ, List, map}
 use Rattle.svc_mail.specs.declared.letter.Letter.{Letter}
 use Rattle.svc_mail.specs.declared.receiver.Receiver.{Receiver}
 use Rattle.svc_mail.specs.declared.sender.Sender.{Sender}
-use Rattle.svc_house.specs.declared.caller.Caller.{Caller}
+use Rattle.svc_house.specs.declared.control_sender.ControlSender.{ControlSender}
 use Rattle.svc_house.specs.declared.mail_inbox.MailInbox.{MailInbox}
 
 -- the items of letters, in order
@@ -15,5 +15,5 @@ abbrev pub receiver_in : {A : Type 0} → MailInbox A → Receiver ℕ A
 receiver_in inbox = inbox.receiver
 
 -- the sender by which it posts
-abbrev pub sender_in : {A : Type 0} → Caller A → Sender ℕ A
-sender_in caller = caller.sender
+abbrev pub sender_in : {A : Type 0} → ControlSender A → Sender ℕ A
+sender_in control_sender = control_sender.sender

@@ -6,11 +6,13 @@ use Rattle.sup_core.specs.State.{State}
 use Rattle.sup_core.specs.History.{History, Opened, state_of}
 use Rattle.sup_core.specs.Runs.{followed_by, AreTaken}
 use Rattle.svc_station.specs.declared.rule.Origin.{Origin}
+use Rattle.svc_station.specs.declared.writer.Writer.{Writer}
+use Rattle.svc_station.specs.Ends.{opening_of, published, station}
 use Rattle.svc_house.specs.declared.call.Call.{Call}
-use Rattle.svc_house.specs.declared.hand.Hand.{Hand}
-use Rattle.svc_house.specs.declared.hand.Hand.TheVariants.{One}
+use Rattle.svc_house.specs.declared.pending.Pending.{Pending}
+use Rattle.svc_house.specs.declared.pending.Pending.TheVariants.{One}
 use Rattle.svc_house.specs.Calls.{bytes_in, outcomes_in, answers_in, IsLastReading}
-use Rattle.svc_house.specs.Hand.{events_in}
+use Rattle.svc_house.specs.Pending.{events_in}
 
 pub record Standing (I : Type 0) : Type 0 where
   -- which station it publishes to, the machine that the station was opened with, and what was published
@@ -18,7 +20,7 @@ pub record Standing (I : Type 0) : Type 0 where
   pub opening : State
   pub events : List Event
   -- what was found and is not published yet
-  pub hand : Hand
+  pub pending : Pending
   -- what the world was told and what it answered, where it keeps that
   pub calls : Option (List Call)
   -- where its control bytes come from: which mailbox, if any, what it gave, and how often it had none
@@ -30,6 +32,22 @@ pub record Standing (I : Type 0) : Type 0 where
   pub passes : Option ℕ
 
 module _ {I : Type 0} where
+  -- a service with this writer and this pending, and what its world, inbox and gate tell
+  abbrev pub standing : Writer → Pending → Option (List Call)
+      → I → Option (TableId × ℕ) → List ℕ → ℕ → Option ℕ → Standing I
+  standing writer pending calls inbox source given nones passes = record {
+    station = station writer;
+    opening = opening_of writer;
+    events = published writer;
+    pending = pending;
+    calls = calls;
+    inbox = inbox;
+    source = source;
+    given = given;
+    nones = nones;
+    passes = passes;
+  }
+
   -- the opening, and all events that were published
   abbrev pub past_of : Standing I → History
   past_of s = followed_by (Opened s.opening) s.events
@@ -38,21 +56,21 @@ module _ {I : Type 0} where
   abbrev pub state_in : Standing I → State
   state_in s = state_of (past_of s)
 
-  -- what was published, and then what is in hand
+  -- what was published, and then what is pending
   abbrev pub found : Standing I → List Event
-  found s = s.events ++ events_in s.hand
+  found s = s.events ++ events_in s.pending
 
--- A clock reading in hand is the last one that the world gave.
-abbrev pub HoldsLastReading : Hand → Option (List Call) → Type 0
+-- A clock reading pending is the last one that the world gave.
+abbrev pub HoldsLastReading : Pending → Option (List Call) → Type 0
 HoldsLastReading (One event) calls = IfSome calls (IsLastReading event)
 HoldsLastReading other calls = ⊤
 
 -- What holds of every house.
 pub record IsHouse {I : Type 0} (s : Standing I) : Type 0 where
-  -- The control bytes that were published, and then one in hand, are those that the inbox gave.
+  -- The control bytes that were published, and then one pending, are those that the inbox gave.
   pub bytes : bytes_in (found s) ≡ s.given
-  -- The starts, failed starts and deaths that were published, and then one in hand, are those that the world answered.
+  -- The starts, failed starts and deaths that were published, and then one pending, are those that the world answered.
   pub outcomes : IfSome s.calls (λ calls. outcomes_in (found s) ≡ answers_in calls)
-  -- What is in hand is taken, one event after the other.
-  pub ready : AreTaken (past_of s) (events_in s.hand)
-  pub reading : HoldsLastReading s.hand s.calls
+  -- What is pending is taken, one event after the other.
+  pub ready : AreTaken (past_of s) (events_in s.pending)
+  pub reading : HoldsLastReading s.pending s.calls

@@ -1,9 +1,11 @@
 //! What can be read of a service once it is gone.
 ghost use Rattle.std.specs.Prelude.{◌≡◌, IfOk};
+ghost use mathlib.Core.List.{IsPrefix};
 ghost use Rattle.sup_core.specs.History.{phase_of, state_of};
-ghost use Rattle.sup_core.specs.declared.machine.Phase.TheVariants as phase;
+ghost use Rattle.tai_status.specs.declared.phase.Phase.TheVariants as phase;
 ghost use Rattle.sup_trace.specs.Told.{replay_of};
-ghost use Rattle.svc_station.specs.Ends.{IsSameReader, history_in, known_to, note_station, reader_station, told_by};
+ghost use Rattle.svc_station.specs.Ends.{IsSameReader, history_at, history_in, known_to, note_station};
+ghost use Rattle.svc_station.specs.Ends.{reader_station, told_by};
 
 use std::alloc::{AllocError, Allocator};
 use sup_core::Machine;
@@ -13,7 +15,7 @@ use svc_station::note::Note;
 use svc_station::reader::Reader;
 
 /// What a reader reads once it has learnt a note that the writer told when the service was gone: the machine after the
-/// whole history, and a trace that replays to that machine. `AllocError` where there is no memory for the trace's entries.
+/// whole history, and a trace that replays to that machine. `AllocError` where there is no memory for the trace.
 pub fn last_reading<A: Allocator>(
     alloc: A,
     reader: &mut Reader,
@@ -22,7 +24,9 @@ pub fn last_reading<A: Allocator>(
     requires station { note_station note ≡ reader_station reader.old }
     requires gone { phase_of (history_in note) ≡ phase.Gone }
     ensures same { IsSameReader reader.old reader.new }
+    ensures own { IsPrefix (known_to reader.old) (known_to reader.new) }
     ensures whole { known_to reader.new ≡ told_by note }
+    ensures history { history_at reader.new ≡ history_in note }
     ensures machine { IfOk result (λ read. read.0 ≡ state_of (history_in note)) }
     ensures replays { IfOk result (λ read. replay_of read.1 ≡ state_of (history_in note)) }
 {

@@ -2,30 +2,30 @@
 ghost use Rattle.std.specs.Prelude.{◌≡◌, ◌≢◌, ◌++◌, false, true};
 ghost use Rattle.tai_status.specs.Counted.{Rose};
 ghost use Rattle.sup_core.specs.State.{is_gone};
-ghost use Rattle.sup_core.specs.declared.machine.Phase.TheVariants as phase;
-ghost use Rattle.svc_house.specs.declared.hand.Hand.TheVariants as hand;
-ghost use Rattle.svc_house.specs.Calls.{Grew, bytes_in, polls_before};
-ghost use Rattle.svc_house.specs.Hand.{events_in, has_byte};
+ghost use Rattle.tai_status.specs.declared.phase.Phase.TheVariants as phase;
+ghost use Rattle.svc_house.specs.declared.pending.Pending.TheVariants as pending;
+ghost use Rattle.svc_house.specs.Calls.{ExtendedWhileKept, bytes_in, polls_before};
+ghost use Rattle.svc_house.specs.Pending.{events_in, has_byte};
 ghost use Rattle.svc_house.specs.Find.{IsReady};
 ghost use Rattle.svc_house.specs.Turn.{PassesGate, PolledInVain, takes_bytes};
 
 use crate::gate::Gate;
-use crate::hand::Hand;
 use crate::inbox::Inbox;
+use crate::pending::Pending;
 use crate::world::World;
 use std::sync::Wait;
 use sup_core::{Event, Machine, Phase};
 use tai_status::Label;
 
 /// Both, while the service is up.
-fn byte_then_death(machine: &Machine, byte: u8, label: Label) -> Hand
+fn byte_then_death(machine: &Machine, byte: u8, label: Label) -> Pending
     requires { machine.now.phase ≡ phase.Up }
-    ensures both { result ≡ hand.ByteThenDeath byte label }
+    ensures both { result ≡ pending.ByteThenDeath byte label }
     ensures ready { IsReady machine.now result }
 {
     // The view says how a machine stands: one that is up has a process.
     let _process = machine.view().pid;
-    Hand::ByteThenDeath { byte, label }
+    Pending::ByteThenDeath { byte, label }
 }
 
 /// Polls for what the machine can take in its phase.
@@ -35,14 +35,14 @@ pub(crate) fn find<W: World, I: Inbox, G: Gate, R: Wait>(
     world: &mut W,
     inbox: &mut I,
     gate: &mut G,
-) -> Hand
+) -> Pending
     requires { is_gone machine.now.phase ≡ false }
     ensures ready { IsReady machine.now result }
-    ensures polls { result ≢ hand.Empty
-        → Grew (W.calls world.old) (W.calls world.new) (polls_before result machine.now.phase) }
-    ensures vain { result ≡ hand.Empty
+    ensures polls { result ≢ pending.Empty
+        → ExtendedWhileKept (W.calls world.old) (W.calls world.new) (polls_before result machine.now.phase) }
+    ensures vain { result ≡ pending.Empty
         → PolledInVain machine.now.phase machine.now.until (W.calls world.old) (W.calls world.new) }
-    ensures gate { PassesGate hand.Empty machine.now.phase (G.passes gate.old) (G.passes gate.new) }
+    ensures gate { PassesGate pending.Empty machine.now.phase (G.passes gate.old) (G.passes gate.new) }
     ensures source { I.source inbox.new ≡ I.source inbox.old }
     ensures given { I.given inbox.new ≡ I.given inbox.old ++ bytes_in (events_in result) }
     ensures nones { takes_bytes machine.now.phase ≡ true → has_byte result ≡ false
@@ -52,8 +52,8 @@ pub(crate) fn find<W: World, I: Inbox, G: Gate, R: Wait>(
         Phase::Starting => {
             gate.pass(rt);
             match world.poll_start() {
-                Some(answer) => Hand::One(answer.event()),
-                None => Hand::Empty,
+                Some(answer) => Pending::One(answer.event()),
+                None => Pending::Empty,
             }
         }
         Phase::Settling | Phase::Resting => {
@@ -61,21 +61,21 @@ pub(crate) fn find<W: World, I: Inbox, G: Gate, R: Wait>(
                 label: world.clock(),
             };
             if machine.takes(&event) {
-                Hand::One(event)
+                Pending::One(event)
             } else {
-                Hand::Empty
+                Pending::Empty
             }
         }
         Phase::Up => match (world.poll_death(), inbox.take(rt)) {
             (Some(label), Some(byte)) => byte_then_death(machine, byte, label),
-            (Some(label), None) => Hand::One(Event::Death { label }),
-            (None, Some(byte)) => Hand::One(Event::Byte(byte)),
-            (None, None) => Hand::Empty,
+            (Some(label), None) => Pending::One(Event::Death { label }),
+            (None, Some(byte)) => Pending::One(Event::Byte(byte)),
+            (None, None) => Pending::Empty,
         },
         Phase::Down => match inbox.take(rt) {
-            Some(byte) => Hand::One(Event::Byte(byte)),
-            None => Hand::Empty,
+            Some(byte) => Pending::One(Event::Byte(byte)),
+            None => Pending::Empty,
         },
-        Phase::Gone => Hand::Empty,
+        Phase::Gone => Pending::Empty,
     }
 }

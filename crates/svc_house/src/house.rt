@@ -1,13 +1,13 @@
 //! The loop of one service.
-ghost use Rattle.std.specs.Prelude.{◌≡◌, ◌++◌, ◌∷◌, [], true, MatchResult};
+ghost use Rattle.std.specs.Prelude.{◌≡◌, ◌++◌, ◌∷◌, [], true, MatchResult, OnErr, OnOk};
 ghost use Rattle.sup_core.specs.Rules.{IsEvent, takes, asks_of};
 ghost use Rattle.svc_station.specs.Ends.{history_of, published, station};
-ghost use Rattle.svc_house.specs.Calls.{Grew, told};
+ghost use Rattle.svc_house.specs.Calls.{ExtendedWhileKept, told};
 
 use crate::find::find;
 use crate::gate::Gate;
-use crate::hand::Hand;
 use crate::inbox::Inbox;
+use crate::pending::Pending;
 use crate::tell::tell;
 use crate::turned::{HouseFault, Turned};
 use crate::world::World;
@@ -25,44 +25,23 @@ pub struct House<W: World, I: Inbox, G: Gate + Drop> {
     pub(crate) inbox: I,
     pub(crate) gate: G,
     pub(crate) writer: Writer,
-    pub(crate) hand: Hand,
+    pub(crate) pending: Pending,
 }
 
 impl<W: World, I: Inbox, G: Gate + Drop> Model for House<W, I, G> {
-    ghost use Rattle.svc_station.specs.Ends.{published, station, opening_of};
-    ghost use Rattle.svc_house.specs.Standing.{Standing, IsHouse};
+    ghost use Rattle.svc_house.specs.Standing.{Standing, IsHouse, standing};
 
     ghost Value = { Standing I };
 
-    ghost view = { λ h. record {
-      station = station h.writer;
-      opening = opening_of h.writer;
-      events = published h.writer;
-      hand = h.hand;
-      calls = W.calls h.world;
-      inbox = h.inbox;
-      source = I.source h.inbox;
-      given = I.given h.inbox;
-      nones = I.nones h.inbox;
-      passes = G.passes h.gate;
-    } };
+    ghost view = { λ h. standing h.writer h.pending (W.calls h.world)
+        h.inbox (I.source h.inbox) (I.given h.inbox) (I.nones h.inbox) (G.passes h.gate) };
 
-    ghost invariant = { λ h. IsHouse (record {
-      station = station h.writer;
-      opening = opening_of h.writer;
-      events = published h.writer;
-      hand = h.hand;
-      calls = W.calls h.world;
-      inbox = h.inbox;
-      source = I.source h.inbox;
-      given = I.given h.inbox;
-      nones = I.nones h.inbox;
-      passes = G.passes h.gate;
-    }) };
+    ghost invariant = { λ h. IsHouse (standing h.writer h.pending (W.calls h.world)
+        h.inbox (I.source h.inbox) (I.given h.inbox) (I.nones h.inbox) (G.passes h.gate)) };
 }
 
 /// Publishes an event that is taken, and then tells what it asks.
-fn publish<W: World, R: Wait>(
+fn publish_and_tell<W: World, R: Wait>(
     rt: &R,
     event: Event,
     world: &mut W,
@@ -74,9 +53,9 @@ fn publish<W: World, R: Wait>(
     ensures published { MatchResult result
         (λ _. published writer.new ≡ published writer.old ++ event ∷ [])
         (λ _. published writer.new ≡ published writer.old) }
-    ensures calls { MatchResult result
-        (λ _. Grew (W.calls world.old) (W.calls world.new) (told (asks_of (history_of writer.old) event)))
-        (λ _. W.calls world.new ≡ W.calls world.old) }
+    ensures told { OnOk result
+        (ExtendedWhileKept (W.calls world.old) (W.calls world.new) (told (asks_of (history_of writer.old) event))) }
+    ensures untold { OnErr result (W.calls world.new ≡ W.calls world.old) }
 {
     match writer.publish(rt, event)? {
         Reply::Held => unreachable!(),
@@ -90,14 +69,15 @@ fn publish<W: World, R: Wait>(
 impl<W: World, I: Inbox, G: Gate + Drop> House<W, I, G> {
     ghost use Rattle.std.specs.Prelude.{◌≡◌, ◌≢◌, ◌↔◌, ◌++◌, ◌∷◌, [], false, Ok, Some, None, All};
     ghost use Rattle.std.specs.Prelude.{IfOk, OnOk, OnErr, IfSome, MatchOption};
-    ghost use Rattle.sup_core.specs.declared.machine.Phase.{Phase};
+    ghost use Rattle.tai_status.specs.declared.phase.Phase.{Phase};
     ghost use Rattle.sup_core.specs.State.{is_gone};
     ghost use Rattle.svc_station.specs.Ends.{history_of, published, station, opening_of};
     ghost use Rattle.svc_house.specs.Calls.{answers_in, IsAsk, IsLastReading};
-    ghost use Rattle.svc_house.specs.Hand.{events_in, rest_of};
+    ghost use Rattle.svc_house.specs.Pending.{events_in, rest_of};
     ghost use Rattle.svc_house.specs.Standing.{Standing, IsHouse, past_of, state_in};
-    ghost use Rattle.svc_house.specs.Turn.{IsSameHouse, IsTurn, IsIdle, IsRefused, Listens, PassesGate, phase_in, polls_of};
-    ghost use Rattle.svc_house.specs.declared.hand.Hand.TheVariants as hand;
+    ghost use Rattle.svc_house.specs.Turn.{IsSameHouse, IsTurn, IsIdle, IsRefused, Listens, PassesGate, phase_in};
+    ghost use Rattle.svc_house.specs.Turn.{polls_of};
+    ghost use Rattle.svc_house.specs.declared.pending.Pending.TheVariants as pending;
 
     /// A service whose station is new. The world is told `first`, in order, and nothing else: the asks of the machine's
     /// begin, for a service that begins.
@@ -106,10 +86,10 @@ impl<W: World, I: Inbox, G: Gate + Drop> House<W, I, G> {
         requires given { I.given inbox ≡ [] }
         requires answered { IfSome (W.calls world) (λ calls. answers_in calls ≡ []) }
         requires asks { All IsAsk first }
-        ensures calls { Grew (W.calls world) result.calls (told first) }
+        ensures calls { ExtendedWhileKept (W.calls world) result.calls (told first) }
         ensures inbox { (result.inbox ≡ inbox) × (result.source ≡ I.source inbox) }
         ensures station { (result.station ≡ station writer) × (result.opening ≡ opening_of writer) }
-        ensures events { (result.events ≡ []) × (result.hand ≡ hand.Empty) }
+        ensures events { (result.events ≡ []) × (result.pending ≡ pending.Empty) }
         ensures passes { result.passes ≡ G.passes gate }
     {
         let mut world = world;
@@ -119,26 +99,27 @@ impl<W: World, I: Inbox, G: Gate + Drop> House<W, I, G> {
             inbox,
             gate,
             writer,
-            hand: Hand::Empty,
+            pending: Pending::Empty,
         }
     }
 
-    /// One turn. What is in hand comes first. Else what the phase can take is looked for: while the service starts how
-    /// that ended, while it settles or rests the clock, while it is down a control byte, and while it is up its death and
-    /// then a control byte, so that one that dies at once still hears its letters. What was found is published, and then
-    /// its asks are told, in order; where both were found the byte is published, and the death stays in hand.
+    /// One turn. What is pending comes first. Else what the phase can take is looked for: while the service starts how
+    /// that ended, while it settles or rests the clock, while it is down a control byte, and while it is up its death
+    /// and then a control byte, so that one that dies at once still hears its letters. What was found is published, and
+    /// then its asks are told, in order; where both were found the byte is published, and the death stays pending.
     ///
-    /// It never waits for something to happen: a turn that finds nothing is `Idle`. What can end that is a letter while the
-    /// service is up or down, the world's answer while it starts or is up, and the time `until` while it settles or rests.
+    /// It never waits for something to happen: a turn that finds nothing is `Idle`. What can end that is a letter while
+    /// the service is up or down, the world's answer while it starts or is up, and the time `until` while it settles or
+    /// rests.
     ///
-    /// `OutOfMemory` where the publication finds no room: what was found stays in hand, and nothing was told.
+    /// `OutOfMemory` where the publication finds no room: what was found stays pending, and nothing was told.
     pub fn turn<R: Wait>(&mut self, rt: &R) -> Result<Turned, HouseFault>
         ensures same { IsSameHouse self.old self.new }
         ensures turned { IfOk result (λ turned. IsTurn self.old turned self.new) }
         ensures ended { (result ≡ Ok Turned.Ended) ↔ (phase_in self.old ≡ Phase.Gone) }
         ensures refused { OnErr result (IsRefused self.old self.new) }
     {
-        if let Some(event) = self.hand.next() {
+        if let Some(event) = self.pending.next() {
             return self.publish(rt, event);
         }
         if self.writer.machine().is_gone() {
@@ -150,48 +131,49 @@ impl<W: World, I: Inbox, G: Gate + Drop> House<W, I, G> {
         }
     }
 
-    // Looks for what the phase can take, and puts it in hand. It tells the event that is next now.
+    // Looks for what the phase can take, and keeps it as pending. It tells the event that is next now.
     fn look<R: Wait>(&mut self, rt: &R) -> Option<Event>
-        requires hand { self.old.hand ≡ hand.Empty }
+        requires pending { self.old.pending ≡ pending.Empty }
         requires phase { is_gone (phase_in self.old) ≡ false }
         ensures same { IsSameHouse self.old self.new }
         ensures events { self.new.events ≡ self.old.events }
-        ensures hand { MatchOption result (self.new.hand ≡ hand.Empty)
-            (λ event. events_in self.new.hand ≡ event ∷ events_in (rest_of self.new.hand)) }
-        ensures polls { self.new.hand ≢ hand.Empty
-            → Grew self.old.calls self.new.calls (polls_of self.old self.new.hand) }
-        ensures listens { Listens self.old self.new.hand self.new }
-        ensures gate { PassesGate hand.Empty (phase_in self.old) self.old.passes self.new.passes }
-        ensures idle { self.new.hand ≡ hand.Empty → IsIdle self.old self.new }
+        ensures pending { MatchOption result (self.new.pending ≡ pending.Empty)
+            (λ event. events_in self.new.pending ≡ event ∷ events_in (rest_of self.new.pending)) }
+        ensures polls { self.new.pending ≢ pending.Empty
+            → ExtendedWhileKept self.old.calls self.new.calls (polls_of self.old self.new.pending) }
+        ensures listens { Listens self.old self.new.pending self.new }
+        ensures gate { PassesGate pending.Empty (phase_in self.old) self.old.passes self.new.passes }
+        ensures idle { self.new.pending ≡ pending.Empty → IsIdle self.old self.new }
     {
         let machine = self.writer.machine();
-        self.hand = find(
+        self.pending = find(
             rt,
             &machine,
             &mut self.world,
             &mut self.inbox,
             &mut self.gate,
         );
-        self.hand.next()
+        self.pending.next()
     }
 
-    // Publishes the next event in hand, and then tells what it asks.
+    // Publishes the next event pending, and then tells what it asks.
     fn publish<R: Wait>(&mut self, rt: &R, event: Event) -> Result<Turned, HouseFault>
-        requires { events_in self.old.hand ≡ event ∷ events_in (rest_of self.old.hand) }
+        requires { events_in self.old.pending ≡ event ∷ events_in (rest_of self.old.pending) }
         ensures same { IsSameHouse self.old self.new }
         ensures took { IfOk result (λ turned. turned ≡ Turned.Took event) }
         ensures published { OnOk result (self.new.events ≡ self.old.events ++ event ∷ []) }
-        ensures told { OnOk result (Grew self.old.calls self.new.calls (told (asks_of (past_of self.old) event))) }
+        ensures told { OnOk result
+            (ExtendedWhileKept self.old.calls self.new.calls (told (asks_of (past_of self.old) event))) }
         ensures reading { OnOk result (IfSome self.new.calls (IsLastReading event)) }
-        ensures hand { OnOk result (self.new.hand ≡ rest_of self.old.hand) }
+        ensures pending { OnOk result (self.new.pending ≡ rest_of self.old.pending) }
         ensures nones { OnOk result (self.new.nones ≡ self.old.nones) }
         ensures gate { OnOk result (self.new.passes ≡ self.old.passes) }
         ensures refused { OnErr result (self.new ≡ self.old) }
     {
         let taken = event;
-        match publish(rt, event, &mut self.world, &mut self.writer) {
+        match publish_and_tell(rt, event, &mut self.world, &mut self.writer) {
             Ok(()) => {
-                self.hand = self.hand.rest();
+                self.pending = self.pending.rest();
                 Ok(Turned::Took(taken))
             }
             Err(_refused) => Err(HouseFault::OutOfMemory),
@@ -205,12 +187,13 @@ impl<W: World, I: Inbox, G: Gate + Drop> House<W, I, G> {
         self.writer.machine().until()
     }
 
-    /// Its parts, with what is in hand. `facts` tells what holds of them.
-    pub fn take_apart(self) -> (W, I, Writer, Hand)
+    /// Its parts, with what is pending. `facts` tells what holds of them.
+    pub fn take_apart(self) -> (W, I, Writer, Pending)
         ensures world { W.calls result.0 ≡ self.calls }
         ensures inbox { result.1 ≡ self.inbox }
         ensures writer { (station result.2 ≡ self.station) × (published result.2 ≡ self.events) }
-        ensures hand { result.3 ≡ self.hand }
+        ensures history { history_of result.2 ≡ past_of self }
+        ensures pending { result.3 ≡ self.pending }
         ensures facts { IsHouse self }
     {
         let House {
@@ -218,8 +201,8 @@ impl<W: World, I: Inbox, G: Gate + Drop> House<W, I, G> {
             inbox,
             gate: _gate,
             writer,
-            hand,
+            pending,
         } = self;
-        (world, inbox, writer, hand)
+        (world, inbox, writer, pending)
     }
 }

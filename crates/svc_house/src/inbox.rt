@@ -7,7 +7,7 @@ pub trait Inbox {
     ghost use Rattle.std.specs.Prelude.{◌≡◌, ◌++◌, ℕ, Option, None, List};
     ghost use Rattle.atomic_table.specs.Seated.{TableId};
     ghost use Rattle.tai_status.specs.Counted.{Rose};
-    ghost use Rattle.svc_house.specs.Calls.{held};
+    ghost use Rattle.svc_house.specs.Calls.{as_list};
 
     ghost given: { Self → List ℕ };
 
@@ -18,6 +18,6 @@ pub trait Inbox {
     /// The next byte, where there is one.
     fn take<R: Wait>(&mut self, rt: &R) -> Option<u8>
         ensures source { source self.new ≡ source self.old }
-        ensures given { given self.new ≡ given self.old ++ held result }
+        ensures given { given self.new ≡ given self.old ++ as_list result }
         ensures nones { result ≡ None → Rose (nones self.old) (nones self.new) };
 }

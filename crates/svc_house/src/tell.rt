@@ -1,14 +1,14 @@
 //! How a world is told what is asked.
 ghost use Rattle.std.specs.Prelude.{◌≡◌, [], ◌∷◌, All};
 ghost use Rattle.svc_house.specs.declared.call.Call.{Call};
-ghost use Rattle.svc_house.specs.Calls.{Grew, IsAsk, told};
+ghost use Rattle.svc_house.specs.Calls.{ExtendedWhileKept, IsAsk, told};
 
 use crate::world::World;
 use sup_core::Ask;
 
 fn tell_one<W: World>(world: &mut W, ask: &Ask)
     requires { IsAsk ask.now }
-    ensures { Grew (W.calls world.old) (W.calls world.new) (Call.Asked ask.now ∷ []) }
+    ensures { ExtendedWhileKept (W.calls world.old) (W.calls world.new) (Call.Asked ask.now ∷ []) }
 {
     match ask {
         Ask::Signal(sig, pid) => world.signal(*sig, *pid),
@@ -20,7 +20,7 @@ fn tell_one<W: World>(world: &mut W, ask: &Ask)
 /// Tells the asks, in order.
 pub(crate) fn tell<W: World>(world: &mut W, asks: &[Ask])
     requires { All IsAsk asks.now }
-    ensures { Grew (W.calls world.old) (W.calls world.new) (told asks.now) }
+    ensures { ExtendedWhileKept (W.calls world.old) (W.calls world.new) (told asks.now) }
 {
     for ask in asks {
         tell_one(world, ask);

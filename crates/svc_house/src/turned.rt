@@ -16,7 +16,7 @@ pub enum Turned {
 /// Why a turn was not done.
 #[derive(Clone, Copy, Debug, PartialEq, Eq, Error)]
 pub enum HouseFault {
-    /// There was no memory to publish the event, which stays in hand.
+    /// There was no memory to publish the event, which stays pending.
     #[error("OutOfMemory")]
     OutOfMemory,
 }

@@ -1,12 +1,13 @@
-//! How a service ends: its mailbox is closed.
+//! How a service ends: it is left, or its mailbox is closed.
 ghost use Rattle.std.specs.Prelude.{◌≡◌, ◌++◌, Some, IfOk, IfErr, OnOk, if◌then◌else◌};
-ghost use Rattle.sup_core.specs.declared.machine.Phase.{Phase};
+ghost use Rattle.tai_status.specs.declared.phase.Phase.{Phase};
 ghost use Rattle.sup_core.specs.State.{is_gone};
 ghost use Rattle.svc_mail.specs.Ends.{AreAllSenders, box_of, senders_in, taken_by};
 ghost use Rattle.svc_mail.specs.Whole.{RowsArrive, NamesASender};
-ghost use Rattle.svc_station.specs.Ends.{published, station};
+ghost use Rattle.svc_station.specs.Ends.{history_of, published, station};
 ghost use Rattle.svc_house.specs.Calls.{bytes_in};
 ghost use Rattle.svc_house.specs.Mail.{items_of, receiver_in};
+ghost use Rattle.svc_house.specs.Standing.{past_of};
 ghost use Rattle.svc_house.specs.Turn.{phase_in};
 
 use crate::gate::Gate;
@@ -17,6 +18,7 @@ use std::alloc::{Allocator, Global};
 use std::sync::Wait;
 use svc_mail::letters::Letters;
 use svc_mail::mailbox::Mailbox;
+use svc_mail::receiver::Receiver;
 use svc_mail::sender::Sender;
 use svc_mail::whole::every_letter_arrives;
 use svc_station::writer::Writer;
@@ -38,12 +40,33 @@ pub struct NotWound<W: World, G: Gate + Drop, A: Allocator = Global> {
     pub senders: Vec<Sender<u8, A>, A>,
 }
 
+impl<W: World + Drop, G: Gate + Drop, A: Allocator> House<W, MailInbox<A>, G> {
+    /// What is left of a service that is gone: the writer of its station, and the receiver of its mailbox, which took
+    /// the control bytes of its whole history and no others.
+    pub fn leave(self) -> (Writer, Receiver<u8, A>)
+        requires gone { phase_in self ≡ Phase.Gone }
+        ensures writer { (station result.0 ≡ self.station) × (published result.0 ≡ self.events) }
+        ensures history { history_of result.0 ≡ past_of self }
+        ensures receiver { result.1 ≡ receiver_in self.inbox }
+        ensures bytes { bytes_in (published result.0) ≡ items_of (taken_by result.1) }
+    {
+        let House {
+            world: _world,
+            inbox,
+            gate: _gate,
+            writer,
+            pending: _pending,
+        } = self;
+        (writer, inbox.receiver())
+    }
+}
+
 impl<W: World, G: Gate + Drop, A: Allocator + Clone> House<W, MailInbox<A>, G> {
-    /// Ends a service that is gone, and closes its mailbox: its world comes out, the writer of its station, and the letters
-    /// that are left, in the order in which they were accepted.
+    /// Ends a service that is gone, and closes its mailbox: its world comes out, the writer of its station, and the
+    /// letters that are left, in the order in which they were accepted.
     ///
-    /// `Running` exactly where it is not gone; `OutOfMemory` where there is no memory for as many letters as the mailbox
-    /// has room for. Then house, mailbox and senders come back as they were.
+    /// `Running` exactly where it is not gone; `OutOfMemory` where there is no memory for as many letters as the
+    /// mailbox has room for. Then house, mailbox and senders come back as they were.
     pub fn wind_up<R: Wait>(
         self,
         rt: &R,
@@ -82,7 +105,7 @@ impl<W: World, G: Gate + Drop, A: Allocator + Clone> House<W, MailInbox<A>, G> {
             inbox,
             gate,
             writer,
-            hand,
+            pending,
         } = self;
         let MailInbox { receiver, nones } = inbox;
         match mailbox.close(rt, senders, receiver) {
@@ -102,7 +125,7 @@ impl<W: World, G: Gate + Drop, A: Allocator + Clone> House<W, MailInbox<A>, G> {
                         inbox,
                         gate,
                         writer,
-                        hand,
+                        pending,
                     },
                     mailbox: back.mailbox,
                     senders: back.senders,

@@ -10,33 +10,33 @@ pub trait World {
     ghost use Rattle.std.specs.Prelude.{◌≡◌, ◌<◌, Option, None, List, [], ◌∷◌, IfSome};
     ghost use Rattle.sup_core.specs.declared.asks.Ask.{Ask};
     ghost use Rattle.svc_house.specs.declared.call.Call.{Call};
-    ghost use Rattle.svc_house.specs.Calls.{Grew, IsAnswer, start_poll, death_poll};
+    ghost use Rattle.svc_house.specs.Calls.{ExtendedWhileKept, IsAnswer, start_poll, death_poll};
 
     ghost calls: { Self → Option (List Call) } = { λ _. None };
 
     /// Sends a signal to the process of this number, which is at least 1.
     fn signal(&mut self, sig: Sig, pid: u32)
         requires { 0 < pid }
-        ensures { Grew (calls self.old) (calls self.new) (Call.Asked (Ask.Signal sig pid) ∷ []) };
+        ensures { ExtendedWhileKept (calls self.old) (calls self.new) (Call.Asked (Ask.Signal sig pid) ∷ []) };
 
     /// Starts the service. `poll_start` answers how that ended.
     fn start(&mut self)
-        ensures { Grew (calls self.old) (calls self.new) (Call.Asked Ask.Start ∷ []) };
+        ensures { ExtendedWhileKept (calls self.old) (calls self.new) (Call.Asked Ask.Start ∷ []) };
 
     /// Writes the status record.
-    fn write(&mut self, bytes: &[u8; 18])
-        ensures { Grew (calls self.old) (calls self.new) (Call.Asked (Ask.Write bytes.now) ∷ []) };
+    fn write(&mut self, bytes: &[u8; 20])
+        ensures { ExtendedWhileKept (calls self.old) (calls self.new) (Call.Asked (Ask.Write bytes.now) ∷ []) };
 
     /// How the start that was asked for ended, once it has.
     fn poll_start(&mut self) -> Option<StartAnswer>
-        ensures calls { Grew (calls self.old) (calls self.new) (start_poll result) }
+        ensures calls { ExtendedWhileKept (calls self.old) (calls self.new) (start_poll result) }
         ensures process { IfSome result IsAnswer };
 
     /// When the process died, once it has.
     fn poll_death(&mut self) -> Option<Label>
-        ensures { Grew (calls self.old) (calls self.new) (death_poll result) };
+        ensures { ExtendedWhileKept (calls self.old) (calls self.new) (death_poll result) };
 
     /// The time.
     fn clock(&mut self) -> Label
-        ensures { Grew (calls self.old) (calls self.new) (Call.Read result ∷ []) };
+        ensures { ExtendedWhileKept (calls self.old) (calls self.new) (Call.Read result ∷ []) };
 }

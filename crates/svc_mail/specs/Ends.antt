@@ -72,7 +72,9 @@ module _ {T A : Type 0} where
 
   -- the same end of the same mailbox
   abbrev pub IsSameSender : Sender T A → Sender T A → Type 0
-  IsSameSender old new = (home new ≡ home old) × (number_of new ≡ number_of old) × (room_of new ≡ room_of old) × (senders_of new ≡ senders_of old)
+  IsSameSender old new =
+      (home new ≡ home old) × (number_of new ≡ number_of old) × (room_of new ≡ room_of old)
+      × (senders_of new ≡ senders_of old)
 
   -- the same sender, which posted no more, saw no more and learnt no more
   abbrev pub IsUnchangedSender : Sender T A → Sender T A → Type 0
@@ -83,17 +85,20 @@ module _ {T A : Type 0} where
   abbrev pub HasPosted : Sender T A → List T → Sender T A → Type 0
   HasPosted old items new = IsSameSender old new × (posted new ≡ posted old ++ items)
 
-  -- as one letter, at the next place of its sender's row, the item joined the history, after all that this sender had seen of it
+  -- as one letter, at the next place of its sender's row, the item joined the history, after all that this sender had
+  -- seen of it
   abbrev pub JoinsHistory : Sender T A → T → Sender T A → Type 0
   JoinsHistory old item new =
-      ((between : List (Letter T)) × (seen_by new ≡ (seen_by old ++ between) ++ letter (number_of old) (length (posted old)) item ∷ []))
+      ((between : List (Letter T))
+      × (seen_by new ≡ (seen_by old ++ between) ++ letter (number_of old) (length (posted old)) item ∷ []))
       × IsHistory (seen_by new) × (posted new ≡ row_of (number_of new) (seen_by new))
 
   -- at one moment the mailbox held as many letters as it has room for: what had been taken, with all that this sender
   -- had heard of, and those are a history that has this sender's row and goes on from what it had seen
   abbrev pub WasFull : Sender T A → Type 0
   WasFull s =
-      (taken held : List (Letter T)) × (length held ≡ room_of s) × IsHistory (taken ++ held) × IsAmong (senders_of s) (taken ++ held)
+      (taken held : List (Letter T)) × (length held ≡ room_of s)
+      × IsHistory (taken ++ held) × IsAmong (senders_of s) (taken ++ held)
       × (posted s ≡ row_of (number_of s) (taken ++ held)) × StartsWith (taken ++ held) (seen_by s)
       × All (StartsWith taken) (heard_by s)
 
@@ -104,7 +109,8 @@ module _ {T A : Type 0} where
   -- the same receiver, which took no more, saw no more and learnt no more
   abbrev pub IsUnchangedReceiver : Receiver T A → Receiver T A → Type 0
   IsUnchangedReceiver old new =
-      IsSameReceiver old new × (taken_by new ≡ taken_by old) × (seen_at new ≡ seen_at old) × (heard_at new ≡ heard_at old)
+      IsSameReceiver old new × (taken_by new ≡ taken_by old) × (seen_at new ≡ seen_at old)
+      × (heard_at new ≡ heard_at old)
 
   -- the same receiver, which took these letters beyond
   abbrev pub HasTaken : Receiver T A → List (Letter T) → Receiver T A → Type 0
@@ -113,7 +119,8 @@ module _ {T A : Type 0} where
   -- what was taken begins the history, which goes on from what the receiver had seen of it
   abbrev pub FollowsHistory : Receiver T A → Receiver T A → Type 0
   FollowsHistory old new =
-      IsHistory (seen_at new) × IsAmong (senders_at old) (seen_at new) × StartsWith (seen_at new) (taken_by new) × StartsWith (seen_at new) (seen_at old)
+      IsHistory (seen_at new) × IsAmong (senders_at old) (seen_at new)
+      × StartsWith (seen_at new) (taken_by new) × StartsWith (seen_at new) (seen_at old)
 
   -- at one moment the mailbox held no letter: what had been taken was the whole history, with all that the receiver had
   -- seen of it, and all that it had heard of
@@ -141,11 +148,13 @@ module _ {T A : Type 0} where
   -- sender k of the mailbox, which has posted nothing
   abbrev pub IsNewSender : ℕ → ℕ → TableId → ℕ → Sender T A → Type 0
   IsNewSender capacity senders box k s =
-      (home s ≡ box) × (number_of s ≡ k) × (posted s ≡ []) × (seen_by s ≡ []) × (senders_of s ≡ senders) × (room_of s ≡ capacity)
+      (home s ≡ box) × (number_of s ≡ k) × (posted s ≡ []) × (seen_by s ≡ [])
+      × (senders_of s ≡ senders) × (room_of s ≡ capacity)
 
   -- the senders 0, 1, 2 and on of the mailbox
   abbrev pub AreNewSenders : ℕ → ℕ → TableId → List (Sender T A) → Type 0
-  AreNewSenders capacity senders box ss = (k : ℕ) (s : Sender T A) → slice_get ss k ≡ Some s → IsNewSender capacity senders box k s
+  AreNewSenders capacity senders box ss =
+      (k : ℕ) (s : Sender T A) → slice_get ss k ≡ Some s → IsNewSender capacity senders box k s
 
   -- a mailbox that was just opened: its senders, in the order of their numbers, and its receiver, which took nothing
   abbrev pub IsOpen : ℕ → ℕ → Mailbox T A → List (Sender T A) → Receiver T A → Type 0
@@ -164,9 +173,12 @@ module _ {T A : Type 0} where
   abbrev pub record_of : Sender T A → ℕ × List T × List (Letter T)
   record_of s = (number_of s, posted s, seen_by s)
 
--- this is the whole history: each sender's letters in it are what it posted, at the places 0, 1, 2 and on, there are no others, and it begins with what each end had seen of it
-pub record IsWholeHistory {T A : Type 0} (ss : List (Sender T A)) (r : Receiver T A) (log : List (Letter T)) : Type 0 where
+-- this is the whole history: each sender's letters in it are what it posted, at the places 0, 1, 2 and on, there are no
+-- others, and it begins with what each end had seen of it
+pub record IsWholeHistory {T A : Type 0} (ss : List (Sender T A)) (r : Receiver T A) (log : List (Letter T))
+    : Type 0 where
   pub places : IsHistory log
   pub among : IsAmong (senders_at r) log
   pub seen : StartsWith log (seen_at r)
-  pub rows : (i : ℕ) (s : Sender T A) → slice_get ss i ≡ Some s → (posted s ≡ row_of (number_of s) log) × StartsWith log (seen_by s)
+  pub rows : (i : ℕ) (s : Sender T A) → slice_get ss i ≡ Some s
+      → (posted s ≡ row_of (number_of s) log) × StartsWith log (seen_by s)

@@ -2,8 +2,8 @@
 //!
 //! There is one history, a list of letters. An accepted post adds its letter to it, once, and its item to the sender's
 //! row; the places of a sender's letters are 0, 1, 2 and on. What the receiver took is a beginning of the history. When
-//! the mailbox is closed, the letters taken followed by the letters left are the whole history, and each sender's letters
-//! in it are its row, in order and each once: `whole::every_letter_arrives` says so of every mailbox.
+//! the mailbox is closed, the letters taken followed by the letters left are the whole history, and each sender's
+//! letters in it are its row, in order and each once: `whole::every_letter_arrives` says so of every mailbox.
 //!
 //! `Full` and `None` say that the box was full, or empty, at one moment of the call, as far as this end can know: some
 //! history that fits what it posted or took, what it has seen and what it was told ends there. An end that was told
@@ -15,11 +15,11 @@
 //!
 //! What no contract here says, and is only tested: that `take` answers a letter that lies there though no note told of
 //! it, and that `post` succeeds where there is room. Nor that a waiting call returns (a post or a take that lasts for
-//! ever meets any clause, the second of an end as well as the first), nor in which order the letters of two senders stand
-//! to one another, beyond that it is the one order of the history.
+//! ever meets any clause, the second of an end as well as the first), nor in which order the letters of two senders
+//! stand to one another, beyond that it is the one order of the history.
 //!
-//! An item is plain data (`Copy`). Each end owns a share of the box, so the ends can be moved into other threads. What is
-//! known of an end that comes back from a thread is what the thread promised: `promise` has the promises.
+//! An item is plain data (`Copy`). Each end owns a share of the box, so the ends can be moved into other threads. What
+//! is known of an end that comes back from a thread is what the thread promised: `promise` has the promises.
 #![tactic(auto)]
 
 pub mod letter;

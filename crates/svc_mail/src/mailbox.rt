@@ -7,9 +7,8 @@ use crate::sender::Sender;
 use std::alloc::{AllocError, Allocator, Global};
 use std::sync::{Arc, Wait};
 
-/// A mailbox as a whole, which closes it.
-/// Contracts see which one it is (`box_of`), its room in letters (`capacity_of`) and how many senders it was opened with
-/// (`senders_in`).
+/// A mailbox as a whole, which closes it. Contracts see which one it is (`box_of`), its room in letters (`capacity_of`)
+/// and how many senders it was opened with (`senders_in`).
 #[derive(Drop)]
 pub struct Mailbox<T: Copy, A: Allocator = Global> {
     alloc: A,
@@ -29,11 +28,13 @@ pub struct CloseRefused<T: Copy, A: Allocator = Global> {
     pub receiver: Receiver<T, A>,
 }
 
-ghost use Rattle.std.specs.Prelude.{◌≡◌, ◌<◌, ◌≤◌, ◌+◌, ◌∷◌, ◌++◌, [], IfOk, IfErr, All, map, List, ℕ, length, vec_len, vec_capacity};
+ghost use Rattle.std.specs.Prelude.{◌≡◌, ◌<◌, ◌≤◌, ◌+◌, ◌∷◌, ◌++◌, [], OnOk, IfOk, IfErr, All, map, List, ℕ, length};
+ghost use Rattle.std.specs.Prelude.{vec_len, vec_capacity};
 ghost use Rattle.std.specs.Arc.{arc_value};
 ghost use Rattle.crossbeam_queue.specs.Passes.{view, IsPassOf, IsSamePass, ruled_capacity};
-ghost use Rattle.svc_mail.specs.Kept.{taker, IsTaker, IsWhole, IsSettled};
-ghost use Rattle.svc_mail.specs.Ends.{IsOpen, AreNewSenders, AreAllSenders, IsItsReceiver, IsWholeHistory, capacity_of, taken_by, home, record_of};
+ghost use Rattle.svc_mail.specs.Kept.{taker, with_ended, HasNoneEnded, IsTaker, IsWhole, IsSettled};
+ghost use Rattle.svc_mail.specs.Ends.{IsOpen, AreNewSenders, AreAllSenders, IsItsReceiver, IsWholeHistory};
+ghost use Rattle.svc_mail.specs.Ends.{capacity_of, taken_by, home, record_of};
 
 // The mailbox is to have so many senders.
 fn announce_senders<T: Copy, A: Allocator>(queue: &Queue<T, A>, mark: &mut Mark<T>, senders: usize)
@@ -52,7 +53,9 @@ fn queue_for<T: Copy, A: Allocator + Clone>(
     senders: usize,
 ) -> Result<(Arc<Queue<T, A>, A>, Mark<T>), AllocError>
     requires { 0 < capacity }
-    ensures { IfOk result (λ r. (ruled_capacity (arc_value r.0) ≡ capacity) × IsPassOf (arc_value r.0) r.1 × (view r.1 ≡ taker senders 0 [] [] [] [])) }
+    ensures capacity { IfOk result (λ r. ruled_capacity (arc_value r.0) ≡ capacity) }
+    ensures pass { IfOk result (λ r. IsPassOf (arc_value r.0) r.1) }
+    ensures knows { IfOk result (λ r. view r.1 ≡ taker senders 0 [] [] [] []) }
 {
     let (queue, mut mark) = Queue::ruled(alloc.clone()?, capacity)?;
     announce_senders(&queue, &mut mark, senders);
@@ -67,12 +70,15 @@ fn make_senders<T: Copy, A: Allocator + Clone>(
     senders: usize,
 ) -> Result<Vec<Sender<T, A>, A>, AllocError>
     requires { IsPassOf (arc_value queue.now) mark.old × (view mark.old ≡ taker senders 0 [] [] [] []) }
-    ensures pass { IfOk result (λ v. IsPassOf (arc_value queue.now) mark.new × (view mark.new ≡ taker senders senders [] [] [] [])) }
-    ensures senders { IfOk result (λ v. (length v.items ≡ senders) × AreNewSenders (ruled_capacity (arc_value queue.now)) senders (arc_value queue.now).table.shared.table_id v.items) }
+    ensures pass { OnOk result (IsPassOf (arc_value queue.now) mark.new) }
+    ensures knows { OnOk result (view mark.new ≡ taker senders senders [] [] [] []) }
+    ensures count { IfOk result (λ v. length v.items ≡ senders) }
+    ensures new { IfOk result (λ v. AreNewSenders (ruled_capacity (arc_value queue.now)) senders
+        (arc_value queue.now).table.shared.table_id v.items) }
 {
     let mut ends = Vec::with_capacity(alloc, senders)?;
     for number in 0..senders {
-        ends.push(Sender::make(queue, mark, number)?)?;
+        ends.push(Sender::from_pass(queue, mark, number)?)?;
     }
     Ok(ends)
 }
@@ -84,10 +90,10 @@ fn join_senders<T: Copy, A: Allocator + Clone>(
     senders: Vec<Sender<T, A>, A>,
 )
     requires pass { IsPassOf queue.now mark.old }
-    requires knows { view mark.old ≡ taker (view mark.old).all (view mark.old).made (view mark.old).taken [] (view mark.old).seen (view mark.old).heard }
+    requires knows { HasNoneEnded (view mark.old) }
     requires senders { All (λ s. home s ≡ queue.now.table.shared.table_id) senders.items }
     ensures pass { IsPassOf queue.now mark.new }
-    ensures knows { view mark.new ≡ taker (view mark.old).all (view mark.old).made (view mark.old).taken (map record_of senders.items) (view mark.old).seen (view mark.old).heard }
+    ensures knows { view mark.new ≡ with_ended (view mark.old) (map record_of senders.items) }
 {
     for sender in senders {
         queue.absorb::<Ended>(mark, sender.into_mark());
@@ -166,7 +172,8 @@ impl<T: Copy, A: Allocator + Clone> Mailbox<T, A> {
         requires receiver { IsItsReceiver self receiver }
         requires senders { AreAllSenders self senders.items }
         ensures left { IfOk result (λ left. IsWholeHistory senders.items receiver (taken_by receiver ++ left)) }
-        ensures refused { IfErr result (λ back. (back.mailbox ≡ self) × (back.senders ≡ senders) × (back.receiver ≡ receiver)) }
+        ensures refused { IfErr result (λ back.
+            (back.mailbox ≡ self) × (back.senders ≡ senders) × (back.receiver ≡ receiver)) }
     {
         let Ok(room) = self.room() else {
             return Err(CloseRefused {

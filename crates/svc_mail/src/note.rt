@@ -1,7 +1,7 @@
 //! What one end of a mailbox tells another.
 ghost use Rattle.std.specs.Prelude.{◌≡◌, []};
 ghost use Rattle.crossbeam_queue.specs.Passes.{view};
-ghost use Rattle.svc_mail.specs.Kept.{noted};
+ghost use Rattle.svc_mail.specs.Kept.{IsNoted};
 
 use crate::rule::{Mark, Queue, Told};
 use std::alloc::Allocator;
@@ -13,7 +13,7 @@ use std::alloc::Allocator;
 pub struct Note<T> {
     mark: Mark<T>,
     ghost whole: { mark.me.1 ≡ [] },
-    ghost told: { view mark ≡ noted (view mark).taken (view mark).seen },
+    ghost told: { IsNoted (view mark) },
 }
 
 impl<T> Note<T> {
@@ -24,7 +24,9 @@ impl<T> Note<T> {
     pub(crate) fn of<A: Allocator>(queue: &Queue<T, A>, mark: &mut Mark<T>) -> Note<T>
         requires { IsPassOf queue.now mark.old }
         ensures same { IsSamePass mark.old mark.new × (view mark.new ≡ view mark.old) }
-        ensures told { (result.mark.table_id ≡ mark.old.table_id) × ((view result.mark).seen ≡ (view mark.old).seen) × ((view result.mark).taken ≡ (view mark.old).taken) }
+        ensures home { result.mark.table_id ≡ mark.old.table_id }
+        ensures seen { (view result.mark).seen ≡ (view mark.old).seen }
+        ensures taken { (view result.mark).taken ≡ (view mark.old).taken }
     {
         Note {
             mark: queue.another::<Told>(mark),

@@ -2,7 +2,7 @@
 ghost use Rattle.std.specs.Prelude.{◌≡◌, ◌≤◌, ◌^◌, [], length};
 ghost use Rattle.std.specs.Arc.{arc_value};
 ghost use Rattle.crossbeam_queue.specs.Passes.{view, IsPassOf};
-ghost use Rattle.svc_mail.specs.Kept.{taker};
+ghost use Rattle.svc_mail.specs.Kept.{HasAllSenders};
 
 use crate::letter::Letter;
 use crate::note::Note;
@@ -18,7 +18,7 @@ pub struct Receiver<T: Copy, A: Allocator = Global> {
     pub(crate) mark: Mark<T>,
     count: u64,
     ghost seated: { IsPassOf (arc_value queue) mark },
-    ghost knows: { view mark ≡ taker (view mark).all (view mark).all (view mark).taken [] (view mark).seen (view mark).heard },
+    ghost knows: { HasAllSenders (view mark) },
     ghost counted: { count ≡ length (view mark).taken },
     ghost within: { count ≤ 2 ^ 62 },
 }
@@ -27,12 +27,14 @@ impl<T: Copy, A: Allocator> Receiver<T, A> {
     ghost use Rattle.std.specs.Prelude.{◌≡◌, ◌≤◌, ◌^◌, ◌∷◌, ◌++◌, [], length, MatchOption, ⊤};
     ghost use Rattle.std.specs.Arc.{arc_value};
     ghost use Rattle.crossbeam_queue.specs.Passes.{view, IsPassOf};
-    ghost use Rattle.svc_mail.specs.Kept.{taker};
-    ghost use Rattle.svc_mail.specs.Ends.{IsSameReceiver, IsUnchangedReceiver, FollowsHistory, WasEmpty, receiver_home, taken_by, seen_at, heard_at, note_home, history_in, taken_in};
+    ghost use Rattle.svc_mail.specs.Kept.{HasAllSenders};
+    ghost use Rattle.svc_mail.specs.Ends.{IsSameReceiver, IsUnchangedReceiver, FollowsHistory, WasEmpty};
+    ghost use Rattle.svc_mail.specs.Ends.{receiver_home, taken_by, seen_at, heard_at, note_home, history_in};
+    ghost use Rattle.svc_mail.specs.Ends.{taken_in};
 
     pub(crate) fn over(queue: Arc<Queue<T, A>, A>, mark: Mark<T>) -> Receiver<T, A>
         requires pass { IsPassOf (arc_value queue) mark }
-        requires knows { view mark ≡ taker (view mark).all (view mark).all (view mark).taken [] (view mark).seen (view mark).heard }
+        requires knows { HasAllSenders (view mark) }
         requires new { (view mark).taken ≡ [] }
         ensures { (result.queue ≡ queue) × (result.mark ≡ mark) }
     {
@@ -44,7 +46,9 @@ impl<T: Copy, A: Allocator> Receiver<T, A> {
     }
 
     pub(crate) fn into_mark(self) -> Mark<T>
-        ensures { (result ≡ self.mark) × (view result ≡ taker (view result).all (view result).all (view result).taken [] (view result).seen (view result).heard) × (result.me.1 ≡ []) }
+        ensures mark { result ≡ self.mark }
+        ensures knows { HasAllSenders (view result) }
+        ensures whole { result.me.1 ≡ [] }
     {
         let Receiver {
             queue: _queue,
@@ -54,15 +58,17 @@ impl<T: Copy, A: Allocator> Receiver<T, A> {
         mark
     }
 
-    /// The next letter of the mailbox's one history, after those that were taken. `None`, and nothing was taken, only if
-    /// the mailbox was empty at one moment of the call, for all that the receiver knows: all letters that it has seen, and
-    /// all that a sender told it of (`learn`), had been taken. Of letters that no one told it of it may believe that they
-    /// are not posted yet. It takes no memory.
-    /// It may wait, at any letter. After 2^62 letters it waits for ever.
+    /// The next letter of the mailbox's one history, after those that were taken. `None`, and nothing was taken, only
+    /// if the mailbox was empty at one moment of the call, for all that the receiver knows: all letters that it has
+    /// seen, and all that a sender told it of (`learn`), had been taken. Of letters that no one told it of it may
+    /// believe that they are not posted yet. It takes no memory. It may wait, at any letter. After 2^62 letters it
+    /// waits for ever.
     pub fn take<R: Wait>(&mut self, rt: &R) -> Option<Letter<T>>
         ensures same { IsSameReceiver self.old self.new }
-        ensures taken { MatchOption result (taken_by self.new ≡ taken_by self.old) (λ letter. taken_by self.new ≡ taken_by self.old ++ letter ∷ []) }
-        ensures history { MatchOption result (seen_at self.new ≡ seen_at self.old) (λ _. FollowsHistory self.old self.new) }
+        ensures taken { MatchOption result (taken_by self.new ≡ taken_by self.old)
+            (λ letter. taken_by self.new ≡ taken_by self.old ++ letter ∷ []) }
+        ensures history { MatchOption result (seen_at self.new ≡ seen_at self.old)
+            (λ _. FollowsHistory self.old self.new) }
         ensures empty { MatchOption result (WasEmpty self.old) (λ _. ⊤) }
         ensures heard { heard_at self.new ≡ heard_at self.old }
         ensures within { length (taken_by self.new) ≤ 2 ^ 62 }

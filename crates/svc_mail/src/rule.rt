@@ -71,10 +71,9 @@ impl<T> Lesson<Letter<T>, Knows<T>> for Gets {
 pub struct Promised;
 
 impl<T> Split<Knows<T>> for Promised {
-    ghost use Rattle.std.specs.Prelude.{◌+◌};
-    ghost use Rattle.svc_mail.specs.Kept.{nobody, taker};
+    ghost use Rattle.svc_mail.specs.Kept.{nobody, with_promised};
 
-    ghost left = { λ v. taker (v.all + 1) v.made v.taken v.ended v.seen v.heard };
+    ghost left = { with_promised };
 
     ghost right = { λ v. nobody };
 }
@@ -83,12 +82,11 @@ impl<T> Split<Knows<T>> for Promised {
 pub struct Made;
 
 impl<T> Split<Knows<T>> for Made {
-    ghost use Rattle.std.specs.Prelude.{◌+◌, []};
-    ghost use Rattle.svc_mail.specs.Kept.{poster, taker};
+    ghost use Rattle.svc_mail.specs.Kept.{next_sender, with_made};
 
-    ghost left = { λ v. taker v.all (v.made + 1) v.taken v.ended v.seen v.heard };
+    ghost left = { with_made };
 
-    ghost right = { λ v. poster v.all v.made [] v.seen [] };
+    ghost right = { next_sender };
 }
 
 /// A sender has ended, and what it posted and saw is known from then on.
@@ -96,9 +94,9 @@ pub struct Ended;
 
 impl<T> Join<Knows<T>> for Ended {
     ghost use Rattle.std.specs.Prelude.{[], ◌∷◌, ◌++◌};
-    ghost use Rattle.svc_mail.specs.Kept.{taker, nobody};
+    ghost use Rattle.svc_mail.specs.Kept.{with_ended, nobody};
 
-    ghost both = { λ v w. taker v.all v.made v.taken (v.ended ++ (w.number, w.row, w.seen) ∷ []) v.seen v.heard };
+    ghost both = { λ v w. with_ended v (v.ended ++ (w.number, w.row, w.seen) ∷ []) };
 
     ghost spent = { nobody };
 }

@@ -2,7 +2,7 @@
 ghost use Rattle.std.specs.Prelude.{◌≡◌, ◌≤◌, ◌^◌, length};
 ghost use Rattle.std.specs.Arc.{arc_value};
 ghost use Rattle.crossbeam_queue.specs.Passes.{view, IsPassOf};
-ghost use Rattle.svc_mail.specs.Kept.{poster};
+ghost use Rattle.svc_mail.specs.Kept.{IsPoster};
 
 use crate::letter::{Full, Letter};
 use crate::note::Note;
@@ -20,29 +20,34 @@ pub struct Sender<T: Copy, A: Allocator = Global> {
     number: usize,
     next: u64,
     ghost seated: { IsPassOf (arc_value queue) mark },
-    ghost knows: { view mark ≡ poster (view mark).all number (view mark).row (view mark).seen (view mark).heard },
+    ghost knows: { IsPoster number (view mark) },
     ghost counted: { next ≡ length (view mark).row },
     ghost within: { next ≤ 2 ^ 62 },
 }
 
 impl<T: Copy, A: Allocator + Clone> Sender<T, A> {
-    ghost use Rattle.std.specs.Prelude.{◌≡◌, ◌+◌, ◌<◌, ◌≤◌, ◌^◌, ◌∷◌, ◌++◌, [], true, length, MatchResult, IfOk, IfErr};
+    ghost use Rattle.std.specs.Prelude.{◌≡◌, ◌+◌, ◌<◌, ◌≤◌, ◌^◌, ◌∷◌, ◌++◌, [], true, length, MatchResult, OnOk, IfOk, IfErr};
     ghost use Rattle.std.specs.Arc.{arc_value};
     ghost use Rattle.crossbeam_queue.specs.Passes.{view, IsPassOf};
-    ghost use Rattle.svc_mail.specs.Kept.{poster, taker};
-    ghost use Rattle.svc_mail.specs.Ends.{IsSameSender, IsUnchangedSender, JoinsHistory, WasFull, home, number_of, posted, seen_by, heard_by, senders_of, note_home, history_in, taken_in};
+    ghost use Rattle.svc_mail.specs.Kept.{IsPoster, next_sender, with_made};
+    ghost use Rattle.svc_mail.specs.Ends.{IsSameSender, IsUnchangedSender, JoinsHistory, WasFull, home, number_of};
+    ghost use Rattle.svc_mail.specs.Ends.{posted, seen_by, heard_by, senders_of, note_home, history_in, taken_in};
 
-    // The next sender, made by the receiver's pass.
-    pub(crate) fn make(
+    // The next sender, whose pass comes of the receiver's.
+    pub(crate) fn from_pass(
         queue: &Arc<Queue<T, A>, A>,
         mark: &mut Mark<T>,
         number: usize,
     ) -> Result<Sender<T, A>, AllocError>
         requires pass { IsPassOf (arc_value queue.now) mark.old }
-        requires next { ((view mark.old).takes ≡ true) × ((view mark.old).made ≡ number) × (number < (view mark.old).all) }
-        ensures pass { IfOk result (λ s. IsPassOf (arc_value queue.now) mark.new) }
-        ensures next { IfOk result (λ s. view mark.new ≡ taker (view mark.old).all (number + 1) (view mark.old).taken (view mark.old).ended (view mark.old).seen (view mark.old).heard) }
-        ensures sender { IfOk result (λ s. (arc_value s.queue ≡ arc_value queue.now) × IsPassOf (arc_value queue.now) s.mark × (view s.mark ≡ poster (view mark.old).all number [] (view mark.old).seen []) × (number_of s ≡ number)) }
+        requires takes { (view mark.old).takes ≡ true }
+        requires next { ((view mark.old).made ≡ number) × (number < (view mark.old).all) }
+        ensures pass { OnOk result (IsPassOf (arc_value queue.now) mark.new) }
+        ensures made { OnOk result (view mark.new ≡ with_made (view mark.old)) }
+        ensures queue { IfOk result (λ s. arc_value s.queue ≡ arc_value queue.now) }
+        ensures seat { IfOk result (λ s. IsPassOf (arc_value queue.now) s.mark) }
+        ensures knows { IfOk result (λ s. view s.mark ≡ next_sender (view mark.old)) }
+        ensures number { IfOk result (λ s. number_of s ≡ number) }
     {
         let own = Arc::try_clone(queue)?;
         let its = queue.another::<Made>(mark);
@@ -55,7 +60,10 @@ impl<T: Copy, A: Allocator + Clone> Sender<T, A> {
     }
 
     pub(crate) fn into_mark(self) -> Mark<T>
-        ensures { (result ≡ self.mark) × ((view result).posts ≡ true) × ((view result).number ≡ number_of self) × (result.me.1 ≡ []) }
+        ensures mark { result ≡ self.mark }
+        ensures posts { (view result).posts ≡ true }
+        ensures number { (view result).number ≡ number_of self }
+        ensures whole { result.me.1 ≡ [] }
     {
         let Sender {
             queue: _queue,
@@ -74,14 +82,16 @@ impl<T: Copy, A: Allocator + Clone> Sender<T, A> {
     }
 
     /// Posts an item, once, as the next letter of this sender. The item comes back, and nothing was posted, only if the
-    /// mailbox was full at one moment of the call, for all that this sender knows: it knows its own letters and what the
-    /// receiver told it, so a mailbox of one sender was full; of the other senders it knows no more than it has seen, and
-    /// may believe that they filled it. It takes no memory.
-    /// It may wait, at any letter. After 2^62 letters of this sender it waits for ever.
+    /// mailbox was full at one moment of the call, for all that this sender knows: it knows its own letters and what
+    /// the receiver told it, so a mailbox of one sender was full; of the other senders it knows no more than it has
+    /// seen, and may believe that they filled it. It takes no memory. It may wait, at any letter. After 2^62 letters of
+    /// this sender it waits for ever.
     pub fn post<R: Wait>(&mut self, rt: &R, item: T) -> Result<(), Full<T>>
         ensures same { IsSameSender self.old self.new }
-        ensures row { MatchResult result (λ _. posted self.new ≡ posted self.old ++ item ∷ []) (λ _. posted self.new ≡ posted self.old) }
-        ensures history { MatchResult result (λ _. JoinsHistory self.old item self.new) (λ _. seen_by self.new ≡ seen_by self.old) }
+        ensures row { MatchResult result (λ _. posted self.new ≡ posted self.old ++ item ∷ [])
+            (λ _. posted self.new ≡ posted self.old) }
+        ensures history { MatchResult result (λ _. JoinsHistory self.old item self.new)
+            (λ _. seen_by self.new ≡ seen_by self.old) }
         ensures full { IfErr result (λ full. (full.0 ≡ item) × WasFull self.old) }
         ensures heard { heard_by self.new ≡ heard_by self.old }
         ensures within { length (posted self.new) ≤ 2 ^ 62 }
@@ -113,8 +123,8 @@ impl<T: Copy, A: Allocator + Clone> Sender<T, A> {
         Note::of(&self.queue, &mut self.mark)
     }
 
-    /// Learns what the receiver told: from now on `post` answers `Full` only where the box held as many letters as it has
-    /// room for behind those that were taken by that note.
+    /// Learns what the receiver told: from now on `post` answers `Full` only where the box held as many letters as it
+    /// has room for behind those that were taken by that note.
     pub fn learn(&mut self, note: Note<T>)
         requires { note_home note ≡ home self.old }
         ensures same { IsSameSender self.old self.new }

@@ -1,3 +1,3 @@
-pub mod Deeds
+pub mod Calls
 pub mod Pipes
 pub mod Making

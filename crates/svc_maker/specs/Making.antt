@@ -1,4 +1,4 @@
--- The parts of services that stand on folders, and what each call of their maker does.
+-- The parts of services over folders, and what each call of their maker does.
 use Rattle.std.specs.Prelude.{◌≡◌, ◌≢◌, ◌<◌, ◌⊎◌, ⊤, ℕ, Bool, true, false, List, [], ◌∷◌, ◌++◌, codes, length}
 use Rattle.std.specs.Prelude.{remove, slice_index_or, Option, Some, None, is_none, MatchOption}
 use Rattle.std.specs.List.{All}
@@ -7,27 +7,27 @@ use Rattle.std.specs.declared.io.PipeWriter.{PipeWriter}
 use Rattle.scan_table.specs.declared.part.PartId.{PartId}
 use Rattle.scan_table.specs.declared.part.Role.{Role}
 use Rattle.scan_table.specs.declared.part.Role.TheVariants.{Main, Log}
-use Rattle.svc_house.specs.Calls.{Grew}
+use Rattle.svc_house.specs.Calls.{ExtendedWhileKept}
 use Rattle.svc_world.specs.declared.folder.FolderFault.TheVariants.{Locked}
-use Rattle.svc_maker.specs.Deeds.{Deed, MadePipe, Opened, MadeWorld, Admitted, Dismissed, KeptTrace}
+use Rattle.svc_maker.specs.Calls.{Call, MadePipe, Opened, MadeWorld, Admitted, Dismissed, KeptTrace}
 use Rattle.svc_maker.specs.Pipes.{pipes_of, pipes_without, input_of, output_of}
 use Rattle.svc_maker.specs.declared.pipes.PairOutlets.{PairOutlets}
 use Rattle.svc_maker.specs.declared.pipes.PairPipes.{PairPipes}
-use Rattle.svc_maker.specs.declared.set_up.Miss.{Miss}
-use Rattle.svc_maker.specs.declared.set_up.Miss.TheVariants as miss
+use Rattle.svc_maker.specs.declared.set_up.MakeFault.{MakeFault}
+use Rattle.svc_maker.specs.declared.set_up.MakeFault.TheVariants as why
 
 -- A part that stands, and the path by which its folder was opened.
-pub record Holding : Type 0 where
+pub record KeptPart : Type 0 where
   pub part : PartId
   pub path : List ℕ
 
--- What a maker knows: what it asked of the machine, where that is kept; the path of the folder that is scanned; the
+-- What a maker knows: what it asked of the system, where that is kept; the path of the folder that is scanned; the
 -- parts that stand, in the order of their making; the pipes of the slots that are pairs; and the names that were found
 -- locked since they were last told.
 pub record Making : Type 0 where
-  pub deeds : Option (List Deed)
+  pub calls : Option (List Call)
   pub folder : List ℕ
-  pub held : List Holding
+  pub kept : List KeptPart
   pub pipes : List PairPipes
   pub locked : List (List ℕ)
 
@@ -73,43 +73,43 @@ plan_of making name part =
 -- How a part is set up: its folder is opened, its world is made, and it is admitted to the door. Where one of these
 -- fails, the next is not tried; one that was not admitted is dismissed, with its sockets; and for want of memory none
 -- is tried at all.
-abbrev pub deeds_of : Option Miss → Plan → List Deed
-deeds_of None plan =
+abbrev pub calls_of : Option MakeFault → Plan → List Call
+calls_of None plan =
     Opened plan.path None ∷ MadeWorld plan.path plan.name plan.input plan.output true
     ∷ Admitted plan.number plan.path true ∷ []
-deeds_of (Some miss.NoRoom) plan = []
-deeds_of (Some (miss.Unopened fault)) plan = Opened plan.path (Some fault) ∷ []
-deeds_of (Some miss.NoWorld) plan =
+calls_of (Some why.NoRoom) plan = []
+calls_of (Some (why.Unopened fault)) plan = Opened plan.path (Some fault) ∷ []
+calls_of (Some why.NoWorld) plan =
     Opened plan.path None ∷ MadeWorld plan.path plan.name plan.input plan.output false ∷ []
-deeds_of (Some miss.NotAdmitted) plan =
+calls_of (Some why.NotAdmitted) plan =
     Opened plan.path None ∷ MadeWorld plan.path plan.name plan.input plan.output true
     ∷ Admitted plan.number plan.path false ∷ Dismissed plan.number plan.path ∷ []
 
--- the parts that stand, after this one was set up or missed
-abbrev pub held_after : Option Miss → Holding → List Holding → List Holding
-held_after None holding held = held ++ holding ∷ []
-held_after (Some miss) holding held = held
+-- the parts that stand, after this one was set up or failed
+abbrev pub kept_after : Option MakeFault → KeptPart → List KeptPart → List KeptPart
+kept_after None kept_part kept = kept ++ kept_part ∷ []
+kept_after (Some fault) kept_part kept = kept
 
--- the names found locked, after this one was set up or missed
-abbrev pub locked_after : Option Miss → (name : List ℕ) → List (List ℕ) → List (List ℕ)
-locked_after (Some (miss.Unopened Locked)) name locked = locked ++ name ∷ []
-locked_after missed name locked = locked
+-- the names found locked, after this one was set up or failed
+abbrev pub locked_after : Option MakeFault → (name : List ℕ) → List (List ℕ) → List (List ℕ)
+locked_after (Some (why.Unopened Locked)) name locked = locked ++ name ∷ []
+locked_after fault name locked = locked
 
--- A part of the service of this name was set up or missed, in the folder of its role. It stands where it was set up; a
+-- A part of the service of this name was set up or failed, in the folder of its role. It stands where it was set up; a
 -- name that was found locked is noted; nothing else changed.
-pub record SetsUp (name : List ℕ) (part : PartId) (missed : Option Miss) (old new : Making) : Type 0 where
-  pub deeds : Grew old.deeds new.deeds (deeds_of missed (plan_of old name part))
+pub record SetsUp (name : List ℕ) (part : PartId) (fault : Option MakeFault) (old new : Making) : Type 0 where
+  pub calls : ExtendedWhileKept old.calls new.calls (calls_of fault (plan_of old name part))
   pub stands : new ≡ record old {
-    deeds = new.deeds;
-    held = held_after missed (record { part = part; path = part_path old.folder name part.role }) old.held;
-    locked = locked_after missed (part_name name part.role) old.locked;
+    calls = new.calls;
+    kept = kept_after fault (record { part = part; path = part_path old.folder name part.role }) old.kept;
+    locked = locked_after fault (part_name name part.role) old.locked;
   }
 
 -- A part was to be made. It stands exactly where it was set up.
 pub record MakesPart (name : List ℕ) (part : PartId) (stands : Bool) (old new : Making) : Type 0 where
-  pub missed : Option Miss
-  pub answer : stands ≡ is_none missed
-  pub sets_up : SetsUp name part missed old new
+  pub fault : Option MakeFault
+  pub answer : stands ≡ is_none fault
+  pub sets_up : SetsUp name part fault old new
 
 -- Pairs
 
@@ -120,61 +120,64 @@ pub record JoinsPair (slot : ℕ) (read : PipeReader) (outlets : PairOutlets) (o
   pub input : PipeReader
   pub written : PipeWriter
   pub outlet : outlets.outlet ≡ Some written
-  pub deeds : Grew old.deeds new.deeds (MadePipe (Some (read, output)) ∷ MadePipe (Some (input, written)) ∷ [])
+  pub calls : ExtendedWhileKept old.calls new.calls
+      (MadePipe (Some (read, output)) ∷ MadePipe (Some (input, written)) ∷ [])
   pub stands : new ≡ record old {
-    deeds = new.deeds;
+    calls = new.calls;
     pipes = pipes_without slot old.pipes ++ record { slot = slot; output = output; input = input } ∷ [];
   }
 
--- Two pipes were missed: for want of memory none was tried, or the first or the second one was refused.
-abbrev pub AreMissed : List Deed → Type 0
-AreMissed [] = ⊤
-AreMissed (MadePipe None ∷ []) = ⊤
-AreMissed (MadePipe (Some ends) ∷ MadePipe None ∷ []) = ⊤
-AreMissed deeds = ⊥
+-- Two pipes were not made: for want of memory none was tried, or the first or the second one was refused.
+abbrev pub HaveFailed : List Call → Type 0
+HaveFailed [] = ⊤
+HaveFailed (MadePipe None ∷ []) = ⊤
+HaveFailed (MadePipe (Some ends) ∷ MadePipe None ∷ []) = ⊤
+HaveFailed calls = ⊥
 
--- The pipes of a pair were missed, and nothing else came of it: a pipe that was made is let go.
-pub record MissesPair (old new : Making) : Type 0 where
-  pub tried : List Deed
-  pub missed : AreMissed tried
-  pub deeds : Grew old.deeds new.deeds tried
-  pub stands : new ≡ record old { deeds = new.deeds }
+-- The pipes of a pair were not made, and nothing else came of it: a pipe that was made is let go.
+pub record LacksPair (old new : Making) : Type 0 where
+  pub tried : List Call
+  pub failed : HaveFailed tried
+  pub calls : ExtendedWhileKept old.calls new.calls tried
+  pub stands : new ≡ record old { calls = new.calls }
 
 -- The pipes of a pair were to be made.
 abbrev pub MakesPair : (slot : ℕ) → Option (PipeReader × PairOutlets) → (old new : Making) → Type 0
 MakesPair slot made old new =
-    MatchOption made (MissesPair old new) (λ ends. JoinsPair slot ends.0 ends.1 old new)
+    MatchOption made (LacksPair old new) (λ ends. JoinsPair slot ends.0 ends.1 old new)
 
 -- Traces and ends
 
 -- No such part stands.
-abbrev pub IsNowhere : PartId → List Holding → Type 0
-IsNowhere part held = All (λ (holding : Holding). holding.part ≢ part) held
+abbrev pub IsNowhere : PartId → List KeptPart → Type 0
+IsNowhere part kept = All (λ (kept_part : KeptPart). kept_part.part ≢ part) kept
 
 -- At this place stands the part.
-pub record IsPlace (part : PartId) (held : List Holding) (place : ℕ) : Type 0 where
-  pub within : place < length held
-  pub here : (d : Holding) → (slice_index_or held place d).part ≡ part
+pub record IsPlace (part : PartId) (kept : List KeptPart) (place : ℕ) : Type 0 where
+  pub within : place < length kept
+  pub here : (d : KeptPart) → (slice_index_or kept place d).part ≡ part
 
 -- A part that stands ended: it is dismissed, once, and stands no more.
 pub record Dismisses (part : PartId) (old new : Making) : Type 0 where
   pub place : ℕ
-  pub is_place : IsPlace part old.held place
-  pub deeds : (d : Holding) →
-      Grew old.deeds new.deeds (Dismissed part.life (slice_index_or old.held place d).path ∷ [])
-  pub stands : new ≡ record old { deeds = new.deeds; held = remove old.held place }
+  pub is_place : IsPlace part old.kept place
+  pub calls : (d : KeptPart) →
+      ExtendedWhileKept old.calls new.calls (Dismissed part.life (slice_index_or old.kept place d).path ∷ [])
+  pub stands : new ≡ record old { calls = new.calls; kept = remove old.kept place }
 
 -- A part ended. Of one that does not stand nothing is asked.
 abbrev pub EndsPart : PartId → (old new : Making) → Type 0
-EndsPart part old new = (IsNowhere part old.held × (new ≡ old)) ⊎ Dismisses part old new
+EndsPart part old new = (IsNowhere part old.kept × (new ≡ old)) ⊎ Dismisses part old new
 
--- The trace of a part that stands is kept in its folder, once.
-pub record Keeps (part : PartId) (text : List ℕ) (old new : Making) : Type 0 where
+-- The trace of a part that stands was to be kept in its folder, once, and was or not.
+pub record Keeps (part : PartId) (text : List ℕ) (kept : Bool) (old new : Making) : Type 0 where
   pub place : ℕ
-  pub is_place : IsPlace part old.held place
-  pub deeds : (d : Holding) → Grew old.deeds new.deeds (KeptTrace (slice_index_or old.held place d).path text ∷ [])
-  pub stands : new ≡ record old { deeds = new.deeds }
+  pub is_place : IsPlace part old.kept place
+  pub calls : (d : KeptPart) → ExtendedWhileKept old.calls new.calls
+      (KeptTrace (slice_index_or old.kept place d).path text kept ∷ [])
+  pub stands : new ≡ record old { calls = new.calls }
 
 -- A trace is to be kept. Of a part that does not stand none is.
-abbrev pub KeepsTrace : PartId → (text : List ℕ) → (old new : Making) → Type 0
-KeepsTrace part text old new = (IsNowhere part old.held × (new ≡ old)) ⊎ Keeps part text old new
+abbrev pub KeepsTrace : PartId → (text : List ℕ) → (kept : Bool) → (old new : Making) → Type 0
+KeepsTrace part text kept old new =
+    (IsNowhere part old.kept × (new ≡ old) × (kept ≡ false)) ⊎ Keeps part text kept old new

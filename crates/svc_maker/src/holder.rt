@@ -1,9 +1,9 @@
-//! A maker that stands on the folders of a folder.
+//! A maker of parts over the folders of a folder.
 use std::alloc::AllocError;
 use svc_host::Maker;
 use tai_status::Names;
 
-/// A maker of parts that stand on the folders of a folder, each with its lock.
+/// A maker of parts over the folders of a folder, each with its lock.
 pub trait FolderHolder: Maker {
     /// The folders of services are sought in this folder from now on. At want of memory they are sought where they
     /// were.

@@ -1,28 +1,29 @@
-//! What the parts of services stand on, over real folders.
+//! The resources of the parts of services, over real folders.
 //!
 //! A `FolderMaker` opens the folder of each part of a host (`svc_host`), makes its world (`svc_world`) and admits it to
 //! the door (`svc_door`), and for a pair it makes the two pipes between a service and its logger. Contracts see it as
-//! `Making` (specs/Making), over the small trait `Site`: a part stands exactly where its folder was opened and locked,
-//! its world made and it was admitted; what fails on the way is taken back; a part that ends is dismissed, once. Below
-//! that trait is the machine's own layer, `MachineSite`, which tells contracts nothing.
+//! `Making` (specs/Making), over the small trait `PartSystem`: a part stands exactly where its folder was opened and
+//! locked, its world made and it was admitted; what fails on the way is taken back; a part that ends is dismissed,
+//! once. Below that trait is the system's own layer, `SystemParts`, which tells contracts nothing.
 //!
-//! What no contract here says, and is only tested: what the machine does at each call, and that a lock is free once its
+//! What no contract here says, and is only tested: what the system does at each call, and that a lock is free once its
 //! folder is let go.
 #![tactic(auto)]
 
-mod attendants;
-mod held;
 mod holder;
-mod machine;
+mod kept_folder;
 mod maker;
+mod part_system;
 mod pipes;
+mod reaper;
 mod set_up;
-mod site;
+mod system;
 
-pub use attendants::ChildWaiter;
-pub use held::HeldFolder;
 pub use holder::FolderHolder;
-pub use machine::{MachineSite, OpenFolder};
+pub use kept_folder::LockedFolder;
 pub use maker::FolderMaker;
+pub use part_system::PartSystem;
 pub use pipes::PairOutlets;
-pub use site::Site;
+pub use reaper::PartReaper;
+pub use set_up::part_name;
+pub use system::{OpenFolder, SystemParts};

@@ -2,63 +2,63 @@
 ghost use Rattle.std.specs.Prelude.{◌≡◌, ◌++◌, [], is_some, IfOk, OnOk, OnErr};
 ghost use Rattle.std.specs.Result.{result_err};
 ghost use Rattle.svc_host.specs.Answers.{answered};
-ghost use Rattle.svc_house.specs.Calls.{Grew};
+ghost use Rattle.svc_house.specs.Calls.{ExtendedWhileKept};
 ghost use Rattle.svc_maker.specs.Making.{EndsPart, KeepsTrace, MakesPair, MakesPart, Making, SetsUp};
 
-use crate::held::{Held, HeldFolder, place_of};
 use crate::holder::FolderHolder;
+use crate::kept_folder::{KeptFolder, LockedFolder, place_of};
+use crate::part_system::PartSystem;
 use crate::pipes::{PairOutlets, PairPipes, leave_pipes};
-use crate::set_up::{Miss, Setting, part_name, part_path, set_up};
-use crate::site::Site;
+use crate::set_up::{MakeFault, PartSetup, part_name, part_path, set_up};
 use scan_table::PartId;
 use std::alloc::{AllocError, Global};
 use std::io::{PipeReader, PipeWriter};
 use std::marker::Model;
 use std::sync::Arc;
-use svc_host::{Gear, Maker};
-use svc_house::{Bell, Caller, OpenGate};
+use svc_host::{Maker, PartResources};
+use svc_house::{ControlSender, Notifier, OpenGate};
 use svc_world::FolderFault;
 use tai_status::{Name, Names, Output};
 
-/// Makes what the parts of services stand on, over the folders of a folder. Contracts see it as `Making`
+/// Makes the resources of the parts of services, over the folders of a folder. Contracts see it as `Making`
 /// (specs/Making).
 #[derive(Drop)]
-pub struct FolderMaker<S: Site + Drop> {
+pub struct FolderMaker<S: PartSystem + Drop> {
     alloc: Global,
-    site: S,
+    system: S,
     folder: String,
-    held: Vec<Held<S::Folder>>,
+    kept: Vec<KeptFolder<S::Folder>>,
     pipes: Vec<PairPipes>,
     locked: Vec<Name>,
 }
 
-impl<S: Site + Drop> Model for FolderMaker<S> {
+impl<S: PartSystem + Drop> Model for FolderMaker<S> {
     ghost use Rattle.std.specs.Prelude.{string_bytes};
     ghost use Rattle.svc_maker.specs.Making.{Making};
 
     ghost Value = { Making };
 
     ghost view = { λ maker. record {
-      deeds = S.deeds maker.site;
+      calls = S.calls maker.system;
       folder = string_bytes maker.folder;
-      held = maker.held.items;
+      kept = maker.kept.items;
       pipes = maker.pipes.items;
       locked = maker.locked.items;
     } };
 }
 
-impl<S: Site + Drop> FolderMaker<S> {
+impl<S: PartSystem + Drop> FolderMaker<S> {
     ghost use Rattle.std.specs.Prelude.{◌≡◌, []};
 
-    /// A maker over a site, with no part.
-    pub fn new(alloc: Global, site: S) -> FolderMaker<S>
-        ensures { result ≡ record { deeds = S.deeds site; folder = []; held = []; pipes = []; locked = [] } }
+    /// A maker over a system, with no part.
+    pub fn new(alloc: Global, system: S) -> FolderMaker<S>
+        ensures { result ≡ record { calls = S.calls system; folder = []; kept = []; pipes = []; locked = [] } }
     {
         FolderMaker {
             alloc,
-            site,
+            system,
             folder: String::new(alloc),
-            held: Vec::new(alloc),
+            kept: Vec::new(alloc),
             pipes: Vec::new(alloc),
             locked: Vec::new(alloc),
         }
@@ -69,61 +69,61 @@ impl<S: Site + Drop> FolderMaker<S> {
         &mut self,
         name: &str,
         part: PartId,
-        caller: Caller,
-        bell: Arc<Bell, Global>,
-    ) -> Result<Gear<S::World, OpenGate, S::Attendant>, Miss>
+        sender: ControlSender,
+        notifier: Arc<Notifier, Global>,
+    ) -> Result<PartResources<S::World, OpenGate, S::Reaper>, MakeFault>
         ensures sets_up { SetsUp name.now part (result_err result) self.old self.new }
-        ensures fresh { IfOk result (λ gear. answered (S.World.calls gear.world) ≡ []) }
+        ensures fresh { IfOk result (λ resources. answered (S.World.calls resources.world) ≡ []) }
     {
         let Ok(shown) = part_name(self.alloc, name, part.role) else {
-            return Err(Miss::NoRoom);
+            return Err(MakeFault::NoRoom);
         };
         let Ok(path) = part_path(self.alloc, self.folder.as_str(), shown.as_str()) else {
-            return Err(Miss::NoRoom);
+            return Err(MakeFault::NoRoom);
         };
-        if self.held.reserve(1).is_err() || self.locked.reserve(1).is_err() {
-            return Err(Miss::NoRoom);
+        if self.kept.reserve(1).is_err() || self.locked.reserve(1).is_err() {
+            return Err(MakeFault::NoRoom);
         }
         match set_up(
-            &mut self.site,
+            &mut self.system,
             path,
             shown.as_str(),
             part,
             &self.pipes,
-            caller,
-            bell,
+            sender,
+            notifier,
         ) {
             Ok(
-                Setting {
+                PartSetup {
                     folder,
                     world,
-                    attendant,
+                    reaper,
                 },
             ) => {
-                self.held.push_reserved(Held { part, folder });
-                Ok(Gear {
+                self.kept.push_reserved(KeptFolder { part, folder });
+                Ok(PartResources {
                     world,
                     gate: OpenGate,
-                    attendant,
+                    reaper,
                 })
             }
-            Err(Miss::Unopened(FolderFault::Locked)) => {
+            Err(MakeFault::Unopened(FolderFault::Locked)) => {
                 self.locked.push_reserved(Name::new(shown));
-                Err(Miss::Unopened(FolderFault::Locked))
+                Err(MakeFault::Unopened(FolderFault::Locked))
             }
-            Err(miss) => Err(miss),
+            Err(fault) => Err(fault),
         }
     }
 }
 
-impl<S: Site + Drop> Maker for FolderMaker<S>
+impl<S: PartSystem + Drop> Maker for FolderMaker<S>
 where
     S::World: Send + 'static,
-    S::Attendant: Send + 'static,
+    S::Reaper: Send + 'static,
 {
     ghost use Rattle.std.specs.Prelude.{◌≡◌, ◌∷◌, [], is_some, IfSome};
     ghost use Rattle.svc_host.specs.Answers.{answered};
-    ghost use Rattle.svc_house.specs.Calls.{Grew};
+    ghost use Rattle.svc_house.specs.Calls.{ExtendedWhileKept};
     ghost use Rattle.svc_maker.specs.Making.{EndsPart, KeepsTrace, MakesPair, MakesPart, Making};
     ghost use Rattle.svc_maker.specs.Pipes.{pipes_without};
 
@@ -131,7 +131,7 @@ where
 
     type Gate = OpenGate;
 
-    type Attendant = S::Attendant;
+    type Reaper = S::Reaper;
 
     type Output = PipeReader;
 
@@ -145,29 +145,33 @@ where
         &mut self,
         name: &str,
         part: PartId,
-        caller: Caller,
-        bell: Arc<Bell, Global>,
-    ) -> Option<Gear<S::World, OpenGate, S::Attendant>>
+        sender: ControlSender,
+        notifier: Arc<Notifier, Global>,
+    ) -> Option<PartResources<S::World, OpenGate, S::Reaper>>
         ensures made { MakesPart name.now part (is_some result) self.old self.new }
-        ensures fresh { IfSome result (λ gear. answered (S.World.calls gear.world) ≡ []) }
+        ensures fresh { IfSome result (λ resources. answered (S.World.calls resources.world) ≡ []) }
     {
-        match self.try_part(name, part, caller, bell) {
-            Ok(gear) => Some(gear),
-            Err(_miss) => None,
+        match self.try_part(name, part, sender, notifier) {
+            Ok(resources) => Some(resources),
+            Err(_fault) => None,
         }
     }
 
     /// The two pipes of a pair. Once both are made, those of an earlier time are let go.
-    fn pair(&mut self, slot: u64, _bell: Arc<Bell, Global>) -> Option<(PipeReader, PairOutlets)>
+    fn pair(
+        &mut self,
+        slot: u64,
+        _notifier: Arc<Notifier, Global>,
+    ) -> Option<(PipeReader, PairOutlets)>
         ensures { MakesPair slot result self.old self.new }
     {
         if self.pipes.reserve(1).is_err() {
             return None;
         }
-        let Some((from_service, output)) = self.site.pipe() else {
+        let Some((from_service, output)) = self.system.pipe() else {
             return None;
         };
-        let Some((input, to_logger)) = self.site.pipe() else {
+        let Some((input, to_logger)) = self.system.pipe() else {
             return None;
         };
         let pipes = &mut self.pipes;
@@ -181,21 +185,24 @@ where
         Some((from_service, PairOutlets { outlet }))
     }
 
-    fn keep_trace(&mut self, part: PartId, text: &[u8])
-        ensures kept { KeepsTrace part text.now self.old self.new }
+    fn keep_trace(&mut self, part: PartId, text: &[u8]) -> bool
+        ensures kept { KeepsTrace part text.now result self.old self.new }
     {
-        if let Some(place) = place_of(&self.held, part) {
-            let held = &self.held[place];
-            self.site.keep_trace(&held.folder, text);
+        match place_of(&self.kept, part) {
+            Some(place) => {
+                let kept = &self.kept[place];
+                self.system.keep_trace(&kept.folder, text)
+            }
+            None => false,
         }
     }
 
     fn ended(&mut self, part: PartId)
         ensures ended { EndsPart part self.old self.new }
     {
-        if let Some(place) = place_of(&self.held, part) {
-            let held = self.held.remove(place);
-            self.site.dismiss(part.life, &held.folder);
+        if let Some(place) = place_of(&self.kept, part) {
+            let kept = self.kept.remove(place);
+            self.system.dismiss(part.life, &kept.folder);
         }
     }
 
@@ -206,10 +213,10 @@ where
     }
 }
 
-impl<S: Site + Drop> FolderHolder for FolderMaker<S>
+impl<S: PartSystem + Drop> FolderHolder for FolderMaker<S>
 where
     S::World: Send + 'static,
-    S::Attendant: Send + 'static,
+    S::Reaper: Send + 'static,
 {
     ghost use Rattle.std.specs.Prelude.{◌≡◌, [], OnOk, OnErr};
 

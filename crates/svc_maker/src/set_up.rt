@@ -1,23 +1,23 @@
 //! How a part is set up.
 ghost use Rattle.std.specs.Prelude.{◌≡◌, ◌≢◌, ◌++◌, ◌∷◌, [], Some, string_bytes, IfOk};
 ghost use Rattle.std.specs.Result.{result_err};
-ghost use Rattle.svc_maker.specs.declared.set_up.Miss.{Miss};
+ghost use Rattle.svc_maker.specs.declared.set_up.MakeFault.{MakeFault};
 ghost use Rattle.svc_host.specs.Answers.{answered};
-ghost use Rattle.svc_house.specs.Calls.{Grew};
-ghost use Rattle.svc_maker.specs.Making.{behind, deeds_of, part_name, plan_at};
+ghost use Rattle.svc_house.specs.Calls.{ExtendedWhileKept};
+ghost use Rattle.svc_maker.specs.Making.{behind, calls_of, part_name, plan_at};
 
-use crate::held::HeldFolder;
+use crate::kept_folder::LockedFolder;
+use crate::part_system::PartSystem;
 use crate::pipes::{PairPipes, input_of, output_of, pipes_of};
-use crate::site::Site;
 use scan_table::{PartId, Role};
 use std::alloc::{AllocError, Global};
 use std::sync::Arc;
-use svc_house::{Bell, Caller};
+use svc_house::{ControlSender, Notifier};
 use svc_world::FolderFault;
 
-/// Why a part was not set up.
+/// Why a part was not made.
 #[derive(Clone, Copy, Debug, PartialEq, Eq)]
-pub(crate) enum Miss {
+pub(crate) enum MakeFault {
     /// There was no memory. Nothing was asked.
     NoRoom,
     /// Its folder was not opened.
@@ -30,10 +30,10 @@ pub(crate) enum Miss {
 
 /// What a part that was set up has.
 #[derive(Drop)]
-pub(crate) struct Setting<S: Site> {
+pub(crate) struct PartSetup<S: PartSystem> {
     pub(crate) folder: S::Folder,
     pub(crate) world: S::World,
-    pub(crate) attendant: S::Attendant,
+    pub(crate) reaper: S::Reaper,
 }
 
 /// What stands behind the name of a service in the path of a part.
@@ -46,8 +46,8 @@ pub(crate) fn behind(role: Role) -> &'static str
     }
 }
 
-/// A part's name, as it is told.
-pub(crate) fn part_name(alloc: Global, name: &str, role: Role) -> Result<String, AllocError>
+/// A part's name, as it is told: of a logger the service's, with `/log` behind it.
+pub fn part_name(alloc: Global, name: &str, role: Role) -> Result<String, AllocError>
     ensures { IfOk result (λ text. string_bytes text ≡ part_name name.now role) }
 {
     let mut text = String::from_str(alloc, name)?;
@@ -66,38 +66,38 @@ pub(crate) fn part_path(alloc: Global, folder: &str, name: &str) -> Result<Strin
 }
 
 /// Sets a part up: its folder is opened, its world is made, and it is admitted to the door.
-pub(crate) fn set_up<S: Site>(
-    site: &mut S,
+pub(crate) fn set_up<S: PartSystem>(
+    system: &mut S,
     path: String,
     name: &str,
     part: PartId,
     pipes: &[PairPipes],
-    caller: Caller,
-    bell: Arc<Bell, Global>,
-) -> Result<Setting<S>, Miss>
-    ensures deeds { Grew (S.deeds site.old) (S.deeds site.new)
-        (deeds_of (result_err result) (plan_at (string_bytes path) name.now part pipes.now)) }
-    ensures path { IfOk result (λ setting. S.Folder.path setting.folder ≡ string_bytes path) }
-    ensures fresh { IfOk result (λ setting. answered (S.World.calls setting.world) ≡ []) }
-    ensures asked { result_err result ≢ Some Miss.NoRoom }
+    sender: ControlSender,
+    notifier: Arc<Notifier, Global>,
+) -> Result<PartSetup<S>, MakeFault>
+    ensures calls { ExtendedWhileKept (S.calls system.old) (S.calls system.new)
+        (calls_of (result_err result) (plan_at (string_bytes path) name.now part pipes.now)) }
+    ensures path { IfOk result (λ setup. S.Folder.path setup.folder ≡ string_bytes path) }
+    ensures fresh { IfOk result (λ setup. answered (S.World.calls setup.world) ≡ []) }
+    ensures asked { result_err result ≢ Some MakeFault.NoRoom }
 {
-    let folder = match site.open(path) {
+    let folder = match system.open(path) {
         Ok(folder) => folder,
-        Err(fault) => return Err(Miss::Unopened(fault)),
+        Err(fault) => return Err(MakeFault::Unopened(fault)),
     };
     let pair = pipes_of(pipes, part.slot);
     let input = input_of(pair, part.role);
     let output = output_of(pair, part.role);
-    let Some((world, attendant)) = site.world(&folder, name, input, output, bell) else {
-        return Err(Miss::NoWorld);
+    let Some((world, reaper)) = system.world(&folder, name, input, output, notifier) else {
+        return Err(MakeFault::NoWorld);
     };
-    if !site.admit(part.life, &folder, caller) {
-        site.dismiss(part.life, &folder);
-        return Err(Miss::NotAdmitted);
+    if !system.admit(part.life, &folder, sender) {
+        system.dismiss(part.life, &folder);
+        return Err(MakeFault::NotAdmitted);
     }
-    Ok(Setting {
+    Ok(PartSetup {
         folder,
         world,
-        attendant,
+        reaper,
     })
 }

@@ -9,18 +9,18 @@ use Rattle.svc_relay.specs.Pieces.{bytes_of, joined}
 use Rattle.svc_mail.specs.Ends.{posted, WasFull}
 use Rattle.svc_relay.specs.declared.turn.IntakeTurn.{IntakeTurn}
 use Rattle.svc_relay.specs.declared.turn.IntakeTurn.TheVariants.{Moved, Idle, Ended}
-use Rattle.svc_relay.specs.Carrying.{Carrying, IsIntakeTurn, held}
+use Rattle.svc_relay.specs.Carrying.{Carrying, IsIntakeTurn, as_list}
 use Rattle.svc_relay.proofs.Joined.{joined-one}
 
 -- a piece was read, and is kept
 pub reads_piece : (opening old new : Device) (posted : List Piece) (kept : Option Piece) (piece : Piece) (bytes : List ℕ) → kept ≡ None
-    → Gives opening old (joined (posted ++ held kept)) → Consumes old.bytes new.bytes bytes → bytes_of piece ≡ bytes
+    → Gives opening old (joined (posted ++ as_list kept)) → Consumes old.bytes new.bytes bytes → bytes_of piece ≡ bytes
     → Gives opening new (joined (posted ++ piece ∷ []))
 reads_piece opening old new posted kept piece bytes none read more is =
-    let before : joined (posted ++ held kept) ≡ joined posted = ap (λ k. joined (posted ++ held k)) none ∙ ap joined (append-nil posted) in
-    let all : joined (posted ++ held kept) ++ bytes ≡ joined (posted ++ piece ∷ []) =
+    let before : joined (posted ++ as_list kept) ≡ joined posted = ap (λ k. joined (posted ++ as_list k)) none ∙ ap joined (append-nil posted) in
+    let all : joined (posted ++ as_list kept) ++ bytes ≡ joined (posted ++ piece ∷ []) =
     ap (λ l. l ++ bytes) before ∙ ap (λ l. joined posted ++ l) (sym is) ∙ sym (joined-one posted piece) in
-    subst (λ (l : List ℕ). Gives opening new l) all (Consumes-then opening.bytes old.bytes new.bytes (joined (posted ++ held kept)) bytes read more)
+    subst (λ (l : List ℕ). Gives opening new l) all (Consumes-then opening.bytes old.bytes new.bytes (joined (posted ++ as_list kept)) bytes read more)
 
 -- the reader gave no byte
 pub reads_none : (opening old new : Device) (xs buffer : List ℕ) (count : ℕ) → count ≡ 0 → Gives opening old xs → Consumes old.bytes new.bytes (take count buffer)

@@ -7,7 +7,7 @@ use Rattle.svc_mail.specs.Ends.{number_of, posted, taken_by}
 use Rattle.svc_mail.proofs.Lengths.{sender_below, among_rest}
 use Rattle.svc_relay.specs.declared.piece.Piece.{Piece}
 use Rattle.svc_relay.specs.Pieces.{joined, bytes_in}
-use Rattle.svc_relay.specs.Carrying.{Carrying, held}
+use Rattle.svc_relay.specs.Carrying.{Carrying, as_list}
 use Rattle.svc_relay.specs.Passing.{Passing}
 use Rattle.svc_relay.specs.Whole.{Begins, IsJoined, bytes_between, bytes_put, bytes_read}
 use Rattle.svc_relay.proofs.Joined.{joined-append, bytes_in-append}
@@ -34,10 +34,10 @@ pub between : (intake : Carrying) (relay : Passing) (left : List (Letter Piece))
     → bytes_read intake ≡ bytes_put relay ++ bytes_between intake relay left
 between intake relay left joins =
     let put = bytes_put relay in
-    let rest = joined (held intake.kept) in
+    let rest = joined (as_list intake.kept) in
     let kept = relay.kept in
     let letters = bytes_in left in
-    joined-append (posted intake.sender) (held intake.kept) ∙ ap (λ l. l ++ rest) (posted_all intake relay left joins)
+    joined-append (posted intake.sender) (as_list intake.kept) ∙ ap (λ l. l ++ rest) (posted_all intake relay left joins)
     ∙ ap (λ l. (l ++ letters) ++ rest) joins.takes.taken ∙ ap (λ l. l ++ rest) (append_assoc put kept letters)
     ∙ append_assoc put (kept ++ letters) rest
 

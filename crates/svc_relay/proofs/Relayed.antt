@@ -77,11 +77,11 @@ filled old new earlier here waiting after put told none gathers counted =
 
 put_life : (here count : ℕ) (from rest : List ℕ) (old new : Option (List ℕ)) → drop here from ≡ rest → new ≡ append_known old (take count rest)
     → IfSome old (λ b. b ≡ take here from) → IfSome new (λ b. b ≡ take (here + count) from)
-put_life here count from rest None new is grew known = subst (λ (o : Option (List ℕ)). IfSome o (λ b. b ≡ take (here + count) from)) (sym grew) tt
-put_life here count from rest (Some old) new is grew known =
+put_life here count from rest None new is extended known = subst (λ (o : Option (List ℕ)). IfSome o (λ b. b ≡ take (here + count) from)) (sym extended) tt
+put_life here count from rest (Some old) new is extended known =
     let all : old ++ take count rest ≡ take (here + count) from =
     ap (λ l. l ++ take count rest) known ∙ ap (λ l. take here from ++ take count l) (sym is) ∙ sym (take-add here count from) in
-    subst (λ (o : Option (List ℕ)). IfSome o (λ b. b ≡ take (here + count) from)) (sym grew) all
+    subst (λ (o : Option (List ℕ)). IfSome o (λ b. b ≡ take (here + count) from)) (sym extended) all
 
 -- what is kept, as a part of what was taken
 kept_part : (earlier here : ℕ) (taken : List ℕ) → drop here (drop earlier taken) ≡ drop (earlier + here) taken
@@ -97,30 +97,30 @@ puts_here receiver earlier here waiting put told count counted =
 pub puts : (receiver : Receiver Piece Global) (earlier here : ℕ) (waiting : List ℕ) (put : ℕ) (told after : Option (List ℕ)) (count : ℕ)
     → count ≤ length (drop put waiting) → after ≡ append_known told (take count (drop put waiting))
     → IsCounted receiver earlier here waiting put told → IsCounted receiver earlier (here + count) waiting (put + count) after
-puts receiver earlier here waiting put told after count few grew counted =
+puts receiver earlier here waiting put told after count few extended counted =
     let taken = bytes_in (taken_by receiver) in
     let sum : earlier + (here + count) ≡ earlier + here + count = omega arith in record {
       within = omega (arith, few, ap length counted.kept, length-drop (earlier + here) taken, counted.within);
       front = omega (arith, few, length-drop put waiting, counted.front);
       kept = ap (λ n. drop n taken) sum ∙ sym (drop-drop count (earlier + here) taken) ∙ ap (λ l. drop count l) counted.kept ∙ drop-drop count put waiting;
-      life = put_life here count (drop earlier taken) (drop put waiting) told after (kept_part earlier here taken ∙ counted.kept) grew counted.life;
+      life = put_life here count (drop earlier taken) (drop put waiting) told after (kept_part earlier here taken ∙ counted.kept) extended counted.life;
     }
 
 pub puts_more : (receiver : Receiver Piece Global) (earlier here : ℕ) (waiting : List ℕ) (put : ℕ) (told after : Option (List ℕ)) (failures failed count : ℕ)
     → count ≤ length (drop put waiting) → after ≡ append_known told (take count (drop put waiting)) → IsCounted receiver earlier here waiting put told
     → PutsMore (passing receiver earlier here waiting put told failures) count (passing receiver earlier (here + count) waiting (put + count) after failed)
-puts_more receiver earlier here waiting put told after failures failed count few grew counted = record {
+puts_more receiver earlier here waiting put told after failures failed count few extended counted = record {
   bytes = take count (drop put waiting);
   here = puts_here receiver earlier here waiting put told count counted;
   many = length-take-le count (drop put waiting) few;
-  told = grew;
+  told = extended;
 }
 
 pub puts_all : (receiver : Receiver Piece Global) (earlier here : ℕ) (waiting : List ℕ) (put : ℕ) (told after : Option (List ℕ)) (failures failed count : ℕ)
     → count ≡ length (drop put waiting) → 0 < length (drop put waiting) → failed ≡ failures → after ≡ append_known told (take count (drop put waiting)) → IsCounted receiver earlier here waiting put told
     → PutsAll (passing receiver earlier here waiting put told failures) count (passing receiver earlier (here + count) waiting (put + count) after failed)
-puts_all receiver earlier here waiting put told after failures failed count all some works grew counted = record {
-  put = puts_more receiver earlier here waiting put told after failures failed count (omega (arith, all)) grew counted;
+puts_all receiver earlier here waiting put told after failures failed count all some works extended counted = record {
+  put = puts_more receiver earlier here waiting put told after failures failed count (omega (arith, all)) extended counted;
   some = omega (arith, all, some);
   kept = sym (drop-drop count put waiting) ∙ ap (λ n. drop n (drop put waiting)) all ∙ drop-length (drop put waiting);
   works = works;
@@ -129,9 +129,9 @@ puts_all receiver earlier here waiting put told after failures failed count all 
 pub breaks : (receiver : Receiver Piece Global) (earlier here : ℕ) (waiting : List ℕ) (put : ℕ) (told after : Option (List ℕ)) (failures failed count : ℕ)
     → count < length (drop put waiting) → Rose failures failed → after ≡ append_known told (take count (drop put waiting)) → IsCounted receiver earlier here waiting put told
     → IsBroken (passing receiver earlier here waiting put told failures) (passing receiver earlier (here + count) waiting (put + count) after failed)
-breaks receiver earlier here waiting put told after failures failed count part rose grew counted = record {
+breaks receiver earlier here waiting put told after failures failed count part rose extended counted = record {
   count = count;
-  put = puts_more receiver earlier here waiting put told after failures failed count (omega (arith, part)) grew counted;
+  put = puts_more receiver earlier here waiting put told after failures failed count (omega (arith, part)) extended counted;
   kept = omega (arith, part, length-drop put waiting, length-drop (put + count) waiting);
   failed = rose;
 }

@@ -18,13 +18,13 @@ pub record Carrying : Type 0 where
   pub kept : Option Piece
 
 -- a piece that may be there, as a list
-abbrev pub held : Option Piece → List Piece
-held None = []
-held (Some piece) = piece ∷ []
+abbrev pub as_list : Option Piece → List Piece
+as_list None = []
+as_list (Some piece) = piece ∷ []
 
 -- the pieces that were posted, and then the one that is kept
 abbrev pub pieces_in : Carrying → List Piece
-pieces_in s = posted s.sender ++ held s.kept
+pieces_in s = posted s.sender ++ as_list s.kept
 
 -- What holds of every intake: the bytes that it read are those that it posted, followed by those that it keeps.
 abbrev pub IsIntake : Carrying → Type 0

@@ -4,7 +4,7 @@ use Rattle.svc_mail.specs.declared.letter.Letter.{Letter}
 use Rattle.svc_mail.specs.Ends.{number_of, senders_at, taken_by, IsWholeHistory}
 use Rattle.svc_relay.specs.declared.piece.Piece.{Piece}
 use Rattle.svc_relay.specs.Pieces.{joined, bytes_in}
-use Rattle.svc_relay.specs.Carrying.{Carrying, IsIntake, held, pieces_in}
+use Rattle.svc_relay.specs.Carrying.{Carrying, IsIntake, as_list, pieces_in}
 use Rattle.svc_relay.specs.Passing.{Passing, IsRelay}
 
 -- the bytes that an intake read
@@ -17,13 +17,14 @@ bytes_put relay = relay.earlier ++ relay.here
 
 -- the bytes still between the two: those that the relay keeps, those left in the mailbox, those that the intake keeps
 abbrev pub bytes_between : Carrying → Passing → List (Letter Piece) → List ℕ
-bytes_between intake relay left = relay.kept ++ bytes_in left ++ joined (held intake.kept)
+bytes_between intake relay left = relay.kept ++ bytes_in left ++ joined (as_list intake.kept)
 
 -- These bytes begin those.
 abbrev pub Begins : List ℕ → List ℕ → Type 0
 Begins front all = (rest : List ℕ) × (all ≡ front ++ rest)
 
--- The intake posts and the relay takes by one mailbox, which has no other sender. It was closed, with these letters left.
+-- The intake posts and the relay takes by one mailbox, which has no other sender. It was closed, with these letters
+-- left.
 pub record IsJoined (intake : Carrying) (relay : Passing) (left : List (Letter Piece)) : Type 0 where
   pub posts : IsIntake intake
   pub takes : IsRelay relay
@@ -34,7 +35,8 @@ pub record IsJoined (intake : Carrying) (relay : Passing) (left : List (Letter P
 -- whatever the intake, the relay and the letters left in the closed mailbox between them
 abbrev pub OfEachJoined : (Carrying → Passing → List (Letter Piece) → Type 0) → Type 0
 OfEachJoined P =
-    (intake : Carrying) (relay : Passing) (left : List (Letter Piece)) → IsJoined intake relay left → P intake relay left
+    (intake : Carrying) (relay : Passing) (left : List (Letter Piece)) → IsJoined intake relay left
+    → P intake relay left
 
 -- what was read is what was put into all lives, and then what is between
 abbrev pub IsPutOrBetween : Carrying → Passing → List (Letter Piece) → Type 0

@@ -7,7 +7,7 @@ use Rattle.sup_core.specs.Rules.{takes}
 use Rattle.svc_station.specs.declared.writer.Writer.{Writer}
 use Rattle.svc_station.specs.Ends.{history_of, published, station, with_if_taken}
 use Rattle.svc_station.specs.Parking.{GoesOn}
-use Rattle.svc_station.proofs.Fronts.{prefix_self, prefix_trans}
+use Rattle.svc_station.proofs.Prefixes.{prefix_self, prefix_trans}
 
 pub GoesOn-self : (writer : Writer) → GoesOn writer writer
 GoesOn-self writer = (refl, prefix_self (published writer))

@@ -1,6 +1,6 @@
 //! The loop of one service, over worlds with set answers.
 ghost use Rattle.std.specs.Prelude.{◌≡◌, [], Some, IfOk, IfErr};
-ghost use Rattle.sup_core.specs.declared.machine.Phase.{Phase};
+ghost use Rattle.tai_status.specs.declared.phase.Phase.{Phase};
 ghost use Rattle.sup_core.specs.History.{phase_of};
 ghost use Rattle.svc_mail.specs.Ends.{AreAllSenders, box_of, home, number_of, senders_in};
 ghost use Rattle.svc_station.specs.Ends.{IsSameReader, history_of, reader_station, station};
@@ -14,8 +14,8 @@ use std::sync::Wait;
 use std::test::Fail;
 use sup_core::{Ask, Asks, Event, Machine, Phase, Sig, took_text};
 use svc_house::{
-    Hand, House, HouseFault, MailInbox, NotWound, OpenGate, StartAnswer, Turned, WindFault, World,
-    last_reading,
+    House, HouseFault, MailInbox, NotWound, OpenGate, Pending, StartAnswer, Turned, WindFault,
+    World, last_reading,
 };
 use svc_mail::letter::Letter;
 use svc_mail::letters::Letters;
@@ -79,7 +79,7 @@ impl World for Script {
         self.note(Ask::Start);
     }
 
-    fn write(&mut self, bytes: &[u8; 18]) {
+    fn write(&mut self, bytes: &[u8; 20]) {
         self.note(Ask::Write(*bytes));
     }
 
@@ -197,9 +197,9 @@ impl<A: Allocator + Clone> Stage<A> {
         wound
     }
 
-    // What the world was told, what was in hand, and what a reader reads that learnt the writer's note: the status, and how
-    // many events there were.
-    fn end<R: Wait + Abort>(self, rt: &R, alloc: Global) -> (Vec<Ask>, Hand, View, Option<u64>) {
+    // What the world was told, what was pending, and what a reader reads that learnt the writer's note: the status, and
+    // how many events there were.
+    fn end<R: Wait + Abort>(self, rt: &R, alloc: Global) -> (Vec<Ask>, Pending, View, Option<u64>) {
         let Stage {
             house,
             mailbox: _mailbox,
@@ -210,7 +210,7 @@ impl<A: Allocator + Clone> Stage<A> {
             other,
             readers,
         } = self;
-        let (world, _inbox, mut writer, hand) = house.take_apart();
+        let (world, _inbox, mut writer, pending) = house.take_apart();
         reader.learn(writer.tell());
         let count = match reader.trace(alloc) {
             Ok(text) => Some(text.folded() + text.entries().len() as u64),
@@ -218,7 +218,7 @@ impl<A: Allocator + Clone> Stage<A> {
         };
         let view = reader.status();
         end_two(rt, writer, reader, other, readers);
-        (world.told, hand, view, count)
+        (world.told, pending, view, count)
     }
 }
 
@@ -323,7 +323,7 @@ fn wind_up_twice<A: Allocator + Clone, R: Wait>(
                 senders: _senders,
             },
         ) => {
-            let (_world, _inbox, writer, _hand) = house.take_apart();
+            let (_world, _inbox, writer, _pending) = house.take_apart();
             (writer, None)
         }
     }
@@ -385,20 +385,21 @@ fn a_service_from_its_start_to_its_death(rt: HostRuntime) -> Result<(), Fail> {
         Turned::Idle,
     ];
     assert!(rt; are_turns(&rt, &mut stage, &wanted));
-    let (asks, hand, view, count) = stage.end(&rt, rt.alloc());
-    assert_eq!(rt; hand, Hand::Empty);
+    let (asks, pending, view, count) = stage.end(&rt, rt.alloc());
+    assert_eq!(rt; pending, Pending::Empty);
     assert_eq!(rt;
         (view.label, view.pid, view.want, count),
         (l3, 0, Want::Down, Some(4))
     );
     let told = [
-        "took record:400000000000000a00000000000000000075 -> down",
+        "took record:400000000000000a000000000000000000750000 -> down",
         "took start -> down",
-        "took record:400000000000000b00000000671200000075 -> down",
+        "took record:400000000000000b000000006712000000750001 -> down",
+        "took record:400000000000000b000000006712000000750003 -> down",
         "took TERM:4711 -> down",
         "took CONT:4711 -> down",
-        "took record:400000000000000b00000000671200000064 -> down",
-        "took record:400000000000000d00000000000000000064 -> down",
+        "took record:400000000000000b000000006712000000640003 -> down",
+        "took record:400000000000000d000000000000000000640004 -> down",
     ];
     assert!(rt; are_asks(&asks, &told));
     Ok(())
@@ -424,8 +425,8 @@ fn a_letter_goes_before_a_death(rt: HostRuntime) -> Result<(), Fail> {
         Turned::Took(Event::Byte(b'd')),
     ];
     assert!(rt; are_turns(&rt, &mut stage, &wanted));
-    let (_asks, hand, view, _count) = stage.end(&rt, rt.alloc());
-    assert_eq!(rt; hand, Hand::One(Event::Death { label: l3 }));
+    let (_asks, pending, view, _count) = stage.end(&rt, rt.alloc());
+    assert_eq!(rt; pending, Pending::One(Event::Death { label: l3 }));
     assert_eq!(rt; (view.pid, view.want), (7, Want::Down));
     let script = Script::new(
         rt.alloc(),
@@ -441,7 +442,7 @@ fn a_letter_goes_before_a_death(rt: HostRuntime) -> Result<(), Fail> {
         Ok(Turned::Took(Event::Death { label: l3 }))
     );
     assert_eq!(rt; stage.turn(&rt), Ok(Turned::Idle));
-    let (_asks, _hand, view, count) = stage.end(&rt, rt.alloc());
+    let (_asks, _pending, view, count) = stage.end(&rt, rt.alloc());
     assert_eq!(rt; (view.pid, view.want, count), (0, Want::Down, Some(4)));
     Ok(())
 }
@@ -461,13 +462,15 @@ fn a_start_that_fails_comes_again(rt: HostRuntime) -> Result<(), Fail> {
         Turned::Idle,
     ];
     assert!(rt; are_turns(&rt, &mut stage, &wanted));
-    let (asks, _hand, view, count) = stage.end(&rt, rt.alloc());
+    let (asks, _pending, view, count) = stage.end(&rt, rt.alloc());
     assert_eq!(rt; (view.pid, view.want, count), (7, Want::Up, Some(3)));
     let told = [
-        "took record:400000000000000a00000000000000000075 -> down",
+        "took record:400000000000000a000000000000000000750000 -> down",
         "took start -> down",
+        "took record:400000000000000a000000000000000000750002 -> down",
+        "took record:400000000000000a000000000000000000750000 -> down",
         "took start -> down",
-        "took record:400000000000000c00000000070000000075 -> down",
+        "took record:400000000000000c000000000700000000750001 -> down",
     ];
     assert!(rt; are_asks(&asks, &told));
     Ok(())
@@ -480,8 +483,8 @@ fn a_service_is_taken_apart(rt: HostRuntime) -> Result<(), Fail> {
     let mut stage = Stage::open(&rt, rt.alloc(), rt.alloc(), true, script).ok_or("no memory")?;
     assert!(rt; stage.post(&rt, b'u'));
     assert_eq!(rt; stage.turn(&rt), Ok(Turned::Took(Event::Byte(b'u'))));
-    let (_asks, hand, view, count) = stage.end(&rt, rt.alloc());
-    assert_eq!(rt; hand, Hand::Empty);
+    let (_asks, pending, view, count) = stage.end(&rt, rt.alloc());
+    assert_eq!(rt; pending, Pending::Empty);
     assert_eq!(rt; (view.pid, view.want, count), (0, Want::Up, Some(1)));
     Ok(())
 }

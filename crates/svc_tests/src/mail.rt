@@ -1,6 +1,8 @@
 ghost use Rattle.std.specs.Prelude.{◌≡◌, ◌++◌, ◌∷◌, ◌+◌, ◌≤◌, [], IfOk, IfSome, length, vec_len, vec_capacity};
 ghost use Rattle.svc_mail.specs.History.{letter, row_of};
-ghost use Rattle.svc_mail.specs.Ends.{IsSameSender, IsSameReceiver, HasPosted, HasTaken, home, number_of, posted, receiver_home, taken_by, senders_at, box_of, senders_in, AreNewSenders, IsNewSender, IsItsReceiver};
+ghost use Rattle.svc_mail.specs.Ends.{IsSameSender, IsSameReceiver, HasPosted, HasTaken, home, number_of, posted};
+ghost use Rattle.svc_mail.specs.Ends.{receiver_home, taken_by, senders_at, box_of, senders_in, AreNewSenders};
+ghost use Rattle.svc_mail.specs.Ends.{IsNewSender, IsItsReceiver};
 
 use bumpalo::Bump;
 use std::alloc::{AllocError, Allocator, Global};
@@ -24,7 +26,8 @@ pub(crate) fn two_of<T: Copy, A: Allocator + Clone>(
     mailbox: &Mailbox<T, A>,
 ) -> (Sender<T, A>, Sender<T, A>, Vec<Sender<T, A>, A>)
     requires { (length senders.items ≡ 2) × AreNewSenders capacity 2 (box_of mailbox.now) senders.items }
-    ensures two { IsNewSender capacity 2 (box_of mailbox.now) 0 result.0 × IsNewSender capacity 2 (box_of mailbox.now) 1 result.1 }
+    ensures two { IsNewSender capacity 2 (box_of mailbox.now) 0 result.0
+        × IsNewSender capacity 2 (box_of mailbox.now) 1 result.1 }
     ensures room { result.2.items ≡ [] }
 {
     let second = senders.pop().unwrap();

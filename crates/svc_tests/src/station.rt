@@ -82,7 +82,7 @@ fn readers_read_what_was_published(rt: HostRuntime) {
     let (mut first, mut second, room) = two_of(readers, &writer);
     let taken = writer.publish(&rt, Event::Byte(b'u')).expect(&rt, "room");
     let text = answer_text(&taken, writer.machine().phase());
-    let wanted = "took record:400000000000000a00000000000000000075 start -> starting";
+    let wanted = "took record:400000000000000a000000000000000000750000 start -> starting";
     assert_eq!(rt; text.as_str(), wanted);
     first.learn(writer.tell());
     let held = writer.publish(&rt, Event::Byte(b'u')).expect(&rt, "room");
@@ -173,9 +173,9 @@ fn publish_beside<R: Threads + Wait + Abort + Copy + Drop + Send + 'static>(
     }
 }
 
-/// Measured so, on one core each, over 100,000 calls, when a publication exchanged its book's word once and not twice: it
-/// takes 0.5 microseconds with two readers at rest, and 1.9 while one of them reads without a pause; a status takes 0.1
-/// microseconds, and 0.35 while the writer publishes without a pause.
+/// Measured so, on one core each, over 100,000 calls, when a publication exchanged its book's word once and not twice:
+/// it takes 0.5 microseconds with two readers at rest, and 1.9 while one of them reads without a pause; a status takes
+/// 0.1 microseconds, and 0.35 while the writer publishes without a pause.
 #[test]
 fn a_reader_reads_beside_the_thread_that_publishes(rt: HostRuntime) {
     let label = Label::from_unix(0, 0).expect(&rt, "a label");

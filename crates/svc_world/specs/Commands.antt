@@ -1,12 +1,9 @@
--- Paths and texts that are handed to the machine.
-use Rattle.std.specs.Prelude.{ℕ, if◌then◌else◌, ◌==◌, List, [], ◌∷◌, ◌++◌, codes, decimal, Option, Some, None, Result, Ok, Err}
-use Rattle.tai_status.specs.Record.{Status}
-use Rattle.tai_status.specs.Decoding.{status_from}
+-- Paths and texts that are handed to the system.
+use Rattle.std.specs.Prelude.{ℕ, if◌then◌else◌, ◌==◌, List, [], ◌∷◌, ◌++◌, codes, decimal, Option, Some, None, Result}
+use Rattle.std.specs.Prelude.{Ok, Err}
+use Rattle.tai_status.specs.Loading.{loaded_from, status_in}
+use Rattle.tai_status.specs.declared.loading.Loaded.{Loaded}
 use Rattle.tai_status.specs.declared.record.RecordFault.{RecordFault}
-
--- a name in the folder that is open under a descriptor
-abbrev pub path_by_descriptor : (descriptor : ℕ) (name : List ℕ) → List ℕ
-path_by_descriptor descriptor name = codes "/proc/self/fd/" ++ decimal descriptor ++ codes "/" ++ name
 
 -- the folder that a process is in
 abbrev pub path_of_process : (pid : ℕ) → List ℕ
@@ -20,11 +17,11 @@ signal_line name pid = name ++ codes " " ++ decimal pid ++ 10 ∷ []
 abbrev pub process_of : (pid : ℕ) → Option ℕ
 process_of pid = if pid == 0 then None else Some pid
 
--- the process of a status
-abbrev pub process_told : Result Status RecordFault → Option ℕ
-process_told (Ok status) = process_of status.pid
+-- the process of a status record that was read
+abbrev pub process_told : Result Loaded RecordFault → Option ℕ
+process_told (Ok loaded) = process_of (status_in loaded).pid
 process_told (Err fault) = None
 
--- the process that a status record names, where these bytes are one
+-- the process that a status record of either length names, where these bytes are one
 abbrev pub process_in : (bytes : List ℕ) → Option ℕ
-process_in bytes = process_told (status_from bytes)
+process_in bytes = process_told (loaded_from bytes)

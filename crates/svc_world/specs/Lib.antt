@@ -1,3 +1,3 @@
-pub mod Deeds
+pub mod Calls
 pub mod Watch
 pub mod Commands

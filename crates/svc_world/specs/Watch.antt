@@ -5,16 +5,16 @@ use Rattle.tai_status.specs.Counted.{Rose}
 use Rattle.sup_core.specs.declared.asks.Sig.{Sig}
 use Rattle.svc_house.specs.declared.call.StartAnswer.{StartAnswer}
 use Rattle.svc_house.specs.declared.call.StartAnswer.TheVariants.{Started, Failed}
-use Rattle.svc_house.specs.Calls.{Grew}
+use Rattle.svc_house.specs.Calls.{ExtendedWhileKept}
 use Rattle.svc_world.specs.declared.begin.Begin.{Begin}
 use Rattle.svc_world.specs.declared.begin.Begin.TheVariants.{Run, StillRuns}
 use Rattle.svc_world.specs.declared.begin.LastChild.{LastChild}
 use Rattle.svc_world.specs.declared.begin.LastChild.TheVariants.{Gone, Alive, Dead}
-use Rattle.svc_world.specs.Deeds.{Deed, Spawned, SoughtDeath, Signalled, Recorded, SoughtProcess, ReadClock}
+use Rattle.svc_world.specs.Calls.{Call, Spawned, SoughtDeath, Signalled, Recorded, SoughtProcess, ReadClock}
 
 pub record Watch : Type 0 where
-  -- what the machine was asked, where that is kept
-  pub deeds : Option (List Deed)
+  -- what the system was asked, where that is kept
+  pub calls : Option (List Call)
   -- the process of an earlier svscan, until it was found gone
   pub earlier : Option ℕ
   -- how the last start ended, until that is told
@@ -27,7 +27,7 @@ pub record Watch : Type 0 where
 -- Starts
 
 -- the search for the process of an earlier svscan, where one was left
-abbrev pub search_for : (earlier : Option ℕ) (runs : Bool) → List Deed
+abbrev pub search_for : (earlier : Option ℕ) (runs : Bool) → List Call
 search_for None runs = []
 search_for (Some pid) runs = SoughtProcess pid runs ∷ []
 
@@ -42,6 +42,13 @@ abbrev pub left_of : (earlier : Option ℕ) (runs : Bool) → Option ℕ
 left_of None runs = None
 left_of (Some pid) true = Some pid
 left_of (Some pid) false = None
+
+-- How a start is to be begun was found: where an earlier svscan left a process, that was sought.
+pub record SeeksEarlier (begin : Begin) (old new : Watch) : Type 0 where
+  pub runs : Bool
+  pub calls : ExtendedWhileKept old.calls new.calls (search_for old.earlier runs)
+  pub begins : begin ≡ begin_beside old.earlier runs
+  pub stands : new ≡ record old { calls = new.calls; earlier = left_of old.earlier runs }
 
 -- how a start ended that made this child, or none
 abbrev pub answer_of : (child : Option ℕ) (label : Tai64n) → StartAnswer
@@ -58,10 +65,10 @@ pub record Starts (old new : Watch) : Type 0 where
   pub runs : Bool
   pub child : Option ℕ
   pub label : Tai64n
-  pub deeds : Grew old.deeds new.deeds
+  pub calls : ExtendedWhileKept old.calls new.calls
       (search_for old.earlier runs ++ (ReadClock label ∷ Spawned (begin_beside old.earlier runs) child ∷ []))
   pub stands : new ≡ record old {
-    deeds = new.deeds;
+    calls = new.calls;
     earlier = left_of old.earlier runs;
     answer = Some (answer_of child label);
     child = child_of child;
@@ -70,7 +77,7 @@ pub record Starts (old new : Watch) : Type 0 where
 -- Signals
 
 -- what is sent to a child of which this death was found
-abbrev pub sent : Sig → (pid : ℕ) → (death : Option Tai64n) → List Deed
+abbrev pub sent : Sig → (pid : ℕ) → (death : Option Tai64n) → List Call
 sent sig pid None = Signalled sig pid ∷ []
 sent sig pid (Some label) = []
 
@@ -83,8 +90,8 @@ found pid (Some label) = Dead label
 -- signal is sent. A death that is found is kept, to be told.
 pub record SignalsChild (sig : Sig) (pid : ℕ) (old new : Watch) : Type 0 where
   pub death : Option Tai64n
-  pub deeds : Grew old.deeds new.deeds (SoughtDeath death ∷ sent sig pid death)
-  pub stands : new ≡ record old { deeds = new.deeds; child = found pid death }
+  pub calls : ExtendedWhileKept old.calls new.calls (SoughtDeath death ∷ sent sig pid death)
+  pub stands : new ≡ record old { calls = new.calls; child = found pid death }
 
 -- Deaths
 
@@ -101,10 +108,10 @@ told pid (Some label) = Gone
 
 -- The death of the child was sought, and is told where there is one.
 pub record SeeksDeath (pid : ℕ) (death : Option Tai64n) (old new : Watch) : Type 0 where
-  pub deeds : Grew old.deeds new.deeds (SoughtDeath death ∷ [])
-  pub stands : new ≡ record old { deeds = new.deeds; child = told pid death }
+  pub calls : ExtendedWhileKept old.calls new.calls (SoughtDeath death ∷ [])
+  pub stands : new ≡ record old { calls = new.calls; child = told pid death }
 
--- What a poll for a death tells: one that was found already, else what the machine finds of a child that lives. Each
+-- What a poll for a death tells: one that was found already, else what the system finds of a child that lives. Each
 -- death is told once.
 abbrev pub PollsDeath : LastChild → (death : Option Tai64n) → (old new : Watch) → Type 0
 PollsDeath Gone death old new = (death ≡ None) × (new ≡ old)
@@ -121,11 +128,11 @@ Counts false old new = Rose old new
 -- A status record is to be written, once. One that can't be written is counted, and nothing else comes of it.
 pub record Records (bytes : List ℕ) (old new : Watch) : Type 0 where
   pub written : Bool
-  pub deeds : Grew old.deeds new.deeds (Recorded bytes written ∷ [])
+  pub calls : ExtendedWhileKept old.calls new.calls (Recorded bytes written ∷ [])
   pub counts : Counts written old.unwritten new.unwritten
-  pub stands : new ≡ record old { deeds = new.deeds; unwritten = new.unwritten }
+  pub stands : new ≡ record old { calls = new.calls; unwritten = new.unwritten }
 
 -- The clock was read, once.
 pub record ReadsClock (label : Tai64n) (old new : Watch) : Type 0 where
-  pub deeds : Grew old.deeds new.deeds (ReadClock label ∷ [])
-  pub stands : new ≡ record old { deeds = new.deeds }
+  pub calls : ExtendedWhileKept old.calls new.calls (ReadClock label ∷ [])
+  pub stands : new ≡ record old { calls = new.calls }

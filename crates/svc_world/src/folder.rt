@@ -1,17 +1,17 @@
-//! The folder of a service on this machine.
+//! The folder of a service on this system.
 ghost use Rattle.std.specs.Prelude.{◌≡◌, ◌≤◌, length};
-ghost use Rattle.svc_world.specs.Commands.{path_by_descriptor, path_of_process, process_in};
+ghost use Rattle.svc_world.specs.Commands.{path_of_process, process_in};
 
-use arrayvec::{ArrayString, ArrayVec};
-use cmd_base::push_number;
+use arrayvec::ArrayString;
+use cmd_base::{StatusFront, path_by_descriptor, push_number, read_status_front};
 use mio::net::UnixListener;
 use std::fs::{DirBuilder, File, Files, OpenOptions, Permissions, TryLockError};
-use std::io::{Error, ErrorKind, Read, Write};
+use std::io::{Error, ErrorKind, Write};
 use std::net::Net;
 use std::os::fd::AsRawFd;
 use std::os::unix::fs::{DirBuilderExt, MetadataExt, OpenOptionsExt, PermissionsExt};
 use std::{fs, io};
-use tai_status::decode;
+use tai_status::decode_front;
 use thiserror::Error;
 
 /// The modes of what is made, whatever the umask.
@@ -21,12 +21,6 @@ const FILE_MODE: u32 = 0o600;
 
 /// How long the path of a name in a folder is at most, by descriptor.
 const PATH_BYTES: usize = 64;
-
-/// How many bytes of a status file are read at most.
-const STATUS_FRONT: usize = 19;
-
-/// The first bytes of a status file.
-type StatusFront = ArrayVec<u8, STATUS_FRONT>;
 
 /// A path by descriptor.
 pub(crate) type ShortPath = ArrayString<PATH_BYTES>;
@@ -51,19 +45,6 @@ pub struct ServiceFolder {
     files: HostRuntime,
     service: File,
     _lock: File,
-}
-
-/// The path of a name in the folder that is open under a descriptor.
-fn path_by_descriptor(descriptor: u32, name: &str) -> ShortPath
-    requires { length name.now ≤ 23 }
-    ensures { result.bytes ≡ path_by_descriptor descriptor name.now }
-{
-    let mut path = ArrayString::new();
-    path.push_str("/proc/self/fd/");
-    push_number(&mut path, u64::from(descriptor));
-    path.push_str("/");
-    path.push_str(name);
-    path
 }
 
 /// The path of a name in an open folder.
@@ -130,27 +111,12 @@ fn remove<R: Files<File = File>>(runtime: &R, path: &str) -> io::Result<()> {
     }
 }
 
-/// The first bytes of a file, one more than a record has at most, which tells a longer file.
-fn read_front<R: Files<File = File>>(runtime: &R, path: &str) -> io::Result<StatusFront> {
-    if !fs::metadata(runtime, path)?.is_file() {
-        return Err(Error::from(ErrorKind::InvalidInput));
-    }
-    let mut bytes = StatusFront::new();
-    io::copy(
-        &mut fs::open(runtime, path)?.take(STATUS_FRONT as u64),
-        &mut bytes,
-    )?;
-    Ok(bytes)
-}
-
 /// The process that a status record names. None where it names none, or these bytes are no record.
 fn process_in(bytes: &[u8]) -> Option<u32>
     ensures { result ≡ process_in bytes.now }
 {
-    match decode(bytes) {
-        Ok(view) if view.pid > 0 => Some(view.pid),
-        _ => None,
-    }
+    let view = decode_front(bytes).ok()?.view();
+    if view.pid > 0 { Some(view.pid) } else { None }
 }
 
 impl ServiceFolder {
@@ -227,7 +193,7 @@ impl ServiceFolder {
     }
 
     /// Puts these bytes in the place of the status record. After a fault the old ones stand there.
-    pub fn replace_status(&self, bytes: &[u8; 18]) -> io::Result<()> {
+    pub fn replace_status(&self, bytes: &[u8; 20]) -> io::Result<()> {
         self.replace("supervise/status", "supervise/status.new", bytes)
     }
 
@@ -240,7 +206,7 @@ impl ServiceFolder {
     fn process_of(&self, file: &str) -> Option<(u32, StatusFront)>
         requires { length file.now ≤ 23 }
     {
-        let record = read_front(&self.files, self.path(file).as_str()).ok()?;
+        let record = read_status_front(&self.files, self.path(file).as_str()).ok()?;
         let pid = process_in(record.as_slice())?;
         if self.is_running(pid) {
             Some((pid, record))

@@ -74,8 +74,8 @@ fn end(shell: &mut Option<Child<SystemProcess>>) {
 }
 
 impl<R: Processes<Started = SystemProcess> + Wait + Drop> SignalShell<R> {
-    /// The shell, which is started at once, so that signals go out where later nothing can be started. Where it can't be
-    /// started now, it is with the first signal.
+    /// The shell, which is started at once, so that signals go out where later nothing can be started. Where it can't
+    /// be started now, it is with the first signal.
     pub fn new(runtime: R, alloc: Global) -> SignalShell<R> {
         let shell = start_shell(&runtime, alloc).ok();
         SignalShell {

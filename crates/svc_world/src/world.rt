@@ -4,7 +4,7 @@ ghost use Rattle.svc_house.specs.Calls.{IsAnswer};
 ghost use Rattle.svc_world.specs.Watch.{answer_of, child_of};
 
 use crate::begin::{Begin, LastChild};
-use crate::children::Children;
+use crate::child_system::ChildSystem;
 use std::marker::Model;
 use sup_core::Sig;
 use svc_house::{StartAnswer, World};
@@ -15,15 +15,15 @@ use tai_status::Label;
 /// A service that an earlier svscan left running is not started a second time, and a signal goes to the child that was
 /// made last, while its death is not known. A status record that can't be written is counted, and the service goes on.
 #[derive(Drop)]
-pub struct ChildWorld<C: Children + Drop> {
-    children: C,
+pub struct ChildWorld<C: ChildSystem + Drop> {
+    system: C,
     earlier: Option<u32>,
     answer: Option<StartAnswer>,
     child: LastChild,
     unwritten: u64,
 }
 
-impl<C: Children + Drop> Model for ChildWorld<C> {
+impl<C: ChildSystem + Drop> Model for ChildWorld<C> {
     ghost use Rattle.std.specs.Option.{ForSome};
     ghost use Rattle.svc_house.specs.Calls.{IsAnswer};
     ghost use Rattle.svc_world.specs.Watch.{Watch};
@@ -31,7 +31,7 @@ impl<C: Children + Drop> Model for ChildWorld<C> {
     ghost Value = { Watch };
 
     ghost view = { λ w. record {
-      deeds = C.deeds w.children;
+      calls = C.calls w.system;
       earlier = w.earlier;
       answer = w.answer;
       child = w.child;
@@ -63,17 +63,16 @@ fn child_of(child: Option<u32>) -> LastChild
     }
 }
 
-impl<C: Children + Drop> ChildWorld<C> {
-    ghost use Rattle.std.specs.Prelude.{◌≡◌, ◌++◌, Bool, None};
-    ghost use Rattle.svc_house.specs.Calls.{Grew};
+impl<C: ChildSystem + Drop> ChildWorld<C> {
+    ghost use Rattle.std.specs.Prelude.{◌≡◌, None};
     ghost use Rattle.svc_world.specs.declared.begin.LastChild.TheVariants.{Gone};
-    ghost use Rattle.svc_world.specs.Watch.{Watch, search_for, begin_beside, left_of};
+    ghost use Rattle.svc_world.specs.Watch.{Watch, SeeksEarlier};
 
     /// The world over these children. `earlier` is the process that the status record names which was found at the
     /// opening, if it names one.
-    pub fn new(children: C, earlier: Option<u32>) -> ChildWorld<C>
+    pub fn new(system: C, earlier: Option<u32>) -> ChildWorld<C>
         ensures { result ≡ record {
-          deeds = C.deeds children;
+          calls = C.calls system;
           earlier = earlier;
           answer = None;
           child = Gone;
@@ -81,7 +80,7 @@ impl<C: Children + Drop> ChildWorld<C> {
         } }
     {
         ChildWorld {
-            children,
+            system,
             earlier,
             answer: None,
             child: LastChild::Gone,
@@ -98,13 +97,11 @@ impl<C: Children + Drop> ChildWorld<C> {
 
     // How a start is to be begun.
     fn begin(&mut self) -> Begin
-        ensures { (runs : Bool) × Grew self.old.deeds self.new.deeds (search_for self.old.earlier runs)
-            × (result ≡ begin_beside self.old.earlier runs)
-            × (self.new ≡ record self.old { deeds = self.new.deeds; earlier = left_of self.old.earlier runs }) }
+        ensures { SeeksEarlier result self.old self.new }
     {
         match self.earlier {
             None => Begin::Run,
-            Some(pid) if self.children.is_running(pid) => Begin::StillRuns(pid),
+            Some(pid) if self.system.is_running(pid) => Begin::StillRuns(pid),
             Some(_gone) => {
                 self.earlier = None;
                 Begin::Run
@@ -113,7 +110,7 @@ impl<C: Children + Drop> ChildWorld<C> {
     }
 }
 
-impl<C: Children + Drop> World for ChildWorld<C> {
+impl<C: ChildSystem + Drop> World for ChildWorld<C> {
     ghost use Rattle.std.specs.Prelude.{◌≡◌, ◌≢◌, ◌<◌, None, IfSome};
     ghost use Rattle.svc_house.specs.Calls.{IsAnswer};
     ghost use Rattle.svc_world.specs.declared.begin.LastChild.TheVariants.{Alive};
@@ -129,9 +126,9 @@ impl<C: Children + Drop> World for ChildWorld<C> {
         if !matches!(self.child, LastChild::Alive(number) if number == pid) {
             return;
         }
-        match self.children.death() {
+        match self.system.death() {
             Some(label) => self.child = LastChild::Dead(label),
-            None => self.children.signal(sig, pid),
+            None => self.system.signal(sig, pid),
         }
     }
 
@@ -141,17 +138,17 @@ impl<C: Children + Drop> World for ChildWorld<C> {
         ensures { Starts self.old self.new }
     {
         let begin = self.begin();
-        let label = self.children.now();
-        let child = self.children.spawn(begin);
+        let label = self.system.now();
+        let child = self.system.spawn(begin);
         self.answer = Some(answer_of(child, label));
         self.child = child_of(child);
     }
 
     /// Replaces the status record.
-    fn write(&mut self, bytes: &[u8; 18])
+    fn write(&mut self, bytes: &[u8; 20])
         ensures { Records bytes.now self.old self.new }
     {
-        if self.children.replace_status(bytes).is_err() {
+        if self.system.replace_status(bytes).is_err() {
             self.unwritten = self.unwritten.saturating_add(1);
         }
     }
@@ -170,7 +167,7 @@ impl<C: Children + Drop> World for ChildWorld<C> {
         ensures { PollsDeath self.old.child result self.old self.new }
     {
         let death = match self.child {
-            LastChild::Alive(_) => self.children.death(),
+            LastChild::Alive(_) => self.system.death(),
             LastChild::Gone | LastChild::Dead(_) => self.child.untold(),
         };
         if death.is_some() {
@@ -183,6 +180,6 @@ impl<C: Children + Drop> World for ChildWorld<C> {
     fn clock(&mut self) -> Label
         ensures { ReadsClock result self.old self.new }
     {
-        self.children.now()
+        self.system.now()
     }
 }

@@ -4,5 +4,8 @@ pub mod Known
 pub mod Stamped
 pub mod Parts
 pub mod Recorded
+pub mod Standing
+pub mod FullRecorded
+pub mod Fronts
 pub mod Ranges
 pub mod Texts

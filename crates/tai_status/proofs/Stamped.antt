@@ -5,7 +5,8 @@ use Rattle.std.specs.Io.BufRead.{take_through}
 use Rattle.std.specs.Io.KnownBytes.{Keeps, Appends, Consumes}
 use Rattle.tai_status.specs.Label.{Tai64n}
 use Rattle.tai_status.specs.Counted.{Device, AppendsFront, Gives, GivesNothing}
-use Rattle.tai_status.specs.Lines.{Desk, desk, lines_of, stamp, stamped, Gave, Stamps, StampsFront}
+use Rattle.tai_status.specs.Lines.{StampState, stamp_state, lines_of, stamp, stamped, Stamps, StampsFront}
+use Rattle.tai_status.specs.Extended.{Extended}
 use Rattle.tai_status.specs.Block.{Emits}
 use Rattle.tai_status.specs.Stamping.{stamped_on, begun, is_inside, StampsPart, StampsUpTo, SoFar}
 use Rattle.memchr.specs.Find.{NoneBefore, Nowhere, Passes, is_byte}
@@ -172,44 +173,48 @@ length-lines text = sym (reads text).count_new
 
 -- Readings
 
-pub Gave-then : (a b c : Option (List Tai64n)) (gs hs : List Tai64n) → Gave a b gs → Gave b c hs → Gave a c (gs ++ hs)
-Gave-then None b c gs hs k l = tt
-Gave-then (Some xs) None c gs hs k l = absurd k
-Gave-then (Some xs) (Some ys) None gs hs k l = absurd l
-Gave-then (Some xs) (Some ys) (Some zs) gs hs k l = l ∙ ap (λ (t : List Tai64n). t ++ hs) k ∙ append_assoc xs gs hs
+pub Extended-then : (a b c : Option (List Tai64n)) (gs hs : List Tai64n) → Extended a b gs → Extended b c hs → Extended a c (gs ++ hs)
+Extended-then None b c gs hs k l = tt
+Extended-then (Some xs) None c gs hs k l = absurd k
+Extended-then (Some xs) (Some ys) None gs hs k l = absurd l
+Extended-then (Some xs) (Some ys) (Some zs) gs hs k l = l ∙ ap (λ (t : List Tai64n). t ++ hs) k ∙ append_assoc xs gs hs
 
-pub Gave-none : (a : Option (List Tai64n)) → Gave a a []
-Gave-none None = tt
-Gave-none (Some xs) = sym (append-nil xs)
+pub Extended-none : (a : Option (List Tai64n)) → Extended a a []
+Extended-none None = tt
+Extended-none (Some xs) = sym (append-nil xs)
 
 -- Stamped so far
 
 pub StampsPart-none : (inside : Bool) (past : Option (List Tai64n)) (held : Option (List ℕ)) (pending : List ℕ) → Emits held held pending pending []
-    → StampsPart inside [] past past held held pending pending inside 0
+    → StampsPart inside [] past past held held pending pending
 StampsPart-none inside past held pending e = record {
   labels = [];
-  gave = Gave-none past;
+  gave = Extended-none past;
   each = refl;
   text = e;
-  after_is = refl;
-  count_is = refl;
 }
 
-pub StampsPart-then : {i j k : Bool} {xs ys : List ℕ} {a b c : Option (List Tai64n)} {d e f : Option (List ℕ)} {p q r : List ℕ} {m n : ℕ}
-    → StampsPart i xs a b d e p q j m → StampsPart j ys b c e f q r k n → StampsPart i (xs ++ ys) a c d f p r k (m + n)
-StampsPart-then {i} {j} {k} {xs} {ys} {a} {b} {c} {d} {e} {f} {p} {q} {r} {m} {n} s t =
-    let then : begun (is_inside i xs) ys ≡ begun j ys = ap (λ (v : Bool). begun v ys) (sym s.after_is) in
+pub StampsPart-then : {i j : Bool} {xs ys : List ℕ} {a b c : Option (List Tai64n)} {d e f : Option (List ℕ)} {p q r : List ℕ}
+    → j ≡ is_inside i xs → StampsPart i xs a b d e p q → StampsPart j ys b c e f q r → StampsPart i (xs ++ ys) a c d f p r
+StampsPart-then {i} {j} {xs} {ys} {a} {b} {c} {d} {e} {f} {p} {q} {r} after s t =
+    let then : begun (is_inside i xs) ys ≡ begun j ys = ap (λ (v : Bool). begun v ys) (sym after) in
     let text = stamped_on-append i s.labels t.labels xs ys s.each in
     let same : stamped_on i (s.labels ++ t.labels) (xs ++ ys) ≡ stamped_on i s.labels xs ++ stamped_on j t.labels ys =
-    text ∙ ap (λ (v : Bool). stamped_on i s.labels xs ++ stamped_on v t.labels ys) (sym s.after_is) in
+    text ∙ ap (λ (v : Bool). stamped_on i s.labels xs ++ stamped_on v t.labels ys) (sym after) in
     record {
       labels = s.labels ++ t.labels;
-      gave = Gave-then a b c s.labels t.labels s.gave t.gave;
+      gave = Extended-then a b c s.labels t.labels s.gave t.gave;
       each = let l = s.each in let o = t.each in let h = begun-append i xs ys in let w = length-append s.labels t.labels in omega (arith, l, o, h, w, then);
       text = subst (λ (v : List ℕ). Emits d f p r v) (sym same) (Emits-then s.text t.text);
-      after_is = t.after_is ∙ ap (λ (v : Bool). is_inside v ys) s.after_is ∙ sym (is_inside-append i xs ys);
-      count_is = let l = s.count_is in let o = t.count_is in let h = begun-append i xs ys in omega (arith, l, o, h, then);
     }
+
+pub inside-then : (i : Bool) {j k : Bool} (xs ys : List ℕ) → j ≡ is_inside i xs → k ≡ is_inside j ys → k ≡ is_inside i (xs ++ ys)
+inside-then i {j} {k} xs ys after next = next ∙ ap (λ (v : Bool). is_inside v ys) after ∙ sym (is_inside-append i xs ys)
+
+pub begun-then : (i : Bool) {j : Bool} (xs ys : List ℕ) {m n : ℕ} → j ≡ is_inside i xs → m ≡ begun i xs → n ≡ begun j ys → m + n ≡ begun i (xs ++ ys)
+begun-then i {j} xs ys {m} {n} after l o =
+    let then : begun (is_inside i xs) ys ≡ begun j ys = ap (λ (v : Bool). begun v ys) (sym after) in
+    let h = begun-append i xs ys in omega (arith, l, o, h, then)
 
 pub StampsUpTo-more : {i : Bool} {xs : List ℕ} {a b : Option (List Tai64n)} {d e : Option (List ℕ)} {p : List ℕ} (ys : List ℕ)
     → StampsUpTo i xs a b d e p → StampsUpTo i (xs ++ ys) a b d e p
@@ -219,53 +224,49 @@ StampsUpTo-more {i} {xs} {a} {b} {d} {e} {p} ys s =
     ap (λ (v : List ℕ). p ++ v) more.1 ∙ sym (append_assoc p (stamped_on i s.labels xs) more.0) in
     record { labels = s.labels; gave = s.gave; text = subst (λ (v : List ℕ). AppendsFront d e v) (sym same) (AppendsFront-more more.0 s.text) }
 
-pub StampsPart-failed : {i j : Bool} {xs ys : List ℕ} {a b c : Option (List Tai64n)} {d e f : Option (List ℕ)} {p q : List ℕ} {m : ℕ}
-    → StampsPart i xs a b d e p q j m → StampsUpTo j ys b c e f q → StampsUpTo i (xs ++ ys) a c d f p
-StampsPart-failed {i} {j} {xs} {ys} {a} {b} {c} {d} {e} {f} {p} {q} {m} s t =
+pub StampsPart-failed : {i j : Bool} {xs ys : List ℕ} {a b c : Option (List Tai64n)} {d e f : Option (List ℕ)} {p q : List ℕ}
+    → j ≡ is_inside i xs → StampsPart i xs a b d e p q → StampsUpTo j ys b c e f q → StampsUpTo i (xs ++ ys) a c d f p
+StampsPart-failed {i} {j} {xs} {ys} {a} {b} {c} {d} {e} {f} {p} {q} after s t =
     let same : stamped_on i (s.labels ++ t.labels) (xs ++ ys) ≡ stamped_on i s.labels xs ++ stamped_on j t.labels ys =
     stamped_on-append i s.labels t.labels xs ys s.each
-    ∙ ap (λ (v : Bool). stamped_on i s.labels xs ++ stamped_on v t.labels ys) (sym s.after_is) in
+    ∙ ap (λ (v : Bool). stamped_on i s.labels xs ++ stamped_on v t.labels ys) (sym after) in
     record {
       labels = s.labels ++ t.labels;
-      gave = Gave-then a b c s.labels t.labels s.gave t.gave;
+      gave = Extended-then a b c s.labels t.labels s.gave t.gave;
       text = subst (λ (v : List ℕ). AppendsFront d f (p ++ v)) (sym same) (Emits-front (stamped_on j t.labels ys) s.text t.text);
     }
 
 -- A part
 
 pub StampsPart-inside : (xs : List ℕ) (past : Option (List Tai64n)) {d e : Option (List ℕ)} {p q : List ℕ} → Emits d e p q (take_through 10 xs)
-    → StampsPart true (take_through 10 xs) past past d e p q (is_inside true (take_through 10 xs)) 0
+    → StampsPart true (take_through 10 xs) past past d e p q
 StampsPart-inside xs past {d} {e} {p} {q} m = record {
   labels = [];
-  gave = Gave-none past;
+  gave = Extended-none past;
   each = sym (begun-inside xs);
   text = subst (λ (v : List ℕ). Emits d e p q v) (sym (stamped_on-inside [] xs)) m;
-  after_is = refl;
-  count_is = sym (begun-inside xs);
 }
 
 pub StampsPart-start : (label : Tai64n) (xs : List ℕ) {a b : Option (List Tai64n)} {d e : Option (List ℕ)} {p q : List ℕ} → 0 < length xs
-    → Gave a b (label ∷ []) → Emits d e p q (stamp label ++ take_through 10 xs)
-    → StampsPart false (take_through 10 xs) a b d e p q (is_inside false (take_through 10 xs)) 1
+    → Extended a b (label ∷ []) → Emits d e p q (stamp label ++ take_through 10 xs)
+    → StampsPart false (take_through 10 xs) a b d e p q
 StampsPart-start label xs {a} {b} {d} {e} {p} {q} some g m = record {
   labels = label ∷ [];
   gave = g;
   each = sym (begun-start xs some);
   text = subst (λ (v : List ℕ). Emits d e p q v) (sym (stamped_on-start label xs some)) m;
-  after_is = refl;
-  count_is = sym (begun-start xs some);
 }
 
 pub StampsUpTo-inside : (xs : List ℕ) (past : Option (List Tai64n)) {d e : Option (List ℕ)} {p : List ℕ} → AppendsFront d e (p ++ take_through 10 xs)
     → StampsUpTo true (take_through 10 xs) past past d e p
 StampsUpTo-inside xs past {d} {e} {p} m = record {
   labels = [];
-  gave = Gave-none past;
+  gave = Extended-none past;
   text = subst (λ (v : List ℕ). AppendsFront d e (p ++ v)) (sym (stamped_on-inside [] xs)) m;
 }
 
 pub StampsUpTo-start : (label : Tai64n) (xs : List ℕ) {a b : Option (List Tai64n)} {d e : Option (List ℕ)} {p : List ℕ} → 0 < length xs
-    → Gave a b (label ∷ []) → AppendsFront d e (p ++ (stamp label ++ take_through 10 xs))
+    → Extended a b (label ∷ []) → AppendsFront d e (p ++ (stamp label ++ take_through 10 xs))
     → StampsUpTo false (take_through 10 xs) a b d e p
 StampsUpTo-start label xs {a} {b} {d} {e} {p} some g m = record {
   labels = label ∷ [];
@@ -324,6 +325,16 @@ part_whole (x ∷ xs) none =
       λ some inside. subst (λ (t : List ℕ). is_inside inside t ≡ true) same (is_inside-none inside x xs (λ j h. none j (omega arith) h)),
     )
 
+take_through_twice_by : (x : ℕ) (xs : List ℕ) (ends : Bool) → (x == 10) ≡ ends → take_through 10 (take_through 10 xs) ≡ take_through 10 xs
+    → take_through 10 (take_through 10 (x ∷ xs)) ≡ take_through 10 (x ∷ xs)
+take_through_twice_by x xs true e rest = grind (arith, e)
+take_through_twice_by x xs false e rest =
+    rw (take_through-on x xs e) (take_through-on x (take_through 10 xs) e ∙ ap (λ (t : List ℕ). x ∷ t) rest)
+
+pub take_through-twice : (xs : List ℕ) → take_through 10 (take_through 10 xs) ≡ take_through 10 xs
+take_through-twice [] = refl
+take_through-twice (x ∷ xs) = take_through_twice_by x xs (x == 10) refl (take_through-twice xs)
+
 -- All that was read so far
 
 pub Consumes-then : (a b c : Option (List ℕ)) (bs cs : List ℕ) → Consumes a b bs → Consumes b c cs → Consumes a c (bs ++ cs)
@@ -342,41 +353,49 @@ pub Consumes-none : (a : Option (List ℕ)) → Consumes a a []
 Consumes-none None = tt
 Consumes-none (Some xs) = refl
 
-pub SoFar-none : (d : Desk) → SoFar d d false 0
+pub SoFar-none : (d : StampState) → SoFar d d false 0
 SoFar-none d = record {
   bytes = [];
   read = Consumes-none d.reader.bytes;
   stamps = StampsPart-none false d.readings d.writer.bytes [] (Emits-none d.writer.bytes d.writer.bytes [] (Keeps-same d.writer.bytes));
+  inside_is = refl;
+  count_is = refl;
 }
 
-pub SoFar-then : {a b c : Desk} {i j : Bool} {m n : ℕ} {xs : List ℕ} → SoFar a b i m → Gives b.reader c.reader xs
-    → StampsPart i xs b.readings c.readings b.writer.bytes c.writer.bytes [] [] j n → SoFar a c j (m + n)
-SoFar-then {a} {b} {c} {i} {j} {m} {n} {xs} s k t = record {
+pub SoFar-then : {a b c : StampState} {i j : Bool} {m n : ℕ} {xs : List ℕ} → SoFar a b i m → Gives b.reader c.reader xs
+    → StampsPart i xs b.readings c.readings b.writer.bytes c.writer.bytes [] [] → j ≡ is_inside i xs → n ≡ begun i xs → SoFar a c j (m + n)
+SoFar-then {a} {b} {c} {i} {j} {m} {n} {xs} s k t inside count = record {
   bytes = s.bytes ++ xs;
   read = Consumes-then a.reader.bytes b.reader.bytes c.reader.bytes s.bytes xs s.read k;
-  stamps = StampsPart-then s.stamps t;
+  stamps = StampsPart-then s.inside_is s.stamps t;
+  inside_is = inside-then false s.bytes xs s.inside_is inside;
+  count_is = begun-then false s.bytes xs s.inside_is s.count_is count;
 }
 
 wrote_all : {held holds : Option (List ℕ)} {bytes : List ℕ} → Emits held holds [] [] bytes → Appends held holds bytes
 wrote_all {held} {holds} {bytes} e = subst (λ (t : List ℕ). Appends held holds t) (sym (append-nil e.written) ∙ e.whole) e.wrote
 
 -- A read gave no byte.
-pub SoFar-nothing : {a b : Desk} {i : Bool} {n : ℕ} (reads : Device) → SoFar a b i n → Gives b.reader reads [] → SoFar a (desk reads b.writer b.readings) i n
+pub SoFar-nothing : {a b : StampState} {i : Bool} {n : ℕ} (reads : Device) → SoFar a b i n → Gives b.reader reads [] → SoFar a (stamp_state reads b.writer b.readings) i n
 SoFar-nothing {a} {b} reads s k = record {
   bytes = s.bytes;
   read = subst (λ (t : List ℕ). Consumes a.reader.bytes reads.bytes t) (append-nil s.bytes) (Consumes-then a.reader.bytes b.reader.bytes reads.bytes s.bytes [] s.read k);
   stamps = s.stamps;
+  inside_is = s.inside_is;
+  count_is = s.count_is;
 }
 
 -- A read failed.
-pub SoFar-unread : {a b : Desk} {i : Bool} {n : ℕ} (reads : Device) → SoFar a b i n → GivesNothing b.reader reads → SoFar a (desk reads b.writer b.readings) i n
+pub SoFar-unread : {a b : StampState} {i : Bool} {n : ℕ} (reads : Device) → SoFar a b i n → GivesNothing b.reader reads → SoFar a (stamp_state reads b.writer b.readings) i n
 SoFar-unread {a} {b} reads s k = record {
   bytes = s.bytes;
   read = Consumes-Keeps a.reader.bytes b.reader.bytes reads.bytes s.bytes s.read k;
   stamps = s.stamps;
+  inside_is = s.inside_is;
+  count_is = s.count_is;
 }
 
-pub SoFar-all : {a b : Desk} {i : Bool} {n : ℕ} → SoFar a b i n → Stamps a b n
+pub SoFar-all : {a b : StampState} {i : Bool} {n : ℕ} → SoFar a b i n → Stamps a b n
 SoFar-all {a} {b} {i} {n} s =
     let counted = length-lines s.bytes in record {
       bytes = s.bytes;
@@ -385,13 +404,13 @@ SoFar-all {a} {b} {i} {n} s =
       gave = s.stamps.gave;
       each = s.stamps.each ∙ sym counted;
       text = subst (λ (t : List ℕ). Appends a.writer.bytes b.writer.bytes t) (sym (stamped-lines s.stamps.labels s.bytes)) (wrote_all s.stamps.text);
-      count_is = s.stamps.count_is ∙ sym counted;
+      count_is = s.count_is ∙ sym counted;
     }
 
-pub SoFar-unwritten : {a b c : Desk} {i : Bool} {n : ℕ} {xs : List ℕ} → SoFar a b i n → Gives b.reader c.reader xs
+pub SoFar-unwritten : {a b c : StampState} {i : Bool} {n : ℕ} {xs : List ℕ} → SoFar a b i n → Gives b.reader c.reader xs
     → StampsUpTo i xs b.readings c.readings b.writer.bytes c.writer.bytes [] → StampsFront a c
 SoFar-unwritten {a} {b} {c} {i} {n} {xs} s k t =
-    let all = StampsPart-failed s.stamps t in record {
+    let all = StampsPart-failed s.inside_is s.stamps t in record {
       bytes = s.bytes ++ xs;
       labels = all.labels;
       read = Consumes-then a.reader.bytes b.reader.bytes c.reader.bytes s.bytes xs s.read k;

@@ -1,5 +1,6 @@
 -- What reading a status record answers: the status, or the first fault.
-use Rattle.std.specs.Prelude.{ℕ, nat_lt, Bool, not, ◌&&◌, ◌==◌, if◌then◌else◌, List, length, slice_index, take, drop, Option, Some, None, Result, Ok, Err}
+use Rattle.std.specs.Prelude.{ℕ, nat_lt, Bool, not, ◌&&◌, ◌==◌, if◌then◌else◌, List, length, slice_index, take, drop}
+use Rattle.std.specs.Prelude.{Option, Some, None, Result, Ok, Err}
 use Rattle.std.specs.Int.{w32, from_le_bytes}
 use Rattle.tai_status.specs.Label.{Tai64n}
 use Rattle.tai_status.specs.Record.{Status}
@@ -8,7 +9,8 @@ use Rattle.tai_status.specs.declared.label.LabelFault.{LabelFault}
 use Rattle.tai_status.specs.declared.record.Want.{Want}
 use Rattle.tai_status.specs.declared.record.Want.TheVariants.{Up, Down, Once}
 use Rattle.tai_status.specs.declared.record.RecordFault.{RecordFault}
-use Rattle.tai_status.specs.declared.record.RecordFault.TheVariants.{Length, BadLabel, PausedFlag, PausedNoProcess, WantByte}
+use Rattle.tai_status.specs.declared.record.RecordFault.TheVariants.{Length, BadLabel, PausedFlag, PausedNoProcess}
+use Rattle.tai_status.specs.declared.record.RecordFault.TheVariants.{WantByte}
 
 -- what this byte wants
 abbrev pub want_from : ℕ → Option Want

@@ -1,6 +1,7 @@
 -- What is true of the definitions, in plain words.
 use Rattle.std.specs.Prelude.{◌≡◌, ◌↔◌, ◌<◌, ℕ, List, [], ◌∷◌, ◌++◌, length, map, flat_map}
 use Rattle.tai_status.specs.Record.{Status, IsRecord, status_record}
+use Rattle.tai_status.specs.Full.{FullStatus, IsFullRecord, full_record}
 use Rattle.tai_status.specs.LineReader.{IsPlain}
 use Rattle.tai_status.specs.Lines.{lines_of, texts_of, without_newline}
 
@@ -23,3 +24,7 @@ TextsOfLines = (text : List ℕ) → texts_of text ≡ map without_newline (line
 -- A status has one record.
 abbrev pub OneRecord : Type 0
 OneRecord = (bytes : List ℕ) (status : Status) → IsRecord bytes status ↔ (bytes ≡ status_record status)
+
+-- A full status has one full record.
+abbrev pub OneFullRecord : Type 0
+OneFullRecord = (bytes : List ℕ) (full : FullStatus) → IsFullRecord bytes full ↔ (bytes ≡ full_record full)

@@ -2,9 +2,13 @@ pub mod Label
 pub mod Reading
 pub mod Record
 pub mod Decoding
+pub mod Phase
+pub mod Full
+pub mod Loading
 pub mod Counted
 pub mod Block
 pub mod LineReader
 pub mod Lines
 pub mod Stamping
 pub mod Laws
+pub mod Extended

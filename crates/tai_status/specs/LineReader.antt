@@ -1,6 +1,6 @@
 -- A reader of lines: the line that it gave last, the bytes that were read and not yet given, and the
 -- most bytes that a line may have.
-use Rattle.std.specs.Prelude.{◌≡◌, ℕ, ◌==◌, true, not, List, ◌∷◌, ◌++◌}
+use Rattle.std.specs.Prelude.{◌≡◌, ℕ, ◌≤◌, ◌==◌, true, not, List, ◌∷◌, ◌++◌}
 use Rattle.std.specs.List.{list_all}
 use Rattle.tai_status.specs.Counted.{Device, Gives}
 
@@ -8,6 +8,10 @@ pub record Given : Type 0 where
   pub line : List ℕ
   pub pending : List ℕ
   pub bound : ℕ
+
+-- From one place to another, among so many bytes.
+abbrev pub IsSpan : ℕ → ℕ → ℕ → Type 0
+IsSpan start end len = (start ≤ end) × (end ≤ len)
 
 -- Bytes without a newline.
 abbrev pub IsPlain : List ℕ → Type 0

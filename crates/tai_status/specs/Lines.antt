@@ -1,8 +1,9 @@
 -- The lines of a text, and their stamps.
-use Rattle.std.specs.Prelude.{◌≡◌, ℕ, ◌==◌, not, filter, if◌then◌else◌, List, [], ◌∷◌, ◌++◌, length, map, Option, Some, None, ⊤}
+use Rattle.std.specs.Prelude.{◌≡◌, ℕ, ◌==◌, not, filter, if◌then◌else◌, List, [], ◌∷◌, ◌++◌, length, map, Option}
 use Rattle.std.specs.List.{onto_first}
 use Rattle.tai_status.specs.Label.{Tai64n, label_text}
 use Rattle.tai_status.specs.Counted.{Device, Gives, Wrote, WroteFront}
+use Rattle.tai_status.specs.Extended.{Extended}
 
 -- the lines of a text, each with its newline, which the last one may lack
 abbrev pub lines_of : List ℕ → List (List ℕ)
@@ -37,35 +38,40 @@ stamped labels [] = []
 stamped [] (line ∷ lines) = []
 stamped (label ∷ labels) (line ∷ lines) = stamp label ++ line ++ stamped labels lines
 
--- A clock gave these labels, in order. A clock that tells what it gave goes on telling it.
-abbrev pub Gave : Option (List Tai64n) → Option (List Tai64n) → List Tai64n → Type 0
-Gave None now labels = ⊤
-Gave (Some past) None labels = ⊥
-Gave (Some past) (Some now) labels = now ≡ past ++ labels
-
--- Where stamping goes on: what is read, what is written, and what the clock gave.
-pub record Desk : Type 0 where
+-- The state of stamping: what is read, what is written, and what the clock gave.
+pub record StampState : Type 0 where
   pub reader : Device
   pub writer : Device
   pub readings : Option (List Tai64n)
 
-abbrev pub desk : Device → Device → Option (List Tai64n) → Desk
-desk reader writer readings = record { reader = reader; writer = writer; readings = readings }
+abbrev pub stamp_state : Device → Device → Option (List Tai64n) → StampState
+stamp_state reader writer readings = record { reader = reader; writer = writer; readings = readings }
 
--- Bytes were read, of so many lines, and each line was written behind its stamp, with one reading of the clock for each.
-pub record Stamps (old new : Desk) (count : ℕ) : Type 0 where
+-- Bytes were read, of so many lines, and each line was written behind its stamp, with one reading of the clock for
+-- each.
+pub record Stamps (old new : StampState) (count : ℕ) : Type 0 where
   pub bytes : List ℕ
   pub labels : List Tai64n
   pub read : Gives old.reader new.reader bytes
-  pub gave : Gave old.readings new.readings labels
+  pub gave : Extended old.readings new.readings labels
   pub each : length labels ≡ length (lines_of bytes)
   pub text : Wrote old.writer new.writer (stamped labels (lines_of bytes))
   pub count_is : count ≡ length (lines_of bytes)
 
+-- All lines of what was read are stamped and written.
+abbrev pub StampsAll : (reader read writer written : Device) → (past now : Option (List Tai64n)) → Type 0
+StampsAll reader read writer written past now =
+    (count : ℕ) × Stamps (stamp_state reader writer past) (stamp_state read written now) count
+
 -- Bytes were read, and a front of their stamped lines was written.
-pub record StampsFront (old new : Desk) : Type 0 where
+pub record StampsFront (old new : StampState) : Type 0 where
   pub bytes : List ℕ
   pub labels : List Tai64n
   pub read : Gives old.reader new.reader bytes
-  pub gave : Gave old.readings new.readings labels
+  pub gave : Extended old.readings new.readings labels
   pub text : WroteFront old.writer new.writer (stamped labels (lines_of bytes))
+
+-- A front of the stamped lines of what was read is written.
+abbrev pub StampsSome : (reader read writer written : Device) → (past now : Option (List Tai64n)) → Type 0
+StampsSome reader read writer written past now =
+    StampsFront (stamp_state reader writer past) (stamp_state read written now)

@@ -5,7 +5,8 @@ use Rattle.std.specs.Prelude.{◌≡◌, ℕ, ◌+◌, ◌==◌, Bool, true, fal
 use Rattle.tai_status.specs.Label.{Tai64n}
 use Rattle.tai_status.specs.Counted.{AppendsFront, Gives}
 use Rattle.tai_status.specs.Block.{Emits}
-use Rattle.tai_status.specs.Lines.{Desk, stamp, Gave}
+use Rattle.tai_status.specs.Lines.{StampState, stamp}
+use Rattle.tai_status.specs.Extended.{Extended}
 
 -- the number of lines that begin
 abbrev pub begun : Bool → List ℕ → ℕ
@@ -25,23 +26,25 @@ stamped_on false [] (byte ∷ bytes) = []
 stamped_on false (label ∷ labels) (byte ∷ bytes) =
     stamp label ++ byte ∷ stamped_on (not (byte == 10)) labels bytes
 
--- These bytes were stamped.
-pub record StampsPart (inside : Bool) (bytes : List ℕ) (past now : Option (List Tai64n)) (held holds : Option (List ℕ)) (pending left : List ℕ) (after : Bool) (count : ℕ) : Type 0 where
+-- These bytes were stamped: by so many readings of the clock as lines begin in them.
+pub record StampsPart (inside : Bool) (bytes : List ℕ) (past now : Option (List Tai64n))
+    (held holds : Option (List ℕ)) (pending left : List ℕ) : Type 0 where
   pub labels : List Tai64n
-  pub gave : Gave past now labels
+  pub gave : Extended past now labels
   pub each : length labels ≡ begun inside bytes
   pub text : Emits held holds pending left (stamped_on inside labels bytes)
-  pub after_is : after ≡ is_inside inside bytes
-  pub count_is : count ≡ begun inside bytes
 
 -- A write failed while these bytes were stamped.
-pub record StampsUpTo (inside : Bool) (bytes : List ℕ) (past now : Option (List Tai64n)) (held holds : Option (List ℕ)) (pending : List ℕ) : Type 0 where
+pub record StampsUpTo (inside : Bool) (bytes : List ℕ) (past now : Option (List Tai64n))
+    (held holds : Option (List ℕ)) (pending : List ℕ) : Type 0 where
   pub labels : List Tai64n
-  pub gave : Gave past now labels
+  pub gave : Extended past now labels
   pub text : AppendsFront held holds (pending ++ stamped_on inside labels bytes)
 
 -- All that was read is stamped and written.
-pub record SoFar (old new : Desk) (inside : Bool) (count : ℕ) : Type 0 where
+pub record SoFar (old new : StampState) (inside : Bool) (count : ℕ) : Type 0 where
   pub bytes : List ℕ
   pub read : Gives old.reader new.reader bytes
-  pub stamps : StampsPart false bytes old.readings new.readings old.writer.bytes new.writer.bytes [] [] inside count
+  pub stamps : StampsPart false bytes old.readings new.readings old.writer.bytes new.writer.bytes [] []
+  pub inside_is : inside ≡ is_inside false bytes
+  pub count_is : count ≡ begun false bytes

@@ -1,4 +1,5 @@
-ghost use Rattle.std.specs.Prelude.{◌≡◌, ◌↔◌, ◌<◌, ◌≤◌, ◌+◌, ◌-◌, ◌^◌, [], length, take, slice_range, true, false, OnOk, OnErr, IfOk, IsErrOf};
+ghost use Rattle.std.specs.Prelude.{◌≡◌, ◌↔◌, ◌<◌, ◌≤◌, ◌+◌, ◌-◌, ◌^◌, [], length, take, slice_range, true, false};
+ghost use Rattle.std.specs.Prelude.{OnOk, OnErr, IfOk, IsErrOf};
 ghost use Rattle.tai_status.specs.Counted.{Fails, Works, CountsRead, Gives, GivesNothing, IsRead};
 ghost use Rattle.tai_status.specs.LineReader.{IsPlain, TakesLine, Fills};
 
@@ -36,8 +37,8 @@ pub struct LineReader<A: Allocator = Global> {
 }
 
 impl<A: Allocator> Model for LineReader<A> {
-    ghost use Rattle.std.specs.Prelude.{◌≤◌, ◌<◌, ◌-◌, length, slice_range};
-    ghost use Rattle.tai_status.specs.LineReader.{Given};
+    ghost use Rattle.std.specs.Prelude.{◌<◌, ◌-◌, length, slice_range};
+    ghost use Rattle.tai_status.specs.LineReader.{Given, IsSpan};
 
     ghost Value = { Given };
 
@@ -48,8 +49,8 @@ impl<A: Allocator> Model for LineReader<A> {
     } };
 
     ghost invariant = { λ r.
-        (r.line_start ≤ r.line_end) × (r.line_end ≤ length r.bytes.items)
-        × (r.start ≤ r.end) × (r.end ≤ length r.bytes.items) × (0 < length r.bytes.items) };
+        IsSpan r.line_start r.line_end (length r.bytes.items) × IsSpan r.start r.end (length r.bytes.items)
+        × (0 < length r.bytes.items) };
 }
 
 impl<A: Allocator> LineReader<A> {

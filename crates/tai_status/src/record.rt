@@ -71,7 +71,7 @@ impl View {
 /// Why bytes are no status record. The first of these that applies is told.
 #[derive(Clone, Copy, Debug, PartialEq, Eq, Error)]
 pub enum RecordFault {
-    /// Not 18 bytes.
+    /// Not 18 bytes; where both lengths are read, not 20 either.
     #[error("Length")]
     Length,
     /// Bytes 0 to 11 are no packed label.
@@ -86,6 +86,15 @@ pub enum RecordFault {
     /// Byte 17 is none of `u`, `d` and 0.
     #[error("WantByte")]
     WantByte,
+    /// Of 20 bytes, byte 18 is neither 0 nor 1.
+    #[error("ExitingFlag")]
+    ExitingFlag,
+    /// Of 20 bytes, byte 19 is the number of no phase.
+    #[error("PhaseNumber")]
+    PhaseNumber,
+    /// Of 20 bytes, no service stands so.
+    #[error("NoSuchState")]
+    NoSuchState,
 }
 
 /// The status record of a service: the packed label, the process number with its least significant

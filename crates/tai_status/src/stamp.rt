@@ -1,10 +1,12 @@
-ghost use Rattle.std.specs.Prelude.{Bool, ◌≡◌, ◌+◌, ◌<◌, ◌≤◌, ◌++◌, [], ◌∷◌, List, ℕ, Some, length, take, not, if◌then◌else◌, OnOk, OnErr, IfOk, IsErrOf};
+ghost use Rattle.std.specs.Prelude.{Bool, ◌≡◌, ◌+◌, ◌<◌, ◌≤◌, ◌++◌, [], ◌∷◌, List, ℕ, Some, length, take, not};
+ghost use Rattle.std.specs.Prelude.{if◌then◌else◌, OnOk, OnErr, IfOk, IsErrOf};
 ghost use Rattle.std.specs.Io.BufRead.{take_through};
 ghost use Rattle.tai_status.specs.Lines.{stamp};
 ghost use Rattle.tai_status.specs.Counted.{Fails, Works, WroteFront, IsRead};
-ghost use Rattle.tai_status.specs.Lines.{desk, Gave, Stamps, StampsFront};
+ghost use Rattle.tai_status.specs.Lines.{stamp_state, Stamps, StampsAll, StampsSome};
+ghost use Rattle.tai_status.specs.Extended.{Extended};
 ghost use Rattle.tai_status.specs.Block.{Puts};
-ghost use Rattle.tai_status.specs.Stamping.{StampsPart, StampsUpTo, is_inside};
+ghost use Rattle.tai_status.specs.Stamping.{StampsPart, StampsUpTo, begun, is_inside};
 
 use crate::block::{BLOCK, Block};
 use crate::counted::{DeviceFault, Input, Output};
@@ -21,7 +23,7 @@ pub trait TimeSource {
     ghost readings: { Self → Option (List Tai64n) } = { λ _. None };
 
     fn now(&mut self) -> Label
-        ensures { Gave (readings self.old) (readings self.new) (result ∷ []) };
+        ensures { Extended (readings self.old) (readings self.new) (result ∷ []) };
 }
 
 /// Why stamping ended early.
@@ -44,7 +46,8 @@ fn first_part(bytes: &[u8]) -> Part
     ensures front { take result.len bytes.now ≡ take_through 10 bytes.now }
     ensures within { result.len ≤ length bytes.now }
     ensures some { 0 < length bytes.now → 0 < result.len }
-    ensures ends { 0 < length bytes.now → (inside : Bool) → is_inside inside (take_through 10 bytes.now) ≡ not result.ends }
+    ensures ends { 0 < length bytes.now → (inside : Bool)
+        → is_inside inside (take_through 10 bytes.now) ≡ not result.ends }
 {
     match memchr(b'\n', bytes) {
         Some(at) => Part {
@@ -58,30 +61,28 @@ fn first_part(bytes: &[u8]) -> Part
     }
 }
 
-/// Puts the bytes up to a newline or to their end, behind a stamp where they begin a line.
+/// Puts bytes of one line, behind a stamp where they begin it.
 fn stamp_part<E: Write, C: TimeSource>(
-    bytes: &[u8],
+    part: &[u8],
     inside: bool,
     block: &mut Block,
     writer: &mut Output<E>,
     clock: &mut C,
-) -> Result<Part, DeviceFault>
-    requires { 0 < length bytes.now }
-    ensures part { IfOk result (λ part. (0 < part.len) × (part.len ≤ length bytes.now)) }
-    ensures ok { IfOk result (λ part. StampsPart inside (take part.len bytes.now) (C.readings clock.old) (C.readings clock.new)
-        writer.old.bytes writer.new.bytes block.old block.new (not part.ends) (if inside then 0 else 1)) }
-    ensures err { OnErr result (StampsUpTo inside bytes.now (C.readings clock.old) (C.readings clock.new)
+) -> Result<(), DeviceFault>
+    requires some { 0 < length part.now }
+    requires line { part.now ≡ take_through 10 part.now }
+    ensures ok { OnOk result (StampsPart inside part.now (C.readings clock.old) (C.readings clock.new)
+        writer.old.bytes writer.new.bytes block.old block.new) }
+    ensures err { OnErr result (StampsUpTo inside part.now (C.readings clock.old) (C.readings clock.new)
         writer.old.bytes writer.new.bytes block.old) }
     ensures fault { OnErr result (Fails writer.old writer.new) }
     ensures faults { OnOk result (Works writer.old writer.new) }
 {
-    let part = first_part(bytes);
     if inside {
-        block.put(&bytes[..part.len], writer)?;
+        block.put(part, writer)
     } else {
-        put_line(&clock.now(), &bytes[..part.len], block, writer)?;
+        put_line(&clock.now(), part, block, writer)
     }
-    Ok(part)
 }
 
 /// Stamps bytes, and writes them.
@@ -93,8 +94,10 @@ fn stamp_block<E: Write, C: TimeSource>(
     clock: &mut C,
 ) -> Result<u64, DeviceFault>
     requires { block.old ≡ [] }
-    ensures ok { IfOk result (λ count. StampsPart inside.old bytes.now (C.readings clock.old) (C.readings clock.new)
-        writer.old.bytes writer.new.bytes [] [] inside.new count) }
+    ensures ok { OnOk result (StampsPart inside.old bytes.now (C.readings clock.old) (C.readings clock.new)
+        writer.old.bytes writer.new.bytes [] []) }
+    ensures inside { OnOk result (inside.new ≡ is_inside inside.old bytes.now) }
+    ensures count { IfOk result (λ count. count ≡ begun inside.old bytes.now) }
     ensures lines { IfOk result (λ count. count ≤ length bytes.now) }
     ensures empty { OnOk result (block.new ≡ []) }
     ensures err { OnErr result (StampsUpTo inside.old bytes.now (C.readings clock.old) (C.readings clock.new)
@@ -122,8 +125,10 @@ fn stamp_parts<E: Write, C: TimeSource>(
     writer: &mut Output<E>,
     clock: &mut C,
 ) -> Result<u64, DeviceFault>
-    ensures ok { IfOk result (λ count. StampsPart inside.old bytes.now (C.readings clock.old) (C.readings clock.new)
-        writer.old.bytes writer.new.bytes block.old block.new inside.new count) }
+    ensures ok { OnOk result (StampsPart inside.old bytes.now (C.readings clock.old) (C.readings clock.new)
+        writer.old.bytes writer.new.bytes block.old block.new) }
+    ensures inside { OnOk result (inside.new ≡ is_inside inside.old bytes.now) }
+    ensures count { IfOk result (λ count. count ≡ begun inside.old bytes.now) }
     ensures lines { IfOk result (λ count. count ≤ length bytes.now) }
     ensures err { OnErr result (StampsUpTo inside.old bytes.now (C.readings clock.old) (C.readings clock.new)
         writer.old.bytes writer.new.bytes block.old) }
@@ -133,7 +138,9 @@ fn stamp_parts<E: Write, C: TimeSource>(
     let mut at = 0;
     let mut count = 0;
     while at < bytes.len() {
-        let part = stamp_part(&bytes[at..], *inside, block, writer, clock)?;
+        let rest = &bytes[at..];
+        let part = first_part(rest);
+        stamp_part(&rest[..part.len], *inside, block, writer, clock)?;
         count += lines_begun(*inside);
         *inside = !part.ends;
         at += part.len;
@@ -149,17 +156,17 @@ pub fn stamp_lines<D: Read, E: Write, C: TimeSource>(
     clock: &mut C,
 ) -> Result<u64, StampFault>
     // All lines are stamped and written.
-    ensures done { IfOk result (λ count. Stamps (desk reader.old writer.old (C.readings clock.old))
-        (desk reader.new writer.new (C.readings clock.new)) count) }
+    ensures done { IfOk result (Stamps (stamp_state reader.old writer.old (C.readings clock.old))
+        (stamp_state reader.new writer.new (C.readings clock.new))) }
     ensures end { OnOk result (IsRead reader.new) }
     ensures works { OnOk result (Works reader.old reader.new × Works writer.old writer.new) }
     // The reader failed, and all lines that it gave are stamped and written.
-    ensures read { IsErrOf result StampFault.Read → (count : ℕ) × Stamps (desk reader.old writer.old (C.readings clock.old))
-        (desk reader.new writer.new (C.readings clock.new)) count }
+    ensures read { IsErrOf result StampFault.Read
+        → StampsAll reader.old reader.new writer.old writer.new (C.readings clock.old) (C.readings clock.new) }
     ensures unread { IsErrOf result StampFault.Read → Fails reader.old reader.new × Works writer.old writer.new }
     // The writer failed, after a front of the stamped text of what was read.
-    ensures write { IsErrOf result StampFault.Write → StampsFront (desk reader.old writer.old (C.readings clock.old))
-        (desk reader.new writer.new (C.readings clock.new)) }
+    ensures write { IsErrOf result StampFault.Write
+        → StampsSome reader.old reader.new writer.old writer.new (C.readings clock.old) (C.readings clock.new) }
     ensures unwritten { IsErrOf result StampFault.Write → Works reader.old reader.new × Fails writer.old writer.new }
 {
     let mut bytes = [0; BLOCK];

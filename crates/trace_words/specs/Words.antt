@@ -1,5 +1,5 @@
--- What the words of `trace` ask for. The words of a command line are clap's own (https://docs.rs/clap): its specification says
--- which words a command line takes, and what each argument gets.
+-- What the words of `trace` ask for. The words of a command line are clap's own (https://docs.rs/clap): its
+-- specification says which words a command line takes, and what each argument gets.
 use Rattle.std.specs.Prelude.{List, ℕ, [], ◌∷◌, true, codes, Option, Some, None, option_map}
 use Rattle.clap.specs.Kinds.{Kinds}
 use Rattle.clap.specs.Words.{App, Rule, fault_of, first_of, matches_of, new_app, new_rule, with_rule}

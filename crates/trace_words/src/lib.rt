@@ -1,7 +1,7 @@
 //! The words of the command `trace`: a file, and what to break at.
 //!
-//! [`parse_words`] reads them with `clap`, as the command line `FILE [--break SPEC]`. It is a crate of its own, so that no
-//! crate above it is checked with the code of a parser of command lines.
+//! [`parse_words`] reads them with `clap`, as the command line `FILE [--break SPEC]`. It is a crate of its own, so that
+//! no crate above it is checked with the code of a parser of command lines.
 #![tactic(auto)]
 
 ghost use Rattle.std.specs.Prelude.{◌≡◌, map, IfOk, IfErr, Some, None, option_map};
@@ -32,8 +32,10 @@ pub enum WordsFault {
 /// What words ask for, read as `FILE [--break SPEC]`, the option before the file or after it, its
 /// value in the next word or behind `=`. What the command line does not take is `Wrong`.
 pub fn parse_words<'a>(alloc: Global, words: &'a [&'a str]) -> Result<TraceWords<'a>, WordsFault>
-    ensures asked { IfOk result (λ asked. asked_of (map (λ word. word.now) words.entry.now) ≡ Some (asked.file.now, option_map (λ at. at.now) asked.at)) }
-    ensures wrong { IfErr result (λ fault. fault ≡ WordsFault.Wrong → asked_of (map (λ word. word.now) words.entry.now) ≡ None) }
+    ensures asked { IfOk result (λ asked. asked_of (map (λ word. word.now) words.entry.now)
+        ≡ Some (asked.file.now, option_map (λ at. at.now) asked.at)) }
+    ensures wrong { IfErr result (λ fault. fault ≡ WordsFault.Wrong
+        → asked_of (map (λ word. word.now) words.entry.now) ≡ None) }
 {
     let matches = match match_words(alloc, words) {
         Ok(matches) => matches,
@@ -52,7 +54,8 @@ pub fn parse_words<'a>(alloc: Global, words: &'a [&'a str]) -> Result<TraceWords
 /// Matches words with the command line.
 fn match_words<'a>(alloc: Global, words: &'a [&'a str]) -> Result<ArgMatches<'a>, Error>
     ensures kinds { FailsBy (fault_of trace_line (map (λ word. word.now) words.entry.now)) result }
-    ensures matches { IfOk result (λ matches. rows_of (found_of matches) ≡ matches_of trace_line (map (λ word. word.now) words.entry.now)) }
+    ensures matches { IfOk result (λ matches. rows_of (found_of matches)
+        ≡ matches_of trace_line (map (λ word. word.now) words.entry.now)) }
 {
     let file = Arg::new(alloc, "FILE")
         .required(true)

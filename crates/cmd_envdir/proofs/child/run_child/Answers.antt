@@ -1,5 +1,5 @@
 use Rattle.std.proofs.Common.{inr}
-use Rattle.cmd_envdir.specs.Around.{launch_of}
+use Rattle.cmd_envdir.specs.System.{launch_of}
 use Rattle.cmd_envdir.proofs.child.run_child.Goals as goal
 
 pub returns-in-Ok-launch-clause-ok : goal.returns-in-Ok-launch-clause-ok

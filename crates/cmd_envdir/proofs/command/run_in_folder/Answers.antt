@@ -8,16 +8,20 @@ pub returns-in-Err : goal.returns-in-Err
 returns-in-Err g c =
     let cause = c.fault_of.result in
     let of_none = of_no_file cause [] c.fault_of.ensures.either in
+    let folder = (g.R.EnvSystem.state c.args.rt.now).folder c.args.dir.now in
     record {
       ends = inr (record {
         cause = cause;
         files = [];
-        read = not_read c.in-Err.error cause (g.R.Surroundings.folder_at c.args.rt.now c.args.dir.now) [] c.fault_of.ensures.memory c.fault_of.ensures.either c.in-Err.ensures.missing;
-        first = of_none.0;
-        none = inl (refl {a = g.L.Launcher.launched c.args.launcher.now}, of_none.2);
-        status_is = c.report_fault.ensures.status;
-        told_why = subst (λ (name : List ℕ). Tells c.args.faults.now c.report_fault.new.faults
-            (envdir_told c.args.dir.now c.args.program.now name cause)) (sym of_none.1) c.report_fault.ensures.told;
+        why = record {
+          read = not_read c.in-Err.error cause folder [] c.fault_of.ensures.memory c.fault_of.ensures.either c.in-Err.ensures.missing;
+          first = of_none.0;
+          status_is = c.report_fault.ensures.status;
+          told_why = subst (λ (name : List ℕ). Tells c.args.faults.now c.report_fault.new.faults
+              (envdir_told c.args.dir.now c.args.program.now name cause)) (sym of_none.1) c.report_fault.ensures.told;
+        };
+        none = inl (refl {a = g.L.Launcher.calls c.args.launcher.now}, of_none.2);
+        unwritten = refl;
       });
     }
 
@@ -28,20 +32,25 @@ returns-in-Ok-run_with g c = record {
     files_are = search rules;
     in_order = search rules;
     runs = search rules;
-    untold = refl;
+    silent = refl;
   });
 }
 
 pub returns : goal.returns
-returns g c = record {
-  ends = inr (record {
-    cause = c.in-Err-run_with.fault;
-    files = c.deref-in-Err-run_with.result.now;
-    read = is_read c.in-Err-run_with.fault (g.R.Surroundings.folder_at c.args.rt.now c.args.dir.now) c.deref-in-Err-run_with.result.now (search rules) (search rules);
-    first = search rules;
-    none = search rules;
-    status_is = c.report_fault-in-Err-run_with.ensures.status;
-    told_why = subst (λ (name : List ℕ). Tells c.args.faults.now c.report_fault-in-Err-run_with.new.faults
-        (envdir_told c.args.dir.now c.args.program.now name c.in-Err-run_with.fault)) c.refused_name.ensures c.report_fault-in-Err-run_with.ensures.told;
-  });
-}
+returns g c =
+    let folder = (g.R.EnvSystem.state c.args.rt.now).folder c.args.dir.now in
+    record {
+      ends = inr (record {
+        cause = c.in-Err-run_with.fault;
+        files = c.deref-in-Err-run_with.result.now;
+        why = record {
+          read = is_read c.in-Err-run_with.fault folder c.deref-in-Err-run_with.result.now (search rules) (search rules);
+          first = search rules;
+          status_is = c.report_fault-in-Err-run_with.ensures.status;
+          told_why = subst (λ (name : List ℕ). Tells c.args.faults.now c.report_fault-in-Err-run_with.new.faults
+              (envdir_told c.args.dir.now c.args.program.now name c.in-Err-run_with.fault)) c.refused_name.ensures c.report_fault-in-Err-run_with.ensures.told;
+        };
+        none = search rules;
+        unwritten = refl;
+      });
+    }

@@ -1,14 +1,14 @@
 use Rattle.std.proofs.Common.{◌⊎◌, inr, refl}
-use Rattle.svc_words.specs.Words.{texts, option_letters, first_unknown}
-use Rattle.cmd_svc.specs.Svc.{post, RefusesLetter, ServesWords, LacksMemory}
+use Rattle.cmd_svc.specs.Words.{texts, option_letters, first_unknown}
+use Rattle.cmd_svc.specs.Svc.{effects, RefusesLetter, ServesWords, LacksMemory}
 use Rattle.cmd_svc.proofs.Refusals.{letter-refused, memory-lacks}
 use Rattle.cmd_svc.proofs.svc.run_svc.Goals as goal
 
 pub returns-in-Err-UnknownLetter : goal.returns-in-Err-UnknownLetter
 returns-in-Err-UnknownLetter g c =
     let words = texts c.args.words.now in
-    let old = post (g.S.Services.calls c.args.services.now) c.args.faults.now in
-    let new = post (g.S.Services.calls c.args.services.now) c.report_letter.new.faults in
+    let old = effects (g.S.Services.calls c.args.services.now) c.args.faults.now in
+    let new = effects (g.S.Services.calls c.args.services.now) c.report_letter.new.faults in
     let status = c.report_letter.result in
     let letter = c.in-Err-UnknownLetter.letter in
     record {
@@ -22,8 +22,8 @@ returns-in-Err-UnknownLetter g c =
 pub returns-in-Err-OutOfMemory : goal.returns-in-Err-OutOfMemory
 returns-in-Err-OutOfMemory g c =
     let words = texts c.args.words.now in
-    let old = post (g.S.Services.calls c.args.services.now) c.args.faults.now in
-    let new = post (g.S.Services.calls c.args.services.now) c.report.new.faults in
+    let old = effects (g.S.Services.calls c.args.services.now) c.args.faults.now in
+    let new = effects (g.S.Services.calls c.args.services.now) c.report.new.faults in
     let status = c.report.result in
     record {
       ends = memory-lacks (first_unknown (option_letters words)) c.assemble.result

@@ -1,7 +1,7 @@
 use Rattle.std.proofs.Common.{rules, ◌≡◌, ◌∙◌, ◌+◌, ◌<◌, ℕ, List, [], ◌∷◌, ◌++◌, take, length, ap, sym, subst}
 use Rattle.std.proofs.lemmas.List.{take_more}
 use Rattle.cmd_svc.specs.Turns.{InTurn}
-use Rattle.cmd_svc.specs.Svc.{post, Serves}
+use Rattle.cmd_svc.specs.Svc.{effects, Serves}
 use Rattle.cmd_svc.proofs.Turns.{in_turn-then}
 use Rattle.cmd_svc.proofs.svc.serve_each.Goals as goal
 
@@ -10,9 +10,9 @@ loop-name-preserved g c =
     let names = c.args.names.now in
     let i = c.loop-name.name-index in
     let bytes = c.args.bytes.now in
-    let old = post (g.S.Services.calls c.args.services.now) c.args.faults.now in
-    let middle = post (g.S.Services.calls c.loop-name.services) c.loop-name.faults in
-    let new = post (g.S.Services.calls c.serve.new.services) c.serve.new.faults in
+    let old = effects (g.S.Services.calls c.args.services.now) c.args.faults.now in
+    let middle = effects (g.S.Services.calls c.loop-name.services) c.loop-name.faults in
+    let new = effects (g.S.Services.calls c.serve.new.services) c.serve.new.faults in
     let name = c.as_str.result.now in
     let within : i < length names = search rules in
     let is : take (i + 1) names ≡ take i names ++ name ∷ [] =

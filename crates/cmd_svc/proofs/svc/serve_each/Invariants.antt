@@ -1,9 +1,9 @@
 use Rattle.std.proofs.Common.{take}
 use Rattle.cmd_svc.specs.Turns.{InTurn}
-use Rattle.cmd_svc.specs.Svc.{post, Serves}
+use Rattle.cmd_svc.specs.Svc.{effects, Serves}
 use Rattle.cmd_svc.proofs.svc.serve_each.Given as goal
 
 -- the services so far are served
 abbrev pub invariant-loop-name : goal.invariant-loop-name
 invariant-loop-name g l = InTurn (Serves l.bytes) (take l.name-index l.names)
-    (post (g.S.Services.calls l.fn.services) l.fn.faults) (post (g.S.Services.calls l.services) l.faults)
+    (effects (g.S.Services.calls l.fn.services) l.fn.faults) (effects (g.S.Services.calls l.services) l.faults)

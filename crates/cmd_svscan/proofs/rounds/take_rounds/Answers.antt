@@ -1,32 +1,32 @@
 use Rattle.std.proofs.Common.{◌≡◌, ℕ, ◌+◌, Option, Some, subst, ap, ◌∙◌, refl, Bool}
-use Rattle.cmd_svscan.specs.Rounds.{post, Answers}
+use Rattle.cmd_svscan.specs.Rounds.{effects, Answers}
 use Rattle.cmd_svscan.proofs.Turning.{IsUnderWay, IsLeft, way_more, way_fails, way_done, less-some, less-none}
 use Rattle.cmd_svscan.proofs.rounds.take_rounds.Goals as goal
 use Rattle.cmd_svscan.proofs.rounds.take_rounds.Goals.{in-Some-left+else-number-eq1, in_default}
 
 pub returns-then-not-take_round : goal.returns-then-not-take_round
 returns-then-not-take_round g c =
-    let calls = g.K.Keeper.calls in
+    let calls = g.K.ServiceSet.calls in
     let made = c.take_round.ensures.round in
     let off = subst (λ (on : Bool). Answers on made.0) c.if-not-take_round.true made.1 in
-    way_fails c.args.folder.now c.args.rounds c.loop.left (post (calls c.args.keeper.now) c.args.faults.now) (post (calls c.loop.keeper) c.loop.faults)
-    (post (calls c.take_round.new.keeper) c.take_round.new.faults) (post (calls c.finish.new.self) c.take_round.new.faults) made.0 c.loop.invariant.0 made.2 off c.finish.ensures.finished refl
+    way_fails c.args.folder.now c.args.rounds c.loop.left (effects (calls c.args.services.now) c.args.faults.now) (effects (calls c.loop.services) c.loop.faults)
+    (effects (calls c.take_round.new.services) c.take_round.new.faults) (effects (calls c.finish.new.self) c.take_round.new.faults) made.0 c.loop.invariant.0 made.2 off c.finish.ensures.finished refl
 
 pub returns-then-number-eq1 : goal.returns-then-number-eq1
 returns-then-number-eq1 g c =
-    let calls = g.K.Keeper.calls in
+    let calls = g.K.ServiceSet.calls in
     let made = c.take_round.ensures.round in
     let on = subst (λ (on : Bool). Answers on made.0) c.if-not-take_round.false made.1 in
     let one : c.loop.left ≡ Some 1 = c.in-Some-left.is ∙ ap Some c.if-number-eq1.true in
-    let old = post (calls c.args.keeper.now) c.args.faults.now in
-    let mid = post (calls c.loop.keeper) c.loop.faults in
+    let old = effects (calls c.args.services.now) c.args.faults.now in
+    let mid = effects (calls c.loop.services) c.loop.faults in
     let way = subst (λ (left : Option ℕ). IsUnderWay c.args.folder.now c.args.rounds left old mid) one c.loop.invariant.0 in
     way_done c.args.folder.now c.args.rounds old mid
-    (post (calls c.take_round.new.keeper) c.take_round.new.faults) (post (calls c.finish-then-number-eq1.new.self) c.take_round.new.faults) made.0 way made.2 on c.finish-then-number-eq1.ensures.finished refl
+    (effects (calls c.take_round.new.services) c.take_round.new.faults) (effects (calls c.finish-then-number-eq1.new.self) c.take_round.new.faults) made.0 way made.2 on c.finish-then-number-eq1.ensures.finished refl
 
 pub loop-preserved : goal.loop-preserved
 loop-preserved g c =
-    let calls = g.K.Keeper.calls in
+    let calls = g.K.ServiceSet.calls in
     let made = c.take_round.ensures.round in
     let on = subst (λ (on : Bool). Answers on made.0) c.if-not-take_round.false made.1 in
     let less : (count : ℕ) → IsLeft c.args.rounds c.loop.left count → IsLeft c.args.rounds c.match-left.left (count + 1) =
@@ -34,7 +34,7 @@ loop-preserved g c =
       | in-Some-left+else-number-eq1 w ↦ less-some c.args.rounds c.loop.left c.match-left.left w.in-Some-left.number w.in-Some-left.is w.left-is w.if-number-eq1.false
       | in_default w ↦ less-none c.args.rounds c.loop.left c.match-left.left w.in_default.is w.left-is
     ] in (
-      way_more c.args.folder.now c.args.rounds c.loop.left c.match-left.left (post (calls c.args.keeper.now) c.args.faults.now) (post (calls c.loop.keeper) c.loop.faults)
-          (post (calls c.take_round.new.keeper) c.take_round.new.faults) (post (calls c.rest.new.self) c.take_round.new.faults) made.0 c.loop.invariant.0 made.2 on c.rest.ensures.rested refl less,
+      way_more c.args.folder.now c.args.rounds c.loop.left c.match-left.left (effects (calls c.args.services.now) c.args.faults.now) (effects (calls c.loop.services) c.loop.faults)
+          (effects (calls c.take_round.new.services) c.take_round.new.faults) (effects (calls c.rest.new.self) c.take_round.new.faults) made.0 c.loop.invariant.0 made.2 on c.rest.ensures.rested refl less,
       c.rest.ensures.ready,
     )

@@ -9,9 +9,9 @@ loop-len-init g c = (alike_none c.args.script.now _, grind (arith, common_steps)
 
 pub loop-len-preserved : goal.loop-len-preserved
 loop-len-preserved g c =
-    let part = c.first_part-part in (
-      alike_further c.args.script.now c.now.result _ _ _ c.args.bytes.now _ c.loop-len.len part.result.len c.loop-len.count c.is_for_all.new.self.chosen refl
-          c.loop-len.invariant.0 part.ensures.plain (part.ensures.newline (not_false part.result.ends c.if-not-part.false)) c.now.ensures
+    let front = c.plain_front-front in (
+      alike_further c.args.script.now c.now.result _ _ _ c.args.bytes.now _ c.loop-len.len front.result.len c.loop-len.count c.is_for_all.new.self.chosen refl
+          c.loop-len.invariant.0 front.ensures.plain (front.ensures.newline (not_false front.result.ends c.if-not-front.false)) c.now.ensures
           c.is_for_all.ensures.chosen c.is_for_all.ensures.fits (c.requires.bare (grind (arith, common_steps)))
           (sym c.is_for_all.ensures.all ∙ c.if-not-is_for_all.false),
       grind (arith, common_steps),

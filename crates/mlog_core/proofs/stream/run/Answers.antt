@@ -3,20 +3,26 @@ use Rattle.mlog_core.proofs.Coming.{fault_moved}
 use Rattle.mlog_core.proofs.Telling.{runs_all, runs_up_to, runs_lines}
 use Rattle.mlog_core.proofs.stream.run.Goals as goal
 
-pub returns-in-Ok-run_lines-clause-done : goal.returns-in-Ok-run_lines-clause-done
-returns-in-Ok-run_lines-clause-done g c =
-    runs_all c.args.script.now _ _ _ _ _ _ _ _ c.in-Ok.desk c.run_lines.new.desk c.in-Ok-run_lines.lines _
-    c.in-Ok.ensures.opened c.in-Ok-run_lines.ensures.written c.in-Ok-run_lines.ensures.done refl c.finished.ensures c.removed.ensures
+pub returns-in-Ok-run_lines-clause-runs : goal.returns-in-Ok-run_lines-clause-runs
+returns-in-Ok-run_lines-clause-runs g c = record {
+  done = runs_all c.args.script.now _ _ _ _ _ _ c.in-Ok.router c.run_lines.new.router c.in-Ok-run_lines.lines _
+      c.in-Ok.ensures.opened c.in-Ok-run_lines.ensures.written c.in-Ok-run_lines.ensures.runs.done refl c.finished.ensures c.removed.ensures;
+  read = λ is. cc;
+  store = λ is. cc;
+  spent = λ is. cc;
+  memory = λ is. cc;
+}
 
-pub returns-clause-read : goal.returns-clause-read
-returns-clause-read g c = λ is.
-    let told = c.in-Err.ensures.came (fault_moved _ _ is) in
-    runs_lines c.args.script.now _ _ _ _ _ _ _ _ c.in-Ok.desk c.run_lines.new.desk told.0 told.1 c.in-Ok.ensures.opened told.2 told.3
-
-pub returns-clause-store : goal.returns-clause-store
-returns-clause-store g c = λ is.
-    runs_up_to c.args.script.now _ _ _ _ _ _ _ _ c.in-Ok.desk c.run_lines.new.desk _ _ c.in-Ok.ensures.opened (λ e. cc) (c.in-Err.ensures.store (fault_moved _ _ is))
-
-pub returns-clause-spent : goal.returns-clause-spent
-returns-clause-spent g c = λ is.
-    runs_up_to c.args.script.now _ _ _ _ _ _ _ _ c.in-Ok.desk c.run_lines.new.desk _ _ c.in-Ok.ensures.opened (λ e. refl) (c.in-Err.ensures.spent (fault_moved _ _ is))
+pub returns-clause-runs : goal.returns-clause-runs
+returns-clause-runs g c =
+    let runs = c.in-Err.ensures.runs in
+    let opened = c.in-Ok.ensures.opened in
+    record {
+      done = tt;
+      read = λ is.
+          let told = runs.came (fault_moved _ _ is) in
+          runs_lines c.args.script.now _ _ _ _ _ _ c.in-Ok.router c.run_lines.new.router told.0 told.1 opened told.2 told.3;
+      store = λ is. runs_up_to c.args.script.now _ _ _ _ _ _ c.in-Ok.router c.run_lines.new.router _ _ opened (λ e. cc) (runs.store (fault_moved _ _ is));
+      spent = λ is. runs_up_to c.args.script.now _ _ _ _ _ _ c.in-Ok.router c.run_lines.new.router _ _ opened (λ e. refl) (runs.spent (fault_moved _ _ is));
+      memory = λ is. absurd (c.in-Err.ensures.memory (fault_moved _ _ is));
+    }

@@ -1,11 +1,7 @@
-use Rattle.std.proofs.Common.{◌≡◌, ◌≤◌, take}
+use Rattle.std.proofs.Common.{take}
 use Rattle.mlog_script.specs.Selection.{padded}
 use Rattle.mlog_line.specs.Several.{Replaced}
 use Rattle.mlog_line.proofs.statuses.replace_chosen.Given as goal
 
 abbrev pub invariant-loop-file : goal.invariant-loop-file
-invariant-loop-file g l =
-    Replaced (g.S.LogStore.told l.fn.store) (g.S.LogStore.told l.store) (take l.file l.chosen) (padded l.front)
-    × (g.S.LogStore.failures l.fn.store ≤ g.S.LogStore.failures l.store)
-    × (g.S.LogStore.logs l.store ≡ g.S.LogStore.logs l.fn.store)
-    × (g.S.LogStore.status_files l.store ≡ g.S.LogStore.status_files l.fn.store)
+invariant-loop-file g l = Replaced (g.S.LogStore.state l.fn.store) (g.S.LogStore.state l.store) (take l.file l.chosen) (padded l.front)

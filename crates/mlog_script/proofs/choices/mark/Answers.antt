@@ -29,7 +29,7 @@ loop-action-preserved g c = record {
       c.loop-action-test.true c.action-item.is c.loop-action.invariant.chosen_is c.loop-action.invariant.logs_are c.note.ensures.logs;
   files_are = flags_step act is_file c.args.actions.now c.args.front.now c.loop-action.action-index c.action-item.result c.loop-action.chosen c.loop-action.marks.files.items _
       c.loop-action-test.true c.action-item.is c.loop-action.invariant.chosen_is c.loop-action.invariant.files_are c.note.ensures.files;
-  alerts_fit = omega (arith, c.loop-action.invariant.alerts_fit, c.note.ensures.room.0);
-  logs_fit = omega (arith, c.loop-action.invariant.logs_fit, c.note.ensures.room.1);
-  files_fit = omega (arith, c.loop-action.invariant.files_fit, c.note.ensures.room.2);
+  alerts_fit = omega (arith, c.loop-action.invariant.alerts_fit, c.note.ensures.alert_room);
+  logs_fit = omega (arith, c.loop-action.invariant.logs_fit, c.note.ensures.log_room);
+  files_fit = omega (arith, c.loop-action.invariant.files_fit, c.note.ensures.file_room);
 }

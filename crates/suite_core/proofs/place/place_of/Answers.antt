@@ -1,4 +1,4 @@
-use Rattle.std.proofs.Common.{◌<◌, length, arith}
+use Rattle.std.proofs.Common.{arith}
 use Rattle.suite_core.proofs.Placed.{none-at, read-place, read-other}
 use Rattle.suite_core.proofs.place.place_of.Goals as goal
 use Rattle.suite_core.proofs.place.place_of.Goals.{else-place-parts-via-then-place-parts+else-is_place, else-place-parts-via-else-place-parts}

@@ -1,4 +1,4 @@
-use Rattle.std.proofs.Common.{◌∷◌, [], sym, subst, arith}
+use Rattle.std.proofs.Common.{sym, subst, arith}
 use Rattle.std.specs.Vec.Iter.{into_iter_items}
 use Rattle.suite_core.specs.Places.{AreRising}
 use Rattle.suite_core.proofs.Placed.{restarted-rising, restarted-step, restarted-end}

@@ -1,4 +1,3 @@
-use Rattle.std.proofs.Common.{◌∙◌}
 use Rattle.suite_core.specs.Suite.{beginning, begun_part, begun_out}
 use Rattle.suite_core.proofs.Begun.{begun-as, said-as, pushed, map-more}
 use Rattle.suite_core.proofs.scan.begin_parts.Goals as goal

@@ -1,4 +1,4 @@
-use Rattle.std.proofs.Common.{ℕ, ◌<◌, sym, subst, not}
+use Rattle.std.proofs.Common.{◌<◌, sym, subst, not}
 use Rattle.std.proofs.lemmas.List.Kept.{AllPairs-filter}
 use Rattle.suite_core.specs.Parts.{PartState, is_of}
 use Rattle.suite_core.specs.Places.{AreRising, rank}

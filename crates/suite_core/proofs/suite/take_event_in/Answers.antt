@@ -1,5 +1,5 @@
 use Rattle.std.proofs.Common.{sym, subst}
-use Rattle.suite_core.specs.Places.{AreRising, IsPartAt}
+use Rattle.suite_core.specs.Places.{AreRising}
 use Rattle.suite_core.proofs.suite.take_event_in.Goals as goal
 
 pub take_event-requires-clause-rising : goal.take_event-requires-clause-rising

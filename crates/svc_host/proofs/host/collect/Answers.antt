@@ -4,17 +4,17 @@ use Rattle.svc_host.proofs.Going.{others_stay, set_length}
 use Rattle.svc_host.proofs.host.collect.Goals as goal
 
 pub loop-place-init : goal.loop-place-init
-loop-place-init g c = record { collected = collected_none c.args.table.now c.args.seats.now.items; count = refl; left = λ k d less. refl }
+loop-place-init g c = record { collected = collected_none c.args.table.now c.args.parts.now.items; count = refl; left = λ k d less. refl }
 
 pub loop-place-preserved : goal.loop-place-preserved
 loop-place-preserved g c =
     let at = c.loop-place.invariant in
-    let step = c.look.ensures.seats in
-    let mids = c.loop-place.seats.items in
+    let step = c.reap.ensures.parts in
+    let mids = c.loop-place.parts.items in
     let place = c.loop-place.place in
     record {
-      collected = collected_next c.args.table.now c.loop-place.table c.look.new.table c.args.seats.now.items mids c.look.new.seats.items
-          place (omega (arith, c.loop-place-test.true)) at.collected at.count at.left step c.look.result c.look.ensures.table c.look.ensures.ran;
-      count = ap length step.seats ∙ set_length mids place step.seat ∙ at.count;
-      left = λ k d less. ap (λ l. slice_index_or l k d) step.seats ∙ others_stay mids place step.seat k d (omega (arith, less)) ∙ at.left k d (omega (arith, less));
+      collected = collected_next c.args.table.now c.loop-place.table c.reap.new.table c.args.parts.now.items mids c.reap.new.parts.items
+          place (omega (arith, c.loop-place-test.true)) at.collected at.count at.left step c.reap.result c.reap.ensures.table c.reap.ensures.ran;
+      count = ap length step.parts ∙ set_length mids place step.part ∙ at.count;
+      left = λ k d less. ap (λ l. slice_index_or l k d) step.parts ∙ others_stay mids place step.part k d (omega (arith, less)) ∙ at.left k d (omega (arith, less));
     }

@@ -3,10 +3,10 @@ use Rattle.svc_host.specs.Rounds.{after_ends}
 use Rattle.svc_host.proofs.Tables.{ends_left, past}
 use Rattle.svc_host.proofs.host.end_all.Goals as goal
 
-pub loop-part-preserved : goal.loop-part-preserved
-loop-part-preserved c =
-    let k = c.loop-part.part-index in
+pub loop-id-preserved : goal.loop-id-preserved
+loop-id-preserved c =
+    let k = c.loop-id.id-index in
     let next : k + 1 ≡ suc k = omega arith in
-    subst (λ n. after_ends (drop n c.args.parts.now) c.ended.new.self ≡ after_ends c.args.parts.now c.args.table.now) (sym next)
-    (ap (λ table. after_ends (drop (suc k) c.args.parts.now) table) c.ended.ensures.table
-    ∙ ends_left c.args.parts.now k past c.loop-part.table _ c.loop-part-test.true c.loop-part.invariant)
+    subst (λ n. after_ends (drop n c.args.ids.now) c.ended.new.self ≡ after_ends c.args.ids.now c.args.table.now) (sym next)
+    (ap (λ table. after_ends (drop (suc k) c.args.ids.now) table) c.ended.ensures.table
+    ∙ ends_left c.args.ids.now k past c.loop-id.table _ c.loop-id-test.true c.loop-id.invariant)

@@ -16,7 +16,8 @@ returns-then-count-eq0-clause-done g c =
 
 pub reads-preserved : goal.reads-preserved
 reads-preserved g c = (
-  SoFar-then c.reads.invariant.0 (subst (λ (t : List ℕ). Consumes c.reads.reader.bytes c.read.new.self.bytes t) (grind (arith, common_steps)) c.in-Ok.ensures.bytes.0) c.in-Ok-stamp_block.ensures.ok,
+  SoFar-then c.reads.invariant.0 (subst (λ (t : List ℕ). Consumes c.reads.reader.bytes c.read.new.self.bytes t) (grind (arith, common_steps)) c.in-Ok.ensures.bytes.0) c.in-Ok-stamp_block.ensures.ok
+      c.in-Ok-stamp_block.ensures.inside c.in-Ok-stamp_block.ensures.count,
   grind (arith, common_steps),
   grind (arith, common_steps),
   grind (arith, common_steps),

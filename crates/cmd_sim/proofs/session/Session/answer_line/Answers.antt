@@ -7,25 +7,30 @@ use Rattle.cmd_sim.specs.Progress.{text_said}
 use Rattle.cmd_sim.proofs.session.Session.answer_line.Goals as goal
 
 pub returns-in-Err-clause-refused : goal.returns-in-Err-clause-refused
-returns-in-Err-clause-refused g c = λ number why is.
+returns-in-Err-clause-refused g c = λ number why is past stands.
     let same : c.give_up.result ≡ fault.Refused number why = cc is in
-    let told = c.give_up.ensures.told number why same in (
-      told.0 ∙ ap (λ (n : ℕ). n + 1) c.in-Err.ensures.count,
-      subst (λ (t : List ℕ). Wrote c.args.writer.now c.give_up.new.writer t) c.in-Err.ensures.waiting told.2,
-      λ past stands. c.in-Err.ensures.refused why (ap Err told.1) past stands,
+    c.in-Err.ensures.refused why (ap Err (c.give_up.ensures.told number why same).1) past stands
+
+pub returns-in-Err-clause-refused_wrote : goal.returns-in-Err-clause-refused_wrote
+returns-in-Err-clause-refused_wrote g c = λ number why is.
+    let same : c.give_up.result ≡ fault.Refused number why = cc is in (
+      (c.give_up.ensures.told number why same).0 ∙ ap (λ (n : ℕ). n + 1) c.in-Err.ensures.count,
+      subst (λ (t : List ℕ). Wrote c.args.writer.now c.give_up.new.writer t) c.in-Err.ensures.waiting (c.give_up.ensures.told_wrote number why same).0,
     )
 
 pub returns-in-Err-clause-refused_works : goal.returns-in-Err-clause-refused_works
 returns-in-Err-clause-refused_works g c = λ number why is.
-    let same : c.give_up.result ≡ fault.Refused number why = cc is in (c.give_up.ensures.told number why same).3
+    let same : c.give_up.result ≡ fault.Refused number why = cc is in (c.give_up.ensures.told_wrote number why same).1
 
 pub returns-in-Err-clause-memory : goal.returns-in-Err-clause-memory
 returns-in-Err-clause-memory g c = λ is.
     let same : c.give_up.result ≡ fault.OutOfMemory = cc is in
-    let told = c.give_up.ensures.memory same in (
-      subst (λ (t : List ℕ). Wrote c.args.writer.now c.give_up.new.writer t) c.in-Err.ensures.waiting told.1,
-      c.in-Err.ensures.memory (ap Err told.0),
-    )
+    c.in-Err.ensures.memory (ap Err (c.give_up.ensures.memory same).0)
+
+pub returns-in-Err-clause-memory_wrote : goal.returns-in-Err-clause-memory_wrote
+returns-in-Err-clause-memory_wrote g c = λ is.
+    let same : c.give_up.result ≡ fault.OutOfMemory = cc is in
+    subst (λ (t : List ℕ). Wrote c.args.writer.now c.give_up.new.writer t) c.in-Err.ensures.waiting (c.give_up.ensures.memory same).1
 
 pub returns-in-Err-clause-write : goal.returns-in-Err-clause-write
 returns-in-Err-clause-write g c = λ is past stands.

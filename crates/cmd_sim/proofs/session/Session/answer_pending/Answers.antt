@@ -18,10 +18,11 @@ each-preserved g c =
 pub returns-in_err-answer_line-clause-refused : goal.returns-in_err-answer_line-clause-refused
 returns-in_err-answer_line-clause-refused g c = λ number why is before now held first.
     let passed = err_from_is_err_and c.from_residual.result c.from_residual.ensures.1 in
-    let told = c.in_err-answer_line.ensures.refused number why (ap Err (sym passed.2) ∙ sym passed.1 ∙ is) in
+    let same = ap Err (sym passed.2) ∙ sym passed.1 ∙ is in
+    let told = c.in_err-answer_line.ensures.refused_wrote number why same in
     let s = c.each.invariant.0 before now held first in
     SoFar-line_refused c.answer_line.new.writer.bytes s why (c.take_line.ensures.taken c.each-test.true) c.line.ensures
-    told.0 (told.2 s.past s.stands) told.1
+    told.0 (c.in_err-answer_line.ensures.refused number why same s.past s.stands) told.1
 
 pub returns-in_err-answer_line-clause-write : goal.returns-in_err-answer_line-clause-write
 returns-in_err-answer_line-clause-write g c = λ is before now held first.
@@ -45,7 +46,8 @@ returns-clause-write g c = λ is before now held first.
 pub returns-in_err-answer_line-clause-near : goal.returns-in_err-answer_line-clause-near
 returns-in_err-answer_line-clause-near g c = λ number why is before now held first small.
     let passed = err_from_is_err_and c.from_residual.result c.from_residual.ensures.1 in
-    let told = c.in_err-answer_line.ensures.refused number why (ap Err (sym passed.2) ∙ sym passed.1 ∙ is) in
+    let same = ap Err (sym passed.2) ∙ sym passed.1 ∙ is in
+    let told = c.in_err-answer_line.ensures.refused_wrote number why same in
     let less = c.each.invariant.4 in
     SoFar-near number (c.each.invariant.0 before now held first) (omega (arith, less, small)) told.0
 
@@ -57,6 +59,6 @@ returns-in_err-answer_line-clause-refused_works g c = λ number why is.
 pub returns-in_err-answer_line-clause-memory : goal.returns-in_err-answer_line-clause-memory
 returns-in_err-answer_line-clause-memory g c = λ is before now held first.
     let passed = err_from_is_err_and c.from_residual.result c.from_residual.ensures.1 in
-    let told = c.in_err-answer_line.ensures.memory (ap Err (sym passed.2) ∙ sym passed.1 ∙ is) in
+    let same = ap Err (sym passed.2) ∙ sym passed.1 ∙ is in
     let s = c.each.invariant.0 before now held first in
-    SoFar-line_missed c.answer_line.new.writer.bytes s (c.take_line.ensures.taken c.each-test.true) c.line.ensures (told.1 s.past s.stands) told.0
+    SoFar-line_missed c.answer_line.new.writer.bytes s (c.take_line.ensures.taken c.each-test.true) c.line.ensures (c.in_err-answer_line.ensures.memory same s.past s.stands) (c.in_err-answer_line.ensures.memory_wrote same)

@@ -6,10 +6,11 @@ use Rattle.cmd_sim.proofs.session.Session.answer_rest.Goals as goal
 pub returns-in_err-answer_line-clause-refused : goal.returns-in_err-answer_line-clause-refused
 returns-in_err-answer_line-clause-refused g c = λ number why is before now held s end.
     let passed = err_from_is_err_and c.from_residual.result c.from_residual.ensures.1 in
-    let told = c.in_err-answer_line.ensures.refused number why (ap Err (sym passed.2) ∙ sym passed.1 ∙ is) in
+    let same = ap Err (sym passed.2) ∙ sym passed.1 ∙ is in
+    let told = c.in_err-answer_line.ensures.refused_wrote number why same in
     let some = not_nothing c.args.lines.now.pending c.if-not-take_rest.false c.take_rest.ensures.none in
     rest_refused c.answer_line.new.writer.bytes s why some c.requires.plain end
-    (c.line.ensures ∙ c.take_rest.ensures.taken c.if-not-take_rest.false) told.0 (told.2 s.past s.stands) told.1
+    (c.line.ensures ∙ c.take_rest.ensures.taken c.if-not-take_rest.false) told.0 (c.in_err-answer_line.ensures.refused number why same s.past s.stands) told.1
 
 pub returns-in_err-answer_line-clause-write : goal.returns-in_err-answer_line-clause-write
 returns-in_err-answer_line-clause-write g c = λ is before now held s.
@@ -36,7 +37,8 @@ returns-clause-write g c = λ is before now held s.
 pub returns-in_err-answer_line-clause-near : goal.returns-in_err-answer_line-clause-near
 returns-in_err-answer_line-clause-near g c = λ number why is before now held s small.
     let passed = err_from_is_err_and c.from_residual.result c.from_residual.ensures.1 in
-    let told = c.in_err-answer_line.ensures.refused number why (ap Err (sym passed.2) ∙ sym passed.1 ∙ is) in
+    let same = ap Err (sym passed.2) ∙ sym passed.1 ∙ is in
+    let told = c.in_err-answer_line.ensures.refused_wrote number why same in
     SoFar-near number s small told.0
 
 pub returns-in_err-answer_line-clause-refused_works : goal.returns-in_err-answer_line-clause-refused_works
@@ -47,7 +49,7 @@ returns-in_err-answer_line-clause-refused_works g c = λ number why is.
 pub returns-in_err-answer_line-clause-memory : goal.returns-in_err-answer_line-clause-memory
 returns-in_err-answer_line-clause-memory g c = λ is before now held s end.
     let passed = err_from_is_err_and c.from_residual.result c.from_residual.ensures.1 in
-    let told = c.in_err-answer_line.ensures.memory (ap Err (sym passed.2) ∙ sym passed.1 ∙ is) in
+    let same = ap Err (sym passed.2) ∙ sym passed.1 ∙ is in
     let some = not_nothing c.args.lines.now.pending c.if-not-take_rest.false c.take_rest.ensures.none in
     rest_missed c.answer_line.new.writer.bytes s some c.requires.plain end
-    (c.line.ensures ∙ c.take_rest.ensures.taken c.if-not-take_rest.false) (told.1 s.past s.stands) told.0
+    (c.line.ensures ∙ c.take_rest.ensures.taken c.if-not-take_rest.false) (c.in_err-answer_line.ensures.memory same s.past s.stands) (c.in_err-answer_line.ensures.memory_wrote same)

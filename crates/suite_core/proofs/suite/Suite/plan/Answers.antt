@@ -1,6 +1,6 @@
-use Rattle.std.proofs.Common.{◌≡◌, List, [], ◌++◌, map, sym, ap, ◌∙◌, refl}
+use Rattle.std.proofs.Common.{map, ap, ◌∙◌}
 use Rattle.scan_table.specs.Scan.{starts, restarts}
-use Rattle.scan_table.specs.Table.{TableState, scanned}
+use Rattle.scan_table.specs.Table.{scanned}
 use Rattle.suite_core.specs.Suite.{SuiteState, scan_out, scan_starts, scan_restarts, scan_begun, begun_part}
 use Rattle.suite_core.proofs.Begun.{parts-as, begun-all}
 use Rattle.suite_core.proofs.suite.Suite.plan.Goals as goal

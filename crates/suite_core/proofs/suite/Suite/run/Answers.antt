@@ -1,4 +1,4 @@
-use Rattle.std.proofs.Common.{◌≡◌, ℕ, length, take, sym, subst, ap, ◌∙◌, arith}
+use Rattle.std.proofs.Common.{◌≡◌, length, take, subst, arith}
 use Rattle.suite_core.specs.Run.{AreAccepted}
 use Rattle.suite_core.specs.Places.{IsSuite}
 use Rattle.suite_core.proofs.Runs.{ran-more, by-own-events, leaves-others, replies-by-history}

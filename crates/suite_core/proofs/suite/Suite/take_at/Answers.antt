@@ -1,6 +1,5 @@
-use Rattle.std.proofs.Common.{◌≡◌, None, sym, subst, ap, ◌∙◌, refl}
-use Rattle.suite_core.specs.Suite.{SuiteState, suite_at, refusal_at, outs_at}
-use Rattle.suite_core.specs.Parts.{trace_of}
+use Rattle.std.proofs.Common.{◌≡◌, None, sym, subst, ap, ◌∙◌}
+use Rattle.suite_core.specs.Suite.{SuiteState, suite_at, refusal_at}
 use Rattle.suite_core.specs.Places.{AreRising, IsSuite}
 use Rattle.suite_core.proofs.Tied.{parts-rise}
 use Rattle.suite_core.proofs.Placed.{suite-at, not-refused}

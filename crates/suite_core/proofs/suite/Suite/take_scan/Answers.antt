@@ -1,5 +1,5 @@
-use Rattle.std.proofs.Common.{◌≡◌, sym, subst, ap, ◌∙◌}
-use Rattle.suite_core.specs.Suite.{SuiteState, suite_scanned}
+use Rattle.std.proofs.Common.{sym, subst, ap, ◌∙◌}
+use Rattle.suite_core.specs.Suite.{SuiteState}
 use Rattle.suite_core.specs.Places.{AreRising, IsSuite}
 use Rattle.suite_core.proofs.Tied.{parts-rise}
 use Rattle.suite_core.proofs.Begun.{suite-scanned}

@@ -6,10 +6,10 @@ use Rattle.svc_house.proofs.house.House.turn.Goals as goal
 found : (g : given.Over) (c : goal.After-publish-in-Some-look g) → Found c.args.self.now c.in-Some-look.event c.look.new.self
 found g c =
     let look = c.in-Some-look.ensures in record {
-      none = sym (ap (λ s. s.hand) c.self.view_is) ∙ c.in_default.ensures;
+      none = sym (ap (λ s. s.pending) c.self.view_is) ∙ c.in_default.ensures;
       same = look.same;
       events = look.events;
-      next = look.hand;
+      next = look.pending;
       polls = look.polls;
       listens = look.listens;
       gate = look.gate;
@@ -22,7 +22,7 @@ done g c =
       events = publish.published;
       told = publish.told;
       reading = publish.reading;
-      hand = publish.hand;
+      pending = publish.pending;
       nones = publish.nones;
       gate = publish.gate;
       refused = publish.refused;

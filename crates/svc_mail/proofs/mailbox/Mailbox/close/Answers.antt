@@ -9,15 +9,15 @@ use Rattle.svc_mail.proofs.mailbox.Mailbox.close.Goals as goal
 
 pub join_senders-requires-clause-pass : goal.join_senders-requires-clause-pass
 join_senders-requires-clause-pass g c = (
-  ap (λ m. m.table_id) c.into_mark-mark.ensures.0 ∙ c.requires.receiver.0 ∙ ap (λ q. q.table.shared.table_id) (sym c.deref.ensures),
-  c.into_mark-mark.ensures.2,
+  ap (λ m. m.table_id) c.into_mark-mark.ensures.mark ∙ c.requires.receiver.0 ∙ ap (λ q. q.table.shared.table_id) (sym c.deref.ensures),
+  c.into_mark-mark.ensures.whole,
 )
 
 pub join_senders-requires-clause-knows : goal.join_senders-requires-clause-knows
 join_senders-requires-clause-knows g c =
     let w = view c.into_mark-mark.result in
-    let made = sym (ap (λ v. v.made) c.into_mark-mark.ensures.1) in
-    c.into_mark-mark.ensures.1 ∙ (λ i. taker w.all (made i) w.taken [] w.seen w.heard)
+    let made = sym (ap (λ v. v.made) c.into_mark-mark.ensures.knows) in
+    c.into_mark-mark.ensures.knows ∙ (λ i. taker w.all (made i) w.taken [] w.seen w.heard)
 
 pub join_senders-requires-clause-senders : goal.join_senders-requires-clause-senders
 join_senders-requires-clause-senders g c = λ k d lt.
@@ -37,7 +37,7 @@ drain-letters-requires-clause-knows g c =
     let v = view c.args.receiver.mark in
     let k = c.join_senders.ensures.knows in
     let w = view c.into_mark-mark.result in
-    let same = ap view c.into_mark-mark.ensures.0 in
+    let same = ap view c.into_mark-mark.ensures.mark in
     let known = taker w.all w.made w.taken (map record_of ss) w.seen w.heard in (
       k ∙ (λ i. taker (sym k i).all (sym k i).made (sym k i).taken (sym k i).ended (sym k i).seen (sym k i).heard),
       subst IsSettled (sym k) (settles known (λ n lt.
@@ -50,7 +50,7 @@ returns-clause-left g c =
     let ss = c.args.senders.items in
     let r = c.args.receiver in
     let k = c.join_senders.ensures.knows in
-    let same = ap view c.into_mark-mark.ensures.0 in
+    let same = ap view c.into_mark-mark.ensures.mark in
     let left = c.drain-letters.result.items in
     let is : view c.join_senders.new.mark ≡ taker (view r.mark).all (view r.mark).made (view r.mark).taken (map record_of ss) (view r.mark).seen (view r.mark).heard = k ∙ ap (λ u. taker u.all u.made u.taken (map record_of ss) u.seen u.heard) same in
     let whole = subst (λ u. IsWhole u (u.taken ++ left)) is c.drain-letters.ensures in

@@ -1,21 +1,21 @@
 use Rattle.std.proofs.Common.{[], ◌∷◌, refl, Some, None}
-use Rattle.svc_maker.specs.Deeds.{MadePipe}
-use Rattle.svc_house.proofs.Grown.{grew-append}
+use Rattle.svc_maker.specs.Calls.{MadePipe}
+use Rattle.svc_house.proofs.Extended.{extended-append}
 use Rattle.svc_maker.proofs.maker.FolderMakerMaker.pair.Goals as goal
 
 pub returns-in_default : goal.returns-in_default
 returns-in_default g c = rw (← c.self.view_is, c.reserve.ensures.items) (record {
   tried = MadePipe None ∷ [];
-  missed = tt;
-  deeds = c.in_default.ensures.deeds;
+  failed = tt;
+  calls = c.in_default.ensures.calls;
   stands = refl;
 })
 
 pub returns-in_default-pipe : goal.returns-in_default-pipe
 returns-in_default-pipe g c = rw (← c.self.view_is, c.reserve.ensures.items) (record {
   tried = MadePipe (Some (c.in-Some.from_service, c.in-Some.output)) ∷ MadePipe None ∷ [];
-  missed = tt;
-  deeds = grew-append _ _ _ _ _ c.in-Some.ensures.deeds c.in_default-pipe.ensures.deeds;
+  failed = tt;
+  calls = extended-append _ _ _ _ _ c.in-Some.ensures.calls c.in_default-pipe.ensures.calls;
   stands = refl;
 })
 
@@ -30,6 +30,6 @@ returns g c = rw (
   input = c.in-Some-pipe.input;
   written = c.in-Some-pipe.to_logger;
   outlet = refl;
-  deeds = grew-append _ _ _ _ _ c.in-Some.ensures.deeds c.in-Some-pipe.ensures.deeds;
+  calls = extended-append _ _ _ _ _ c.in-Some.ensures.calls c.in-Some-pipe.ensures.calls;
   stands = refl;
 })

@@ -54,7 +54,7 @@ returns-clause-turned g c =
     let part = take_rest c.as_slice.result.now at ∙ ap (λ l. drop at l) c.as_slice.ensures in
     let old = g.O.Outlet.bytes inside.outlet in
     let new = g.O.Outlet.bytes c.put_all-count.new.outlet in
-    let grew = c.put_all-count.ensures.front ∙ ap (λ l. append_known old (take count l)) part in
+    let extended = c.put_all-count.ensures.front ∙ ap (λ l. append_known old (take count l)) part in
     let failures = g.O.Outlet.failures inside.outlet in
     let failed = g.O.Outlet.failures c.put_all-count.new.outlet in
     let after = passing receiver earlier (here + count) waiting (at + count) new failed in
@@ -63,10 +63,10 @@ returns-clause-turned g c =
           let part_put = c.put_all-count.ensures.broken w.if-broken.true in
           let less : count < length (drop at waiting) = omega (arith, part_put, ap length part) in
           subst (λ t. IsRelayTurn (passing receiver earlier here waiting at old failures) t after) (sym w.result-is)
-          (breaks receiver earlier here waiting at old new failures failed count less (c.put_all-count.ensures.failed w.if-broken.true) grew c.self.invariant)
+          (breaks receiver earlier here waiting at old new failures failed count less (c.put_all-count.ensures.failed w.if-broken.true) extended c.self.invariant)
       | else-broken w ↦
           let all : count ≡ length (drop at waiting) = c.put_all-count.ensures.all w.if-broken.false ∙ ap length part in
           let some : 0 < length (drop at waiting) = omega (arith, c.requires, ap (λ s. length s.kept) c.self.view_is) in
           subst (λ t. IsRelayTurn (passing receiver earlier here waiting at old failures) t after) (sym w.result-is)
-          (puts_all receiver earlier here waiting at old new failures failed count all some (c.put_all-count.ensures.works w.if-broken.false) grew c.self.invariant)
+          (puts_all receiver earlier here waiting at old new failures failed count all some (c.put_all-count.ensures.works w.if-broken.false) extended c.self.invariant)
     ])

@@ -8,4 +8,4 @@ pub returns-clause-replays : goal.returns-clause-replays
 returns-clause-replays g c =
     let note = c.in_ok-note.note in
     let reading : c.in_ok-note.text ≡ text_of note = search rules in
-    ap replay_of reading ∙ replay-trace_after note.opening note.room note.front.seen.log
+    ap replay_of reading ∙ replay-trace_after note.opening note.room note.prefix.seen.log

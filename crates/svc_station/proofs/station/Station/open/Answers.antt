@@ -1,6 +1,6 @@
 use Rattle.std.proofs.Common.{[], ◌∷◌, length, ap, sym, ◌∙◌, subst, arith, length-append}
 use Rattle.std.specs.Prelude.{slice_get}
-use Rattle.svc_station.specs.Desks.{desk_station}
+use Rattle.svc_station.specs.WriterStates.{state_station}
 use Rattle.svc_station.specs.Ends.{IsNewReader}
 use Rattle.svc_station.specs.Shown.{origin_of}
 use Rattle.svc_station.proofs.Lists.{each_more}
@@ -11,19 +11,19 @@ loop-number-preserved g c =
     let i = c.loop-number.invariant in
     let made = c.in-Ok-reader.ensures in
     let reader = c.in-Ok-reader.reader in
-    let old = c.loop-number.desk in
+    let old = c.loop-number.state in
     let items = c.push_reserved.ensures.items in
     let count = i.count in
-    let new : IsNewReader (desk_station old) (length c.loop-number.ends.items) reader =
-    (made.station, made.number ∙ sym count, ap (λ f. f.seen.log) made.front ∙ i.desk.published) in
-    let each = each_more (λ k x. IsNewReader (desk_station old) k x) c.loop-number.ends.items reader i.each new in
+    let new : IsNewReader (state_station old) (length c.loop-number.ends.items) reader =
+    (made.station, made.number ∙ sym count, ap (λ f. f.seen.log) made.prefix ∙ i.state.published) in
+    let each = each_more (λ k x. IsNewReader (state_station old) k x) c.loop-number.ends.items reader i.each new in
     record {
-      desk = record {
-        opening = ap (λ v. v.opening) made.same.1 ∙ i.desk.opening;
-        room = ap (λ v. v.trace.capacity) made.same.1 ∙ i.desk.room;
-        readers = ap (λ v. v.readers) made.same.1 ∙ i.desk.readers;
-        published = ap (λ f. f.seen.log) made.same.0 ∙ i.desk.published;
-        added = ap (λ a. a.front.seen.log) made.author ∙ i.desk.added;
+      state = record {
+        opening = ap (λ v. v.opening) made.same.1 ∙ i.state.opening;
+        room = ap (λ v. v.trace.capacity) made.same.1 ∙ i.state.room;
+        readers = ap (λ v. v.readers) made.same.1 ∙ i.state.readers;
+        published = ap (λ f. f.seen.log) made.same.0 ∙ i.state.published;
+        added = ap (λ a. a.prefix.seen.log) made.appender ∙ i.state.added;
       };
       count = omega (arith, ap length items, length-append c.loop-number.ends.items (reader ∷ []));
       room = omega (arith, c.push_reserved.ensures.capacity, i.room);

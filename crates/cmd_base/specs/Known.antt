@@ -1,0 +1,14 @@
+-- What a command reads of the system around it, where the system tells what it holds.
+use Rattle.std.specs.Prelude.{◌≡◌, ◌≢◌, ⊤, Option, Some, None}
+use Rattle.std.specs.IoError.{error_kind}
+use Rattle.std.specs.declared.io.Error.{Error}
+use Rattle.std.specs.declared.io.ErrorKind.TheVariants.{OutOfMemory}
+
+-- What was read is what is there, where that is known.
+abbrev pub IsKnown : {X : Type 0} → Option X → X → Type 0
+IsKnown None read = ⊤
+IsKnown (Some known) read = read ≡ known
+
+-- A fault is want of memory, or what it is of is not known to be there.
+abbrev pub IsMissed : {X : Type 0} → Error → Option X → Type 0
+IsMissed fault known = error_kind fault ≢ OutOfMemory → known ≡ None

@@ -1,0 +1,48 @@
+use Rattle.std.proofs.Common.{ℕ, List, [], inl, inr, refl, rules, subst, sym}
+use Rattle.tai_status.specs.Counted.{Tells}
+use Rattle.cmd_envdir.specs.Ends.{envdir_told}
+use Rattle.cmd_envdir.proofs.Children.{is_read, not_read, of_no_file}
+use Rattle.cmd_envdir.proofs.command.write_words.Goals as goal
+
+pub returns-in-Err : goal.returns-in-Err
+returns-in-Err g c =
+    let cause = c.fault_of.result in
+    let of_none = of_no_file cause [] c.fault_of.ensures.either in
+    let folder = (g.R.EnvSystem.state c.args.rt.now).folder c.args.dir.now in
+    record {
+      ends = inr (record {
+        cause = cause;
+        files = [];
+        why = record {
+          read = not_read c.in-Err.error cause folder [] c.fault_of.ensures.memory c.fault_of.ensures.either c.in-Err.ensures.missing;
+          first = of_none.0;
+          status_is = c.report_fault.ensures.status;
+          told_why = subst (λ (name : List ℕ). Tells c.args.faults.now c.report_fault.new.faults
+              (envdir_told c.args.dir.now [] name cause)) (sym of_none.1) c.report_fault.ensures.told;
+        };
+        ran = of_none.2;
+        unwritten = refl;
+      });
+    }
+
+pub returns : goal.returns
+returns g c =
+    let cause = c.in-Err-folder_words.fault in
+    let files = c.deref-in-Err-folder_words.result.now in
+    let folder = (g.R.EnvSystem.state c.args.rt.now).folder c.args.dir.now in
+    let neither = c.in-Err-folder_words.ensures.neither in
+    record {
+      ends = inr (record {
+        cause = cause;
+        files = files;
+        why = record {
+          read = is_read cause folder files neither.0 (search rules);
+          first = search rules;
+          status_is = c.report_fault-in-Err-folder_words.ensures.status;
+          told_why = subst (λ (name : List ℕ). Tells c.args.faults.now c.report_fault-in-Err-folder_words.new.faults
+              (envdir_told c.args.dir.now [] name cause)) c.refused_name.ensures c.report_fault-in-Err-folder_words.ensures.told;
+        };
+        ran = neither.1;
+        unwritten = refl;
+      });
+    }

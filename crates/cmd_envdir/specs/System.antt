@@ -1,0 +1,71 @@
+-- What `envdir` reads of the system, and the commands that it hands over.
+use Rattle.std.specs.Prelude.{ℕ, Bool, List, Option, None, Result, map}
+use Rattle.std.specs.Borrow.{Bor}
+use Rattle.std.specs.Process.{command_program, command_args, command_var, clears_env}
+use Rattle.std.specs.declared.process.command.Command.{Command}
+use Rattle.std.specs.declared.process.status.ExitStatus.{ExitStatus}
+use Rattle.std.specs.declared.io.Error.{Error}
+use Rattle.env_title.specs.Env.{Binding}
+use Rattle.env_title.specs.Files.{File}
+use Rattle.tai_status.specs.Counted.{Device}
+
+-- The files of each folder, and the variables of the process, where they are known.
+pub record SystemState : Type 0 where
+  pub folder : List ℕ → Option (List File)
+  pub variables : Option (List Binding)
+
+-- Nothing of it is known.
+abbrev pub unknown_state : SystemState
+unknown_state = record { folder = λ dir. None; variables = None }
+
+-- the bytes of words
+abbrev pub texts : List (Bor (List ℕ)) → List (List ℕ)
+texts words = map (λ word. word.now) words
+
+-- A program and its arguments.
+pub record Child : Type 0 where
+  pub program : List ℕ
+  pub arguments : List (List ℕ)
+
+abbrev pub child : (program : List ℕ) (arguments : List (List ℕ)) → Child
+child program arguments = record { program = program; arguments = arguments }
+
+-- What a command starts: a program and its arguments; what it says of each variable, that it has a value or is taken
+-- away; and whether the child is without the variables of this process.
+pub record Start : Type 0 where
+  pub program : List ℕ
+  pub arguments : List (List ℕ)
+  pub variables : List ℕ → Option (Option (List ℕ))
+  pub alone : Bool
+
+abbrev pub start_of : {A : Type 0} → Command A → Start
+start_of command = record {
+  program = command_program command;
+  arguments = command_args command;
+  variables = command_var command;
+  alone = clears_env command;
+}
+
+-- A command that was handed over, and how that ended.
+pub record Launch : Type 0 where
+  pub start : Start
+  pub ended : Result ExitStatus Error
+
+abbrev pub launch_of : {A : Type 0} → Command A → Result ExitStatus Error → Launch
+launch_of command ended = record { start = start_of command; ended = ended }
+
+-- What it writes to, and where it tells its faults.
+pub record Outputs : Type 0 where
+  pub writer : Device
+  pub faults : Device
+
+abbrev pub outputs : (writer faults : Device) → Outputs
+outputs writer faults = record { writer = writer; faults = faults }
+
+-- What `envdir` does: the commands that it hands over, and what it writes.
+pub record Scene : Type 0 where
+  pub launches : Option (List Launch)
+  pub outputs : Outputs
+
+abbrev pub scene : (launches : Option (List Launch)) (writer faults : Device) → Scene
+scene launches writer faults = record { launches = launches; outputs = outputs writer faults }

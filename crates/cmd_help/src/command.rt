@@ -1,0 +1,64 @@
+//! The commands themselves.
+ghost use Rattle.std.specs.Prelude.{map};
+ghost use Rattle.cmd_help.specs.Ends.{HelpEnds, Prints, PrintsPage, VersionEnds};
+
+use crate::pages::{overview, page_of};
+use cmd_base::{DONE, TROUBLE, report, usage};
+use std::io::Write;
+use tai_status::Output;
+
+/// Prints a text, or tells that the writer failed.
+fn print<W: Write, E: Write>(
+    text: &[u8],
+    told: &[u8],
+    writer: &mut Output<W>,
+    faults: &mut Output<E>,
+) -> u8
+    ensures prints { Prints text.now told.now result writer.old writer.new faults.old faults.new }
+{
+    match writer.write_all(text) {
+        Ok(()) => DONE,
+        Err(_) => report(faults, told, TROUBLE),
+    }
+}
+
+/// Prints a page of the help. An empty one is of a word that names no command.
+fn print_page<W: Write, E: Write>(page: &[u8], writer: &mut Output<W>, faults: &mut Output<E>) -> u8
+    ensures prints { PrintsPage page.now result writer.old writer.new faults.old faults.new }
+{
+    match page {
+        [] => usage(faults),
+        _ => print(page, b"help: write fault\n", writer, faults),
+    }
+}
+
+/// The command `help`: prints which commands there are, or with the name of one which words that takes. Answers the
+/// status: 0; 100 for a word that names no command, and for more words; 111 for a fault of the writer.
+pub fn run_help<W: Write, E: Write>(
+    words: &[&str],
+    writer: &mut Output<W>,
+    faults: &mut Output<E>,
+) -> u8
+    ensures ends { HelpEnds (map (λ word. word.now) words.now) result writer.old writer.new faults.old faults.new }
+{
+    match words {
+        [] => print(overview(), b"help: write fault\n", writer, faults),
+        [name] => print_page(page_of(name), writer, faults),
+        _ => usage(faults),
+    }
+}
+
+/// The command `version`: prints the name and the version of this program. Answers the status: 0; 100 for any word; 111
+/// for a fault of the writer.
+pub fn run_version<W: Write, E: Write>(
+    words: &[&str],
+    writer: &mut Output<W>,
+    faults: &mut Output<E>,
+) -> u8
+    ensures ends { VersionEnds (map (λ word. word.now) words.now) result writer.old writer.new faults.old faults.new }
+{
+    match words {
+        [] => print(b"dtools 2.0.0\n", b"version: write fault\n", writer, faults),
+        _ => usage(faults),
+    }
+}

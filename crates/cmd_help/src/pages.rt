@@ -1,0 +1,56 @@
+//! What `help` prints.
+ghost use Rattle.std.specs.Prelude.{◌≡◌};
+ghost use Rattle.cmd_help.specs.Pages.{IsPageOf, overview};
+
+/// What `help` prints without a word: the commands, a line each.
+pub fn overview() -> &'static [u8]
+    ensures { result.now ≡ overview }
+{
+    b"dtools COMMAND WORDS..: supervision and logging of services
+  svscan         keeps the services of a folder running
+  svc            controls services
+  svstat         shows how services stand
+  svok           tells whether a service is supervised
+  multilog       logs lines into folders
+  tai64n         puts a label before each line
+  tai64nlocal    shows labels as local times
+  envdir         runs a program in the environment that a folder tells
+  readproctitle  keeps the last bytes of its input
+  sim            answers a script of events as supervise would
+  trace          explains the last events of a service
+  why            says in plain words how a service stands, and why
+  help COMMAND   tells the words of a command; man dtools-COMMAND has the rest
+  version        tells which dtools this is
+"
+}
+
+/// What `help` prints of the command of this name: which words it takes. Of no command it is nothing.
+pub fn page_of(name: &str) -> &'static [u8]
+    ensures page { IsPageOf name.now result.now }
+{
+    match name {
+        "svscan" =>
+            b"dtools svscan [DIR [ROUNDS]], over the working directory where no DIR is given\n",
+        "svc" => {
+            b"dtools svc [-udopchaitkx12q] SERVICE.., with u up, d down, o once, x exit, and signals\n"
+        }
+        "svstat" => b"dtools svstat SERVICE..\n",
+        "svok" => b"dtools svok SERVICE\n",
+        "multilog" => {
+            b"dtools multilog ACTION.., of t, -PATTERN, +PATTERN, e, =FILE, sSIZE, nNUMBER, folders\n"
+        }
+        "tai64n" => b"dtools tai64n\n",
+        "tai64nlocal" => b"dtools tai64nlocal\n",
+        "envdir" => b"dtools envdir DIR PROGRAM WORDS.., or dtools envdir --words DIR\n",
+        "readproctitle" =>
+            b"dtools readproctitle WORD.., of which the last is as long as the title\n",
+        "sim" => b"dtools sim, with a script on standard input, or dtools sim table\n",
+        "trace" => {
+            b"dtools trace FILE [--break SPEC], where SPEC is byte:C, phase:PHASE or signal:NAME\n"
+        }
+        "why" => b"dtools why SERVICE..\n",
+        "help" => b"dtools help [COMMAND]\n",
+        "version" => b"dtools version\n",
+        _ => b"",
+    }
+}

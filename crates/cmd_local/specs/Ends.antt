@@ -1,0 +1,60 @@
+-- How `tai64nlocal` ends: by the tai64nlocal page of daemontools (cr.yp.to/daemontools/tai64nlocal.html).
+use Rattle.std.specs.Prelude.{◌≡◌, ◌≢◌, ℕ, ℤ, List, [], ◌∷◌, ◌++◌, codes, map}
+use Rattle.std.specs.Borrow.{Bor}
+use Rattle.tai_status.specs.Counted.{Device, Fails, Works, Gives, Wrote, WroteFront, IsRead, Tells}
+use Rattle.cmd_base.specs.Console.{Console, EndsWell}
+use Rattle.cmd_base.specs.Told.{RefusesWords}
+use Rattle.cmd_local.specs.Lines.{localised}
+use Rattle.cmd_local.specs.declared.localising.LocalFault.{LocalFault}
+use Rattle.cmd_local.specs.declared.localising.LocalFault.TheVariants as fault
+
+-- what is told of a fault
+abbrev pub local_told : LocalFault → List ℕ
+local_told fault.Read = codes "tai64nlocal: Read" ++ 10 ∷ []
+local_told fault.Write = codes "tai64nlocal: Write" ++ 10 ∷ []
+
+-- Bytes were read, and each of their lines was written with local time.
+pub record Localises (ahead : ℤ → ℤ) (reader read writer written : Device) : Type 0 where
+  pub bytes : List ℕ
+  pub gave : Gives reader read bytes
+  pub text : Wrote writer written (localised ahead bytes)
+
+-- Bytes were read, and a front of their lines with local time was written.
+pub record LocalisesFront (ahead : ℤ → ℤ) (reader read writer written : Device) : Type 0 where
+  pub bytes : List ℕ
+  pub gave : Gives reader read bytes
+  pub text : WroteFront writer written (localised ahead bytes)
+
+-- What a fault comes from. The reader failed, and all that it gave is written with local time; or the writer failed,
+-- after a front of that.
+abbrev pub LocalCause : (ahead : ℤ → ℤ) → LocalFault → (reader read writer written : Device) → Type 0
+LocalCause ahead fault.Read reader read writer written =
+    Fails reader read × Works writer written × Localises ahead reader read writer written
+LocalCause ahead fault.Write reader read writer written =
+    Fails writer written × LocalisesFront ahead reader read writer written
+
+-- The whole input was written with local time, no device failed, and nothing is told.
+pub record LocalisesInput (ahead : ℤ → ℤ) (old new : Console) : Type 0 where
+  pub lines : Localises ahead old.reader new.reader old.writer new.writer
+  pub end : IsRead new.reader
+  pub well : EndsWell old new
+
+-- A device failed, and it is told which.
+pub record LocalisesNoFurther (ahead : ℤ → ℤ) (old new : Console) : Type 0 where
+  pub fault : LocalFault
+  pub cause : LocalCause ahead fault old.reader new.reader old.writer new.writer
+  pub told : Tells old.faults new.faults (local_told fault)
+
+-- `tai64nlocal` without words, by its status.
+pub record LocalByStatus (ahead : ℤ → ℤ) (status : ℕ) (old new : Console) : Type 0 where
+  pub done : status ≡ 0 → LocalisesInput ahead old new
+  pub trouble : status ≢ 0 → (status ≡ 111) × LocalisesNoFurther ahead old new
+
+-- `tai64nlocal` takes no words.
+abbrev pub LocalEnds : (ahead : ℤ → ℤ) (words : List (List ℕ)) (status : ℕ) (old new : Console) → Type 0
+LocalEnds ahead [] status old new = LocalByStatus ahead status old new
+LocalEnds ahead (word ∷ words) status old new = RefusesWords status old new
+
+-- the texts of words
+abbrev pub texts : List (Bor (List ℕ)) → List (List ℕ)
+texts words = map (λ word. word.now) words

@@ -1,0 +1,55 @@
+-- Lines part by part, as their bytes come. No public contract speaks of it.
+--
+-- `inside` says that the bytes go on a line that has begun, and whose label, if it has one, was passed.
+use Rattle.std.specs.Prelude.{◌≡◌, ℕ, ◌-◌, ◌⊎◌, ◌&&◌, ◌==◌, nat_lt, Bool, true, false, List, [], ◌++◌, length, drop}
+use Rattle.std.specs.Prelude.{slice_index, Option, ℤ}
+use Rattle.std.specs.Io.BufRead.{take_through, drop_through}
+use Rattle.tai_status.specs.Counted.{Device, Gives, Wrote}
+use Rattle.tai_status.specs.Block.{Emits}
+use Rattle.cmd_local.specs.Lines.{leading_digits, localised}
+
+-- whether bytes that begin a line may go on to be a label
+abbrev pub is_open : List ℕ → Bool
+is_open line =
+    nat_lt (length line) 26 && (slice_index line 0 == 64) && (leading_digits (drop 1 line) == length line - 1)
+
+-- what becomes of bytes
+abbrev pub passed : (ahead : ℤ → ℤ) → Bool → List ℕ → List ℕ
+passed ahead false bytes = localised ahead bytes
+passed ahead true bytes = take_through 10 bytes ++ localised ahead (drop_through 10 bytes)
+
+-- Bytes of one line, whose newline they end with; or it may come after them.
+abbrev pub IsPart : List ℕ → (ends : Bool) → Type 0
+IsPart part true = (more : List ℕ) → (take_through 10 (part ++ more) ≡ part) × (drop_through 10 (part ++ more) ≡ more)
+IsPart part false = (more : List ℕ) → (take_through 10 (part ++ more) ≡ part ++ take_through 10 more)
+    × (drop_through 10 (part ++ more) ≡ drop_through 10 more)
+
+-- Nothing is held, or what begins a line.
+abbrev pub IsHeld : (inside : Bool) (held : List ℕ) → Type 0
+IsHeld inside held = (held ≡ []) ⊎ ((inside ≡ false) × IsPart held false)
+
+-- With bytes that were read, whatever comes after them, this text was made, and some bytes are held.
+pub record Makes (ahead : ℤ → ℤ) (inside : Bool) (bytes text : List ℕ) (goes_on : Bool) (held : List ℕ) : Type 0 where
+  pub always : (more : List ℕ) → passed ahead inside (bytes ++ more) ≡ text ++ passed ahead goes_on (held ++ more)
+
+-- Bytes were put behind what was pending, so that these are held.
+pub record Passes (ahead : ℤ → ℤ) (inside : Bool) (bytes : List ℕ) (goes_on : Bool) (held : List ℕ)
+    (old new : Option (List ℕ)) (pending left : List ℕ) : Type 0 where
+  pub text : List ℕ
+  pub makes : Makes ahead inside bytes text goes_on held
+  pub puts : Emits old new pending left text
+
+-- Bytes were written, so that these are held.
+pub record Moves (ahead : ℤ → ℤ) (inside : Bool) (bytes : List ℕ) (goes_on : Bool) (held : List ℕ)
+    (old new : Device) : Type 0 where
+  pub text : List ℕ
+  pub makes : Makes ahead inside bytes text goes_on held
+  pub wrote : Wrote old new text
+
+-- All that was read is written, but for the bytes that are held.
+pub record SoFar (ahead : ℤ → ℤ) (reader read writer written : Device) (inside : Bool) (held : List ℕ) : Type 0 where
+  pub bytes : List ℕ
+  pub text : List ℕ
+  pub gave : Gives reader read bytes
+  pub wrote : Wrote writer written text
+  pub makes : Makes ahead false bytes text inside held

@@ -1,0 +1,107 @@
+//! The layer over the operating system: folders of logs, status files, and where alerts go.
+ghost use Rattle.std.specs.Prelude.{◌≡◌};
+
+use crate::names::FileName;
+use std::alloc::{AllocError, Allocator};
+use std::io;
+
+/// The folder of a log. Contracts see what stands in it, where it tells that. A call that fails changed nothing.
+pub trait LogFolder {
+    ghost use Rattle.std.specs.Prelude.{◌≡◌, ◌<◌, ◌≤◌, Option, None, length, take, IfOk, OnOk, OnErr};
+    ghost use Rattle.cmd_multilog.specs.Folder.{Folder, Changes, IsLocked, IsSynced, HasLength, HasNames};
+    ghost use Rattle.cmd_multilog.specs.Folder.{Locks, Opens, Extends, Syncs, Renames, Removes};
+
+    ghost folder: { Self → Option Folder } = { λ _. None };
+
+    /// Takes the lock, without waiting for another process that has it. It is held until the folder is let go.
+    fn lock(&mut self) -> io::Result<()>
+        ensures ok { OnOk result (Changes (folder self.old) (folder self.new) Locks) }
+        ensures err { OnErr result (folder self.new ≡ folder self.old) };
+
+    /// Opens the current file for appending, and makes it where it is missing.
+    fn open_current(&mut self) -> io::Result<()>
+        requires locked { IsLocked (folder self.old) }
+        ensures ok { OnOk result (Changes (folder self.old) (folder self.new) Opens) }
+        ensures err { OnErr result (folder self.new ≡ folder self.old) };
+
+    /// How many bytes the current file has.
+    fn length(&self) -> io::Result<u64>
+        ensures { IfOk result (HasLength (folder self.now)) };
+
+    /// All names in the folder. One that is no text is a fault.
+    fn names<A: Allocator + Clone>(&self, alloc: &A) -> io::Result<Vec<FileName<A>, A>>
+        ensures { IfOk result (λ names. HasNames (folder self.now) names.items) };
+
+    /// Appends a front of the piece to the current file, and tells how long it is.
+    fn append(&mut self, piece: &[u8]) -> io::Result<usize>
+        ensures bound { IfOk result (λ count. count ≤ length piece.now) }
+        ensures some { IfOk result (λ count. 0 < length piece.now → 0 < count) }
+        ensures ok { IfOk result (λ count.
+            Changes (folder self.old) (folder self.new) (Extends (take count piece.now))) }
+        ensures err { OnErr result (folder self.new ≡ folder self.old) };
+
+    /// Has all of the current file put on the disk.
+    fn sync(&mut self) -> io::Result<()>
+        ensures ok { OnOk result (Changes (folder self.old) (folder self.new) Syncs) }
+        ensures err { OnErr result (folder self.new ≡ folder self.old) };
+
+    /// Makes the current file the old file of a name that nothing in the folder has. There is no current file then.
+    fn rename(&mut self, name: &[u8]) -> io::Result<()>
+        requires synced { IsSynced (folder self.old) }
+        ensures ok { OnOk result (Changes (folder self.old) (folder self.new) (Renames name.now)) }
+        ensures err { OnErr result (folder self.new ≡ folder self.old) };
+
+    /// Removes the old file of a name.
+    fn remove(&mut self, name: &[u8]) -> io::Result<()>
+        ensures ok { OnOk result (Changes (folder self.old) (folder self.new) (Removes name.now)) }
+        ensures err { OnErr result (folder self.new ≡ folder self.old) };
+}
+
+/// The place of a status file. Contracts see its path and what it holds, where it tells that.
+pub trait StatusFile {
+    ghost use Rattle.std.specs.Prelude.{◌≡◌, Option, None, OnOk, OnErr};
+    ghost use Rattle.cmd_multilog.specs.Folder.{Status, Holds, StaysThere};
+
+    ghost status: { Self → Option Status } = { λ _. None };
+
+    /// Replaces what the file holds. After a fault it may hold anything.
+    fn replace(&mut self, content: &[u8]) -> io::Result<()>
+        ensures ok { OnOk result (Holds (status self.old) (status self.new) content.now) }
+        ensures err { OnErr result (StaysThere (status self.old) (status self.new)) };
+}
+
+/// What the operating system does for logs, and standard error. Contracts see which folders it was asked for, and what
+/// it alerted, where it tells that.
+pub trait LogSystem {
+    type Folder: LogFolder + Drop;
+
+    type Status: StatusFile + Drop;
+
+    ghost use Rattle.std.specs.Prelude.{◌≡◌, ◌<◌, ◌≤◌, ℕ, List, [], ◌∷◌, Option, None, length, take, IfOk, IfSome};
+    ghost use Rattle.std.specs.Prelude.{OnOk, OnErr};
+    ghost use Rattle.std.specs.Io.KnownBytes.{Appends};
+    ghost use Rattle.tai_status.specs.Extended.{Extended};
+
+    // the folders that it was asked for, in order
+    ghost asked: { Self → Option (List (List ℕ)) } = { λ _. None };
+
+    ghost alerts: { Self → Option (List ℕ) } = { λ _. None };
+
+    /// The folder at a path. It is made where it is missing.
+    fn folder(&mut self, path: &[u8]) -> io::Result<Self::Folder>
+        ensures path { IfOk result (λ folder. IfSome (Self.Folder.folder folder) (λ f. f.path ≡ path.now)) }
+        ensures asked { Extended (asked self.old) (asked self.new) (path.now ∷ []) }
+        ensures alerts { alerts self.new ≡ alerts self.old };
+
+    /// The place of the status file at a path. Nothing is made yet.
+    fn status_file(&self, path: &[u8]) -> Result<Self::Status, AllocError>
+        ensures { IfOk result (λ file. IfSome (Self.Status.status file) (λ s. s.path ≡ path.now)) };
+
+    /// Alerts a front of the piece, and tells how long it is.
+    fn alert(&mut self, piece: &[u8]) -> io::Result<usize>
+        ensures bound { IfOk result (λ count. count ≤ length piece.now) }
+        ensures some { IfOk result (λ count. 0 < length piece.now → 0 < count) }
+        ensures ok { IfOk result (λ count. Appends (alerts self.old) (alerts self.new) (take count piece.now)) }
+        ensures err { OnErr result (alerts self.new ≡ alerts self.old) }
+        ensures asked { asked self.new ≡ asked self.old };
+}

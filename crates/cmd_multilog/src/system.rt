@@ -1,0 +1,241 @@
+//! The system's own folders.
+ghost use Rattle.std.specs.Prelude.{◌<◌, ◌≤◌, length, IfOk};
+
+use crate::log_system::{LogFolder, LogSystem, StatusFile};
+use crate::names::FileName;
+use std::alloc::{AllocError, Allocator, Global};
+use std::fs::{DirBuilder, File, Files, OpenOptions};
+use std::io::{Error, ErrorKind, Write};
+use std::os::unix::fs::{DirBuilderExt, OpenOptionsExt};
+use std::{fs, io, str};
+
+/// The modes of what is made, less the umask.
+const FOLDER_MODE: u32 = 0o755;
+
+const FILE_MODE: u32 = 0o644;
+
+/// How often a write is tried that is interrupted.
+const TRIES: u32 = 1000;
+
+/// The folder of a log on this system. It tells contracts nothing.
+#[derive(Drop)]
+pub struct SystemFolder<R: Files<File = File> + Drop, A: Allocator = Global> {
+    runtime: R,
+    alloc: A,
+    path: String<A>,
+    lock: Option<File>,
+    current: Option<File>,
+}
+
+/// The text of a name or a path.
+fn text_of(bytes: &[u8]) -> io::Result<&str> {
+    match str::from_utf8(bytes) {
+        Ok(text) => Ok(text),
+        Err(_) => Err(Error::from(ErrorKind::InvalidInput)),
+    }
+}
+
+/// The path of a name in a folder.
+fn path_in<A: Allocator>(alloc: A, folder: &str, name: &str) -> Result<String<A>, AllocError> {
+    let mut path = String::from_str(alloc, folder)?;
+    path.push('/')?;
+    path.push_str(name)?;
+    Ok(path)
+}
+
+/// Opens a file for appending, and makes it where it is missing.
+fn open_to_append<R: Files<File = File>>(runtime: &R, path: &str) -> io::Result<File> {
+    let mut how = OpenOptions::new();
+    how.append(true).create(true).mode(FILE_MODE);
+    how.open(runtime, path)
+}
+
+/// Writes a front of the piece, and again where a write was interrupted.
+fn write_front<W: Write>(writer: &mut W, piece: &[u8]) -> io::Result<usize>
+    ensures bound { IfOk result (λ count. count ≤ length piece.now) }
+    ensures some { IfOk result (λ count. 0 < length piece.now → 0 < count) }
+{
+    for _ in 0..TRIES {
+        match writer.write(piece) {
+            Ok(count) => {
+                if count == 0 && !piece.is_empty() {
+                    return Err(Error::from(ErrorKind::WriteZero));
+                }
+                return Ok(count);
+            }
+            Err(fault) => {
+                if fault.kind() != ErrorKind::Interrupted {
+                    return Err(fault);
+                }
+            }
+        }
+    }
+    Err(Error::from(ErrorKind::Interrupted))
+}
+
+impl<R: Files<File = File> + Drop, A: Allocator + Clone> SystemFolder<R, A> {
+    /// The path of a name in the folder.
+    fn path_of(&self, name: &str) -> io::Result<String<A>> {
+        Ok(path_in(self.alloc.clone()?, self.path.as_str(), name)?)
+    }
+}
+
+impl<R: Files<File = File> + Drop, A: Allocator + Clone> LogFolder for SystemFolder<R, A> {
+    fn lock(&mut self) -> io::Result<()> {
+        let file = open_to_append(&self.runtime, self.path_of("lock")?.as_str())?;
+        file.try_lock()?;
+        self.lock = Some(file);
+        Ok(())
+    }
+
+    fn open_current(&mut self) -> io::Result<()> {
+        let file = open_to_append(&self.runtime, self.path_of("current")?.as_str())?;
+        self.current = Some(file);
+        Ok(())
+    }
+
+    fn length(&self) -> io::Result<u64> {
+        match &self.current {
+            Some(file) => Ok(file.metadata()?.len()),
+            None => Err(Error::from(ErrorKind::NotFound)),
+        }
+    }
+
+    fn names<B: Allocator + Clone>(&self, alloc: &B) -> io::Result<Vec<FileName<B>, B>> {
+        let mut names = Vec::new(alloc.clone()?);
+        for entry in fs::read_dir(&(&self.runtime, alloc), self.path.as_str())? {
+            let entry = entry?;
+            names.push(FileName::new(alloc.clone()?, entry.file_name().as_bytes())?)?;
+        }
+        Ok(names)
+    }
+
+    fn append(&mut self, piece: &[u8]) -> io::Result<usize> {
+        match &mut self.current {
+            Some(file) => write_front(file, piece),
+            None => Err(Error::from(ErrorKind::NotFound)),
+        }
+    }
+
+    fn sync(&mut self) -> io::Result<()> {
+        match &self.current {
+            Some(file) => file.sync_all(),
+            None => Err(Error::from(ErrorKind::NotFound)),
+        }
+    }
+
+    fn rename(&mut self, name: &[u8]) -> io::Result<()> {
+        if self.current.is_none() {
+            return Err(Error::from(ErrorKind::NotFound));
+        }
+        let old = self.path_of(text_of(name)?)?;
+        match fs::symlink_metadata(&self.runtime, old.as_str()) {
+            Ok(_) => return Err(Error::from(ErrorKind::AlreadyExists)),
+            Err(fault) => {
+                if fault.kind() != ErrorKind::NotFound {
+                    return Err(fault);
+                }
+            }
+        }
+        fs::rename(
+            &self.runtime,
+            self.path_of("current")?.as_str(),
+            old.as_str(),
+        )?;
+        self.current = None;
+        Ok(())
+    }
+
+    fn remove(&mut self, name: &[u8]) -> io::Result<()> {
+        fs::remove_file(&self.runtime, self.path_of(text_of(name)?)?.as_str())
+    }
+}
+
+/// The place of a status file on this system. It tells contracts nothing.
+#[derive(Drop)]
+pub struct SystemStatus<R: Files<File = File> + Drop, A: Allocator = Global> {
+    runtime: R,
+    path: Vec<u8, A>,
+    new: Vec<u8, A>,
+}
+
+/// Makes a file of this content.
+fn write_file<R: Files<File = File>>(runtime: &R, path: &str, content: &[u8]) -> io::Result<()> {
+    let mut how = OpenOptions::new();
+    how.write(true).create(true).truncate(true).mode(FILE_MODE);
+    let mut file = how.open(runtime, path)?;
+    file.write_all(content)
+}
+
+impl<R: Files<File = File> + Drop, A: Allocator + Clone> StatusFile for SystemStatus<R, A> {
+    fn replace(&mut self, content: &[u8]) -> io::Result<()> {
+        let new = text_of(&self.new)?;
+        write_file(&self.runtime, new, content)?;
+        fs::rename(&self.runtime, new, text_of(&self.path)?)
+    }
+}
+
+/// The folders and files of this system, and its standard error. It tells contracts nothing.
+#[derive(Drop)]
+pub struct SystemLogs<R: Files<File = File> + Copy + Drop, E: Write + Drop, A: Allocator = Global> {
+    runtime: R,
+    faults: E,
+    alloc: A,
+}
+
+impl<R: Files<File = File> + Copy + Drop, E: Write + Drop, A: Allocator> SystemLogs<R, E, A> {
+    /// Those of this runtime. Alerts go to this writer.
+    pub fn new(runtime: R, faults: E, alloc: A) -> SystemLogs<R, E, A> {
+        SystemLogs {
+            runtime,
+            faults,
+            alloc,
+        }
+    }
+}
+
+impl<R: Files<File = File> + Copy + Drop, E: Write + Drop, A: Allocator + Clone> LogSystem
+    for SystemLogs<R, E, A> {
+    type Folder = SystemFolder<R, A>;
+
+    type Status = SystemStatus<R, A>;
+
+    fn folder(&mut self, path: &[u8]) -> io::Result<SystemFolder<R, A>> {
+        let path = String::from_str(self.alloc.clone()?, text_of(path)?)?;
+        let alloc = self.alloc.clone()?;
+        let mut how = DirBuilder::new();
+        how.mode(FOLDER_MODE);
+        match how.create(&self.runtime, path.as_str()) {
+            Ok(()) => {}
+            Err(fault) => {
+                if fault.kind() != ErrorKind::AlreadyExists {
+                    return Err(fault);
+                }
+            }
+        }
+        Ok(SystemFolder {
+            runtime: self.runtime,
+            alloc,
+            path,
+            lock: None,
+            current: None,
+        })
+    }
+
+    fn status_file(&self, path: &[u8]) -> Result<SystemStatus<R, A>, AllocError> {
+        let mut own = Vec::new(self.alloc.clone()?);
+        own.extend_from_slice(path)?;
+        let mut new = Vec::new(self.alloc.clone()?);
+        new.extend_from_slice(path)?;
+        new.extend_from_slice(b".new")?;
+        Ok(SystemStatus {
+            runtime: self.runtime,
+            path: own,
+            new,
+        })
+    }
+
+    fn alert(&mut self, piece: &[u8]) -> io::Result<usize> {
+        write_front(&mut self.faults, piece)
+    }
+}

@@ -1,0 +1,129 @@
+//! The system's own input, and the pipe by which a logger is told to stop.
+use crate::stop::{Heard, LoggerInput};
+use libc::net::{POLLIN, POLLNVAL, poll};
+use libc::types::pollfd;
+use std::io::{Error, ErrorKind, Read};
+use std::os::unix::fs::FileTypeExt;
+use std::{env, fs, io};
+
+/// The environment's variable that has the number of the channel's descriptor.
+const CHANNEL: &str = "DTOOLS_STOP_FD";
+
+/// The byte of the channel that stops nothing.
+const ROTATE: u8 = b'a';
+
+/// How often a wait is begun again that found nothing.
+const TRIES: u64 = 1 << 48;
+
+/// What the system's wait for both descriptors found. Of the two the channel goes first.
+enum Ready {
+    Input,
+    Channel,
+    /// The channel's descriptor is not open.
+    NoChannel,
+    /// A signal came.
+    Neither,
+}
+
+/// What the channel says.
+enum Word {
+    Stop,
+    Rotate,
+    /// A signal came before any byte.
+    Nothing,
+}
+
+/// The standard input, and the channel where there is one. It tells contracts nothing.
+#[derive(Drop)]
+pub struct SystemInput<R: Read + Drop> {
+    input: R,
+    channel: Option<i32>,
+}
+
+/// The descriptor of the pipe that the environment names as the channel, where there is one. It is to be asked before
+/// the program opens any file, which may get that number.
+pub fn stop_channel(rt: &HostRuntime) -> Option<i32> {
+    let number = env::var(rt, CHANNEL).ok()?.as_str().parse::<i32>().ok()?;
+    if number < 3 {
+        return None;
+    }
+    let path = format!(in rt.alloc(); "/dev/fd/{number}").ok()?;
+    let found = fs::metadata(rt, path.as_str()).ok()?;
+    if found.file_type().is_fifo() {
+        Some(number)
+    } else {
+        None
+    }
+}
+
+/// Waits until one of the two is ready.
+fn wait_for_either(channel: i32) -> io::Result<Ready> {
+    let mut asked = [0, channel].map(|fd| pollfd {
+        fd,
+        events: POLLIN,
+        revents: 0,
+    });
+    if poll(&mut asked, -1) < 0 {
+        let fault = Error::from_raw_os_error(os::errno());
+        if fault.kind() == ErrorKind::Interrupted {
+            return Ok(Ready::Neither);
+        }
+        return Err(fault);
+    }
+    if asked[1].revents & POLLNVAL != 0 {
+        return Ok(Ready::NoChannel);
+    }
+    if asked[1].revents != 0 {
+        return Ok(Ready::Channel);
+    }
+    if asked[0].revents != 0 {
+        return Ok(Ready::Input);
+    }
+    Ok(Ready::Neither)
+}
+
+/// Reads a byte of the channel, which is ready. Its end is a stop, and so is every byte but one.
+fn read_word(channel: i32) -> Word {
+    let mut byte = [0u8; 1];
+    let count = libc::read(channel, &mut byte);
+    if count > 0 && byte[0] == ROTATE {
+        return Word::Rotate;
+    }
+    if count < 0 && os::errno() == libc::EINTR {
+        return Word::Nothing;
+    }
+    Word::Stop
+}
+
+impl<R: Read + Drop> SystemInput<R> {
+    /// This input, which is descriptor 0, and the channel under this descriptor.
+    pub fn new(input: R, channel: Option<i32>) -> SystemInput<R> {
+        SystemInput { input, channel }
+    }
+}
+
+impl<R: Read + Drop> LoggerInput for SystemInput<R> {
+    fn wait(&mut self) -> io::Result<Heard> {
+        for _ in 0..TRIES {
+            let Some(channel) = self.channel else {
+                return Ok(Heard::Input);
+            };
+            match wait_for_either(channel)? {
+                Ready::Input => return Ok(Heard::Input),
+                Ready::Channel => {
+                    match read_word(channel) {
+                        Word::Stop => return Ok(Heard::Stop),
+                        Word::Rotate | Word::Nothing => {}
+                    }
+                }
+                Ready::NoChannel => self.channel = None,
+                Ready::Neither => {}
+            }
+        }
+        Err(Error::from(ErrorKind::Interrupted))
+    }
+
+    fn read_once(&mut self, into: &mut [u8]) -> io::Result<usize> {
+        self.input.read(into)
+    }
+}

@@ -1,0 +1,34 @@
+-- Letters without each one that stands earlier.
+use Rattle.std.proofs.Common.{◌≡◌, refl, ℕ, true, false, List, [], ◌∷◌, ◌++◌, arith}
+use Rattle.std.specs.Prelude.{◌==◌, not, if◌then◌else◌, filter}
+use Rattle.std.proofs.lemmas.Grind.{common_steps}
+use Rattle.std.proofs.lemmas.List.Elements.{filter-append}
+use Rattle.std.proofs.lemmas.Cmp.{nat_eq_equiv}
+use Rattle.cmd_svc.specs.Words.{is_among, without_earlier}
+
+-- two tests of one number
+same_number : (x y z : ℕ) → (z == x) ≡ true → (y == z) ≡ (y == x)
+same_number x y z e = grind (arith, nat_eq_equiv.symm, nat_eq_equiv.congr)
+
+-- A letter stands among others as before where another one was taken out.
+among_without : (x y : ℕ) (zs : List ℕ) → (y == x) ≡ false
+    → is_among (filter (λ other. not (other == x)) zs) y ≡ is_among zs y
+among_without x y [] apart = refl
+among_without x y (z ∷ zs) apart = grind (arith, common_steps, same_number x y z, among_without x y zs apart)
+
+-- The same letters stand there.
+pub among-without_earlier : (xs : List ℕ) (y : ℕ) → is_among (without_earlier xs) y ≡ is_among xs y
+among-without_earlier [] y = refl
+among-without_earlier (x ∷ xs) y = grind (arith, common_steps, among_without x y (without_earlier xs), among-without_earlier xs y)
+
+-- One more letter is put at the end, unless it is there.
+pub without_earlier-push : (xs : List ℕ) (y : ℕ)
+    → without_earlier (xs ++ y ∷ []) ≡ (if is_among xs y then without_earlier xs else without_earlier xs ++ y ∷ [])
+without_earlier-push [] y = refl
+without_earlier-push (x ∷ xs) y =
+    grind (arith, common_steps, filter-append (λ other. not (other == x)) (without_earlier xs) (y ∷ []), without_earlier-push xs y)
+
+-- What stands there puts a letter at the end as the letters themselves do.
+pub added : (xs : List ℕ) (y : ℕ)
+    → (if is_among (without_earlier xs) y then without_earlier xs else without_earlier xs ++ y ∷ []) ≡ without_earlier (xs ++ y ∷ [])
+added xs y = grind (arith, among-without_earlier xs y, without_earlier-push xs y)

@@ -1,0 +1,122 @@
+//! The system's own folders of services.
+ghost use Rattle.std.specs.Prelude.{◌≡◌, ◌↔◌, ◌≤◌, ◌<◌, ◌+◌, ◌++◌, length, IsTrue, IfOk, OnErr};
+ghost use Rattle.cmd_svc.specs.Paths.{FitsAddress};
+
+use crate::services::{Services, Unreached};
+use arrayvec::ArrayString;
+use cmd_base::{StatusFront, path_by_descriptor, read_status_front};
+use mio::net::UnixStream;
+use std::fs::{File, Files};
+use std::io::{Error, ErrorKind, Write};
+use std::net::Net;
+use std::os::fd::AsRawFd;
+use std::{fs, io};
+
+/// How long a path is at most on this system, with the zero behind it.
+const PATH_BYTES: usize = 4096;
+
+/// How long the path of a socket is at most: its address has one byte more, for the zero behind it.
+const SOCKET_BYTES: usize = 107;
+
+/// The services of this system. It tells contracts nothing, and takes no memory.
+#[derive(Drop)]
+pub struct SystemServices<R: Files<File = File> + Net + Drop> {
+    runtime: R,
+}
+
+impl<R: Files<File = File> + Net + Drop> SystemServices<R> {
+    /// The services of this runtime.
+    pub fn new(runtime: R) -> SystemServices<R> {
+        SystemServices { runtime }
+    }
+}
+
+/// The path of something in a folder. One that is longer than any path of this system is a fault.
+fn path_in(folder: &str, rest: &str) -> io::Result<ArrayString<PATH_BYTES>>
+    ensures ok { IfOk result (λ path. path.bytes ≡ folder.now ++ rest.now) }
+    ensures err { OnErr result (4096 < length folder.now + length rest.now) }
+{
+    let mut path = ArrayString::new();
+    if path.try_push_str(folder).is_err() || path.try_push_str(rest).is_err() {
+        return Err(Error::from(ErrorKind::InvalidInput));
+    }
+    Ok(path)
+}
+
+/// Whether the path of a name in a folder fits into the address of a socket.
+fn is_short(folder: &str, name: &str) -> bool
+    ensures { IsTrue result ↔ FitsAddress (folder.now ++ name.now) }
+{
+    folder.len() + name.len() <= SOCKET_BYTES
+}
+
+/// Connects to the socket at a path, without waiting. A socket that has no room for one more connection refuses.
+fn connect_to<R: Files<File = File> + Net>(runtime: &R, path: &str) -> io::Result<UnixStream>
+    requires { FitsAddress path.now }
+{
+    UnixStream::connect(runtime, path)
+}
+
+/// Connects to a socket of the service in a folder, without waiting. One whose path is too long for a socket is reached
+/// by way of the open folder.
+fn connect<R: Files<File = File> + Net>(
+    runtime: &R,
+    folder: &str,
+    name: &str,
+) -> io::Result<UnixStream>
+    requires { length name.now ≤ 7 }
+{
+    let mut path = path_in(folder, "/supervise/")?;
+    if is_short(path.as_str(), name) {
+        path.push_str(name);
+        return connect_to(runtime, path.as_str());
+    }
+    let opened = fs::open(runtime, path.as_str())?;
+    let short = path_by_descriptor::<SOCKET_BYTES>(opened.as_raw_fd().unsigned_abs(), name);
+    connect_to(runtime, short.as_str())
+}
+
+/// What a fault of a connection says of the service.
+fn unreached(fault: &Error) -> Unreached {
+    match fault.kind() {
+        ErrorKind::PermissionDenied => Unreached::Denied,
+        ErrorKind::WouldBlock | ErrorKind::BrokenPipe | ErrorKind::ConnectionReset => {
+            Unreached::Unanswered
+        }
+        _ => Unreached::NotRunning,
+    }
+}
+
+/// Connects to the control socket of the service in a folder, and sends it bytes.
+fn send_bytes<R: Files<File = File> + Net>(
+    runtime: &R,
+    folder: &str,
+    bytes: &[u8],
+) -> io::Result<()> {
+    connect(runtime, folder, "control")?.write_all(bytes)
+}
+
+impl<R: Files<File = File> + Net + Drop> Services for SystemServices<R> {
+    fn send(&mut self, folder: &str, bytes: &[u8]) -> Result<(), Unreached> {
+        send_bytes(&self.runtime, folder, bytes).map_err(|fault| unreached(&fault))
+    }
+
+    fn reach(&mut self, folder: &str) -> Result<(), Unreached> {
+        match connect(&self.runtime, folder, "ok") {
+            Ok(_) => Ok(()),
+            Err(fault) => Err(unreached(&fault)),
+        }
+    }
+
+    fn read_status(&mut self, folder: &str) -> io::Result<StatusFront> {
+        let path = path_in(folder, "/supervise/status")?;
+        read_status_front(&self.runtime, path.as_str())
+    }
+
+    fn has_down(&mut self, folder: &str) -> bool {
+        match path_in(folder, "/down") {
+            Ok(path) => fs::metadata(&self.runtime, path.as_str()).is_ok(),
+            Err(_) => false,
+        }
+    }
+}

@@ -1,0 +1,98 @@
+ghost use Rattle.std.specs.Prelude.{◌≡◌, ◌<◌, true, drop, length, IsOk, IsErr, IsErrOf, IfOk, IsOkUnless, MatchOption};
+ghost use Rattle.cmd_svc.specs.Words.{texts, is_option, after_options, option_letters, order_bytes, service_words};
+ghost use Rattle.cmd_svc.specs.Words.{first_unknown};
+
+use crate::order::{Order, OrderBytes, SvcFault};
+use std::alloc::{AllocError, Allocator};
+use tai_status::{Name, Names};
+
+/// Parts the words of a svc command.
+///
+/// The option words are those in front that have two bytes or more, begin with `-` and are not `--`; a `--` right
+/// after them is dropped, and the other words are services. Of the further bytes of the option words, the letters,
+/// each is told once, in the order of its first place.
+///
+/// The first unknown letter is `UnknownLetter`, also where there is no memory. Else `OutOfMemory` comes only where the
+/// allocator refuses the memory for the names of the services. No service takes none.
+pub fn assemble<A: Allocator + Clone>(alloc: A, words: &[&str]) -> Result<Order<A>, SvcFault>
+    ensures bytes { IfOk result (λ order. order.bytes ≡ order_bytes (texts words.now)) }
+    ensures services { IfOk result (λ order. order.services ≡ service_words (texts words.now)) }
+    ensures refuses { MatchOption (first_unknown (option_letters (texts words.now)))
+        (IsOkUnless result SvcFault.OutOfMemory)
+        (λ letter. IsErrOf result (SvcFault.UnknownLetter letter)) }
+    ensures memory { IsErrOf result SvcFault.OutOfMemory → 0 < length (service_words (texts words.now)) }
+{
+    let bytes = read_letters(words)?;
+    let services = copy_names(alloc, services_of(words)).map_err(|_| SvcFault::OutOfMemory)?;
+    Ok(Order { bytes, services })
+}
+
+/// Whether a word is an option word.
+fn is_option(word: &str) -> bool
+    ensures { result ≡ is_option word.now }
+{
+    word.len() >= 2 && word.as_bytes()[0] == b'-' && word != "--"
+}
+
+/// The letters of an option word: its bytes without the `-` in front.
+fn letters_of(word: &str) -> &[u8]
+    requires { is_option word.now ≡ true }
+    ensures { result.now ≡ drop 1 word.now }
+{
+    &word.as_bytes()[1..]
+}
+
+/// The bytes of the option words in front.
+fn read_letters(words: &[&str]) -> Result<OrderBytes, SvcFault>
+    ensures fault { MatchOption (first_unknown (option_letters (texts words.now)))
+        (IsOk result)
+        (λ letter. IsErrOf result (SvcFault.UnknownLetter letter)) }
+    ensures bytes { IfOk result (λ bytes. bytes ≡ order_bytes (texts words.now)) }
+{
+    let mut bytes = OrderBytes::new();
+    for word in words {
+        if !is_option(word) {
+            break;
+        }
+        bytes.add_all(letters_of(word))?;
+    }
+    Ok(bytes)
+}
+
+/// The services among the words.
+fn services_of<'a, 'b>(words: &'a [&'b str]) -> &'a [&'b str]
+    ensures { texts result.now ≡ service_words (texts words.entry.now) }
+{
+    let rest = after_options(words);
+    match rest {
+        [first, services @ ..] if *first == "--" => services,
+        _ => rest,
+    }
+}
+
+/// The words from the first on that is no option word.
+fn after_options<'a, 'b>(words: &'a [&'b str]) -> &'a [&'b str]
+    ensures { texts result.now ≡ after_options (texts words.entry.now) }
+{
+    let mut rest = words;
+    while let [word, tail @ ..] = rest {
+        if !is_option(word) {
+            return rest;
+        }
+        rest = tail;
+    }
+    rest
+}
+
+/// Copies of the words.
+fn copy_names<A: Allocator + Clone>(alloc: A, words: &[&str]) -> Result<Names<A>, AllocError>
+    ensures names { IfOk result (λ names. names ≡ texts words.now) }
+    ensures memory { IsErr result → 0 < length words.now }
+{
+    let mut names = Vec::new(alloc);
+    for word in words {
+        let own = names.allocator().clone()?;
+        names.push(Name::new(String::from_str(own, word)?))?;
+    }
+    Ok(Names::from_vec(names))
+}

@@ -1,7 +1,0 @@
-use Rattle.std.proofs.Common.{map, take}
-use Rattle.cmd_svscan.specs.Rounds.{name_told, TellsAll}
-use Rattle.cmd_svscan.proofs.rounds.tell_names.Given as goal
-
--- the names so far are told
-abbrev pub invariant-loop-name : goal.invariant-loop-name
-invariant-loop-name g l = TellsAll (map (name_told l.what) (take l.name-index l.names)) l.fn.faults l.faults

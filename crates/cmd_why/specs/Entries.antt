@@ -1,0 +1,56 @@
+-- The entries of a trace by their kinds, the last of a kind, and what stands before and behind it.
+use Rattle.std.specs.Prelude.{ℕ, Bool, true, false, if◌then◌else◌, List, [], ◌∷◌, codes, Option, Some, None}
+use Rattle.std.specs.List.{list_any}
+use Rattle.sup_core.specs.declared.event.Event.{Event}
+use Rattle.sup_core.specs.declared.event.Event.TheVariants.{Byte, Started, StartFailed, Death}
+use Rattle.sup_core.specs.History.{is_among}
+use Rattle.cmd_why.specs.declared.entries.Kind.{Kind}
+use Rattle.cmd_why.specs.declared.entries.Kind.TheVariants as kind
+
+-- whether a control byte has a signal sent to a process that runs
+abbrev pub is_signal : ℕ → Bool
+is_signal byte = is_among (codes "dpchaitk12q") byte
+
+abbrev pub is_of : Kind → Event → Bool
+is_of kind.Start (Started pid label) = true
+is_of kind.Attempt (Started pid label) = true
+is_of kind.Attempt (StartFailed label) = true
+is_of kind.Death (Death label) = true
+is_of kind.Control (Byte byte) = true
+is_of kind.Signal (Byte byte) = is_signal byte
+is_of kind.Want (Byte byte) = is_among (codes "udo") byte
+is_of other event = false
+
+-- the last item that passes a test
+abbrev pub last_such : {X : Type 0} → (X → Bool) → List X → Option X
+last_such test [] = None
+last_such test (x ∷ xs) = if list_any test xs then last_such test xs else if test x then Some x else None
+
+-- those behind the last that passes: the longest tail in which none does
+abbrev pub behind_last_such : {X : Type 0} → (X → Bool) → List X → List X
+behind_last_such test [] = []
+behind_last_such test (x ∷ xs) = if list_any test (x ∷ xs) then behind_last_such test xs else x ∷ xs
+
+-- those before the last that passes, where there is one
+abbrev pub before_last_such : {X : Type 0} → (X → Bool) → List X → List X
+before_last_such test [] = []
+before_last_such test (x ∷ xs) = if list_any test xs then x ∷ before_last_such test xs else []
+
+-- whether one of these entries is of a kind
+abbrev pub has : Kind → List Event → Bool
+has k entries = list_any (is_of k) entries
+
+-- the last of a kind, those behind it, and those before it
+abbrev pub last_of : Kind → List Event → Option Event
+last_of k entries = last_such (is_of k) entries
+
+abbrev pub behind_last : Kind → List Event → List Event
+behind_last k entries = behind_last_such (is_of k) entries
+
+abbrev pub before_last : Kind → List Event → List Event
+before_last k entries = before_last_such (is_of k) entries
+
+-- the control byte that an event is
+abbrev pub byte_in : Option Event → Option ℕ
+byte_in (Some (Byte byte)) = Some byte
+byte_in other = None

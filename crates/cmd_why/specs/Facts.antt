@@ -1,0 +1,101 @@
+-- What a trace tells of the processes of a service. Each fact is of the last entry of a kind, or a count of entries.
+use Rattle.std.specs.Prelude.{ℕ, ◌+◌, ◌-◌, ◌*◌, ◌/◌, ◌^◌, nat_le, nat_lt, ◌==◌, ◌&&◌, ◌||◌, not, Bool, true, false}
+use Rattle.std.specs.Prelude.{List, Option, Some, None, count_by}
+use Rattle.tai_status.specs.Label.{Tai64n}
+use Rattle.tai_status.specs.Record.{Status}
+use Rattle.sup_core.specs.declared.event.Event.{Event}
+use Rattle.sup_core.specs.declared.event.Event.TheVariants.{Started, StartFailed, Death}
+use Rattle.sup_trace.specs.Told.{Told, replay_of}
+use Rattle.cmd_why.specs.declared.entries.Kind.TheVariants.{Start, Death as OfDeath, Attempt, Control, Signal, Want}
+use Rattle.cmd_why.specs.declared.facts.Ended.{Ended}
+use Rattle.cmd_why.specs.declared.facts.Facts.{Facts}
+use Rattle.cmd_why.specs.Entries.{has, last_of, behind_last, before_last, byte_in}
+
+-- Times
+
+-- nanoseconds since the beginning of labels
+abbrev pub nanos : Tai64n → ℕ
+nanos label = label.sec * 10 ^ 9 + label.nano
+
+-- whole tenths of a second from one label to another, 0 where that is earlier
+abbrev pub tenths_between : (from to : Tai64n) → ℕ
+tenths_between from to = (nanos to - nanos from) / 10 ^ 8
+
+-- 60 seconds
+abbrev pub minute : ℕ
+minute = 60 * 10 ^ 9
+
+abbrev pub same_label : Tai64n → Tai64n → Bool
+same_label a b = (a.sec == b.sec) && (a.nano == b.nano)
+
+-- Starts
+
+-- a start whose label lies within 60 seconds before the clock
+abbrev pub is_recent_start : (now : Tai64n) → Event → Bool
+is_recent_start now (Started pid label) = nat_le (nanos label) (nanos now) && nat_le (nanos now) (nanos label + minute)
+is_recent_start now other = false
+
+-- how many starts there were in the last 60 seconds, as far as entries tell
+abbrev pub recent_starts : (now : Tai64n) → List Event → ℕ
+recent_starts now entries = count_by (is_recent_start now) entries
+
+-- Every start of the last 60 seconds is among the entries: nothing was folded, or the last change of process before the
+-- entries is older.
+abbrev pub reaches_back : Told → (now : Tai64n) → Bool
+reaches_back told now = (told.folded == 0) || nat_lt (nanos told.base.status.label + minute) (nanos now)
+
+-- Processes
+
+-- the number of a process that was started so, or that was there before
+abbrev pub pid_of_start : Status → Option Event → ℕ
+pid_of_start before (Some (Started pid label)) = pid
+pid_of_start before other = before.pid
+
+-- when it was started
+abbrev pub label_of_start : Status → Option Event → Tai64n
+label_of_start before (Some (Started pid label)) = label
+label_of_start before other = before.label
+
+-- a process that ended at this label, by the status before some entries and by these entries, which led to its end
+abbrev pub ended_at : Status → List Event → Tai64n → Ended
+ended_at before entries label = record {
+  pid = pid_of_start before (last_of Start entries);
+  tenths = tenths_between (label_of_start before (last_of Start entries)) label;
+  wanted = byte_in (last_of Want (behind_last Start entries));
+  sent = byte_in (last_of Signal (behind_last Start entries));
+  unasked = has Start entries && not (has Control (behind_last Start entries));
+}
+
+-- what the last death ended
+abbrev pub ended_by : Status → List Event → Option Event → Option Ended
+ended_by before entries (Some (Death label)) = Some (ended_at before (before_last OfDeath entries) label)
+ended_by before entries other = None
+
+-- the process that ended last
+abbrev pub last_ended : Told → Option Ended
+last_ended told = ended_by told.base.status told.entries (last_of OfDeath told.entries)
+
+abbrev pub is_failure : Option Event → Bool
+is_failure (Some (StartFailed label)) = true
+is_failure other = false
+
+-- The trace leads to the process that a record tells of, or to the same end of one.
+abbrev pub leads_to : Told → Status → Bool
+leads_to told status =
+    same_label (replay_of told).status.label status.label && ((replay_of told).status.pid == status.pid)
+
+-- no process is told of since supervise began
+abbrev pub has_not_run : Told → Bool
+has_not_run told = (told.folded == 0) && (told.base.status.pid == 0) && not (has Start told.entries)
+
+-- what a trace tells beside the status record of a service, at a clock reading
+abbrev pub facts_of : Told → Status → (now : Tai64n) → Facts
+facts_of told status now = record {
+  leads = leads_to told status;
+  starts = recent_starts now told.entries;
+  reaches = reaches_back told now;
+  sent = byte_in (last_of Signal (behind_last Start told.entries));
+  ended = last_ended told;
+  failed = is_failure (last_of Attempt told.entries);
+  unrun = has_not_run told;
+}

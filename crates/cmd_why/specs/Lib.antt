@@ -1,0 +1,4 @@
+pub mod Entries
+pub mod Facts
+pub mod Sentences
+pub mod Why

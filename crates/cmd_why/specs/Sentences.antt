@@ -1,0 +1,176 @@
+-- What is said of a service: sentences, each by a rule over its status record, its trace and the clock.
+use Rattle.std.specs.Prelude.{ℕ, ◌/◌, ◌%◌, nat_le, ◌==◌, ◌&&◌, not, Bool, if◌then◌else◌, List, [], ◌∷◌, ◌++◌, codes}
+use Rattle.std.specs.Prelude.{decimal, Option, Some, None}
+use Rattle.tai_status.specs.Label.{Tai64n}
+use Rattle.tai_status.specs.Record.{Status}
+use Rattle.tai_status.specs.Loading.{status_in}
+use Rattle.tai_status.specs.declared.loading.Loaded.{Loaded}
+use Rattle.tai_status.specs.declared.loading.Loaded.TheVariants.{Old, New}
+use Rattle.tai_status.specs.declared.phase.Phase.{Phase}
+use Rattle.tai_status.specs.declared.phase.Phase.TheVariants as phase
+use Rattle.tai_status.specs.declared.record.Want.{Want}
+use Rattle.tai_status.specs.declared.record.Want.TheVariants as want
+use Rattle.sup_core.specs.declared.asks.Sig.{Sig}
+use Rattle.sup_core.specs.Rules.{signals_of}
+use Rattle.sup_core.specs.Text.{signal_name}
+use Rattle.cmd_svc.specs.Line.{is_running, seconds, note, normal_notes}
+use Rattle.cmd_why.specs.Entries.{is_signal}
+use Rattle.cmd_why.specs.declared.facts.Ended.{Ended}
+use Rattle.cmd_why.specs.declared.facts.Facts.{Facts}
+
+-- How it stands: the record and the clock
+
+-- since when, and for how many whole seconds
+unfoldable pub since_text : (time : List ℕ) → Status → (now : Tai64n) → List ℕ
+since_text time status now = codes " since " ++ time ++ codes " (" ++ decimal (seconds status now) ++ codes " s)"
+
+unfoldable pub process_text : Status → List ℕ
+process_text status = if is_running status then codes ", process " ++ decimal status.pid else []
+
+unfoldable pub side_text : Status → List ℕ
+side_text status = if is_running status then codes "up" else codes "down"
+
+-- where supervise stands with it
+abbrev pub phase_words : Phase → List ℕ
+phase_words phase.Starting = codes ", being started"
+phase_words phase.Settling = codes ", settling after its start"
+phase_words phase.Resting = codes ", resting after a failed start"
+phase_words other = []
+
+-- that supervise ends
+abbrev pub end_words : Phase → List ℕ
+end_words phase.Gone = codes ", and supervise is gone"
+end_words other = codes ", and supervise is to end"
+
+unfoldable pub phase_text : Loaded → List ℕ
+phase_text (Old status) = []
+phase_text (New full) = phase_words full.phase
+
+unfoldable pub end_text : Loaded → List ℕ
+end_text (Old status) = []
+end_text (New full) = note full.exiting (end_words full.phase)
+
+-- what is wanted, where it is not what stands
+unfoldable pub want_words : (running : Bool) → Want → List ℕ
+want_words running want.Up = note (not running) (codes ", wanted up")
+want_words running want.Down = note running (codes ", wanted down")
+want_words running want.Once = note running (codes ", wanted once")
+
+-- that it is paused
+unfoldable pub paused_text : Status → List ℕ
+paused_text status = note status.paused (codes ", paused")
+
+-- that it does not stand as it normally does
+unfoldable pub normal_text : Status → (normally_up : Bool) → List ℕ
+normal_text status normally_up = normal_notes status normally_up
+
+-- whether it is up, since when, and by which process
+unfoldable pub standing_text : Status → (time : List ℕ) → (now : Tai64n) → List ℕ
+standing_text status time now =
+    codes " is " ++ side_text status ++ since_text time status now ++ process_text status
+
+-- what is not as it should be
+unfoldable pub notes_text : Status → (normally_up : Bool) → List ℕ
+notes_text status normally_up =
+    paused_text status ++ want_words (is_running status) status.want ++ normal_text status normally_up
+
+-- the first sentence, behind the name of the folder
+abbrev pub state_text : Loaded → (normally_up : Bool) → (time : List ℕ) → (now : Tai64n) → List ℕ
+state_text loaded normally_up time now =
+    standing_text (status_in loaded) time now ++ phase_text loaded ++ notes_text (status_in loaded) normally_up
+    ++ end_text loaded ++ codes "."
+
+-- What was before: the trace, where it leads to that record
+
+abbrev pub first_signal : List Sig → List ℕ
+first_signal [] = []
+first_signal (sig ∷ sigs) = signal_name sig
+
+-- the first signal of a control byte that has one, and the byte
+unfoldable pub signal_words : (byte : ℕ) → List ℕ
+signal_words byte =
+    note (is_signal byte) (first_signal (signals_of byte) ++ codes " (" ++ (byte ∷ []) ++ codes ")")
+
+-- the same, as a sentence ends
+unfoldable pub signal_end : (byte : ℕ) → List ℕ
+signal_end byte = signal_words byte ++ codes "."
+
+-- how a process ended: after its last signal; or with no control byte behind its start, where that start is told
+unfoldable pub how_words : Option ℕ → (unasked : Bool) → List ℕ
+how_words (Some byte) unasked = codes " after " ++ signal_words byte
+how_words None unasked = note unasked (codes " without a control byte")
+
+-- tenths of a second as seconds
+unfoldable pub tenths_text : ℕ → List ℕ
+tenths_text tenths = decimal (tenths / 10) ++ codes "." ++ decimal (tenths % 10)
+
+-- which process ended, how long it ran, and how it ended
+abbrev pub ended_words : Ended → List ℕ
+ended_words ended =
+    decimal ended.pid ++ codes " ran " ++ tenths_text ended.tenths ++ codes " s and ended"
+    ++ how_words ended.sent ended.unasked ++ codes "."
+
+-- that the process was sent a signal since its start: the last one
+abbrev pub sent_sentence : Option ℕ → List ℕ
+sent_sentence (Some byte) = codes " It was sent " ++ signal_end byte
+sent_sentence None = []
+
+-- the process before the one that runs
+abbrev pub before_sentence : Option Ended → List ℕ
+before_sentence (Some ended) = codes " Before it process " ++ ended_words ended
+before_sentence None = []
+
+-- why a service is down: by the last of u, d and o behind the start of the process that ended
+abbrev pub wanted_sentence : Option ℕ → List ℕ
+wanted_sentence (Some byte) =
+    if byte == 100 then codes " It was brought down (d)."
+    else if byte == 111 then codes " It was to run once (o)."
+    else []
+wanted_sentence None = []
+
+-- the process that ended
+abbrev pub last_sentence : Option Ended → List ℕ
+last_sentence (Some ended) = wanted_sentence ended.wanted ++ codes " Process " ++ ended_words ended
+last_sentence None = []
+
+abbrev pub past_sentences : (running : Bool) → Facts → List ℕ
+past_sentences running facts =
+    if running then sent_sentence facts.sent ++ before_sentence facts.ended
+    else last_sentence facts.ended
+    ++ note facts.failed (codes " Its last start failed.")
+    ++ note facts.unrun (codes " It has not run since supervise began.")
+
+-- Starts. Five or more within 60 seconds are flapping. A trace that does not lead to the record, or does not reach
+-- back 60 seconds, tells of so many at least.
+
+-- whether the trace has all starts of the last 60 seconds
+abbrev pub has_all : Facts → Bool
+has_all facts = facts.leads && facts.reaches
+
+abbrev pub count_words : (starts : ℕ) → List ℕ
+count_words starts =
+    decimal starts ++ (if starts == 1 then codes " start" else codes " starts") ++ codes " in the last 60 s."
+
+abbrev pub starts_opening : (starts : ℕ) → (all : Bool) → List ℕ
+starts_opening starts all =
+    if nat_le 5 starts then (if all then codes " It is flapping: " else codes " It is flapping: at least ")
+    else if all then codes " "
+    else codes " At least "
+
+abbrev pub count_sentence : (starts : ℕ) → (all : Bool) → List ℕ
+count_sentence starts all = if starts == 0 then [] else starts_opening starts all ++ count_words starts
+
+-- what a trace tells, where there is one
+abbrev pub trace_sentences : (running : Bool) → Option Facts → List ℕ
+trace_sentences running None = []
+trace_sentences running (Some facts) =
+    (if facts.leads then past_sentences running facts else []) ++ count_sentence facts.starts (has_all facts)
+
+-- The line
+
+-- the line of a service in this folder, without a newline
+abbrev pub why_line : (folder : List ℕ) → Loaded → (normally_up : Bool) → Option Facts → (time : List ℕ)
+    → (now : Tai64n) → List ℕ
+why_line folder loaded normally_up facts time now =
+    folder ++ state_text loaded normally_up time now
+    ++ trace_sentences (is_running (status_in loaded)) facts

@@ -1,0 +1,253 @@
+-- What `why` finds and writes, and how it ends.
+use Rattle.std.specs.Prelude.{◌≡◌, ◌⊎◌, ℕ, Bool, true, false, not, ◌||◌, if◌then◌else◌, List, [], ◌∷◌, ◌++◌, codes}
+use Rattle.std.specs.Prelude.{Option, Some, None, option_map, Ok, Err, is_some}
+use Rattle.std.specs.declared.io.ErrorKind.{ErrorKind}
+use Rattle.std.specs.declared.io.ErrorKind.TheVariants as io
+use Rattle.tai_status.specs.Label.{Tai64n}
+use Rattle.tai_status.specs.Extended.{Extended}
+use Rattle.tai_status.specs.Counted.{Device, Fails, Tells, Works, Wrote, WroteFront}
+use Rattle.tai_status.specs.Loading.{loaded_from, status_in}
+use Rattle.tai_status.specs.declared.loading.Loaded.{Loaded}
+use Rattle.tai_status.specs.declared.record.RecordFault.{RecordFault}
+use Rattle.sup_trace.specs.Told.{Told, IsTold}
+use Rattle.sup_trace.specs.Text.{trace_text}
+use Rattle.sup_trace.specs.Reading.{told_from}
+use Rattle.sup_trace.specs.declared.fault.TraceFault.{TraceFault}
+use Rattle.cmd_base.specs.Known.{IsKnown}
+use Rattle.cmd_svc.specs.Calls.{Call, Asked, ReadStatus, SoughtDown}
+use Rattle.cmd_svc.specs.declared.services.Unreached.{Unreached}
+use Rattle.cmd_svc.specs.declared.services.Unreached.TheVariants as unreached
+use Rattle.cmd_svc.specs.Svstat.{fault_name}
+use Rattle.cmd_svc.specs.Turns.{InTurn}
+use Rattle.cmd_why.specs.Facts.{facts_of}
+use Rattle.cmd_why.specs.Sentences.{why_line}
+use Rattle.cmd_why.specs.declared.lines.Absence.{Absence}
+use Rattle.cmd_why.specs.declared.lines.Absence.TheVariants as absence
+use Rattle.cmd_why.specs.declared.lines.Found.{Found}
+use Rattle.cmd_why.specs.declared.lines.Found.TheVariants as found
+use Rattle.cmd_why.specs.declared.lines.Standing.{Standing}
+use Rattle.cmd_why.specs.declared.why.Reach.{Reach}
+use Rattle.cmd_why.specs.declared.why.Reach.TheVariants as reach
+use Rattle.cmd_why.specs.declared.why.WhyFault.{WhyFault}
+use Rattle.cmd_why.specs.declared.why.WhyFault.TheVariants as fault
+
+-- Why nobody answers: by why the service was not reached, and why its folder could not be looked at
+
+abbrev pub is_denied_socket : Unreached → Bool
+is_denied_socket unreached.Denied = true
+is_denied_socket other = false
+
+-- Somebody is there, and does not answer.
+abbrev pub is_unanswered : Unreached → Bool
+is_unanswered unreached.Unanswered = true
+is_unanswered other = false
+
+abbrev pub is_denied : Option ErrorKind → Bool
+is_denied (Some io.PermissionDenied) = true
+is_denied other = false
+
+-- There is no such folder, or something else of that name.
+abbrev pub is_missing : Option ErrorKind → Bool
+is_missing (Some io.NotFound) = true
+is_missing (Some io.NotADirectory) = true
+is_missing other = false
+
+abbrev pub absence_of : Unreached → Option ErrorKind → Absence
+absence_of why looked =
+    if is_denied_socket why || is_denied looked then absence.NoPermission
+    else if is_missing looked then absence.NoFolder
+    else if is_some looked || is_unanswered why then absence.Unreachable
+    else absence.Nobody
+
+-- Lines
+
+abbrev pub absence_words : Absence → List ℕ
+absence_words absence.NoFolder = codes " is not supervised: there is no such folder."
+absence_words absence.NoPermission = codes " can't be reached: no permission."
+absence_words absence.Unreachable = codes " can't be reached."
+absence_words absence.Nobody = codes " is not supervised: nobody answers at its supervise/ok."
+
+-- the line of what a look at the service in a folder found, without a newline
+abbrev pub found_line : (folder : List ℕ) → Found → List ℕ
+found_line folder (found.Absent absence) = folder ++ absence_words absence
+found_line folder found.Unread = folder ++ codes " is supervised, but its status can't be read."
+found_line folder (found.Bad cause) =
+    folder ++ codes " is supervised, but its status is no record: " ++ fault_name cause ++ codes "."
+found_line folder (found.Standing s) = why_line folder s.loaded s.normally_up s.facts s.time.bytes s.now
+
+-- Whether a service could not be read. That nobody answers is an answer.
+abbrev pub is_unread : Found → Bool
+is_unread (found.Absent absence.Nobody) = false
+is_unread (found.Standing s) = false
+is_unread other = true
+
+-- A look at a service
+
+-- What is known of the files of services and of local times: the bytes of a trace, why a folder can't be looked at, and
+-- the text of a label.
+pub record Knowledge : Type 0 where
+  pub traces : List ℕ → Option (List ℕ)
+  pub looks : List ℕ → Option (Option ErrorKind)
+  pub times : Tai64n → Option (List ℕ)
+
+abbrev pub knowledge : (traces : List ℕ → Option (List ℕ)) (looks : List ℕ → Option (Option ErrorKind))
+    (times : Tai64n → Option (List ℕ)) → Knowledge
+knowledge traces looks times = record { traces = traces; looks = looks; times = times }
+
+-- Bytes were read that are no trace, as the fault of a line tells.
+pub record IsRefused (trace : Option (List ℕ)) : Type 0 where
+  pub text : List ℕ
+  pub text_is : IsKnown trace text
+  pub cause : TraceFault
+  pub refused : told_from text ≡ Err cause
+
+-- Bytes were read that are the text of this trace.
+pub record IsTraceText (trace : Option (List ℕ)) (told : Told) : Type 0 where
+  pub text : List ℕ
+  pub text_is : IsKnown trace text
+  pub so : IsTold told
+  pub is : text ≡ trace_text told
+
+-- what a trace tells, or none where it is not known to be there or is refused
+abbrev pub IsTraceOf : (trace : Option (List ℕ)) → Option Told → Type 0
+IsTraceOf trace None = (trace ≡ None) ⊎ IsRefused trace
+IsTraceOf trace (Some told) = IsTraceText trace told
+
+-- The bytes that were read are a record of this, and the service is normally up where no file `down` was found.
+pub record ReachesStanding (folder : List ℕ) (loaded : Loaded) (normally_up : Bool) (past now : Option (List Call))
+    : Type 0 where
+  pub bytes : List ℕ
+  pub is : loaded_from bytes ≡ Ok loaded
+  pub asked : Extended past now
+      (Asked folder None ∷ ReadStatus folder (Some bytes) ∷ SoughtDown folder (not normally_up) ∷ [])
+
+-- The bytes that were read are no record, for this fault.
+pub record ReachesBad (folder : List ℕ) (cause : RecordFault) (past now : Option (List Call)) : Type 0 where
+  pub bytes : List ℕ
+  pub refused : loaded_from bytes ≡ Err cause
+  pub asked : Extended past now (Asked folder None ∷ ReadStatus folder (Some bytes) ∷ [])
+
+-- The service was not reached, and its folder was looked at, which says why nobody answers.
+pub record ReachesNobody (k : Knowledge) (folder : List ℕ) (absence : Absence) (past now : Option (List Call))
+    : Type 0 where
+  pub why : Unreached
+  pub looked : Option ErrorKind
+  pub look_is : IsKnown (k.looks folder) looked
+  pub absence_is : absence ≡ absence_of why looked
+  pub asked : Extended past now (Asked folder (Some why) ∷ [])
+
+-- What was asked of the service in a folder, and came of it: whether it is supervised; only then its status; and only
+-- where that is a record, its file `down`.
+abbrev pub Reaches : Knowledge → (folder : List ℕ) → Reach → (past now : Option (List Call)) → Type 0
+Reaches k folder (reach.Absent absence) past now = ReachesNobody k folder absence past now
+Reaches k folder reach.Unread past now = Extended past now (Asked folder None ∷ ReadStatus folder None ∷ [])
+Reaches k folder (reach.Bad cause) past now = ReachesBad folder cause past now
+Reaches k folder (reach.Standing loaded normally_up) past now = ReachesStanding folder loaded normally_up past now
+
+-- The trace of a service was read and then the clock, once; how it stands is told by its record, that trace and this
+-- reading.
+pub record FindsStanding (k : Knowledge) (folder : List ℕ) (loaded : Loaded) (normally_up : Bool) (s : Standing)
+    (past now : Option (List Tai64n)) : Type 0 where
+  pub told : Option Told
+  pub trace : IsTraceOf (k.traces folder) told
+  pub read : Extended past now (s.now ∷ [])
+  pub loaded_is : s.loaded ≡ loaded
+  pub normally_is : s.normally_up ≡ normally_up
+  pub facts : s.facts ≡ option_map (λ told. facts_of told (status_in loaded) s.now) told
+  pub time : IsKnown (k.times (status_in loaded).label) s.time.bytes
+
+-- What a look found, by what came of the calls.
+abbrev pub Finds : Knowledge → (folder : List ℕ) → Reach → Found → (past now : Option (List Tai64n)) → Type 0
+Finds k folder (reach.Absent absence) (found.Absent told) past now = (told ≡ absence) × (now ≡ past)
+Finds k folder reach.Unread found.Unread past now = now ≡ past
+Finds k folder (reach.Bad cause) (found.Bad told) past now = (told ≡ cause) × (now ≡ past)
+Finds k folder (reach.Standing loaded normally_up) (found.Standing s) past now =
+    FindsStanding k folder loaded normally_up s past now
+Finds k folder other found past now = ⊥
+
+-- Services in turn
+
+-- What `why` works with: the calls that were made, what the clock gave, what it writes to, and whether some service
+-- could not be read so far.
+pub record Scene : Type 0 where
+  pub calls : Option (List Call)
+  pub readings : Option (List Tai64n)
+  pub writer : Device
+  pub unread : Bool
+
+abbrev pub scene : (calls : Option (List Call)) (readings : Option (List Tai64n)) (writer : Device) → Bool → Scene
+scene calls readings writer unread =
+    record { calls = calls; readings = readings; writer = writer; unread = unread }
+
+-- The service in a folder was looked at, and then the line of that was written.
+pub record Shows (k : Knowledge) (folder : List ℕ) (old new : Scene) : Type 0 where
+  pub reach : Reach
+  pub reaches : Reaches k folder reach old.calls new.calls
+  pub found : Found
+  pub finds : Finds k folder reach found old.readings new.readings
+  pub wrote : Wrote old.writer new.writer (found_line folder found ++ 10 ∷ [])
+  pub works : Works old.writer new.writer
+  pub unread : new.unread ≡ (old.unread || is_unread found)
+
+-- A line was not written: there was no memory for it, or the writer failed after a front of it.
+abbrev pub WritesNot : WhyFault → (line : List ℕ) → (old new : Device) → Type 0
+WritesNot fault.OutOfMemory line old new = new ≡ old
+WritesNot fault.Write line old new = WroteFront old new line × Fails old new
+
+-- There was no memory for the trace of the service in a folder, or for its line; nothing was written.
+pub record LacksMemory (k : Knowledge) (folder : List ℕ) (old new : Scene) : Type 0 where
+  pub reach : Reach
+  pub reaches : Reaches k folder reach old.calls new.calls
+  pub unwritten : new.writer ≡ old.writer
+
+-- The service in a folder was looked at, and the writer failed after a front of the line of that.
+pub record FailsToWrite (k : Knowledge) (folder : List ℕ) (old new : Scene) : Type 0 where
+  pub reach : Reach
+  pub reaches : Reaches k folder reach old.calls new.calls
+  pub found : Found
+  pub finds : Finds k folder reach found old.readings new.readings
+  pub front : WroteFront old.writer new.writer (found_line folder found ++ 10 ∷ [])
+  pub fails : Fails old.writer new.writer
+
+abbrev pub ShowsNot : Knowledge → (folder : List ℕ) → WhyFault → (old new : Scene) → Type 0
+ShowsNot k folder fault.OutOfMemory old new = LacksMemory k folder old new
+ShowsNot k folder fault.Write old new = FailsToWrite k folder old new
+
+-- The words before one have their lines, and that one has not. The words after it are not looked at.
+pub record ShowsUpTo (k : Knowledge) (words : List (List ℕ)) (cause : WhyFault) (old new : Scene) : Type 0 where
+  pub before : List (List ℕ)
+  pub folder : List ℕ
+  pub after : List (List ℕ)
+  pub words_are : words ≡ before ++ folder ∷ after
+  pub middle : Scene
+  pub shown : InTurn (Shows k) before old middle
+  pub fails : ShowsNot k folder cause middle new
+
+-- what is told of a fault
+abbrev pub why_told : WhyFault → List ℕ
+why_told fault.OutOfMemory = codes "why: OutOfMemory" ++ 10 ∷ []
+why_told fault.Write = codes "why: write fault" ++ 10 ∷ []
+
+-- Ends. The scenes at the beginning and at the end are told by whether some service could not be read so far.
+
+-- Each word has its line, and nothing is told. The status is 0 where each service could be read.
+pub record ShowsAll (k : Knowledge) (words : List (List ℕ)) (status : ℕ) (old new : Bool → Scene)
+    (faults tells : Device) : Type 0 where
+  pub unread : Bool
+  pub shown : InTurn (Shows k) words (old false) (new unread)
+  pub status_is : status ≡ (if unread then 111 else 0)
+  pub untold : tells ≡ faults
+
+-- A line could not be written, and it is told why.
+pub record Stops (k : Knowledge) (words : List (List ℕ)) (status : ℕ) (old new : Bool → Scene) (faults tells : Device)
+    : Type 0 where
+  pub cause : WhyFault
+  pub stops : ShowsUpTo k words cause (old false) (new false)
+  pub status_is : status ≡ 111
+  pub told : Tells faults tells (why_told cause)
+
+-- `why`, by its words
+abbrev pub WhyEnds : Knowledge → (words : List (List ℕ)) → (status : ℕ) → (old new : Bool → Scene)
+    → (faults tells : Device) → Type 0
+WhyEnds k words status old new faults tells =
+    ShowsAll k words status old new faults tells ⊎ Stops k words status old new faults tells

@@ -1,0 +1,241 @@
+//! What a trace tells of the processes of a service.
+ghost use Rattle.std.specs.Prelude.{◌≡◌, ◌<◌, ◌^◌, IfSome};
+ghost use Rattle.std.specs.List.{Contains};
+ghost use Rattle.sup_core.specs.declared.event.Event.TheVariants as event;
+ghost use Rattle.cmd_why.specs.declared.entries.Kind.TheVariants as kind;
+ghost use Rattle.cmd_why.specs.Entries.{byte_in, behind_last, has, last_of};
+ghost use Rattle.cmd_why.specs.Facts.{ended_at, ended_by, facts_of, has_not_run, is_failure, is_recent_start};
+ghost use Rattle.cmd_why.specs.Facts.{label_of_start};
+ghost use Rattle.cmd_why.specs.Facts.{last_ended, leads_to, nanos, pid_of_start, reaches_back, recent_starts};
+ghost use Rattle.cmd_why.specs.Facts.{same_label, tenths_between};
+
+use crate::entries::{Kind, before_last, behind_last, last_of};
+use std::alloc::Allocator;
+use sup_core::Event;
+use sup_trace::{TraceText, replay};
+use tai_status::{Label, View};
+
+/// The nanoseconds of 60 seconds.
+const MINUTE: u128 = 60_000_000_000;
+
+/// How many starts within 60 seconds are flapping.
+pub const FLAPPING: u64 = 5;
+
+/// A process that ended, as a trace tells it.
+#[derive(Clone, Copy, Debug, PartialEq, Eq)]
+pub struct Ended {
+    pub pid: u32,
+    /// How long it ran, in whole tenths of a second.
+    pub tenths: u128,
+    /// The last control byte of `u`, `d` and `o` behind its start.
+    pub wanted: Option<u8>,
+    /// The last control byte behind its start that had a signal sent to it.
+    pub sent: Option<u8>,
+    /// Whether its start is among the entries, and no control byte behind it.
+    pub unasked: bool,
+}
+
+/// What a trace tells beside the status record of a service.
+#[derive(Clone, Copy, Debug, PartialEq, Eq)]
+pub struct Facts {
+    /// Whether it leads to the process that the record tells of, or to the same end of one. Else the record is of a
+    /// later moment, or of an earlier one, and only the starts of the trace are told.
+    pub leads: bool,
+    /// How many starts there were in the last 60 seconds, as far as its entries tell.
+    pub starts: u64,
+    /// Whether its entries reach back 60 seconds.
+    pub reaches: bool,
+    /// The last control byte behind the last start that had a signal sent.
+    pub sent: Option<u8>,
+    /// The process that ended last.
+    pub ended: Option<Ended>,
+    /// Whether the last start failed.
+    pub failed: bool,
+    /// Whether no process ran since supervise began.
+    pub unrun: bool,
+}
+
+/// Nanoseconds since the beginning of labels.
+fn nanos(label: &Label) -> u128
+    ensures value { result ≡ nanos label.now }
+    ensures bound { result < 2 ^ 100 }
+{
+    u128::from(label.sec) * 1_000_000_000 + u128::from(label.nano)
+}
+
+/// Whole tenths of a second from one label to another, 0 where that is earlier.
+fn tenths_between(from: &Label, to: &Label) -> u128
+    ensures { result ≡ tenths_between from.now to.now }
+{
+    nanos(to).saturating_sub(nanos(from)) / 100_000_000
+}
+
+/// Whether two labels are the same.
+fn same_label(a: &Label, b: &Label) -> bool
+    ensures { result ≡ same_label a.now b.now }
+{
+    a.sec == b.sec && a.nano == b.nano
+}
+
+/// Whether an entry is a start whose label lies within 60 seconds before the clock.
+fn is_recent_start(now: &Label, event: &Event) -> bool
+    ensures { result ≡ is_recent_start now.now event.now }
+{
+    match event {
+        Event::Started { label, .. } => {
+            let at = nanos(label);
+            let clock = nanos(now);
+            at <= clock && clock <= at + MINUTE
+        }
+        _ => false,
+    }
+}
+
+/// How many of these entries are starts whose label lies within 60 seconds before the clock.
+pub fn recent_starts(now: &Label, entries: &[Event]) -> u64
+    ensures { result ≡ recent_starts now.now entries.now }
+{
+    let mut count = 0;
+    for event in entries {
+        if is_recent_start(now, event) {
+            count += 1;
+        }
+    }
+    count
+}
+
+/// Whether every start of the last 60 seconds is among the entries.
+fn reaches_back<A: Allocator>(told: &TraceText<A>, now: &Label) -> bool
+    ensures { result ≡ reaches_back told.now now.now }
+{
+    let label = told.base().view().label;
+    told.folded() == 0 || nanos(&label) + MINUTE < nanos(now)
+}
+
+/// The control byte that an event is.
+fn byte_in(event: Option<Event>) -> Option<u8>
+    ensures { result ≡ byte_in event }
+{
+    match event {
+        Some(Event::Byte(byte)) => Some(byte),
+        _ => None,
+    }
+}
+
+/// The last control byte behind the last start for which a process that runs is sent a signal: an entry behind that
+/// start is that byte.
+pub fn last_signal(entries: &[Event]) -> Option<u8>
+    ensures last { result ≡ byte_in (last_of kind.Signal (behind_last kind.Start entries.now)) }
+    ensures came { IfSome result (λ byte. Contains (behind_last kind.Start entries.now) (event.Byte byte)) }
+{
+    byte_in(last_of(Kind::Signal, behind_last(Kind::Start, entries)))
+}
+
+/// The last control byte of `u`, `d` and `o` behind the last start: an entry behind that start is that byte.
+pub fn last_want(entries: &[Event]) -> Option<u8>
+    ensures last { result ≡ byte_in (last_of kind.Want (behind_last kind.Start entries.now)) }
+    ensures came { IfSome result (λ byte. Contains (behind_last kind.Start entries.now) (event.Byte byte)) }
+{
+    byte_in(last_of(Kind::Want, behind_last(Kind::Start, entries)))
+}
+
+/// Whether one of these entries is of a kind.
+#[tactic(auto, using(crate::proofs::Lasts::some_last))]
+fn has(kind: Kind, entries: &[Event]) -> bool
+    ensures { result ≡ has kind entries.now }
+{
+    last_of(kind, entries).is_some()
+}
+
+/// The number of a process that was started so, or that was there before.
+fn pid_of_start(before: &View, start: &Option<Event>) -> u32
+    ensures { result ≡ pid_of_start before.now start.now }
+{
+    match start {
+        Some(Event::Started { pid, .. }) => *pid,
+        _ => before.pid,
+    }
+}
+
+/// When a process was started.
+fn label_of_start(before: &View, start: &Option<Event>) -> Label
+    ensures { result ≡ label_of_start before.now start.now }
+{
+    match start {
+        Some(Event::Started { label, .. }) => *label,
+        _ => before.label,
+    }
+}
+
+/// A process that ended at this label, after these entries.
+fn ended_at(before: &View, entries: &[Event], label: &Label) -> Ended
+    ensures { result ≡ ended_at before.now entries.now label.now }
+{
+    let start = last_of(Kind::Start, entries);
+    let behind = behind_last(Kind::Start, entries);
+    Ended {
+        pid: pid_of_start(before, &start),
+        tenths: tenths_between(&label_of_start(before, &start), label),
+        wanted: last_want(entries),
+        sent: last_signal(entries),
+        unasked: has(Kind::Start, entries) && !has(Kind::Control, behind),
+    }
+}
+
+/// What the last death ended.
+fn ended_by(before: &View, entries: &[Event], death: &Option<Event>) -> Option<Ended>
+    ensures { result ≡ ended_by before.now entries.now death.now }
+{
+    match death {
+        Some(Event::Death { label }) => {
+            Some(ended_at(before, before_last(Kind::Death, entries), label))
+        }
+        _ => None,
+    }
+}
+
+/// The process that ended last.
+fn last_ended<A: Allocator>(told: &TraceText<A>) -> Option<Ended>
+    ensures { result ≡ last_ended told.now }
+{
+    let entries = told.entries();
+    ended_by(&told.base().view(), entries, &last_of(Kind::Death, entries))
+}
+
+/// Whether the last start failed.
+fn is_failure(attempt: Option<Event>) -> bool
+    ensures { result ≡ is_failure attempt }
+{
+    matches!(attempt, Some(Event::StartFailed { .. }))
+}
+
+/// Whether a trace leads to the process that a record tells of.
+fn leads_to<A: Allocator>(told: &TraceText<A>, status: &View) -> bool
+    ensures { result ≡ leads_to told.now status.now }
+{
+    let view = replay(told).view();
+    same_label(&view.label, &status.label) && view.pid == status.pid
+}
+
+/// Whether no process is told of since supervise began.
+fn has_not_run<A: Allocator>(told: &TraceText<A>) -> bool
+    ensures { result ≡ has_not_run told.now }
+{
+    told.folded() == 0 && told.base().view().pid == 0 && !has(Kind::Start, told.entries())
+}
+
+/// What a trace tells beside the status record of a service, at a clock reading.
+pub fn facts_of<A: Allocator>(told: &TraceText<A>, status: &View, now: &Label) -> Facts
+    ensures { result ≡ facts_of told.now status.now now.now }
+{
+    let entries = told.entries();
+    Facts {
+        leads: leads_to(told, status),
+        starts: recent_starts(now, entries),
+        reaches: reaches_back(told, now),
+        sent: last_signal(entries),
+        ended: last_ended(told),
+        failed: is_failure(last_of(Kind::Attempt, entries)),
+        unrun: has_not_run(told),
+    }
+}

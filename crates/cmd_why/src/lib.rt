@@ -1,0 +1,21 @@
+//! The command `why`: in plain words what stands of a service, and why, by its status record, its trace and the clock.
+//!
+//! [`facts_of`] reads a trace: what it tells of the processes of a service. [`why_line`] says it, beside the record.
+//! [`run_why`] is the command.
+#![tactic(auto)]
+
+mod entries;
+mod facts;
+mod lines;
+mod sentences;
+mod sources;
+mod system;
+mod times;
+mod why;
+
+pub use entries::{Kind, before_last, behind_last, last_of};
+pub use facts::{Ended, FLAPPING, Facts, facts_of, last_signal, last_want, recent_starts};
+pub use lines::{Absence, Found, Standing, absence_of, found_line};
+pub use sentences::why_line;
+pub use sources::{LocalTime, LocalTimes, ServiceFiles};
+pub use why::{WhyFault, run_why};

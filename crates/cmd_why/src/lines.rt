@@ -1,0 +1,149 @@
+//! What a look at a service found, and the line of that.
+ghost use Rattle.std.specs.Prelude.{◌≡◌, ◌++◌, string_bytes, IfOk};
+ghost use Rattle.cmd_why.specs.Why.{absence_of, absence_words, found_line, is_denied, is_missing};
+
+use crate::facts::Facts;
+use crate::sentences::why_line;
+use crate::sources::LocalTime;
+use cmd_svc::{Unreached, fault_name};
+use std::alloc::{AllocError, Allocator};
+use std::io::ErrorKind;
+use tai_status::{Label, Loaded, RecordFault};
+
+/// Why nobody answers for a service.
+#[derive(Clone, Copy, Debug, PartialEq, Eq)]
+pub enum Absence {
+    /// There is no such folder.
+    NoFolder,
+    /// There is no permission to reach the socket `supervise/ok` of the folder.
+    NoPermission,
+    /// The folder or that socket can't be reached for another cause, as a socket that has no room for one more.
+    Unreachable,
+    /// There is no such socket, or nobody listens at it.
+    Nobody,
+}
+
+/// What a look at a service found.
+#[derive(Debug, Drop)]
+pub enum Found {
+    /// Nobody answers for it.
+    Absent(Absence),
+    /// It is supervised, and its status can't be read.
+    Unread,
+    /// It is supervised, and its status is no record.
+    Bad(RecordFault),
+    /// How it stands.
+    Standing(Standing),
+}
+
+/// How a service stands.
+#[derive(Debug, Drop)]
+pub struct Standing {
+    /// Its status record.
+    pub loaded: Loaded,
+    /// Whether its folder has no file `down`.
+    pub normally_up: bool,
+    /// What its trace tells, where there is one that can be read.
+    pub facts: Option<Facts>,
+    /// The local time of the record's label.
+    pub time: LocalTime,
+    /// When it was looked at.
+    pub now: Label,
+}
+
+/// Why nobody answers, by why the service was not reached, and why its folder can't be looked at, where it can't. The
+/// first of these that holds is told: permission lacks at either; there is no such folder; it can't be looked at, or
+/// somebody is there who does not answer; nobody is there.
+pub fn absence_of(why: Unreached, fault: Option<ErrorKind>) -> Absence
+    ensures { result ≡ absence_of why fault }
+{
+    if why == Unreached::Denied || is_denied(fault) {
+        return Absence::NoPermission;
+    }
+    if is_missing(fault) {
+        return Absence::NoFolder;
+    }
+    if fault.is_some() || why == Unreached::Unanswered {
+        return Absence::Unreachable;
+    }
+    Absence::Nobody
+}
+
+/// Whether permission lacks.
+fn is_denied(fault: Option<ErrorKind>) -> bool
+    ensures { result ≡ is_denied fault }
+{
+    matches!(fault, Some(ErrorKind::PermissionDenied))
+}
+
+/// Whether there is no such folder.
+fn is_missing(fault: Option<ErrorKind>) -> bool
+    ensures { result ≡ is_missing fault }
+{
+    matches!(fault, Some(ErrorKind::NotFound | ErrorKind::NotADirectory))
+}
+
+/// Why nobody answers, in words.
+fn absence_words(absence: Absence) -> &'static str
+    ensures { result.now ≡ absence_words absence }
+{
+    match absence {
+        Absence::NoFolder => " is not supervised: there is no such folder.",
+        Absence::NoPermission => " can't be reached: no permission.",
+        Absence::Unreachable => " can't be reached.",
+        Absence::Nobody => " is not supervised: nobody answers at its supervise/ok.",
+    }
+}
+
+/// A folder's name and what is said of it.
+fn said<A: Allocator>(
+    alloc: A,
+    folder: &str,
+    words: &str,
+    more: &str,
+    end: &str,
+) -> Result<String<A>, AllocError>
+    ensures { IfOk result (λ line. string_bytes line ≡ folder.now ++ words.now ++ more.now ++ end.now) }
+{
+    let mut line = String::from_str(alloc, folder)?;
+    line.push_str(words)?;
+    line.push_str(more)?;
+    line.push_str(end)?;
+    Ok(line)
+}
+
+/// The line of what a look at the service in a folder found, without a newline.
+pub fn found_line<A: Allocator>(
+    alloc: A,
+    folder: &str,
+    found: &Found,
+) -> Result<String<A>, AllocError>
+    ensures { IfOk result (λ line. string_bytes line ≡ found_line folder.now found.now) }
+{
+    match found {
+        Found::Absent(absence) => said(alloc, folder, absence_words(*absence), "", ""),
+        Found::Unread => said(
+            alloc,
+            folder,
+            " is supervised, but its status can't be read.",
+            "",
+            "",
+        ),
+        Found::Bad(fault) => said(
+            alloc,
+            folder,
+            " is supervised, but its status is no record: ",
+            fault_name(*fault),
+            ".",
+        ),
+        Found::Standing(standing) => why_line(
+            alloc,
+            folder,
+            &standing.loaded,
+            standing.normally_up,
+            standing.facts.as_ref(),
+            standing.time.as_str(),
+            &standing.now,
+        ),
+    }
+}

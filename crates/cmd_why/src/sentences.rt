@@ -1,0 +1,492 @@
+//! What is said of a service: sentences, each by a rule over its status record, its trace and the clock.
+ghost use Rattle.std.specs.Prelude.{◌≡◌, ◌++◌, string_bytes, decimal, codes, IfOk, OnOk};
+ghost use Rattle.cmd_svc.specs.Line.{is_running, note};
+ghost use Rattle.cmd_why.specs.Sentences.{before_sentence, count_sentence, count_words, end_text, ended_words};
+ghost use Rattle.cmd_why.specs.Sentences.{how_words, last_sentence, past_sentences, phase_text, process_text};
+ghost use Rattle.cmd_why.specs.Sentences.{side_text, signal_words, since_text, state_text, trace_sentences, want_words};
+ghost use Rattle.cmd_why.specs.Sentences.{wanted_sentence, why_line, end_words, phase_words, starts_opening};
+ghost use Rattle.cmd_why.specs.Sentences.{normal_text, paused_text, sent_sentence};
+ghost use Rattle.cmd_why.specs.Sentences.{notes_text, signal_end, standing_text, tenths_text};
+ghost use Rattle.std.specs.Option.{option_copied};
+
+use crate::facts::{Ended, FLAPPING, Facts};
+use itoa::Buffer;
+use std::alloc::{AllocError, Allocator};
+use tai_status::{Label, Loaded, Phase, View, Want};
+
+/// The line of a service: how it stands, by its record and the clock; and then, where there is a trace, what it tells.
+///
+/// How it stands:
+///
+/// - `DIR is up since TIME (S s), process N` where the record has a process, else `DIR is down since TIME (S s)`: TIME
+///   is that of its label, and S whole seconds from there to the clock, 0 where it is still to come.
+/// - `, being started`, `, settling after its start`, `, resting after a failed start`: a record of 20 bytes tells
+///   that.
+/// - `, paused`: it is paused.
+/// - `, wanted up`: it is down, and is to be up. `, wanted down`, `, wanted once`: it is up, and is to be down, or is
+///   not to be started again.
+/// - `, normally down`: it is up, and has a file `down`. `, normally up`: it is down, and has none.
+/// - `, and supervise is gone`, `, and supervise is to end`: a record of 20 bytes tells that it is exiting, in the
+///   phase `gone` or in another.
+///
+/// What was before, where the trace leads to the record: the machine after its entries has the record's label and
+/// process number. Of a service that is up:
+///
+/// - `It was sent SIGNAL (C).`: C is the last control byte with a signal behind the last start.
+/// - `Before it process N ran S s and ended.`: the trace has a death, of which the last one ended that process.
+///
+/// And of one that is down:
+///
+/// - `It was brought down (d).`, `It was to run once (o).`: that is the last of `u`, `d` and `o` between the start of
+///   the process that the last death ended and that death.
+/// - `Process N ran S s and ended.`: the last death ended that process.
+/// - `Its last start failed.`: no start is told behind the last one that failed.
+/// - `It has not run since supervise began.`: nothing was folded, there is no process before the entries, and no start
+///   among them.
+///
+/// A process ended ` after SIGNAL (C)` where C is the last control byte with a signal between its start and its death,
+/// and ` without a control byte` where the trace has its start and no control byte between them. Starts, last:
+///
+/// - `N starts in the last 60 s.`: so many entries are starts whose label lies within 60 seconds before the clock, if
+///   any.
+/// - `It is flapping: N starts in the last 60 s.`: they are five or more.
+/// - `at least N`: the trace does not lead to the record, or its entries do not reach back 60 seconds.
+///
+/// `AllocError` comes only where the allocator refuses the memory for the line.
+pub fn why_line<A: Allocator>(
+    alloc: A,
+    dir: &str,
+    loaded: &Loaded,
+    normally_up: bool,
+    facts: Option<&Facts>,
+    time: &str,
+    now: &Label,
+) -> Result<String<A>, AllocError>
+    ensures { IfOk result (λ line. string_bytes line
+        ≡ why_line dir.now loaded.now normally_up (option_copied facts.entry) time.now now.now) }
+{
+    let mut line = String::from_str(alloc, dir)?;
+    push_state(&mut line, loaded, normally_up, time, now)?;
+    push_trace(&mut line, is_running(&loaded.view()), facts)?;
+    Ok(line)
+}
+
+/// Whether a service runs.
+fn is_running(view: &View) -> bool
+    ensures { result ≡ is_running view.now }
+{
+    view.pid >= 1
+}
+
+/// Writes a number at the end of a text.
+fn push_number<A: Allocator>(out: &mut String<A>, number: u128) -> Result<(), AllocError>
+    ensures { OnOk result (string_bytes out.new ≡ string_bytes out.old ++ decimal number) }
+{
+    let mut buffer = Buffer::new();
+    out.push_str(buffer.format(number))
+}
+
+/// Writes how a service stands.
+fn push_state<A: Allocator>(
+    out: &mut String<A>,
+    loaded: &Loaded,
+    normally_up: bool,
+    time: &str,
+    now: &Label,
+) -> Result<(), AllocError>
+    ensures { OnOk result (string_bytes out.new
+        ≡ string_bytes out.old ++ state_text loaded.now normally_up time.now now.now) }
+{
+    let view = loaded.view();
+    push_side(out, &view, time, now)?;
+    out.push_str(phase_text(loaded))?;
+    push_notes(out, &view, normally_up)?;
+    out.push_str(end_text(loaded))?;
+    out.push_str(".")
+}
+
+/// Writes whether a service is up, since when, and by which process.
+#[tactic(auto, unfolding(crate::specs::Sentences::standing_text))]
+fn push_side<A: Allocator>(
+    out: &mut String<A>,
+    view: &View,
+    time: &str,
+    now: &Label,
+) -> Result<(), AllocError>
+    ensures { OnOk result (string_bytes out.new
+        ≡ string_bytes out.old ++ standing_text view.now time.now now.now) }
+{
+    out.push_str(" is ")?;
+    out.push_str(side_text(view))?;
+    push_since(out, time, view, now)?;
+    push_process(out, view)
+}
+
+/// Writes what is not as it should be.
+#[tactic(auto, unfolding(crate::specs::Sentences::notes_text))]
+fn push_notes<A: Allocator>(
+    out: &mut String<A>,
+    view: &View,
+    normally_up: bool,
+) -> Result<(), AllocError>
+    ensures { OnOk result (string_bytes out.new ≡ string_bytes out.old ++ notes_text view.now normally_up) }
+{
+    push_three(
+        out,
+        paused_text(view),
+        want_words(is_running(view), view.want),
+        normal_text(view, normally_up),
+    )
+}
+
+/// Whether a service is up, in a word.
+#[tactic(auto, unfolding(crate::specs::Sentences::side_text))]
+fn side_text(view: &View) -> &'static str
+    ensures { result.now ≡ side_text view.now }
+{
+    if is_running(view) { "up" } else { "down" }
+}
+
+/// Writes since when it stands so.
+#[tactic(auto, unfolding(crate::specs::Sentences::since_text))]
+fn push_since<A: Allocator>(
+    out: &mut String<A>,
+    time: &str,
+    view: &View,
+    now: &Label,
+) -> Result<(), AllocError>
+    ensures { OnOk result (string_bytes out.new ≡ string_bytes out.old ++ since_text time.now view.now now.now) }
+{
+    let seconds = now.sec.saturating_sub(view.label.sec);
+    out.push_str(" since ")?;
+    out.push_str(time)?;
+    out.push_str(" (")?;
+    push_number(out, u128::from(seconds))?;
+    out.push_str(" s)")
+}
+
+/// Writes its process.
+#[tactic(auto, unfolding(crate::specs::Sentences::process_text))]
+fn push_process<A: Allocator>(out: &mut String<A>, view: &View) -> Result<(), AllocError>
+    ensures { OnOk result (string_bytes out.new ≡ string_bytes out.old ++ process_text view.now) }
+{
+    if !is_running(view) {
+        return Ok(());
+    }
+    out.push_str(", process ")?;
+    push_number(out, u128::from(view.pid))
+}
+
+/// Where supervise stands with it.
+fn phase_words(phase: Phase) -> &'static str
+    ensures { result.now ≡ phase_words phase }
+{
+    match phase {
+        Phase::Starting => ", being started",
+        Phase::Settling => ", settling after its start",
+        Phase::Resting => ", resting after a failed start",
+        Phase::Up | Phase::Down | Phase::Gone => "",
+    }
+}
+
+/// Where supervise stands with it, where a record tells that.
+#[tactic(auto, unfolding(crate::specs::Sentences::phase_text))]
+fn phase_text(loaded: &Loaded) -> &'static str
+    ensures { result.now ≡ phase_text loaded.now }
+{
+    match loaded {
+        Loaded::Old(_) => "",
+        Loaded::New(full) => phase_words(full.phase),
+    }
+}
+
+/// That it is paused.
+#[tactic(auto, unfolding(crate::specs::Sentences::paused_text))]
+fn paused_text(view: &View) -> &'static str
+    ensures { result.now ≡ paused_text view.now }
+{
+    if view.paused { ", paused" } else { "" }
+}
+
+/// What is wanted, where it is not what stands.
+#[tactic(auto, unfolding(crate::specs::Sentences::want_words))]
+fn want_words(running: bool, want: Want) -> &'static str
+    ensures { result.now ≡ want_words running want }
+{
+    match (running, want) {
+        (false, Want::Up) => ", wanted up",
+        (true, Want::Down) => ", wanted down",
+        (true, Want::Once) => ", wanted once",
+        _ => "",
+    }
+}
+
+/// That a service does not stand as it normally does.
+#[tactic(auto, unfolding(crate::specs::Sentences::normal_text))]
+fn normal_text(view: &View, normally_up: bool) -> &'static str
+    ensures { result.now ≡ normal_text view.now normally_up }
+{
+    match (is_running(view), normally_up) {
+        (true, false) => ", normally down",
+        (false, true) => ", normally up",
+        _ => "",
+    }
+}
+
+/// That supervise ends.
+#[tactic(auto, unfolding(crate::specs::Sentences::end_text))]
+fn end_text(loaded: &Loaded) -> &'static str
+    ensures { result.now ≡ end_text loaded.now }
+{
+    match loaded {
+        Loaded::New(full) if full.exiting => end_words(full.phase),
+        _ => "",
+    }
+}
+
+/// That supervise ends, by its phase.
+fn end_words(phase: Phase) -> &'static str
+    ensures { result.now ≡ end_words phase }
+{
+    match phase {
+        Phase::Gone => ", and supervise is gone",
+        _ => ", and supervise is to end",
+    }
+}
+
+/// The first signal of a control byte that has one, and the byte.
+#[tactic(auto, unfolding(crate::specs::Sentences::signal_words))]
+fn signal_words(byte: u8) -> &'static str
+    ensures { result.now ≡ signal_words byte }
+{
+    match byte {
+        b'd' => "TERM (d)",
+        b'p' => "STOP (p)",
+        b'c' => "CONT (c)",
+        b'h' => "HUP (h)",
+        b'a' => "ALRM (a)",
+        b'i' => "INT (i)",
+        b't' => "TERM (t)",
+        b'k' => "KILL (k)",
+        b'1' => "USR1 (1)",
+        b'2' => "USR2 (2)",
+        b'q' => "QUIT (q)",
+        _ => "",
+    }
+}
+
+/// Writes how a process ended.
+#[tactic(auto, unfolding(crate::specs::Sentences::how_words))]
+fn push_how<A: Allocator>(
+    out: &mut String<A>,
+    sent: Option<u8>,
+    unasked: bool,
+) -> Result<(), AllocError>
+    ensures { OnOk result (string_bytes out.new ≡ string_bytes out.old ++ how_words sent unasked) }
+{
+    match sent {
+        Some(byte) => {
+            out.push_str(" after ")?;
+            out.push_str(signal_words(byte))
+        }
+        None => out.push_str(unasked_text(unasked)),
+    }
+}
+
+/// That a process ended with no control byte.
+fn unasked_text(unasked: bool) -> &'static str
+    ensures { result.now ≡ note unasked (codes " without a control byte") }
+{
+    if unasked {
+        " without a control byte"
+    } else {
+        ""
+    }
+}
+
+/// Writes which process ended, how long it ran, and how it ended.
+fn push_ended<A: Allocator>(out: &mut String<A>, ended: &Ended) -> Result<(), AllocError>
+    ensures { OnOk result (string_bytes out.new ≡ string_bytes out.old ++ ended_words ended.now) }
+{
+    push_number(out, u128::from(ended.pid))?;
+    out.push_str(" ran ")?;
+    push_tenths(out, ended.tenths)?;
+    out.push_str(" s and ended")?;
+    push_how(out, ended.sent, ended.unasked)?;
+    out.push_str(".")
+}
+
+/// Writes tenths of a second as seconds.
+#[tactic(auto, unfolding(crate::specs::Sentences::tenths_text))]
+fn push_tenths<A: Allocator>(out: &mut String<A>, tenths: u128) -> Result<(), AllocError>
+    ensures { OnOk result (string_bytes out.new ≡ string_bytes out.old ++ tenths_text tenths) }
+{
+    push_number(out, tenths / 10)?;
+    out.push_str(".")?;
+    push_number(out, tenths % 10)
+}
+
+/// Writes three texts, one after the other.
+fn push_three<A: Allocator>(
+    out: &mut String<A>,
+    first: &str,
+    second: &str,
+    third: &str,
+) -> Result<(), AllocError>
+    ensures { OnOk result (string_bytes out.new ≡ string_bytes out.old ++ first.now ++ second.now ++ third.now) }
+{
+    out.push_str(first)?;
+    out.push_str(second)?;
+    out.push_str(third)
+}
+
+/// Writes the first signal of a control byte, and the byte, as a sentence ends.
+#[tactic(auto, unfolding(crate::specs::Sentences::signal_end))]
+fn push_signal<A: Allocator>(out: &mut String<A>, byte: u8) -> Result<(), AllocError>
+    ensures { OnOk result (string_bytes out.new ≡ string_bytes out.old ++ signal_end byte) }
+{
+    out.push_str(signal_words(byte))?;
+    out.push_str(".")
+}
+
+/// Writes the last signal that a process was sent since its start.
+fn push_sent<A: Allocator>(out: &mut String<A>, sent: Option<u8>) -> Result<(), AllocError>
+    ensures { OnOk result (string_bytes out.new ≡ string_bytes out.old ++ sent_sentence sent) }
+{
+    match sent {
+        Some(byte) => {
+            out.push_str(" It was sent ")?;
+            push_signal(out, byte)
+        }
+        None => Ok(()),
+    }
+}
+
+/// Writes of the process before the one that runs.
+fn push_before<A: Allocator>(out: &mut String<A>, ended: Option<&Ended>) -> Result<(), AllocError>
+    ensures { OnOk result (string_bytes out.new
+        ≡ string_bytes out.old ++ before_sentence (option_copied ended.entry)) }
+{
+    match ended {
+        Some(ended) => {
+            out.push_str(" Before it process ")?;
+            push_ended(out, ended)
+        }
+        None => Ok(()),
+    }
+}
+
+/// Why a service is down, where a control byte says it.
+fn wanted_sentence(wanted: Option<u8>) -> &'static str
+    ensures { result.now ≡ wanted_sentence wanted }
+{
+    match wanted {
+        Some(b'd') => " It was brought down (d).",
+        Some(b'o') => " It was to run once (o).",
+        _ => "",
+    }
+}
+
+/// Writes of the process that ended.
+fn push_last<A: Allocator>(out: &mut String<A>, ended: Option<&Ended>) -> Result<(), AllocError>
+    ensures { OnOk result (string_bytes out.new
+        ≡ string_bytes out.old ++ last_sentence (option_copied ended.entry)) }
+{
+    match ended {
+        Some(ended) => {
+            out.push_str(wanted_sentence(ended.wanted))?;
+            out.push_str(" Process ")?;
+            push_ended(out, ended)
+        }
+        None => Ok(()),
+    }
+}
+
+/// That the last start failed.
+fn failed_text(failed: bool) -> &'static str
+    ensures { result.now ≡ note failed (codes " Its last start failed.") }
+{
+    if failed {
+        " Its last start failed."
+    } else {
+        ""
+    }
+}
+
+/// That no process ran.
+fn unrun_text(unrun: bool) -> &'static str
+    ensures { result.now ≡ note unrun (codes " It has not run since supervise began.") }
+{
+    if unrun {
+        " It has not run since supervise began."
+    } else {
+        ""
+    }
+}
+
+/// Writes what was before.
+fn push_past<A: Allocator>(
+    out: &mut String<A>,
+    running: bool,
+    facts: &Facts,
+) -> Result<(), AllocError>
+    ensures { OnOk result (string_bytes out.new ≡ string_bytes out.old ++ past_sentences running facts.now) }
+{
+    if running {
+        push_sent(out, facts.sent)?;
+        return push_before(out, facts.ended.as_ref());
+    }
+    push_last(out, facts.ended.as_ref())?;
+    out.push_str(failed_text(facts.failed))?;
+    out.push_str(unrun_text(facts.unrun))
+}
+
+/// Writes how many starts there were.
+fn push_count<A: Allocator>(out: &mut String<A>, starts: u64) -> Result<(), AllocError>
+    ensures { OnOk result (string_bytes out.new ≡ string_bytes out.old ++ count_words starts) }
+{
+    push_number(out, u128::from(starts))?;
+    out.push_str(if starts == 1 { " start" } else { " starts" })?;
+    out.push_str(" in the last 60 s.")
+}
+
+/// Writes what is said of starts.
+fn push_starts<A: Allocator>(out: &mut String<A>, starts: u64, all: bool) -> Result<(), AllocError>
+    ensures { OnOk result (string_bytes out.new ≡ string_bytes out.old ++ count_sentence starts all) }
+{
+    if starts == 0 {
+        return Ok(());
+    }
+    out.push_str(starts_opening(starts, all))?;
+    push_count(out, starts)
+}
+
+/// How the sentence on starts begins.
+fn starts_opening(starts: u64, all: bool) -> &'static str
+    ensures { result.now ≡ starts_opening starts all }
+{
+    match (starts >= FLAPPING, all) {
+        (true, true) => " It is flapping: ",
+        (true, false) => " It is flapping: at least ",
+        (false, true) => " ",
+        (false, false) => " At least ",
+    }
+}
+
+/// Writes what the trace tells, where there is one.
+fn push_trace<A: Allocator>(
+    out: &mut String<A>,
+    running: bool,
+    facts: Option<&Facts>,
+) -> Result<(), AllocError>
+    ensures { OnOk result (string_bytes out.new
+        ≡ string_bytes out.old ++ trace_sentences running (option_copied facts.entry)) }
+{
+    let Some(facts) = facts else {
+        return Ok(());
+    };
+    if facts.leads {
+        push_past(out, running, facts)?;
+    }
+    push_starts(out, facts.starts, facts.leads && facts.reaches)
+}

@@ -1,0 +1,45 @@
+//! What a client finds beside the status of a service.
+use arrayvec::ArrayString;
+use std::alloc::Allocator;
+use std::io;
+use std::io::ErrorKind;
+use tai_status::Label;
+
+/// The files of services, as `why` reads them. Contracts see what they hold, where it tells that.
+pub trait ServiceFiles {
+    ghost use Rattle.std.specs.Prelude.{ℕ, List, Option, None, IfOk, IfErr};
+    ghost use Rattle.cmd_base.specs.Known.{IsKnown, IsMissed};
+    ghost use Rattle.std.specs.declared.io.ErrorKind.{ErrorKind};
+
+    // the bytes of the trace of the service in a folder
+    ghost trace_at: { Self → List ℕ → Option (List ℕ) } = { λ _ _. None };
+
+    // why a folder can't be looked at, where it can't
+    ghost fault_at: { Self → List ℕ → Option (Option ErrorKind) } = { λ _ _. None };
+
+    /// All bytes of the trace of the service in a folder.
+    fn read_trace<A: Allocator>(&self, alloc: A, folder: &str) -> io::Result<Vec<u8, A>>
+        ensures known { IfOk result (λ bytes. IsKnown (trace_at self.now folder.now) bytes.items) }
+        ensures missing { IfErr result (λ fault. IsMissed fault (trace_at self.now folder.now)) };
+
+    /// Why the folder of a service can't be looked at, where it can't. Something else of its name is `NotADirectory`.
+    fn folder_fault(&self, folder: &str) -> Option<ErrorKind>
+        ensures { IsKnown (fault_at self.now folder.now) result };
+}
+
+/// A local time, as `2026-11-25 01:33:02`.
+pub type LocalTime = ArrayString<32>;
+
+/// Local times. Contracts see the text of a label, where it tells that.
+pub trait LocalTimes {
+    ghost use Rattle.std.specs.Prelude.{ℕ, List, Option, None};
+    ghost use Rattle.cmd_base.specs.Known.{IsKnown};
+    ghost use Rattle.tai_status.specs.Label.{Tai64n};
+
+    // the local time of a label
+    ghost text_at: { Self → Tai64n → Option (List ℕ) } = { λ _ _. None };
+
+    /// The local time of a label.
+    fn local_time(&self, label: &Label) -> LocalTime
+        ensures { IsKnown (text_at self.now label.now) result.bytes };
+}

@@ -1,0 +1,49 @@
+//! The system's own files of services.
+ghost use Rattle.std.specs.Prelude.{◌≡◌, ◌++◌, IfOk};
+
+use crate::sources::ServiceFiles;
+use arrayvec::ArrayString;
+use std::alloc::Allocator;
+use std::io::{Error, ErrorKind, Read};
+use std::{fs, io};
+
+/// How long a path is at most on this system, with the zero behind it.
+const PATH_BYTES: usize = 4096;
+
+/// How many bytes a trace has at most: those of 65,536 entries are fewer. A longer file is none.
+const TRACE_BYTES: u64 = 1 << 22;
+
+/// The path of something in a folder. One that is longer than any path of this system is a fault.
+fn path_in(folder: &str, rest: &str) -> io::Result<ArrayString<PATH_BYTES>>
+    ensures { IfOk result (λ path. path.bytes ≡ folder.now ++ rest.now) }
+{
+    let mut path = ArrayString::new();
+    if path.try_push_str(folder).is_err() || path.try_push_str(rest).is_err() {
+        return Err(Error::from(ErrorKind::InvalidInput));
+    }
+    Ok(path)
+}
+
+/// The services of this system. They tell contracts nothing.
+impl ServiceFiles for HostRuntime {
+    fn read_trace<A: Allocator>(&self, alloc: A, folder: &str) -> io::Result<Vec<u8, A>> {
+        let path = path_in(folder, "/supervise/trace")?;
+        let about = fs::metadata(self, path.as_str())?;
+        if !about.is_file() || about.len() > TRACE_BYTES {
+            return Err(Error::from(ErrorKind::InvalidInput));
+        }
+        let mut bytes = Vec::new(alloc);
+        fs::open(self, path.as_str())?
+            .take(TRACE_BYTES)
+            .read_to_end(&mut bytes)?;
+        Ok(bytes)
+    }
+
+    fn folder_fault(&self, folder: &str) -> Option<ErrorKind> {
+        match fs::metadata(self, folder) {
+            Ok(about) if about.is_dir() => None,
+            Ok(_) => Some(ErrorKind::NotADirectory),
+            Err(fault) => Some(fault.kind()),
+        }
+    }
+}

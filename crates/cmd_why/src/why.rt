@@ -1,0 +1,310 @@
+//! The command `why`.
+ghost use Rattle.std.specs.Prelude.{◌≡◌, ◌∷◌, [], ◌++◌, false, map, string_bytes, OnOk, IfOk, IfErr};
+ghost use Rattle.std.specs.Option.{option_copied};
+ghost use Rattle.std.specs.Prelude.{option_map};
+ghost use Rattle.tai_status.specs.Counted.{Wrote, Works};
+ghost use Rattle.cmd_svc.specs.Turns.{InTurn};
+ghost use Rattle.cmd_why.specs.Facts.{facts_of};
+ghost use Rattle.cmd_why.specs.Why.{found_line, is_unread, knowledge, scene, why_told, Finds, FindsStanding, IsTraceOf};
+ghost use Rattle.cmd_why.specs.Why.{Reaches, Shows, ShowsNot, ShowsUpTo, WhyEnds, WritesNot};
+
+use crate::facts::{Facts, facts_of};
+use crate::lines::{Absence, Found, Standing, absence_of, found_line};
+use crate::sources::{LocalTimes, ServiceFiles};
+use cmd_base::{DONE, TROUBLE, report};
+use cmd_svc::Services;
+use std::alloc::{AllocError, Allocator};
+use std::io::{ErrorKind, Write};
+use sup_trace::{TraceFaultKind, TraceText, read_text};
+use tai_status::{Label, Loaded, Output, RecordFault, TimeSource, View, decode_front};
+
+/// Why the line of a service is not written.
+#[derive(Clone, Copy, Debug, PartialEq, Eq)]
+pub enum WhyFault {
+    /// There is no memory for it, or for the trace.
+    OutOfMemory,
+    /// The writer failed.
+    Write,
+}
+
+/// What came of the calls of a service.
+#[derive(Clone, Copy, Debug, PartialEq, Eq)]
+pub(crate) enum Reach {
+    /// Nobody answers for it.
+    Absent(Absence),
+    /// Its status can't be read.
+    Unread,
+    /// Its status is no record.
+    Bad(RecordFault),
+    /// Its status, and whether it is normally up.
+    Standing(Loaded, bool),
+}
+
+/// Asks the service in a folder whether it is supervised, then for its status, then for its file `down`. The first that
+/// fails ends that.
+fn reach_service<S: Services, F: ServiceFiles, T: LocalTimes>(
+    services: &mut S,
+    files: &F,
+    times: &T,
+    folder: &str,
+) -> Reach
+    ensures { Reaches (knowledge (F.trace_at files.now) (F.fault_at files.now) (T.text_at times.now)) folder.now
+        result (S.calls services.old) (S.calls services.new) }
+{
+    if let Err(why) = services.reach(folder) {
+        return Reach::Absent(absence_of(why, files.folder_fault(folder)));
+    }
+    let Ok(front) = services.read_status(folder) else {
+        return Reach::Unread;
+    };
+    match decode_front(front.as_slice()) {
+        Ok(loaded) => Reach::Standing(loaded, !services.has_down(folder)),
+        Err(fault) => Reach::Bad(fault),
+    }
+}
+
+/// What the trace of the service in a folder tells, where there is one that can be read.
+fn read_told<A: Allocator + Clone, F: ServiceFiles>(
+    alloc: &A,
+    files: &F,
+    folder: &str,
+) -> Result<Option<TraceText<A>>, AllocError>
+    ensures { IfOk result (λ told. IsTraceOf (F.trace_at files.now folder.now) told) }
+{
+    match files.read_trace(alloc.clone()?, folder) {
+        Ok(text) => match read_text(alloc.clone()?, &text) {
+            Ok(told) => Ok(Some(told)),
+            Err(fault) if fault.kind == TraceFaultKind::OutOfMemory => Err(AllocError),
+            Err(_) => Ok(None),
+        },
+        Err(fault) if fault.kind() == ErrorKind::OutOfMemory => Err(AllocError),
+        Err(_) => Ok(None),
+    }
+}
+
+/// What a trace tells, where there is one.
+fn facts_in<A: Allocator>(told: Option<&TraceText<A>>, status: &View, now: &Label) -> Option<Facts>
+    ensures { result ≡ option_map (λ told. facts_of told status.now now.now) (option_copied told.entry) }
+{
+    match told {
+        Some(told) => Some(facts_of(told, status, now)),
+        None => None,
+    }
+}
+
+/// How the service in a folder stands, whose record tells this.
+fn stand<A: Allocator + Clone, F: ServiceFiles, T: LocalTimes, C: TimeSource>(
+    alloc: &A,
+    files: &F,
+    times: &T,
+    clock: &mut C,
+    folder: &str,
+    loaded: Loaded,
+    normally_up: bool,
+) -> Result<Standing, AllocError>
+    ensures ok { IfOk result (λ standing.
+        FindsStanding (knowledge (F.trace_at files.now) (F.fault_at files.now) (T.text_at times.now)) folder.now
+        loaded normally_up standing (C.readings clock.old) (C.readings clock.new)) }
+{
+    let told = read_told(alloc, files, folder)?;
+    let now = clock.now();
+    let status = loaded.view();
+    Ok(Standing {
+        loaded,
+        normally_up,
+        facts: facts_in(told.as_ref(), &status, &now),
+        time: times.local_time(&status.label),
+        now,
+    })
+}
+
+/// What a look at the service in a folder found, by what came of its calls.
+fn find<A: Allocator + Clone, F: ServiceFiles, T: LocalTimes, C: TimeSource>(
+    alloc: &A,
+    files: &F,
+    times: &T,
+    clock: &mut C,
+    folder: &str,
+    reach: Reach,
+) -> Result<Found, AllocError>
+    ensures { IfOk result (λ found.
+        Finds (knowledge (F.trace_at files.now) (F.fault_at files.now) (T.text_at times.now)) folder.now
+        reach found (C.readings clock.old) (C.readings clock.new)) }
+{
+    match reach {
+        Reach::Absent(absence) => Ok(Found::Absent(absence)),
+        Reach::Unread => Ok(Found::Unread),
+        Reach::Bad(fault) => Ok(Found::Bad(fault)),
+        Reach::Standing(loaded, normally_up) => Ok(Found::Standing(stand(
+            alloc,
+            files,
+            times,
+            clock,
+            folder,
+            loaded,
+            normally_up,
+        )?)),
+    }
+}
+
+/// Whether a service could not be read.
+fn is_unread(found: &Found) -> bool
+    ensures { result ≡ is_unread found.now }
+{
+    match found {
+        Found::Absent(absence) => *absence != Absence::Nobody,
+        Found::Unread | Found::Bad(_) => true,
+        Found::Standing(_) => false,
+    }
+}
+
+/// The line of what a look at the service in a folder found, with its newline.
+fn whole_line<A: Allocator + Clone>(
+    alloc: &A,
+    folder: &str,
+    found: &Found,
+) -> Result<String<A>, AllocError>
+    ensures { IfOk result (λ line. string_bytes line ≡ found_line folder.now found.now ++ 10 ∷ []) }
+{
+    let mut line = found_line(alloc.clone()?, folder, found)?;
+    line.push_str("\n")?;
+    Ok(line)
+}
+
+/// Writes the line of what a look at the service in a folder found.
+fn write_line<A: Allocator + Clone, W: Write>(
+    alloc: &A,
+    folder: &str,
+    found: &Found,
+    writer: &mut Output<W>,
+) -> Result<(), WhyFault>
+    ensures ok { OnOk result (Wrote writer.old writer.new (found_line folder.now found.now ++ 10 ∷ [])) }
+    ensures works { OnOk result (Works writer.old writer.new) }
+    ensures err { IfErr result (λ cause.
+        WritesNot cause (found_line folder.now found.now ++ 10 ∷ []) writer.old writer.new) }
+{
+    let Ok(line) = whole_line(alloc, folder, found) else {
+        return Err(WhyFault::OutOfMemory);
+    };
+    match writer.write_all(line.as_bytes()) {
+        Ok(()) => Ok(()),
+        Err(_) => Err(WhyFault::Write),
+    }
+}
+
+/// Looks at the service in a folder, and writes the line of that. Whether some service could not be read, this one or
+/// one before it.
+fn show<S, F, T, A, W, C>(
+    alloc: &A,
+    services: &mut S,
+    files: &F,
+    times: &T,
+    folder: &str,
+    unread: bool,
+    writer: &mut Output<W>,
+    clock: &mut C,
+) -> Result<bool, WhyFault>
+where
+    S: Services,
+    F: ServiceFiles,
+    T: LocalTimes,
+    A: Allocator + Clone,
+    W: Write,
+    C: TimeSource,
+    ensures ok { IfOk result (λ unread_now.
+        Shows (knowledge (F.trace_at files.now) (F.fault_at files.now) (T.text_at times.now)) folder.now
+        (scene (S.calls services.old) (C.readings clock.old) writer.old unread)
+        (scene (S.calls services.new) (C.readings clock.new) writer.new unread_now)) }
+    ensures err { IfErr result (λ cause.
+        ShowsNot (knowledge (F.trace_at files.now) (F.fault_at files.now) (T.text_at times.now)) folder.now cause
+        (scene (S.calls services.old) (C.readings clock.old) writer.old unread)
+        (scene (S.calls services.new) (C.readings clock.new) writer.new false)) }
+{
+    let reached = reach_service(services, files, times, folder);
+    let Ok(found) = find(alloc, files, times, clock, folder, reached) else {
+        return Err(WhyFault::OutOfMemory);
+    };
+    write_line(alloc, folder, &found, writer)?;
+    Ok(unread || is_unread(&found))
+}
+
+/// Shows the services in folders, one after the other, up to the first whose line can't be written. Whether some
+/// service could not be read.
+fn show_all<S, F, T, A, W, C>(
+    alloc: &A,
+    services: &mut S,
+    files: &F,
+    times: &T,
+    folders: &[&str],
+    writer: &mut Output<W>,
+    clock: &mut C,
+) -> Result<bool, WhyFault>
+where
+    S: Services,
+    F: ServiceFiles,
+    T: LocalTimes,
+    A: Allocator + Clone,
+    W: Write,
+    C: TimeSource,
+    ensures ok { IfOk result (λ unread.
+        InTurn (Shows (knowledge (F.trace_at files.now) (F.fault_at files.now) (T.text_at times.now)))
+        (map (λ word. word.now) folders.now)
+        (scene (S.calls services.old) (C.readings clock.old) writer.old false)
+        (scene (S.calls services.new) (C.readings clock.new) writer.new unread)) }
+    ensures err { IfErr result (λ cause.
+        ShowsUpTo (knowledge (F.trace_at files.now) (F.fault_at files.now) (T.text_at times.now))
+        (map (λ word. word.now) folders.now) cause
+        (scene (S.calls services.old) (C.readings clock.old) writer.old false)
+        (scene (S.calls services.new) (C.readings clock.new) writer.new false)) }
+{
+    let mut unread = false;
+    for folder in folders {
+        unread = show(alloc, services, files, times, folder, unread, writer, clock)?;
+    }
+    Ok(unread)
+}
+
+/// What is told of a fault.
+fn fault_text(fault: WhyFault) -> &'static [u8]
+    ensures { result.now ≡ why_told fault }
+{
+    match fault {
+        WhyFault::OutOfMemory => b"why: OutOfMemory\n",
+        WhyFault::Write => b"why: write fault\n",
+    }
+}
+
+/// The command `why`: writes a line for the service in each folder that its words name, in order: in plain words how it
+/// stands and why, as [`why_line`](crate::why_line) says it; or that nobody answers for it, or that it can't be read.
+/// It is looked at when its line comes: first its status is read, then its trace, and then the clock, once. Answers the
+/// status: 0; 111 where a service could not be read, which its line tells; and 111 for a fault of the writer and for
+/// want of memory, and then the services after that one are not looked at.
+pub fn run_why<S, F, T, A, W, E, C>(
+    alloc: A,
+    services: &mut S,
+    files: &F,
+    times: &T,
+    words: &[&str],
+    writer: &mut Output<W>,
+    faults: &mut Output<E>,
+    clock: &mut C,
+) -> u8
+where
+    S: Services,
+    F: ServiceFiles,
+    T: LocalTimes,
+    A: Allocator + Clone,
+    W: Write,
+    E: Write,
+    C: TimeSource,
+    ensures ends { WhyEnds (knowledge (F.trace_at files.now) (F.fault_at files.now) (T.text_at times.now))
+        (map (λ word. word.now) words.now) result
+        (scene (S.calls services.old) (C.readings clock.old) writer.old)
+        (scene (S.calls services.new) (C.readings clock.new) writer.new) faults.old faults.new }
+{
+    match show_all(&alloc, services, files, times, words, writer, clock) {
+        Ok(true) => TROUBLE,
+        Ok(false) => DONE,
+        Err(fault) => report(faults, fault_text(fault), TROUBLE),
+    }
+}

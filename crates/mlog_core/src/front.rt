@@ -1,0 +1,32 @@
+//! What some bytes begin with, before a newline.
+ghost use Rattle.std.specs.Prelude.{◌≡◌, ◌≤◌, ◌<◌, ◌+◌, ◌++◌, ◌∷◌, true, false, length, take, drop};
+ghost use Rattle.tai_status.specs.LineReader.{IsPlain};
+
+use memchr::memchr;
+
+/// How many bytes come before the first newline, and whether there is one.
+#[derive(Clone, Copy)]
+pub struct PlainFront {
+    pub len: usize,
+    pub ends: bool,
+}
+
+/// The bytes before the first newline, or all where there is none. The newline is not counted.
+pub fn plain_front(bytes: &[u8]) -> PlainFront
+    ensures within { result.len ≤ length bytes.now }
+    ensures plain { IsPlain (take result.len bytes.now) }
+    ensures newline { result.ends ≡ true → (result.len < length bytes.now)
+        × (bytes.now ≡ take result.len bytes.now ++ 10 ∷ drop (result.len + 1) bytes.now) }
+    ensures none { result.ends ≡ false → result.len ≡ length bytes.now }
+{
+    match memchr(b'\n', bytes) {
+        Some(at) => PlainFront {
+            len: at,
+            ends: true,
+        },
+        None => PlainFront {
+            len: bytes.len(),
+            ends: false,
+        },
+    }
+}

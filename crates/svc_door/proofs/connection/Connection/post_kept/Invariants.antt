@@ -1,0 +1,27 @@
+use Rattle.std.proofs.Common.{◌-◌, ◌≡◌, ◌≤◌, length, drop, take}
+use Rattle.svc_door.specs.Connection.{ConnectionState, Posts}
+use Rattle.svc_door.proofs.connection.Connection.post_kept.Given as goal
+
+abbrev pub invariant-loop-self : goal.invariant-loop-self
+invariant-loop-self g l =
+    let i = l.self-inside in
+    let now : ConnectionState = record {
+      left = g.G.ByteSource.left i.source;
+      said = g.G.ByteSource.said i.source;
+      kept = drop i.from (take i.to i.piece);
+      taken = i.taken;
+      spoke = i.spoke;
+      watched = i.watched;
+    } in
+    record {
+      from : i.from ≤ i.to;
+      to : i.to ≤ 64;
+      piece : length i.piece ≡ 64;
+      most : i.taken ≤ 4096;
+      posts : Posts (g.P.ByteSink.accepted l.fn.sink) (g.P.ByteSink.accepted l.sink) l.fn.self now;
+      unread : (now.left ≡ l.fn.self.left) × (now.said ≡ l.fn.self.said) × (now.taken ≡ l.fn.self.taken);
+      same : (now.spoke ≡ l.fn.self.spoke) × (now.watched ≡ l.fn.self.watched);
+    }
+
+abbrev pub decreases-loop-self : goal.decreases-loop-self
+decreases-loop-self g l = l.self-inside.to - l.self-inside.from

@@ -1,0 +1,35 @@
+//! Where control bytes are posted.
+use std::alloc::Allocator;
+use std::sync::Wait;
+use svc_house::ControlSender;
+use svc_mail::letter::Full;
+
+/// Where control bytes are posted. Contracts see the bytes that it accepted, in order (`accepted`), and what it has to
+/// say of itself where it refuses one (`was_full`).
+pub trait ByteSink {
+    ghost use Rattle.std.specs.Prelude.{◌≡◌, ◌++◌, ◌∷◌, [], ℕ, List, MatchResult, IfErr};
+
+    ghost accepted: { Self → List ℕ };
+
+    ghost was_full: { Self → Type 0 };
+
+    /// Posts a byte, once. `Full` gives it back, and nothing was posted.
+    fn post<R: Wait>(&mut self, rt: &R, byte: u8) -> Result<(), Full<u8>>
+        ensures accepted { MatchResult result (λ _. accepted self.new ≡ accepted self.old ++ byte ∷ [])
+            (λ _. accepted self.new ≡ accepted self.old) }
+        ensures full { IfErr result (λ full. (full.0 ≡ byte) × was_full self.old) };
+}
+
+/// A service's mailbox accepts what its sender posted, and refuses a byte only where it was full.
+impl<A: Allocator + Clone> ByteSink for ControlSender<A> {
+    ghost use Rattle.svc_mail.specs.Ends.{posted, WasFull};
+    ghost use Rattle.svc_house.specs.Mail.{sender_in};
+
+    ghost accepted = { λ sender. posted (sender_in sender) };
+
+    ghost was_full = { λ sender. WasFull (sender_in sender) };
+
+    fn post<R: Wait>(&mut self, rt: &R, byte: u8) -> Result<(), Full<u8>> {
+        self.post(rt, byte)
+    }
+}

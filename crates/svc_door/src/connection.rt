@@ -1,0 +1,172 @@
+//! What one connection does.
+use crate::byte_sink::ByteSink;
+use crate::byte_source::{ByteSource, Heard};
+use crate::rests::{next_look, spoken};
+use std::marker::Model;
+use std::sync::Wait;
+use svc_mail::letter::Full;
+
+/// The most bytes of a connection that are read. Then it is over.
+pub const MOST: usize = 4096;
+
+/// The most bytes of one read.
+pub const PIECE: usize = 64;
+
+/// How a turn leaves a connection.
+#[derive(Clone, Copy, Debug, PartialEq, Eq)]
+pub enum Turn {
+    /// All that was read is posted, and the connection has nothing for now.
+    Waits,
+    /// The sink refused a byte, which is kept and comes first in the next turn.
+    Full,
+    /// All that was read is posted, and the connection has ended or failed, or 4096 bytes of it were posted.
+    Ended,
+}
+
+/// One connection that gives control bytes, and when it spoke last. At each turn a sink is lent to it. Contracts see it
+/// as `ConnectionState`; `law::turns_post_the_first_bytes` says what its turns come to together.
+#[derive(Drop)]
+pub struct Connection<G: ByteSource> {
+    source: G,
+    // What was read last, and which of it is not posted.
+    piece: [u8; PIECE],
+    from: usize,
+    to: usize,
+    // How many bytes were read.
+    taken: usize,
+    spoke: u64,
+    // Whether an event tells of its bytes.
+    watched: bool,
+}
+
+impl<G: ByteSource> Model for Connection<G> {
+    ghost use Rattle.std.specs.Prelude.{◌≡◌, ◌≤◌, length, drop, take};
+    ghost use Rattle.svc_door.specs.Connection.{ConnectionState};
+
+    ghost Value = { ConnectionState };
+
+    ghost view = { λ v. record {
+      left = G.left v.source;
+      said = G.said v.source;
+      kept = drop v.from (take v.to v.piece);
+      taken = v.taken;
+      spoke = v.spoke;
+      watched = v.watched;
+    } };
+
+    ghost invariant = { λ v. (v.from ≤ v.to) × (v.to ≤ 64) × (length v.piece ≡ 64) × (v.taken ≤ 4096) };
+}
+
+impl<G: ByteSource> Connection<G> {
+    ghost use Rattle.std.specs.Prelude.{◌≡◌, ◌≤◌, ◌<◌, ◌+◌, [], length, nat_lt, true, false};
+    ghost use Rattle.std.specs.Io.KnownBytes.{Consumes};
+    ghost use Rattle.svc_door.specs.Connection.{IsLeft, Posts, Reads, Said, beginning};
+    ghost use Rattle.svc_door.specs.Rests.{spoke_at, looked_at};
+    ghost use Rattle.svc_door.specs.declared.connection.Turn.TheVariants as turn;
+
+    /// A connection that begins now: nothing of it is read. `watched` says whether an event tells of its bytes.
+    pub fn new(source: G, watched: bool, now: u64) -> Connection<G>
+        ensures { result ≡ beginning (G.left source) (G.said source) watched now }
+    {
+        Connection {
+            source,
+            piece: [0; PIECE],
+            from: 0,
+            to: 0,
+            taken: 0,
+            spoke: now,
+            watched,
+        }
+    }
+
+    /// Reads what the connection has, and posts it byte by byte. It may wait as the sink may, and takes no memory.
+    ///
+    /// `Waits` only where the connection said that it has nothing for now. `Full` only where the sink refused the byte
+    /// that comes next: that is kept, and nothing is read before it is posted. `Ended` exactly where 4096 bytes were
+    /// posted, or the connection ended or failed; a further turn reads again, if fewer than 4096 bytes were read.
+    pub fn turn<R: Wait, P: ByteSink>(&mut self, rt: &R, sink: &mut P, now: u64) -> Turn
+        ensures posts { Posts (P.accepted sink.old) (P.accepted sink.new) self.old self.new }
+        ensures left { IsLeft result self.new }
+        ensures full { result ≡ turn.Full → (at : P) × P.was_full at × (P.accepted at ≡ P.accepted sink.new) }
+        ensures spoke { self.new.spoke ≡ spoke_at result (nat_lt self.old.taken self.new.taken) self.old.spoke now }
+        ensures watched { self.new.watched ≡ self.old.watched }
+    {
+        let before = self.taken;
+        let turn = self.serve(rt, sink);
+        self.spoke = spoken(turn, self.taken > before, self.spoke, now);
+        turn
+    }
+
+    /// When the connection is looked at again after such a turn. None: it is over, or was silent for 5 s.
+    pub fn next_look(&self, turn: Turn, now: u64) -> Option<u64>
+        ensures { result ≡ looked_at turn self.now.watched self.now.spoke now }
+    {
+        next_look(turn, self.watched, self.spoke, now)
+    }
+
+    // Reads what the connection has, and posts it.
+    fn serve<R: Wait, P: ByteSink>(&mut self, rt: &R, sink: &mut P) -> Turn
+        ensures posts { Posts (P.accepted sink.old) (P.accepted sink.new) self.old self.new }
+        ensures left { IsLeft result self.new }
+        ensures full { result ≡ turn.Full → (at : P) × P.was_full at × (P.accepted at ≡ P.accepted sink.new) }
+        ensures same { (self.new.spoke ≡ self.old.spoke) × (self.new.watched ≡ self.old.watched) }
+    {
+        if !self.post_kept(rt, sink) {
+            return Turn::Full;
+        }
+        while self.taken < MOST {
+            match self.read() {
+                Heard::Bytes(_) => {
+                    if !self.post_kept(rt, sink) {
+                        return Turn::Full;
+                    }
+                }
+                Heard::Nothing => return Turn::Waits,
+                Heard::End | Heard::Fault => return Turn::Ended,
+            }
+        }
+        Turn::Ended
+    }
+
+    // Posts what is kept, and tells whether all of it was accepted.
+    fn post_kept<R: Wait, P: ByteSink>(&mut self, rt: &R, sink: &mut P) -> bool
+        ensures posts { Posts (P.accepted sink.old) (P.accepted sink.new) self.old self.new }
+        ensures unread { (self.new.left ≡ self.old.left) × (self.new.said ≡ self.old.said)
+            × (self.new.taken ≡ self.old.taken) }
+        ensures same { (self.new.spoke ≡ self.old.spoke) × (self.new.watched ≡ self.old.watched) }
+        ensures all { result ≡ true → self.new.kept ≡ [] }
+        ensures some { result ≡ false → 0 < length self.new.kept }
+        ensures full { result ≡ false → (at : P) × P.was_full at × (P.accepted at ≡ P.accepted sink.new) }
+    {
+        while self.from < self.to {
+            match sink.post(rt, self.piece[self.from]) {
+                Ok(()) => self.from += 1,
+                Err(Full(_byte)) => return false,
+            }
+        }
+        true
+    }
+
+    // Reads once, no more than there may be.
+    fn read(&mut self) -> Heard
+        requires none { self.old.kept ≡ [] }
+        requires some { self.old.taken < 4096 }
+        ensures gives { Consumes self.old.left self.new.left self.new.kept }
+        ensures count { self.new.taken ≡ self.old.taken + length self.new.kept }
+        ensures most { self.new.taken ≤ 4096 }
+        ensures reads { Reads result self.old self.new }
+        ensures said { Said self.new result }
+        ensures same { (self.new.spoke ≡ self.old.spoke) × (self.new.watched ≡ self.old.watched) }
+    {
+        let room = PIECE.min(MOST - self.taken);
+        let mut piece = [0; PIECE];
+        let heard = self.source.hear(&mut piece[..room]);
+        if let Heard::Bytes(count) = heard {
+            self.piece = piece;
+            self.from = 0;
+            self.to = count;
+            self.taken += count;
+        }
+        heard
+    }
+}

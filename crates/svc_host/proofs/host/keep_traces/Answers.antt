@@ -1,0 +1,19 @@
+use Rattle.std.proofs.Common.{refl, ap, ◌∙◌, ◌<◌, length, arith}
+use Rattle.svc_host.proofs.Going.{all_same, go_on_then, set_length, step_goes}
+use Rattle.svc_host.proofs.host.keep_traces.Goals as goal
+
+pub loop-place-init : goal.loop-place-init
+loop-place-init g c = record { goes = all_same c.args.parts.now.items; count = refl }
+
+pub loop-place-preserved : goal.loop-place-preserved
+loop-place-preserved g c =
+    let at = c.loop-place.invariant in
+    let step = c.keep_trace.ensures in
+    let mids = c.loop-place.parts.items in
+    let place = c.loop-place.place in
+    let within : place < length mids = omega (arith, c.loop-place-test.true, at.count) in
+    record {
+      goes = go_on_then c.args.parts.now.items mids c.keep_trace.new.parts.items at.goes
+          (step_goes mids place c.keep_trace.new.parts.items within step);
+      count = ap length step.parts ∙ set_length mids place step.part ∙ at.count;
+    }

@@ -1,0 +1,9 @@
+use Rattle.std.proofs.Common.{◌≡◌, length}
+use Rattle.svc_host.specs.Parts.{GoOn}
+use Rattle.svc_host.proofs.host.keep_traces.Given as goal
+
+abbrev pub invariant-loop-place : goal.invariant-loop-place
+invariant-loop-place g l = record {
+  goes : GoOn l.fn.parts.items l.parts.items;
+  count : length l.parts.items ≡ length l.fn.parts.items;
+}

@@ -1,8 +1,0 @@
-use Rattle.std.proofs.Common.{◌≡◌, ℕ, ◌<◌, false, slice_index_or}
-use Rattle.scan_table.specs.declared.part.PartId.{PartId}
-use Rattle.scan_table.specs.Table.{is_at}
-use Rattle.svc_host.proofs.seats.restarts_in.Given as goal
-
-abbrev pub invariant-loop-other : goal.invariant-loop-other
-invariant-loop-other l =
-    (k : ℕ) (d : PartId) → k < l.other-index → is_at (slice_index_or l.parts k d) l.part.slot l.part.role ≡ false

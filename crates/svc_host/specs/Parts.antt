@@ -1,0 +1,138 @@
+-- What a host knows of the parts that are there.
+use Rattle.std.specs.Prelude.{◌≡◌, ◌≢◌, ◌<◌, ⊤, Bool, true, false, not, ◌&&◌, ◌==◌, ℕ, List, [], ◌∷◌, ◌++◌, length}
+use Rattle.std.specs.Prelude.{slice_index_or, slice_set}
+use Rattle.std.specs.List.{filter, list_any, All}
+use mathlib.Core.List.{IsPrefix}
+use Rattle.tai_status.specs.Record.{Status}
+use Rattle.sup_core.specs.declared.event.Event.{Event}
+use Rattle.tai_status.specs.declared.phase.Phase.TheVariants as phase
+use Rattle.sup_core.specs.History.{History, Opened, phase_of, status_of}
+use Rattle.sup_core.specs.Runs.{followed_by}
+use Rattle.scan_table.specs.declared.part.PartId.{PartId}
+use Rattle.scan_table.specs.Table.{is_at}
+use Rattle.svc_station.specs.declared.rule.Origin.{Origin}
+use Rattle.svc_mail.specs.declared.sender.Sender.{Sender}
+use Rattle.svc_mail.specs.Ends.{posted}
+use Rattle.svc_station.specs.declared.reader.Reader.{Reader}
+use Rattle.svc_station.specs.Ends.{known_to, reader_station}
+use Rattle.svc_host.specs.declared.part.Loss.{Loss}
+
+-- A part that is there: the station to which its thread publishes, which of its events the host has read of, the
+-- control bytes that the host posted to it, and whether its thread was joined.
+pub record HostPart : Type 0 where
+  pub id : PartId
+  pub station : Origin
+  pub known : List Event
+  pub posted : List ℕ
+  pub has_ended : Bool
+  -- what was lost at its end, and is not told
+  pub loss : Loss
+
+abbrev pub no_loss : Loss
+no_loss = record { untaken = 0; lacks_trace = false }
+
+-- a part that runs, with this reader of its station and this sender of its mailbox
+abbrev pub new_part : {A : Type 0} → PartId → Reader → Sender ℕ A → HostPart
+new_part id reader sender = record {
+  id = id;
+  station = reader_station reader;
+  known = known_to reader;
+  posted = posted sender;
+  has_ended = false;
+  loss = no_loss;
+}
+
+-- the machine with which the part's station was opened, and the events of it that the host has read of
+abbrev pub history_of : HostPart → History
+history_of part = followed_by (Opened part.station.opening) part.known
+
+-- Of a part that has ended all events were read: it is gone.
+abbrev pub IsGoneIfEnded : HostPart → Type 0
+IsGoneIfEnded part = part.has_ended ≡ true → phase_of (history_of part) ≡ phase.Gone
+
+-- It is the same part, whose events go on from those that the host had read of. The host posted nothing to it.
+pub record PartGoesOn (old new : HostPart) : Type 0 where
+  pub id : new.id ≡ old.id
+  pub station : new.station ≡ old.station
+  pub known : IsPrefix old.known new.known
+  pub posted : new.posted ≡ old.posted
+
+-- The host posted this byte to it, and nothing else of it changed.
+pub record HasPosted (old : HostPart) (byte : ℕ) (new : HostPart) : Type 0 where
+  pub id : new.id ≡ old.id
+  pub station : new.station ≡ old.station
+  pub known : new.known ≡ old.known
+  pub posted : new.posted ≡ old.posted ++ byte ∷ []
+  pub has_ended : new.has_ended ≡ old.has_ended
+  pub loss : new.loss ≡ old.loss
+
+-- No such part is there.
+abbrev pub IsNowhere : PartId → List HostPart → Type 0
+IsNowhere id parts = All (λ (part : HostPart). part.id ≢ id) parts
+
+-- At this place stands the part.
+pub record IsPlace (id : PartId) (parts : List HostPart) (place : ℕ) : Type 0 where
+  pub within : place < length parts
+  pub here : (d : HostPart) → (slice_index_or parts place d).id ≡ id
+
+-- A part of this name is there, and this is what is known of it.
+pub record IsPart (id : PartId) (parts : List HostPart) (part : HostPart) : Type 0 where
+  pub place : ℕ
+  pub within : place < length parts
+  pub here : (d : HostPart) → slice_index_or parts place d ≡ part
+  pub is : part.id ≡ id
+
+-- The same parts are there, in the same order, and each one's events go on.
+abbrev pub GoOn : List HostPart → List HostPart → Type 0
+GoOn [] [] = ⊤
+GoOn (old ∷ olds) (new ∷ news) = PartGoesOn old new × GoOn olds news
+GoOn olds news = ⊥
+
+-- One of them goes on, and the others are as they were.
+pub record IsStep (old : List HostPart) (place : ℕ) (new : List HostPart) : Type 0 where
+  pub part : HostPart
+  pub goes_on : (d : HostPart) → PartGoesOn (slice_index_or old place d) part
+  pub parts : new ≡ slice_set old place part
+
+-- A control byte was posted to the part, and nothing else of the parts changed.
+pub record IsPost (old : List HostPart) (id : PartId) (byte : ℕ) (new : List HostPart) : Type 0 where
+  pub place : ℕ
+  pub part : HostPart
+  pub here : (d : HostPart) → HasPosted (slice_index_or old place d) byte part
+  pub is : part.id ≡ id
+  pub parts : new ≡ slice_set old place part
+
+-- At this place stands a part that lost something which is not told.
+pub record HasLoss (parts : List HostPart) (place : ℕ) : Type 0 where
+  pub within : place < length parts
+  pub lost : (d : HostPart) → (slice_index_or parts place d).loss ≢ no_loss
+
+-- What the part lost at its end is told, and nothing else of the parts changed.
+pub record IsToldLoss (old : List HostPart) (id : PartId) (loss : Loss) (new : List HostPart) : Type 0 where
+  pub place : ℕ
+  pub has : HasLoss old place
+  pub is : (d : HostPart) → (slice_index_or old place d).id ≡ id
+  pub loss_is : (d : HostPart) → (slice_index_or old place d).loss ≡ loss
+  pub once : (d : HostPart) → new ≡ slice_set old place (record (slice_index_or old place d) { loss = no_loss })
+
+-- Nothing that was lost is to be told.
+abbrev pub AllTold : List HostPart → Type 0
+AllTold parts = All (λ (part : HostPart). part.loss ≡ no_loss) parts
+
+-- The status of the part, after the events of it that the host has read of.
+pub record IsReading (id : PartId) (parts : List HostPart) (status : Status) : Type 0 where
+  pub part : HostPart
+  pub is : IsPart id parts part
+  pub reading : status ≡ status_of (history_of part)
+  -- Of a part that has ended all was read.
+  pub gone : IsGoneIfEnded part
+
+-- Whether a part stays at a scan: its slot is not dropped, and it does not restart.
+abbrev pub stays : List ℕ → List PartId → PartId → Bool
+stays drops restarts id =
+    not (list_any (λ slot. slot == id.slot) drops)
+    && not (list_any (λ other. is_at other id.slot id.role) restarts)
+
+-- how many parts run
+abbrev pub count_running : List HostPart → ℕ
+count_running parts = length (filter (λ (part : HostPart). not part.has_ended) parts)

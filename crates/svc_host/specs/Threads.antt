@@ -1,0 +1,27 @@
+-- The thread of a part: it runs, or was joined.
+use Rattle.std.specs.Prelude.{◌≡◌, ℕ, Bool, true, false}
+use mathlib.Core.List.{IsPrefix}
+use Rattle.svc_station.specs.declared.reader.Reader.{Reader}
+use Rattle.svc_station.specs.Ends.{known_to, reader_station}
+use Rattle.svc_host.specs.declared.part_thread.PartThread.{PartThread}
+use Rattle.svc_host.specs.declared.part_thread.PartThread.TheVariants.{Runs, Ended}
+
+-- the reader of its station, as the host has it or had it last
+abbrev pub reader_at : {R : Type 0} → PartThread R → Reader
+reader_at (Runs running) = running.status_reader.reader
+reader_at (Ended last) = last.reader.value
+
+abbrev pub is_ended : {R : Type 0} → PartThread R → Bool
+is_ended (Runs running) = false
+is_ended (Ended last) = true
+
+-- It is the same station, of whose events no less is known.
+abbrev pub IsSameThread : {R : Type 0} → PartThread R → PartThread R → Type 0
+IsSameThread old new =
+    (reader_station (reader_at new) ≡ reader_station (reader_at old))
+    × IsPrefix (known_to (reader_at old)) (known_to (reader_at new))
+
+-- how many letters were found in the mailbox of a service that was gone
+abbrev pub untaken_at : {R : Type 0} → PartThread R → ℕ
+untaken_at (Runs running) = 0
+untaken_at (Ended last) = last.untaken

@@ -1,0 +1,208 @@
+//! The factory of parts.
+ghost use Rattle.std.specs.Prelude.{◌≡◌, ◌≤◌, ◌<◌, IfSome};
+ghost use Rattle.sup_core.specs.History.{Begin, History};
+ghost use Rattle.scan_table.specs.Scan.{AreRising};
+ghost use Rattle.svc_host.specs.Parts.{PartGoesOn};
+ghost use Rattle.svc_host.specs.Begun.{BeginsByRow, IsBegun, is_down};
+
+use crate::ends::{open_mailbox, open_station};
+use crate::growth::Growth;
+use crate::maker::{Maker, PartResources, Reaper};
+use crate::pair::Pair;
+use crate::part::Part;
+use crate::running::{Running, end};
+use crate::service::Task;
+use crate::shared::PartShared;
+use scan_table::{DirRow, PartId, Role, ScanTable, find_row};
+use std::alloc::Global;
+use std::io;
+use std::sync::{Arc, Wait};
+use std::thread::{Builder, Threads};
+use std::time::Clock;
+use sup_core::Machine;
+use svc_house::{ControlSender, Notifier};
+use svc_station::parked::Parked;
+use tai_status::Label;
+
+/// How much room each part gets.
+#[derive(Clone, Copy)]
+pub(crate) struct Rooms {
+    /// How many control bytes a mailbox holds, and how many pieces the box of a pair.
+    pub(crate) mail: usize,
+    /// How many entries a trace has.
+    pub(crate) trace: usize,
+    ghost some_mail: { 0 < mail },
+    ghost some_trace: { 0 < trace },
+    ghost within_trace: { trace ≤ 65536 },
+}
+
+/// How a machine begins: whether there is a `down` file, and when.
+#[derive(Clone, Copy)]
+pub(crate) struct Beginning {
+    pub(crate) down: bool,
+    pub(crate) label: Label,
+}
+
+/// Whether a row has the `down` file of the part of a role.
+fn is_down(row: &DirRow, role: Role) -> bool
+    ensures { result ≡ is_down role row.now }
+{
+    match role {
+        Role::Main => row.down,
+        Role::Log => row.log_down,
+    }
+}
+
+/// Starts the thread of a reaper.
+fn start_reaper<
+    A: Reaper + Drop + Send + 'static,
+    R: Threads + Wait + Clock + Copy + Drop + Send + 'static,
+>(rt: R, reaper: A) -> io::Result<()> {
+    Builder::new()
+        .stack_size(1)
+        .spawn(&rt, move || reaper.run(rt))?;
+    Ok(())
+}
+
+/// What makes parts and pairs, and the pairs whose threads run.
+#[derive(Drop)]
+pub(crate) struct PartFactory<
+    M: Maker + Drop,
+    R: Threads + Wait + Clock + Copy + Drop + Send + 'static,
+> {
+    pub(crate) rt: R,
+    pub(crate) alloc: Global,
+    pub(crate) maker: M,
+    pub(crate) pairs: Vec<Pair>,
+    /// What the host waits for: notified by each part that has ended.
+    pub(crate) notifier: Arc<Notifier, Global>,
+    pub(crate) rooms: Rooms,
+}
+
+impl<M: Maker + Drop, R: Threads + Wait + Clock + Copy + Drop + Send + 'static> PartFactory<M, R> {
+    /// Makes a part of the service of this name and starts its thread, or makes nothing.
+    fn make(&mut self, name: &str, id: PartId, beginning: Beginning) -> Option<Part<R>>
+        ensures { IfSome result (λ part. IsBegun id (Begin beginning.down beginning.label) part) }
+    {
+        let (machine, _asks) = Machine::begin(beginning.down, beginning.label);
+        let shared = Arc::new(
+            self.alloc,
+            PartShared::new(self.alloc, &self.notifier).ok()?,
+        )
+        .ok()?;
+        let (inside, outside, receiver) = open_mailbox(self.alloc, self.rooms.mail)?;
+        let outside = ControlSender::new(outside, Arc::try_clone(&shared.notifier).ok()?);
+        let inside = ControlSender::new(inside, Arc::try_clone(&shared.notifier).ok()?);
+        let notifier = Arc::try_clone(&shared.notifier).ok()?;
+        let own = Arc::try_clone(&shared).ok()?;
+        let (writer, status_reader) = open_station(
+            &self.rt,
+            self.alloc,
+            machine,
+            self.rooms.trace,
+        )?;
+        let Some(resources) = self.maker.part(name, id, outside, notifier) else {
+            end(&self.rt, writer, status_reader);
+            return None;
+        };
+        let PartResources {
+            world,
+            gate,
+            reaper,
+        } = resources;
+        if start_reaper(self.rt, reaper).is_err() {
+            self.maker.ended(id);
+            end(&self.rt, writer, status_reader);
+            return None;
+        }
+        let task = Task {
+            parked: Parked::new(writer, self.rt),
+            world,
+            gate,
+            receiver,
+            down: beginning.down,
+            label: beginning.label,
+            shared: own,
+        };
+        let Some(running) = Running::start(self.rt, task, status_reader, shared) else {
+            self.maker.ended(id);
+            return None;
+        };
+        Some(Part::new(id, inside, running))
+    }
+
+    /// Makes a part of the table, by the row of its slot, and starts its thread, or makes nothing.
+    pub(crate) fn begin(
+        &mut self,
+        table: &ScanTable,
+        rows: &[DirRow],
+        label: Label,
+        id: PartId,
+    ) -> Option<Part<R>>
+        requires { AreRising rows.now }
+        ensures id { IfSome result (λ part. part.id ≡ id) }
+        ensures begun { IfSome result (λ part. BeginsByRow table.now.slots rows.now label part) }
+    {
+        if table.is_pair(id.slot) {
+            self.start_pair(id.slot)?;
+        }
+        let Some(name) = table.name(id.slot) else {
+            return None;
+        };
+        let Some(row) = find_row(rows, name.as_str()) else {
+            return None;
+        };
+        let down = is_down(row, id.role);
+        self.make(name.as_str(), id, Beginning { down, label })
+    }
+
+    // The threads of a pair run now, or can't be made.
+    fn start_pair(&mut self, slot: u64) -> Option<()> {
+        if self.pairs.iter().any(|pair| pair.slot == slot) {
+            return Some(());
+        }
+        self.pairs.reserve(1).ok()?;
+        let pair = Pair::start(self.rt, self.alloc, &mut self.maker, slot, self.rooms.mail)?;
+        self.pairs.push_reserved(pair);
+        Some(())
+    }
+
+    /// Forgets a slot: the threads of its pair are to end.
+    pub(crate) fn forget(&mut self, slot: u64) {
+        for pair in &self.pairs {
+            if pair.slot == slot {
+                pair.leave();
+            }
+        }
+        self.pairs.retain(|pair| pair.slot != slot);
+        self.maker.forget(slot);
+    }
+
+    /// The threads of all pairs are to end.
+    pub(crate) fn forget_all(&mut self) {
+        for pair in &self.pairs {
+            pair.leave();
+            self.maker.forget(pair.slot);
+        }
+        self.pairs.clear();
+    }
+
+    /// Hands the trace of a part to the maker, where it has grown. Whether its newest trace is kept.
+    pub(crate) fn keep_trace(&mut self, part: &mut Part<R>) -> bool
+        ensures same { PartGoesOn part.old part.new }
+        ensures ended { part.new.has_ended ≡ part.old.has_ended }
+        ensures loss { part.new.loss ≡ part.old.loss }
+    {
+        match part.growth(self.alloc) {
+            Growth::None => true,
+            Growth::Refused => false,
+            Growth::By { count, text } => {
+                let kept = self.maker.keep_trace(part.id(), &text);
+                if kept {
+                    part.trace_is_kept(count);
+                }
+                kept
+            }
+        }
+    }
+}

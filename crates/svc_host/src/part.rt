@@ -1,0 +1,192 @@
+//! A part that is there.
+use crate::growth::Growth;
+use crate::part_thread::PartThread;
+use crate::running::Running;
+use scan_table::PartId;
+use std::alloc::Global;
+use std::marker::Model;
+use std::sync::Wait;
+use std::thread::Threads;
+use std::time::Clock;
+use sup_core::Machine;
+use svc_house::ControlSender;
+use svc_mail::letter::Full;
+
+/// What was lost as a part ended.
+#[derive(Clone, Copy, Debug, PartialEq, Eq)]
+pub struct Loss {
+    /// How many control bytes were posted to it that its service did not take.
+    pub untaken: u64,
+    /// Whether its last trace was not kept: for want of memory, or since the maker could not.
+    pub lacks_trace: bool,
+}
+
+impl Loss {
+    /// Nothing was lost.
+    pub const NONE: Loss = Loss {
+        untaken: 0,
+        lacks_trace: false,
+    };
+}
+
+/// A part that is there. Contracts see it as `HostPart`.
+#[derive(Drop)]
+pub(crate) struct Part<R: Wait + Drop> {
+    id: PartId,
+    sender: ControlSender,
+    thread: PartThread<R>,
+    // How many events the trace counted that was kept last.
+    kept: Option<u64>,
+    // What was lost at its end, and is not told.
+    loss: Loss,
+    // Whether the bytes that end a service were posted, `d` and then `x`.
+    posted_down: bool,
+    posted_exit: bool,
+}
+
+impl<R: Wait + Drop> Model for Part<R> {
+    ghost use Rattle.svc_mail.specs.Ends.{posted};
+    ghost use Rattle.svc_station.specs.Ends.{known_to, reader_station};
+    ghost use Rattle.svc_house.specs.Mail.{sender_in};
+    ghost use Rattle.svc_host.specs.Parts.{HostPart};
+    ghost use Rattle.svc_host.specs.Threads.{reader_at, is_ended};
+
+    ghost Value = { HostPart };
+
+    ghost view = { λ part. record {
+      id = part.id;
+      station = reader_station (reader_at part.thread);
+      known = known_to (reader_at part.thread);
+      posted = posted (sender_in part.sender);
+      has_ended = is_ended part.thread;
+      loss = part.loss;
+    } };
+}
+
+impl<R: Threads + Wait + Clock + Copy + Drop + Send + 'static> Part<R> {
+    ghost use Rattle.std.specs.Prelude.{◌≡◌, ◌≢◌, ◌++◌, ◌∷◌, [], true, false, not, MatchBool, MatchResult};
+    ghost use Rattle.sup_core.specs.History.{phase_of, state_of};
+    ghost use Rattle.tai_status.specs.declared.phase.Phase.{Phase};
+    ghost use Rattle.svc_house.specs.Mail.{sender_in};
+    ghost use Rattle.svc_host.specs.Parts.{PartGoesOn, history_of, HasPosted, new_part, no_loss};
+
+    /// A part whose service runs. By `sender` the host posts to it.
+    pub(crate) fn new(id: PartId, sender: ControlSender, running: Running<R>) -> Part<R>
+        ensures { result ≡ new_part id running.status_reader.reader (sender_in sender) }
+    {
+        Part {
+            id,
+            sender,
+            thread: PartThread::Runs(running),
+            kept: None,
+            loss: Loss::NONE,
+            posted_down: false,
+            posted_exit: false,
+        }
+    }
+
+    /// Which part it is.
+    pub(crate) fn id(&self) -> PartId
+        ensures { result ≡ self.now.id }
+    {
+        self.id
+    }
+
+    /// Whether its thread was joined.
+    pub(crate) fn has_ended(&self) -> bool
+        ensures { result ≡ self.now.has_ended }
+    {
+        self.thread.has_ended()
+    }
+
+    /// Whether its service has ended, and its thread is still to be joined.
+    pub(crate) fn is_to_be_joined(&self) -> bool
+        ensures { result ≡ true → self.now.has_ended ≡ false }
+    {
+        self.thread.is_to_be_joined()
+    }
+
+    /// Joins its thread, where it was not joined.
+    pub(crate) fn join(&mut self, rt: &R, alloc: Global)
+        ensures same { PartGoesOn self.old self.new }
+        ensures ended { self.new.has_ended ≡ true }
+        ensures loss { self.new.loss ≡ self.old.loss }
+    {
+        self.thread.join(rt, alloc);
+    }
+
+    /// The machine after what was read of its events.
+    pub(crate) fn machine(&mut self) -> Machine
+        ensures same { PartGoesOn self.old self.new }
+        ensures ended { self.new.has_ended ≡ self.old.has_ended }
+        ensures loss { self.new.loss ≡ self.old.loss }
+        ensures reading { result ≡ state_of (history_of self.new) }
+        ensures gone { self.new.has_ended ≡ true → phase_of (history_of self.new) ≡ Phase.Gone }
+    {
+        self.thread.machine()
+    }
+
+    /// Posts a control byte. `Full` gives it back, and nothing was posted.
+    pub(crate) fn post(&mut self, rt: &R, byte: u8) -> Result<(), Full<u8>>
+        ensures { MatchResult result (λ _. HasPosted self.old byte self.new) (λ _. self.new ≡ self.old) }
+    {
+        self.sender.post(rt, byte)
+    }
+
+    /// Posts those of the bytes that end a service that were not posted yet. Whether all were, or it has ended.
+    pub(crate) fn post_end(&mut self, rt: &R) -> bool {
+        if !self.posted_down {
+            self.posted_down = self.sender.post(rt, b'd').is_ok();
+        }
+        if self.posted_down && !self.posted_exit {
+            self.posted_exit = self.sender.post(rt, b'x').is_ok();
+        }
+        self.posted_exit || self.has_ended()
+    }
+
+    /// The text of its trace, where that has grown since it was kept last.
+    pub(crate) fn growth(&mut self, alloc: Global) -> Growth
+        ensures same { PartGoesOn self.old self.new }
+        ensures ended { self.new.has_ended ≡ self.old.has_ended }
+        ensures loss { self.new.loss ≡ self.old.loss }
+    {
+        self.thread.growth(alloc, self.kept)
+    }
+
+    /// Its trace was kept, which counted so many events.
+    pub(crate) fn trace_is_kept(&mut self, count: u64)
+        ensures { self.new ≡ self.old }
+    {
+        self.kept = Some(count);
+    }
+
+    /// Notes what was lost at its end: the control bytes that are left in its mailbox, so many at most, and its last
+    /// trace, where that was not kept.
+    pub(crate) fn note_loss(&mut self, rt: &R, most: usize, has_trace: bool)
+        ensures same { PartGoesOn self.old self.new }
+        ensures ended { self.new.has_ended ≡ self.old.has_ended }
+        ensures trace { self.new.loss.lacks_trace ≡ not has_trace }
+    {
+        self.loss = Loss {
+            untaken: self.thread.drain(rt, most),
+            lacks_trace: !has_trace,
+        };
+    }
+
+    /// Whether something was lost at its end, and is not told.
+    pub(crate) fn has_loss(&self) -> bool
+        ensures { MatchBool result (self.now.loss ≢ no_loss) (self.now.loss ≡ no_loss) }
+    {
+        self.loss != Loss::NONE
+    }
+
+    /// What was lost at its end, and was not told: it is told by this.
+    pub(crate) fn take_loss(&mut self) -> Loss
+        ensures loss { result ≡ self.old.loss }
+        ensures once { self.new ≡ record self.old { loss = no_loss } }
+    {
+        let loss = self.loss;
+        self.loss = Loss::NONE;
+        loss
+    }
+}

@@ -1,0 +1,227 @@
+//! The thread of a part.
+ghost use Rattle.std.specs.Prelude.{◌≡◌, ◌+◌, length};
+ghost use Rattle.sup_core.specs.History.{phase_of, state_of};
+ghost use mathlib.Core.List.{IsPrefix};
+ghost use Rattle.svc_mail.specs.Ends.{taken_by};
+ghost use Rattle.svc_station.specs.Ends.{IsSameReader, history_at, history_of, known_to, published, reader_station};
+ghost use Rattle.svc_station.specs.Ends.{station};
+ghost use Rattle.svc_house.specs.Calls.{bytes_in};
+ghost use Rattle.svc_host.specs.Served.{IsServed};
+ghost use Rattle.tai_status.specs.declared.phase.Phase.{Phase};
+
+use crate::growth::{Growth, growth_of};
+use crate::running::Running;
+use core::mem::replace_with;
+use std::alloc::{AllocError, Global};
+use std::snapshot::Snapshot;
+use std::sync::Wait;
+use std::thread::Threads;
+use std::time::Clock;
+use sup_core::Machine;
+use sup_trace::TraceText;
+use svc_house::last_reading;
+use svc_mail::receiver::Receiver;
+use svc_station::audit::last_machine;
+use svc_station::reader::Reader;
+use svc_station::writer::Writer;
+
+/// What is left of a service that is gone, once its station has ended: the machine after its whole history, the trace
+/// of that, and the receiver of its mailbox, with how many letters that took since the service was gone.
+#[derive(Drop)]
+pub(crate) struct Last {
+    pub(crate) machine: Machine,
+    trace: Option<TraceText>,
+    receiver: Receiver<u8>,
+    pub(crate) untaken: u64,
+    pub(crate) reader: Snapshot<Reader>,
+    ghost reads: { machine ≡ state_of (history_at reader.value) },
+    ghost gone: { phase_of (history_at reader.value) ≡ Phase.Gone },
+    // The service took one letter for each control byte of its whole history. What was taken since then is counted.
+    ghost counted: { length (taken_by receiver) ≡ length (bytes_in (known_to reader.value)) + untaken },
+}
+
+impl Last {
+    ghost use Rattle.std.specs.Prelude.{◌≡◌};
+    ghost use mathlib.Core.List.{IsPrefix};
+    ghost use Rattle.sup_core.specs.History.{phase_of};
+    ghost use Rattle.tai_status.specs.declared.phase.Phase.{Phase};
+    ghost use Rattle.svc_station.specs.Ends.{IsSameReader, history_of, known_to, reader_station, station};
+    ghost use Rattle.svc_host.specs.Served.{IsServed};
+
+    /// What a reader reads once it has learnt what the writer of its station tells, whose service is gone. Where there
+    /// is no memory for it, there is no trace.
+    pub(crate) fn of(
+        alloc: Global,
+        reader: &mut Reader,
+        writer: &mut Writer,
+        receiver: Receiver<u8>,
+    ) -> Last
+        requires station { reader_station reader.old ≡ station writer.old }
+        requires served { IsServed writer.old receiver }
+        ensures same { IsSameReader reader.old reader.new }
+        ensures own { IsPrefix (known_to reader.old) (known_to reader.new) }
+        ensures now { result.reader.value ≡ reader.new }
+        ensures kept { writer.new ≡ writer.old }
+        ensures untaken { result.untaken ≡ 0 }
+    {
+        let (machine, trace) = read_last(alloc, reader, writer);
+        Last {
+            machine,
+            trace,
+            receiver,
+            untaken: 0,
+            reader: Snapshot::of(reader),
+        }
+    }
+
+    // What became of its trace since so many events were counted.
+    fn growth(&self, alloc: Global, last: Option<u64>) -> Growth {
+        match &self.trace {
+            Some(trace) => growth_of(trace, alloc, last),
+            None => Growth::Refused,
+        }
+    }
+
+    // Takes a letter that the service did not take, and counts it. Whether there was one.
+    fn take_one<R: Wait>(&mut self, rt: &R) -> bool
+        ensures reader { self.new.reader ≡ self.old.reader }
+        ensures machine { self.new.machine ≡ self.old.machine }
+    {
+        match self.receiver.take(rt) {
+            Some(_letter) => {
+                self.untaken += 1;
+                true
+            }
+            None => false,
+        }
+    }
+
+    /// Takes the letters that the service did not take, so many at most.
+    pub(crate) fn drain<R: Wait>(&mut self, rt: &R, most: usize)
+        ensures reader { self.new.reader ≡ self.old.reader }
+        ensures machine { self.new.machine ≡ self.old.machine }
+    {
+        for _ in 0..most {
+            if !self.take_one(rt) {
+                return;
+            }
+        }
+    }
+}
+
+/// The machine and the trace of a service that is gone, after its whole history.
+fn read_last(
+    alloc: Global,
+    reader: &mut Reader,
+    writer: &mut Writer,
+) -> (Machine, Option<TraceText>)
+    requires station { reader_station reader.old ≡ station writer.old }
+    requires gone { phase_of (history_of writer.old) ≡ Phase.Gone }
+    ensures machine { result.0 ≡ state_of (history_at reader.new) }
+    ensures gone { phase_of (history_at reader.new) ≡ Phase.Gone }
+    ensures whole { known_to reader.new ≡ published writer.old }
+    ensures same { IsSameReader reader.old reader.new }
+    ensures own { IsPrefix (known_to reader.old) (known_to reader.new) }
+    ensures kept { writer.new ≡ writer.old }
+{
+    match last_reading(alloc, reader, writer.tell()) {
+        Ok((machine, trace)) => (machine, Some(trace)),
+        Err(_refused) => (last_machine(reader, writer.tell()), None),
+    }
+}
+
+/// The thread of a part: it runs, or has ended and was joined.
+#[derive(Drop)]
+pub(crate) enum PartThread<R: Wait + Drop> {
+    Runs(Running<R>),
+    Ended(Last),
+}
+
+impl<R: Threads + Wait + Clock + Copy + Drop + Send + 'static> PartThread<R> {
+    ghost use Rattle.std.specs.Prelude.{◌≡◌, true, false};
+    ghost use mathlib.Core.List.{IsPrefix};
+    ghost use Rattle.sup_core.specs.History.{phase_of, state_of};
+    ghost use Rattle.tai_status.specs.declared.phase.Phase.{Phase};
+    ghost use Rattle.svc_station.specs.Ends.{history_at, known_to, reader_station};
+    ghost use Rattle.svc_host.specs.Threads.{IsSameThread, is_ended, reader_at, untaken_at};
+
+    /// Whether the thread was joined.
+    pub(crate) fn has_ended(&self) -> bool
+        ensures { result ≡ is_ended self.now }
+    {
+        matches!(self, PartThread::Ended(_))
+    }
+
+    /// Whether the service has ended, and its thread is still to be joined.
+    pub(crate) fn is_to_be_joined(&self) -> bool
+        ensures { result ≡ true → is_ended self.now ≡ false }
+    {
+        match self {
+            PartThread::Runs(running) => running.shared.has_ended(),
+            PartThread::Ended(_) => false,
+        }
+    }
+
+    // Joins the thread, where it was not joined.
+    fn joined(self, rt: &R, alloc: Global) -> (PartThread<R>, ())
+        ensures same { IsSameThread self result.0 }
+        ensures ended { is_ended result.0 ≡ true }
+    {
+        match self {
+            PartThread::Runs(running) => (PartThread::Ended(running.join(rt, alloc)), ()),
+            PartThread::Ended(last) => (PartThread::Ended(last), ()),
+        }
+    }
+
+    /// Joins the thread, where it was not joined.
+    pub(crate) fn join(&mut self, rt: &R, alloc: Global)
+        ensures same { IsSameThread self.old self.new }
+        ensures ended { is_ended self.new ≡ true }
+    {
+        replace_with(self, rt, |thread, rt| thread.joined(rt, alloc))
+    }
+
+    /// The machine after what was read of its events: of a part that has ended, after all of them.
+    pub(crate) fn machine(&mut self) -> Machine
+        ensures same { IsSameThread self.old self.new }
+        ensures ended { is_ended self.new ≡ is_ended self.old }
+        ensures reading { result ≡ state_of (history_at (reader_at self.new)) }
+        ensures gone { is_ended self.new ≡ true → phase_of (history_at (reader_at self.new)) ≡ Phase.Gone }
+    {
+        match self {
+            PartThread::Runs(running) => running.status_reader.reader.machine(),
+            PartThread::Ended(last) => last.machine,
+        }
+    }
+
+    /// The text of its trace, where that counts other events than were counted last: while the service runs of its
+    /// events so far, and after the join of all of them.
+    pub(crate) fn growth(&mut self, alloc: Global, last: Option<u64>) -> Growth
+        ensures same { IsSameThread self.old self.new }
+        ensures ended { is_ended self.new ≡ is_ended self.old }
+    {
+        match self {
+            PartThread::Runs(running) => match running.status_reader.reader.trace(alloc) {
+                Ok(trace) => growth_of(&trace, alloc, last),
+                Err(AllocError) => Growth::Refused,
+            },
+            PartThread::Ended(read) => read.growth(alloc, last),
+        }
+    }
+
+    /// Takes the letters that its service, which is gone, did not take, so many at most: how many these are. None while
+    /// it runs.
+    pub(crate) fn drain(&mut self, rt: &R, most: usize) -> u64
+        ensures same { IsSameThread self.old self.new }
+        ensures ended { is_ended self.new ≡ is_ended self.old }
+        ensures untaken { result ≡ untaken_at self.new }
+    {
+        match self {
+            PartThread::Runs(_) => 0,
+            PartThread::Ended(last) => {
+                last.drain(rt, most);
+                last.untaken
+            }
+        }
+    }
+}

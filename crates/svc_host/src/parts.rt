@@ -1,0 +1,155 @@
+//! The parts that are there, as a list.
+ghost use Rattle.std.specs.Prelude.{◌≡◌, ◌<◌, ◌↔◌, ⊤, Err, OnOk, OnErr, IfSome, MatchOption, length, slice_index_or};
+ghost use Rattle.sup_core.specs.History.{state_of};
+ghost use Rattle.std.specs.List.{list_any};
+ghost use Rattle.scan_table.specs.Table.{is_at};
+ghost use Rattle.svc_host.specs.Parts.{AllTold, GoOn, HasLoss, IsNowhere, IsPlace, IsPost, IsReading, IsStep};
+ghost use Rattle.svc_host.specs.Parts.{HostPart, IsToldLoss};
+ghost use Rattle.svc_host.specs.Parts.{IsGoneIfEnded, count_running, history_of, stays};
+
+use crate::host::PostFault;
+use crate::part::{Loss, Part};
+use scan_table::{PartId, Role};
+use std::sync::Wait;
+use std::thread::Threads;
+use std::time::Clock;
+use sup_core::Machine;
+use tai_status::View;
+
+/// The place of a part.
+pub(crate) fn place_of<R: Threads + Wait + Clock + Copy + Drop + Send + 'static>(
+    parts: &[Part<R>],
+    id: PartId,
+) -> Option<usize>
+    ensures { MatchOption result (IsNowhere id parts.now) (λ place. IsPlace id parts.now place) }
+{
+    for place in 0..parts.len() {
+        if parts[place].id() == id {
+            return Some(place);
+        }
+    }
+    None
+}
+
+/// Posts a control byte to a part.
+pub(crate) fn post_to<R: Threads + Wait + Clock + Copy + Drop + Send + 'static>(
+    rt: &R,
+    parts: &mut Vec<Part<R>>,
+    id: PartId,
+    byte: u8,
+) -> Result<(), PostFault>
+    ensures there { (result ≡ Err PostFault.NoSuchPart) ↔ IsNowhere id parts.old.items }
+    ensures posted { OnOk result (IsPost parts.old.items id byte parts.new.items) }
+    ensures unchanged { OnErr result (parts.new.items ≡ parts.old.items) }
+{
+    let Some(place) = place_of(parts, id) else {
+        return Err(PostFault::NoSuchPart);
+    };
+    if parts[place].post(rt, byte).is_err() {
+        return Err(PostFault::Full);
+    }
+    Ok(())
+}
+
+/// The machine of the part at a place, after what was read of its events.
+fn machine_at<R: Threads + Wait + Clock + Copy + Drop + Send + 'static>(
+    parts: &mut Vec<Part<R>>,
+    place: usize,
+) -> Machine
+    requires { place < length parts.old.items }
+    ensures step { IsStep parts.old.items place parts.new.items }
+    ensures reading { (d : HostPart) → result ≡ state_of (history_of (slice_index_or parts.new.items place d)) }
+    ensures gone { (d : HostPart) → IsGoneIfEnded (slice_index_or parts.new.items place d) }
+{
+    parts[place].machine()
+}
+
+/// What the status record of a part tells.
+pub(crate) fn status_of<R: Threads + Wait + Clock + Copy + Drop + Send + 'static>(
+    parts: &mut Vec<Part<R>>,
+    id: PartId,
+) -> Option<View>
+    ensures parts { GoOn parts.old.items parts.new.items }
+    ensures there { MatchOption result (IsNowhere id parts.old.items) (λ view. IsReading id parts.new.items view) }
+{
+    let place = place_of(parts, id)?;
+    Some(machine_at(parts, place).view())
+}
+
+/// The place of a part that lost something which is not told.
+fn place_of_loss<R: Threads + Wait + Clock + Copy + Drop + Send + 'static>(
+    parts: &[Part<R>],
+) -> Option<usize>
+    ensures { MatchOption result (AllTold parts.now) (λ place. HasLoss parts.now place) }
+{
+    for at in 0..parts.len() {
+        if parts[at].has_loss() {
+            return Some(at);
+        }
+    }
+    None
+}
+
+/// What a part lost at its end, which is told by this.
+pub(crate) fn take_loss<R: Threads + Wait + Clock + Copy + Drop + Send + 'static>(
+    parts: &mut Vec<Part<R>>,
+) -> Option<(PartId, Loss)>
+    ensures none { MatchOption result (AllTold parts.old.items) (λ _. ⊤) }
+    ensures same { MatchOption result (parts.new.items ≡ parts.old.items) (λ _. ⊤) }
+    ensures told { IfSome result (λ lost. IsToldLoss parts.old.items lost.0 lost.1 parts.new.items) }
+{
+    let place = place_of_loss(parts)?;
+    let id = parts[place].id();
+    let loss = parts[place].take_loss();
+    Some((id, loss))
+}
+
+/// How many parts run.
+pub(crate) fn running<R: Threads + Wait + Clock + Copy + Drop + Send + 'static>(
+    parts: &[Part<R>],
+) -> usize
+    ensures { result ≡ count_running parts.now }
+{
+    parts.iter().filter(|part| !part.has_ended()).count()
+}
+
+/// Posts to each part those bytes that were not posted yet and end it. Whether all were.
+pub(crate) fn post_end<R: Threads + Wait + Clock + Copy + Drop + Send + 'static>(
+    rt: &R,
+    parts: &mut [Part<R>],
+) -> bool {
+    let mut all_posted = true;
+    for part in parts.iter_mut() {
+        all_posted = part.post_end(rt) && all_posted;
+    }
+    all_posted
+}
+
+/// Whether a part is of the slot and the role of another.
+fn is_of(other: &PartId, id: PartId) -> bool
+    ensures { result ≡ is_at other.now id.slot id.role }
+{
+    match id.role {
+        Role::Main => matches!(other.role, Role::Main) && other.slot == id.slot,
+        Role::Log => matches!(other.role, Role::Log) && other.slot == id.slot,
+    }
+}
+
+/// Whether one of these parts is of the slot and the role of a part.
+fn restarts_in(ids: &[PartId], id: PartId) -> bool
+    ensures { result ≡ list_any (λ other. is_at other id.slot id.role) ids.now }
+{
+    for other in ids {
+        if is_of(other, id) {
+            return true;
+        }
+    }
+    false
+}
+
+/// Whether a part stays at a scan: its slot is not dropped, and it does not restart.
+pub(crate) fn stays(id: PartId, drops: &[u64], restarts: &[PartId]) -> bool
+    ensures { result ≡ stays drops.now restarts.now id }
+{
+    !drops.contains(&id.slot) && !restarts_in(restarts, id)
+}

@@ -1,0 +1,80 @@
+//! What threads of a host share.
+use std::alloc::{AllocError, Global};
+use std::sync::Arc;
+use std::sync::atomic::{AtomicBool, Ordering};
+use svc_house::Notifier;
+
+/// What the thread of a service shares with the host.
+#[derive(Drop)]
+pub(crate) struct PartShared {
+    /// What the service's thread waits for.
+    pub(crate) notifier: Arc<Notifier, Global>,
+    // What the host waits for.
+    host: Arc<Notifier, Global>,
+    stays_out: AtomicBool,
+    has_ended: AtomicBool,
+}
+
+impl PartShared {
+    pub(crate) fn new(
+        alloc: Global,
+        host: &Arc<Notifier, Global>,
+    ) -> Result<PartShared, AllocError> {
+        Ok(PartShared {
+            notifier: Arc::new(alloc, Notifier::new())?,
+            host: Arc::try_clone(host)?,
+            stays_out: AtomicBool::new(false),
+            has_ended: AtomicBool::new(false),
+        })
+    }
+
+    /// The service is not to begin, since it has no thread.
+    pub(crate) fn stay_out(&self) {
+        self.stays_out.store(true, Ordering::SeqCst);
+    }
+
+    pub(crate) fn stays_out(&self) -> bool {
+        self.stays_out.load(Ordering::SeqCst)
+    }
+
+    /// The service has ended: the host is told.
+    pub(crate) fn end(&self) {
+        self.has_ended.store(true, Ordering::SeqCst);
+        self.host.notify();
+    }
+
+    pub(crate) fn has_ended(&self) -> bool {
+        self.has_ended.load(Ordering::SeqCst)
+    }
+}
+
+/// What the two threads of a pair share with the host.
+#[derive(Drop)]
+pub(crate) struct PairShared {
+    /// Notified where there is something to put, or somewhere to put it.
+    pub(crate) filled: Arc<Notifier, Global>,
+    /// Notified where there is room again.
+    pub(crate) emptied: Notifier,
+    leaves: AtomicBool,
+}
+
+impl PairShared {
+    pub(crate) fn new(alloc: Global) -> Result<PairShared, AllocError> {
+        Ok(PairShared {
+            filled: Arc::new(alloc, Notifier::new())?,
+            emptied: Notifier::new(),
+            leaves: AtomicBool::new(false),
+        })
+    }
+
+    /// Both threads are to end.
+    pub(crate) fn leave(&self) {
+        self.leaves.store(true, Ordering::SeqCst);
+        self.filled.notify();
+        self.emptied.notify();
+    }
+
+    pub(crate) fn leaves(&self) -> bool {
+        self.leaves.load(Ordering::SeqCst)
+    }
+}

@@ -1,0 +1,40 @@
+//! How a control byte comes to a service from another thread.
+ghost use Rattle.std.specs.Prelude.{◌≡◌, ◌++◌, ◌∷◌, [], IfErr, OnErr, OnOk};
+ghost use Rattle.svc_mail.specs.Ends.{IsSameSender, JoinsHistory, WasFull, posted, seen_by};
+ghost use Rattle.svc_house.specs.Mail.{sender_in};
+
+use crate::notifier::Notifier;
+use std::alloc::{Allocator, Global};
+use std::sync::{Arc, Wait};
+use svc_mail::letter::Full;
+use svc_mail::sender::Sender;
+
+/// A sender of a service's mailbox, with the notifier that the service's thread waits for.
+#[derive(Drop)]
+pub struct ControlSender<A: Allocator = Global> {
+    pub(crate) sender: Sender<u8, A>,
+    notifier: Arc<Notifier, A>,
+}
+
+impl<A: Allocator + Clone> ControlSender<A> {
+    /// Posts by this sender, and notifies this notifier.
+    pub fn new(sender: Sender<u8, A>, notifier: Arc<Notifier, A>) -> ControlSender<A>
+        ensures { sender_in result ≡ sender }
+    {
+        ControlSender { sender, notifier }
+    }
+
+    /// Posts a control byte, once, and then notifies. `Full` gives the byte back, and nothing was posted.
+    pub fn post<R: Wait>(&mut self, rt: &R, byte: u8) -> Result<(), Full<u8>>
+        ensures same { IsSameSender (sender_in self.old) (sender_in self.new) }
+        ensures posted { OnOk result (posted (sender_in self.new) ≡ posted (sender_in self.old) ++ byte ∷ []) }
+        ensures history { OnOk result (JoinsHistory (sender_in self.old) byte (sender_in self.new)) }
+        ensures unposted { OnErr result (posted (sender_in self.new) ≡ posted (sender_in self.old)) }
+        ensures unseen { OnErr result (seen_by (sender_in self.new) ≡ seen_by (sender_in self.old)) }
+        ensures full { IfErr result (λ full. (full.0 ≡ byte) × WasFull (sender_in self.old)) }
+    {
+        self.sender.post(rt, byte)?;
+        self.notifier.notify();
+        Ok(())
+    }
+}

@@ -1,0 +1,37 @@
+//! What the thread of a service waits for.
+use std::sync::Wait;
+use std::thread::Parker;
+use std::time::Duration;
+
+/// What one thread waits for, and any thread notifies.
+///
+/// The rule of use, by which no notification is lost: who notifies has put its news first; who waits has looked at
+/// everything since it last came back from a wait. A notification that comes between the look and the wait ends that
+/// wait at once.
+#[derive(Drop)]
+pub struct Notifier {
+    parker: Parker,
+}
+
+impl Notifier {
+    /// One that was not notified.
+    pub const fn new() -> Notifier {
+        Notifier {
+            parker: Parker::new(),
+        }
+    }
+
+    /// Ends the wait that is under way, or else the next. It returns at once.
+    pub fn notify(&self) {
+        self.parker.unpark()
+    }
+
+    /// Sleeps until a notification, and no longer than `longest`, where that is given. It may come back early. One
+    /// thread at a time may wait.
+    pub fn wait<R: Wait>(&self, rt: &R, longest: Option<Duration>) {
+        match longest {
+            None => self.parker.park(rt),
+            Some(time) => self.parker.park_timeout(rt, time),
+        }
+    }
+}

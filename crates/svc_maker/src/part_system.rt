@@ -1,0 +1,70 @@
+//! What the operating system does for the parts of services.
+use crate::kept_folder::LockedFolder;
+use std::alloc::Global;
+use std::io::{PipeReader, PipeWriter};
+use std::sync::Arc;
+use svc_host::Reaper;
+use svc_house::{ControlSender, Notifier, World};
+use svc_world::FolderFault;
+
+/// What the operating system does for the parts of services. Contracts see the calls with their answers, in order
+/// (`calls`), where they are kept. They may stop to be kept, as where there is no memory for more, and are not kept
+/// again.
+pub trait PartSystem {
+    ghost use Rattle.std.specs.Prelude.{◌≡◌, Option, Some, None, List, [], ◌∷◌, is_some};
+    ghost use Rattle.std.specs.Prelude.{string_bytes, IfOk, IfErr, IfSome, OnOk};
+    ghost use Rattle.svc_host.specs.Answers.{answered};
+    ghost use Rattle.svc_house.specs.Calls.{ExtendedWhileKept};
+    ghost use Rattle.svc_maker.specs.Calls.{Call, MadePipe, Opened, Admitted, Dismissed};
+    ghost use Rattle.svc_maker.specs.Calls.{KeptTrace, MakesWorld};
+
+    ghost calls: { Self → Option (List Call) } = { λ _. None };
+
+    type Folder: LockedFolder + Drop;
+
+    type World: World + Drop;
+
+    type Reaper: Reaper + Drop;
+
+    /// Makes a pipe, or none.
+    fn pipe(&mut self) -> Option<(PipeReader, PipeWriter)>
+        ensures calls { ExtendedWhileKept (calls self.old) (calls self.new) (MadePipe result ∷ []) };
+
+    /// Opens the folder at a path and takes its lock. Both are kept until the folder is let go.
+    fn open(&mut self, path: String) -> Result<Self::Folder, FolderFault>
+        ensures opened { OnOk result (ExtendedWhileKept (calls self.old) (calls self.new)
+            (Opened (string_bytes path) None ∷ [])) }
+        ensures path { IfOk result (λ folder. Self.Folder.path folder ≡ string_bytes path) }
+        ensures fault { IfErr result (λ fault.
+            ExtendedWhileKept (calls self.old) (calls self.new) (Opened (string_bytes path) (Some fault) ∷ [])) };
+
+    /// The world of the service in a folder, and what waits for its children, or none where it can't be made. Each
+    /// child has copies of these ends of pipes as standard input and output, and svscan's own where there is none. The
+    /// notifier is notified where there is news. By this name the service is told.
+    fn world(
+        &mut self,
+        folder: &Self::Folder,
+        name: &str,
+        input: Option<&PipeReader>,
+        output: Option<&PipeWriter>,
+        notifier: Arc<Notifier, Global>,
+    ) -> Option<(Self::World, Self::Reaper)>
+        ensures calls { MakesWorld (calls self.old) (calls self.new) (Self.Folder.path folder.now) name.now
+            input.entry output.entry (is_some result) }
+        ensures fresh { IfSome result (λ made. answered (Self.World.calls made.0) ≡ []) };
+
+    /// Admits a part to the door, by the sockets of its folder, or not. The number is one that no other part there has.
+    fn admit(&mut self, number: u64, folder: &Self::Folder, sender: ControlSender) -> bool
+        ensures calls { ExtendedWhileKept (calls self.old) (calls self.new)
+            (Admitted number (Self.Folder.path folder.now) result ∷ []) };
+
+    /// Dismisses a part from the door, where it is there, and removes the sockets of its folder.
+    fn dismiss(&mut self, number: u64, folder: &Self::Folder)
+        ensures calls { ExtendedWhileKept (calls self.old) (calls self.new)
+            (Dismissed number (Self.Folder.path folder.now) ∷ []) };
+
+    /// Puts a text in the place of the trace in a folder, and tells whether it could. Where not, the old one stands.
+    fn keep_trace(&mut self, folder: &Self::Folder, text: &[u8]) -> bool
+        ensures calls { ExtendedWhileKept (calls self.old) (calls self.new)
+            (KeptTrace (Self.Folder.path folder.now) text.now result ∷ []) };
+}

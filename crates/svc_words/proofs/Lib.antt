@@ -1,3 +1,0 @@
-pub mod Earlier
-pub mod Room
-pub mod Walk

@@ -1,6 +1,0 @@
-use Rattle.std.proofs.Common.{rules}
-use Rattle.svc_words.proofs.Room.{nothing_is_ordered}
-use Rattle.svc_words.proofs.order.OrderBytes.new.Goals as goal
-
-pub invariant_of-result : goal.invariant_of-result
-invariant_of-result c = search (rules, nothing_is_ordered)

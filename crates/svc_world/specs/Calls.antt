@@ -1,0 +1,16 @@
+-- What was asked of the system for one service, and what came of it.
+use Rattle.std.specs.Prelude.{ℕ, Bool, List, Option}
+use Rattle.tai_status.specs.Label.{Tai64n}
+use Rattle.sup_core.specs.declared.asks.Sig.{Sig}
+use Rattle.svc_world.specs.declared.begin.Begin.{Begin}
+
+-- One call, with its answer: a child was spawned, which got this number, or could not be made; the death of the child
+-- spawned last was sought; a signal was sent; a status record was to be written, and was or was not; the process of
+-- this number was sought in the folder of the service, and runs there or does not; the clock was read.
+pub data Call : Type 0 where
+  Spawned : (begin : Begin) → (child : Option ℕ) → Call
+  SoughtDeath : (death : Option Tai64n) → Call
+  Signalled : (sig : Sig) → (pid : ℕ) → Call
+  Recorded : (bytes : List ℕ) → (written : Bool) → Call
+  SoughtProcess : (pid : ℕ) → (runs : Bool) → Call
+  ReadClock : (label : Tai64n) → Call

@@ -1,0 +1,98 @@
+//! What waits for the children of a service.
+use cmd_base::SystemClock;
+use std::alloc::{AllocError, Global};
+use std::process::{Child, SystemProcess};
+use std::sync::atomic::{AtomicBool, Ordering};
+use std::sync::{Arc, Mutex, OnceLock, Wait};
+use std::time::Clock;
+use svc_house::Notifier;
+use tai_status::{Label, TimeSource};
+
+/// Where the label of a child's death is put.
+pub(crate) type Death = Arc<OnceLock<Label>, Global>;
+
+/// A child that is handed to the reaper.
+#[derive(Drop)]
+pub(crate) struct WatchedChild {
+    pub(crate) child: Child<SystemProcess>,
+    pub(crate) death: Death,
+}
+
+/// What the slot and the reaper share: the child that is handed over, and the notifier that the reaper waits for.
+#[derive(Drop)]
+struct SlotState {
+    child: Mutex<Option<WatchedChild>>,
+    closed: AtomicBool,
+    notifier: Notifier,
+}
+
+/// Where the children of a service are handed to their reaper. Once it is let go, the reaper ends.
+pub(crate) struct ChildSlot {
+    state: Arc<SlotState, Global>,
+}
+
+impl Drop for ChildSlot {
+    fn drop(self) {
+        let ChildSlot { state } = self;
+        state.closed.store(true, Ordering::SeqCst);
+        state.notifier.notify();
+    }
+}
+
+impl ChildSlot {
+    /// Hands a child over.
+    pub(crate) fn put<R: Wait>(&self, rt: &R, child: WatchedChild) {
+        *self.state.child.lock(rt) = Some(child);
+        self.state.notifier.notify();
+    }
+}
+
+/// It reaps the children of one service, in a thread of its own.
+#[derive(Drop)]
+pub struct ChildReaper {
+    state: Arc<SlotState, Global>,
+    // What the service waits for.
+    notifier: Arc<Notifier, Global>,
+}
+
+impl ChildReaper {
+    /// A reaper, and where children are handed to it.
+    pub(crate) fn open(
+        alloc: Global,
+        notifier: Arc<Notifier, Global>,
+    ) -> Result<(ChildSlot, ChildReaper), AllocError> {
+        let state = SlotState {
+            child: Mutex::new(None),
+            closed: AtomicBool::new(false),
+            notifier: Notifier::new(),
+        };
+        let state = Arc::new(alloc, state)?;
+        let theirs = Arc::try_clone(&state)?;
+        Ok((
+            ChildSlot { state },
+            ChildReaper {
+                state: theirs,
+                notifier,
+            },
+        ))
+    }
+
+    /// Waits for each child of the service, puts the label of its death in its place, and then notifies the service's
+    /// notifier. It returns once the service's children are let go and the child that it waits for has died.
+    pub fn run<R: Wait + Clock + Copy + Drop>(self, rt: R) {
+        let ChildReaper { state, notifier } = self;
+        let mut clock = SystemClock::new(rt);
+        for _ in rt.forever() {
+            let handed = state.child.lock(&rt).take();
+            match handed {
+                Some(WatchedChild { mut child, death }) => {
+                    let _ = child.wait();
+                    let _ = death.set(&rt, clock.now());
+                    notifier.notify();
+                }
+                None if state.closed.load(Ordering::SeqCst) => return,
+                None => state.notifier.wait(&rt, None),
+            }
+        }
+    }
+}

@@ -1,0 +1,42 @@
+//! What the system does for one service.
+use crate::begin::Begin;
+use std::io;
+use sup_core::Sig;
+use tai_status::Label;
+
+/// The children of one service, its status record and a clock. Contracts see the calls with their answers, in order
+/// (`calls`), where they are kept. They may stop to be kept, as where there is no memory for more, and are not kept
+/// again.
+pub trait ChildSystem {
+    ghost use Rattle.std.specs.Prelude.{◌<◌, Option, None, List, [], ◌∷◌, IfSome, is_ok};
+    ghost use Rattle.svc_house.specs.Calls.{ExtendedWhileKept};
+    ghost use Rattle.svc_world.specs.Calls.{Call, Spawned, SoughtDeath, Signalled, Recorded, SoughtProcess, ReadClock};
+
+    ghost calls: { Self → Option (List Call) } = { λ _. None };
+
+    /// Makes a child, and tells its number. None where no child could be made at all.
+    fn spawn(&mut self, begin: Begin) -> Option<u32>
+        ensures calls { ExtendedWhileKept (calls self.old) (calls self.new) (Spawned begin result ∷ []) }
+        ensures number { IfSome result (λ pid. 0 < pid) };
+
+    /// When the child that was made last died, once it has. It is told once.
+    fn death(&mut self) -> Option<Label>
+        ensures calls { ExtendedWhileKept (calls self.old) (calls self.new) (SoughtDeath result ∷ []) };
+
+    /// Sends a signal to the process of this number, which is at least 1.
+    fn signal(&mut self, sig: Sig, pid: u32)
+        requires { 0 < pid }
+        ensures calls { ExtendedWhileKept (calls self.old) (calls self.new) (Signalled sig pid ∷ []) };
+
+    /// Puts these bytes in the place of the status record. After a fault the old ones stand there.
+    fn replace_status(&mut self, bytes: &[u8; 20]) -> io::Result<()>
+        ensures calls { ExtendedWhileKept (calls self.old) (calls self.new) (Recorded bytes.now (is_ok result) ∷ []) };
+
+    /// Whether the process of this number runs in the folder of the service.
+    fn is_running(&mut self, pid: u32) -> bool
+        ensures calls { ExtendedWhileKept (calls self.old) (calls self.new) (SoughtProcess pid result ∷ []) };
+
+    /// The time.
+    fn now(&mut self) -> Label
+        ensures calls { ExtendedWhileKept (calls self.old) (calls self.new) (ReadClock result ∷ []) };
+}
