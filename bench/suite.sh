@@ -43,6 +43,6 @@ for pairs in 10 1000; do
 done
 lines 1000 501 0 > "$folder/scans"
 lines 1000 1 0 > "$folder/scan"
-first=$(milliseconds "$folder/scan" "2997.log.2999 took record:400000000000000a00000000000000000075 start -> starting")
+first=$(milliseconds "$folder/scan" "2997.log.2999 took record:400000000000000a000000000000000000750000 start -> starting")
 took=$(milliseconds "$folder/scans" "scan: 0 started, 0 restarted, 0 dropped, 0 refused")
 echo "500 scans of 1,000 rows over 1,000 slots in $(( took - first )) ms, $(( (took - first) * 2 )) microseconds each"

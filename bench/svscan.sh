@@ -76,7 +76,7 @@ took = []
 for name in names[:: max(1, count // 20)][:20]:
     begin = time.monotonic()
     subprocess.run([program, "svc", "-d", name], check=True)
-    wait_until(lambda: process(name) == 0 and record(name)[17:] == b"d")
+    wait_until(lambda: process(name) == 0 and record(name)[17:18] == b"d")
     took.append(1000 * (time.monotonic() - begin))
 print(f"svc -d until down: {statistics.median(took):.1f} ms (median of {len(took)}), {max(took):.1f} ms at most")
 

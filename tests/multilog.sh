@@ -1,8 +1,11 @@
 #!/usr/bin/env bash
-# What no contract can say of multilog: that the machine's own folders are what the program takes them for. Runs the
+# What no contract can say of multilog: that the system's own folders are what the program takes them for. Runs the
 # program that the first word names over real folders, prints each check that fails, and ends with how many did not.
 # The wanted values are those of the multilog page of daemontools and of docs/FORMATS.md.
+calls=$(realpath "$(dirname "$0")/calls.c")
+wrapper=$(realpath "$(dirname "$0")/../contrib/multilog")
 . "$(dirname "$0")/checks.sh" "$1"
+export DTOOLS=$program
 mounted=
 trap '[ -n "$mounted" ] && umount "$room/small" 2>/dev/null; rm -rf "$room"' EXIT
 
@@ -203,5 +206,131 @@ if mount -t tmpfs -o size=64k none small 2>/dev/null; then
   cmp -s <(head -c "$(size small/log/current)" in) small/log/current
   is 'a full disk: a front' 0 "$?"
 fi
+
+# The calls in their order, which a library between the program and the system notes (calls.c), where there is a compiler.
+# A log that is finished is written, then safe on the disk, and only then has its new name; no file that is there is written
+# over by that. A status file is made anew beside the old one, and takes its place whole.
+if command -v cc >/dev/null && cc -shared -fPIC -o calls.so "$calls" -ldl 2>/dev/null; then
+  for number in {1..400}; do echo "line $number of the log, which has some more words"; done >in
+  CALLS=noted LD_PRELOAD=./calls.so timeout 20 "$program" multilog s4096 n2 ./noting '-*' '+*9 of*' =noted.status <in 2>told
+  is 'calls: status' 0 "$?"
+  sed 's/@[0-9a-f]*\.s/@/' noted | grep -a noting/ >main
+  finished=$(grep -c '^rename ' main)
+  is 'calls: logs were finished' true "$([ "$finished" -ge 4 ] && echo true)"
+  is 'calls: each is safe before it has its name' "$finished" "$(grep -v '^remove' main | paste -sd ' ' |
+    grep -o 'write \./noting/current sync \./noting/current rename \./noting/current \./noting/@ open \./noting/current' | wc -l)"
+  is 'calls: each opens the next' "$((finished + 1))" "$(grep -c '^open ./noting/current' main)"
+  is 'calls: no log is written over' '' "$(grep -E '^(rename over|empty)' main)"
+  grep -a status noted >statuses
+  is 'calls: status files' 0 "$(paste -sd ' ' statuses | sed -E 's/empty noted\.status\.new write noted\.status\.new( sync noted\.status\.new)? rename( over)? noted\.status\.new noted\.status ?//g' | wc -w)"
+  is 'calls: there were status files' true "$([ "$(grep -c rename statuses)" -ge 10 ] && echo true)"
+fi
+# The installed multilog: at TERM the line in hand is read to its end and written, and what is behind it stays in the pipe.
+# started FOLDER PIPE: starts the wrapper, and waits until the logger has its lock; `shell` and `logger` are their numbers
+started() {
+  "$wrapper" n100000 "$1" <"$2" 6>&- 7>&- &
+  shell=$!
+  locked "$1"
+  read -r logger _ <"/proc/$shell/task/$shell/children"
+}
+# locked FOLDER: waits until somebody has the lock of a log
+locked() {
+  local tries=0 inode
+  [ -e "$1/lock" ] || { mkdir -p "$1" && : >"$1/lock"; }
+  inode=$(stat -c %i "$1/lock")
+  until [[ $(</proc/locks) == *":$inode "* ]] || [ $((tries += 1)) -gt 20000 ]; do :; done
+}
+# becomes WANTED COMMAND..: waits until a command prints this, for at most 5 s
+becomes() {
+  local wanted=$1 tries
+  shift
+  for tries in $(seq 100); do [ "$("$@" 2>/dev/null)" = "$wanted" ] && return; sleep 0.05; done
+}
+# left PIPE: what is in a pipe
+left() { timeout 0.3 cat <"$1"; }
+
+mkfifo half
+exec 7<>half
+started ./halves half
+printf 'one\ntwo\nthr' >&7
+becomes "$(printf 'one\ntwo')" head -n 2 halves/current
+kill -TERM "$shell"
+sleep 0.2
+is 'TERM in a line: the logger goes on' yes "$([ -d "/proc/$logger" ] && echo yes)"
+printf 'ee\nfour\n' >&7
+wait "$shell"
+is 'TERM in a line: status' 0 "$?"
+is 'TERM in a line: current' 'one two three' "$(xargs <halves/current)"
+started ./halves half
+becomes four tail -n 1 halves/current
+printf fi >&7
+kill -KILL "$shell"
+wait "$shell" 2>/dev/null
+sleep 0.2
+is 'the wrapper is killed in a line: the logger goes on' yes "$([ -d "/proc/$logger" ] && echo yes)"
+printf 've\nsix\n' >&7
+becomes no bash -c "[ -d /proc/$logger ] || echo no"
+is 'the wrapper is killed in a line: current' 'one two three four five' "$(xargs <halves/current)"
+started ./halves half
+becomes six tail -n 1 halves/current
+kill -KILL "$logger"
+wait "$shell" 2>/dev/null
+is 'the logger is killed: status of the wrapper' 137 "$?"
+is 'the logger is killed: current' 'one two three four five six' "$(xargs <halves/current)"
+exec 7>&-
+"$wrapper" ./halves <in
+is 'no TERM: status' 0 "$?"
+"$wrapper" s1 <in 2>told
+is 'the status is that of the logger' '100 multilog: word 1: SizeRange' "$? $(cat told)"
+DTOOLS=$room/none "$wrapper" ./halves <in 2>told
+is 'no program: status' 111 "$?"
+
+# 40 TERMs in a flow of lines: each is in the log once, and in order, and each logger ends with 0.
+# told_40_times NAME COUNT PAUSE: lines with numbers up to COUNT, each after a pause of so many seconds
+told_40_times() {
+  local turn ends=0
+  mkfifo "flow$1"
+  python3 -c '
+import sys, time
+count, pause = int(sys.argv[1]), float(sys.argv[2])
+out = open(sys.argv[3], "w", 1 << 16 if pause == 0 else 1)
+for number in range(1, count + 1):
+    print(number, file=out)
+    if pause: time.sleep(pause)
+' "$2" "$3" "flow$1" &
+  exec 6<"flow$1"
+  for turn in $(seq 40); do
+    started "./flow$1.log" /dev/fd/6
+    sleep "0.00$((turn % 10))"
+    kill -TERM "$shell"
+    wait "$shell" || ends=$((ends + 1))
+  done
+  is "40 TERMs, $1: loggers that failed" 0 "$ends"
+  is "40 TERMs, $1: lines are left" true "$([ "$(cat "flow$1.log/"@* "flow$1.log/current" 2>/dev/null | wc -l)" -lt "$2" ] && echo true)"
+  "$wrapper" n100000 "./flow$1.log" <&6
+  cat "flow$1.log/"@* "flow$1.log/current" 2>/dev/null | cmp -s - <(seq "$2")
+  is "40 TERMs, $1: each line once, in order" 0 "$?"
+  exec 6<&-
+}
+told_40_times 1 6000000 0
+told_40_times 2 2500 0.001
+told_40_times 3 150 0.02
+
+# The channel is the pipe that the environment names; where it names none there is none, and TERM ends the program.
+echo x >in
+for channel in x '' 0 2 9 -1 4294967299; do
+  DTOOLS_STOP_FD=$channel timeout 20 "$program" multilog ./named <in 3>&- 9>&-
+  is "a channel of number '$channel'" 0 "$?"
+done
+DTOOLS_STOP_FD=3 timeout 20 "$program" multilog ./named <in 3>&-
+is 'a channel that is not open' 0 "$?"
+DTOOLS_STOP_FD=3 timeout 20 "$program" multilog ./named <in 3</dev/null
+is 'a channel that is no pipe' 0 "$?"
+is 'no channel: all is read' 9 "$(wc -l <named/current)"
+DTOOLS_STOP_FD=3 timeout 20 "$program" multilog ./named <in 3< <(printf x)
+is 'a byte is a stop' '0 9' "$? $(wc -l <named/current)"
+DTOOLS_STOP_FD=3 timeout 20 "$program" multilog ./named <in 3< <(:)
+is 'the end is a stop' '0 9' "$? $(wc -l <named/current)"
+is 'another command has no channel' 1 "$(DTOOLS_STOP_FD=3 timeout 20 "$program" tai64n <in 3< <(:) | wc -l)"
 
 counts multilog

@@ -1,5 +1,5 @@
 #!/usr/bin/env bash
-# What no contract can say of svc, svstat and svok: that the machine's own sockets and files are what the program takes
+# What no contract can say of svc, svstat and svok: that the system's own sockets and files are what the program takes
 # them for. Runs the program that the first word names against real sockets, prints each check that fails, and ends with
 # how many did not. The wanted values are those of the daemontools pages and of docs/FORMATS.md. It needs python3, for
 # sockets to listen at.
@@ -38,10 +38,10 @@ for name in sys.argv[3:]:
 open("supervise/ready", "w").close()
 while True:
     for key, _ in choice.select():
-        guest, _ = key.fileobj.accept()
-        guest.settimeout(5)
+        stream, _ = key.fileobj.accept()
+        stream.settimeout(5)
         bytes = b""
-        while piece := guest.recv(4096):
+        while piece := stream.recv(4096):
             bytes += piece
         heard.write(f"{sys.argv[2]}/{key.data} ".encode() + bytes + b"\n")
 END
@@ -90,12 +90,14 @@ ended 'two services, one with a dash' 0 '' '' svc -du -t -- -x s
 arrived 'two services, one with a dash' './-x/control dut' 's/control dut'
 ended 'a letter twice' 0 '' '' svc -uu s
 arrived 'a letter twice' 's/control u'
-ended 'all letters' 0 '' '' svc -udopchaitkx s
-arrived 'all letters' 's/control udopchaitkx'
+ended 'all letters' 0 '' '' svc -udopchaitkx12q s
+arrived 'all letters' 's/control udopchaitkx12q'
+ended 'digits are letters' 0 '' '' svc -1q2 -q s
+arrived 'digits are letters' 's/control 1q2'
 ended 'a service twice' 0 '' '' svc -h s s
 arrived 'a service twice' 's/control h' 's/control h'
 ended 'no letter' 0 '' '' svc s nosuch
-ended 'a lone dash is a service' 0 '' 'svc: warning: unable to control -' svc -d - s
+ended 'a lone dash is a service' 0 '' 'svc: warning: unable to control -: not running' svc -d - s
 arrived 'no letter, and a lone dash' 's/control d'
 
 # svc: a letter that is unknown, and nobody hears anything.
@@ -110,35 +112,55 @@ ended 'no service' 0 '' '' svc -d
 
 # svc: services that can't be reached are told, and the others are served.
 warning='svc: warning: unable to control'
-ended 'others are served' 0 '' "$warning nosuch
-$warning none
-$warning empty
-$warning dead
-$warning listener.py" svc -u nosuch s none empty dead listener.py -x
+ended 'others are served' 0 '' "$warning nosuch: not running
+$warning none: not running
+$warning empty: not running
+$warning dead: not running
+$warning listener.py: not running" svc -u nosuch s none empty dead listener.py -x
 arrived 'others are served' 's/control u' './-x/control u'
 ended 'a long path' 0 '' '' svc -t "$long"
 arrived 'a long path' "$long/control t"
 ended 'a longer path' 0 '' '' svc -t "$room/$long"
 arrived 'a longer path' "$long/control t"
-ended 'a path beyond all' 0 '' "$warning $(printf '/%.0s' $(seq 5000))" svc -t "$(printf '/%.0s' $(seq 5000))"
+ended 'a path beyond all' 0 '' "$warning $(printf '/%.0s' $(seq 5000)): not running" svc -t "$(printf '/%.0s' $(seq 5000))"
 ended 'a slash behind' 0 '' '' svc -t s/
 arrived 'a slash behind' 's/control t'
 
-# A socket whose queue is full: svc does not wait for ever.
+# Sockets whose queue is full: nobody waits for ever.
 mkdir -p full/supervise
 python3 - <<'END' &
 import socket, time
-door = socket.socket(socket.AF_UNIX)
-door.bind("full/supervise/control")
-door.listen(0)
-first = socket.socket(socket.AF_UNIX)
-first.connect("full/supervise/control")
+held = []
+for name in ("control", "ok"):
+    door = socket.socket(socket.AF_UNIX)
+    door.bind("full/supervise/" + name)
+    door.listen(0)
+    first = socket.socket(socket.AF_UNIX)
+    first.connect("full/supervise/" + name)
+    held += [door, first]
 open("full/supervise/ready", "w").close()
-time.sleep(20)
+time.sleep(60)
 END
 listeners+=($!)
 for _ in $(seq 100); do [ -e full/supervise/ready ] && break; sleep 0.02; done
-ended 'a full queue' 0 '' "$warning full" svc -t full
+ended 'a full queue' 0 '' "$warning full: no answer" svc -t full
+ended 'a full queue: svstat' 0 'full: unable to open supervise/ok: no answer' '' svstat full
+ended 'a full queue: svok' 100 '' '' svok full
+
+# Another user may not look into the folder.
+if [ "$(id -u)" = 0 ] && command -v setpriv >/dev/null; then
+  cp "$program" own
+  chmod 711 "$room" own
+  chmod 700 s/supervise
+  root_program=$program
+  program=$room/as_other
+  printf '#!/bin/sh\nexec setpriv --reuid 65534 --regid 65534 --clear-groups %s "$@"\n' "$room/own" >as_other
+  chmod 755 as_other
+  ended 'another user: svstat' 0 's: unable to open supervise/ok: Permission denied' '' svstat s
+  ended 'another user: svc' 0 '' "$warning s: Permission denied" svc -t s
+  ended 'another user: svok' 100 '' '' svok s
+  program=$root_program
+fi
 
 # svok: silent.
 ended 'supervised' 0 '' '' svok s
@@ -181,9 +203,27 @@ stat 'paused: down file' "${label}671200000164" \
 stat 'down: down file' "${label}000000000064" 's: down SECONDS_SINCE seconds'
 rm s/down
 stat 'in the future' 7fffffffffffffff00000000671200000075 's: up (pid 4711) 0 seconds'
+# Records of 20 bytes tell a phase and whether supervise is to end.
+stat 'starting' "${label}0000000000750000" 's: down SECONDS_SINCE seconds, normally up, want up, starting'
+stat 'settling' "${label}6712000000750001" 's: up (pid 4711) SECONDS_SINCE seconds, settling'
+stat 'resting' "${label}0000000000750002" 's: down SECONDS_SINCE seconds, normally up, want up, resting'
+stat 'phase up' "${label}6712000000750003" 's: up (pid 4711) SECONDS_SINCE seconds'
+stat 'phase up, paused' "${label}6712000001640003" 's: up (pid 4711) SECONDS_SINCE seconds, paused, want down'
+stat 'phase up, exiting' "${label}6712000001640103" 's: up (pid 4711) SECONDS_SINCE seconds, paused, want down, exiting'
+stat 'phase down' "${label}0000000000640004" 's: down SECONDS_SINCE seconds, normally up'
+stat 'phase down, once' "${label}0000000000000004" 's: down SECONDS_SINCE seconds, normally up'
+stat 'gone' "${label}0000000000640105" 's: down SECONDS_SINCE seconds, normally up, gone, exiting'
+: >s/down
+stat 'starting: down file' "${label}0000000000750000" 's: down SECONDS_SINCE seconds, want up, starting'
+stat 'settling: down file' "${label}6712000000750001" 's: up (pid 4711) SECONDS_SINCE seconds, normally down, settling'
+rm s/down
 for row in "Length|" "Length|${label}6712000000" "Length|${label}67120000007500" "Length|$(printf '41%.0s' $(seq 300))" \
   "BadLabel|400000003a4fc88a3b9aca00671200000075" "PausedFlag|${label}671200000275" \
-  "PausedNoProcess|${label}000000000175" "WantByte|${label}671200000078"; do
+  "PausedNoProcess|${label}000000000175" "WantByte|${label}671200000078" \
+  "Length|${label}671200000075000300" "BadLabel|400000003a4fc88a3b9aca006712000000750003" \
+  "PausedNoProcess|${label}0000000001750302" "WantByte|${label}6712000000780206" "ExitingFlag|${label}6712000000750206" \
+  "PhaseNumber|${label}6712000000750006" "NoSuchState|${label}6712000000750004" "NoSuchState|${label}6712000001750001" \
+  "NoSuchState|${label}0000000000750101"; do
   IFS='|' read -r kind hex <<<"$row"
   stat "a bad record: $kind" "$hex" "s: bad status record: $kind"
 done

@@ -1,9 +1,11 @@
 #!/usr/bin/env bash
 # What no contract can say of svscan: that real services in real folders are started, kept, told, logged and ended. Runs
 # the program that the first word names over folders of its own, a scenario for each matter and all side by side, prints
-# each check that fails, and ends with how many did not. The wanted values are those of the daemontools pages and of
-# docs/FORMATS.md. It needs python3, for clients that send what svc never does.
+# each check that fails, and ends with how many did not. Further words are the scenarios that are wanted, where not all
+# are. The wanted values are those of the daemontools pages and of docs/FORMATS.md. It needs python3, for clients that
+# send what svc never does.
 command -v python3 >/dev/null || { echo 'svscan: python3 is missing'; exit 1; }
+contrib=$(realpath "$(dirname "$0")/../contrib")
 . "$(dirname "$0")/checks.sh" "$1"
 export LC_ALL=C
 under=()
@@ -26,12 +28,14 @@ leave() {
 trap leave EXIT
 trap 'exit 1' INT TERM HUP
 
-# until_true SECONDS COMMAND..: tries the command each 50 ms, until it succeeds or the time is over
+# until_true SECONDS COMMAND..: tries the command each 50 ms, until it succeeds. The seconds are those of an idle machine: a
+# busy one has three times as many, and at least as many tries.
 until_true() {
-  local end=$((${EPOCHREALTIME/[.,]/} + $1 * 1000000))
+  local end=$((${EPOCHREALTIME/[.,]/} + $1 * 3000000)) looks=$(($1 * 20))
   shift
   until "$@"; do
-    [ "${EPOCHREALTIME/[.,]/}" -lt "$end" ] || return 1
+    ((looks -= 1)) || true
+    [ "$looks" -gt 0 ] || [ "${EPOCHREALTIME/[.,]/}" -lt "$end" ] || return 1
     sleep 0.05
   done
 }
@@ -115,15 +119,18 @@ svc() { timeout 10 "$program" svc "$@"; }
 is_served() { timeout 10 "$program" svok "$1"; }
 stat_line() { timeout 10 "$program" svstat "$1" | sed -E 's/ [0-9]+ seconds/ N seconds/'; }
 process() { od -An -tu4 -j12 -N4 --endian=little "$1/supervise/status" 2>/dev/null | tr -d ' '; }
-wants() { [ "$(tail -c 1 "$2/supervise/status" 2>/dev/null | tr '\0' o)" = "$1" ]; }
+wants() { [ "$(head -c 18 "$2/supervise/status" 2>/dev/null | tail -c 1 | tr '\0' o)" = "$1" ]; }
+# Whether supervise is to end there, and the number of its phase.
+phase() { od -An -tu1 -j18 -N2 "$1/supervise/status" 2>/dev/null | xargs; }
 is_up() { [ "0$(process "$1")" -gt 0 ]; }
 is_down() { [ "$(process "$1")" = 0 ]; }
 # down for good, and not only between two lives
 is_put_down() { wants d "$1" && is_down "$1"; }
 # up, and the second after the start is over
 is_settled() {
-  local up=': up \(pid [0-9]+\) ([0-9]+) seconds'
-  [[ $(timeout 10 "$program" svstat "$1") =~ $up ]] && [ "${BASH_REMATCH[1]}" -ge 2 ]
+  local line
+  line=$(timeout 10 "$program" svstat "$1")
+  [[ $line == *': up (pid '* && $line != *', settling'* ]]
 }
 is_another() { is_up "$1" && [ "$(process "$1")" != "$2" ]; }
 count() { local lines=0; [ -e "$1" ] && lines=$(wc -l <"$1"); echo "$lines"; }
@@ -132,6 +139,8 @@ state() { sed 's/.*) //; s/ .*//' "/proc/$1/stat" 2>/dev/null; }
 descriptors() { find "/proc/$1/fd" -type l | wc -l; }
 lives() { [[ $(state "$1") =~ [RSDTt] ]]; }
 live() { lives "$1" && lives "$2"; }
+# Whether nothing is left of a process that this shell started: its first thread ends before what it held is given back.
+is_gone() { [ ! -e "/proc/$1" ]; }
 is_stopped() { [ "$(state "$1")" = T ]; }
 begins() { [[ $(timeout 10 "$program" svstat "$2") == "$1"* ]]; }
 ends() { [[ $(timeout 10 "$program" svstat "$2") == *"$1" ]]; }
@@ -142,7 +151,7 @@ sockets() { find -L "$@" -type s 2>/dev/null | wc -l; }
 life() {
   service d/web <<'END'
 trap 'echo TERM >>signals; exit 0' TERM
-for name in HUP ALRM INT; do trap "echo $name >>signals" $name; done
+for name in HUP ALRM INT USR1 USR2 QUIT; do trap "echo $name >>signals" $name; done
 echo $$ >pid
 while :; do sleep 0.1; done
 END
@@ -156,7 +165,7 @@ END
   soon 'a trace is kept' 8 test -s d/web/supervise/trace
   is 'modes' '700 600 600 600 600 600' "$(modes d/web)"
   is 'sockets' 2 "$(sockets d/web)"
-  is 'the record has 18 bytes' 18 "$(stat -c %s d/web/supervise/status)"
+  is 'the record has 20 bytes' 20 "$(stat -c %s d/web/supervise/status)"
   is 'svok' 0 "$(is_served d/web; echo $?)"
   svc -d d/web
   soon 'd' 3 is_put_down d/web
@@ -168,16 +177,16 @@ END
   is 'u: another process' "d/web: up (pid $(cat d/web/pid)) N seconds" "$(stat_line d/web)"
   so 'u: not the first one' is_another d/web "$first"
   local letter
-  for letter in h:HUP a:ALRM i:INT; do
+  for letter in h:HUP a:ALRM i:INT 1:USR1 2:USR2 q:QUIT; do
     svc "-${letter%:*}" d/web
     soon "${letter%:*}" 3 holds "${letter#*:}" d/web/signals
   done
   first=$(process d/web)
   svc -t d/web
-  soon 't: TERM' 3 has_lines 5 d/web/signals
+  soon 't: TERM' 3 has_lines 8 d/web/signals
   soon 't: it starts again' 4 is_another d/web "$first"
   soon 't: up' 4 is_settled d/web
-  is 'signals' 'TERM HUP ALRM INT TERM' "$(paste -sd ' ' d/web/signals)"
+  is 'signals' 'TERM HUP ALRM INT USR1 USR2 QUIT TERM' "$(paste -sd ' ' d/web/signals)"
   first=$(process d/web)
   svc -p d/web
   soon 'p' 3 is_stopped "$first"
@@ -235,6 +244,7 @@ echo >>starts
 END
   start told d
   soon 'it starts' 5 test -s d/web/starts
+  soon 'it settles' 5 ends ', settling' d/web
   local before after
   before=$(count d/web/starts)
   local descriptors
@@ -321,7 +331,7 @@ links() {
   is 'dx: svok' 100 "$(is_served real; echo $?)"
   soon 'dx: no sockets' 3 test "$(sockets real)" = 0
   is 'dx: sockets' 0 "$(sockets real)"
-  is 'dx: svc warns' 'svc: warning: unable to control real' "$(svc -u real 2>&1)"
+  is 'dx: svc warns' 'svc: warning: unable to control real: not running' "$(svc -u real 2>&1)"
   is 'dx: svstat' 'real: supervise not running' "$(stat_line real)"
   svc -dx pair pair/log
   soon 'pair: no longer served' 3 not is_served pair
@@ -357,11 +367,12 @@ END
   sleep 2
   is 'k: it stays down' 1 "$(count d/web/starts)"
   kill -KILL -- "-$svscan"
-  soon 'svscan is dead' 3 not lives "$svscan"
+  soon 'svscan is dead' 3 is_gone "$svscan"
   # The end of svscan waits for it.
   start told d 1
   soon 'one round: up' 5 is_settled d/web
   soon 'one round: d was sent' 5 wants d d/web
+  soon 'one round: x was sent' 5 ends ', want down, exiting' d/web
   so 'one round: svscan waits' lives "$svscan"
   svc -k d/web
   soon 'one round: k ends both' 4 not lives "$svscan"
@@ -482,7 +493,7 @@ END
   web=$(process d/web)
   pair=$(process d/pair)
   kill -KILL "$svscan"
-  soon 'svscan is dead' 3 not lives "$svscan"
+  soon 'svscan is dead' 3 is_gone "$svscan"
   so 'the service runs on' live "$web" "$pair"
   is 'no longer served' 'd/web: supervise not running' "$(stat_line d/web)"
   start told2 d
@@ -499,7 +510,7 @@ END
   svc -u d/web
   # A third one, after TERM: that is no other end.
   kill -TERM "$svscan"
-  soon 'TERM ends svscan' 3 not lives "$svscan"
+  soon 'TERM ends svscan' 3 is_gone "$svscan"
   start told3 d
   soon 'the third tells it too' 8 holds "^svscan: web: process $web still runs$" told3
   is 'no second copy' '1 1' "$(count d/web/starts) $(count d/pair/starts)"
@@ -511,6 +522,24 @@ END
   is 'by its own number' "$(tail -n 1 d/web/starts)" "$(process d/web)"
   soon 'the logger has both lives' 4 has_lines 2 d/pair/log/main/current
   is 'the logger has both lives' 'life 1 life 2' "$(paste -sd ' ' d/pair/log/main/current)"
+}
+
+# A record of 18 bytes, as an earlier dtools left it, names a process that still runs.
+earlier_record() {
+  sleeper d/web
+  mkdir d/web/supervise
+  (cd d/web && exec sleep 1000) &
+  local old=$! digits
+  digits=$(printf '%08x' "$old")
+  printf '\x40\0\0\0\x3a\x4f\xc8\x8a\0\0\0\0'"$(printf '\\x%s' "${digits:6:2}" "${digits:4:2}" "${digits:2:2}" "${digits:0:2}")"'\0u' \
+    >d/web/supervise/status
+  is 'it has 18 bytes' 18 "$(stat -c %s d/web/supervise/status)"
+  start told d
+  soon 'it is told' 8 holds "^svscan: web: process $old still runs$" told
+  is 'the record is kept as it was' 18 "$(stat -c %s d/web/supervise/earlier)"
+  is 'no second copy' 0 "$(count d/web/starts)"
+  kill -KILL "$old"
+  soon 'then it starts' 4 has_lines 1 d/web/starts
 }
 
 # A logger that is down for a while.
@@ -534,6 +563,7 @@ END
   so 'no log' test ! -e d/web/log/main
   svc -u d/web/log
   soon 'all is logged' 30 ends_with 'line 60000 of the first' d/web/log/main/current
+  soon 'the logger is settled' 4 is_settled d/web/log
   is 'the logger is up' "d/web/log: up (pid $(process d/web/log)) N seconds, normally down" "$(stat_line d/web/log)"
   svc -d d/web/log
   soon 'd' 3 is_put_down d/web/log
@@ -666,6 +696,7 @@ END
   svc -u "$folder/${all[4]}"
   soon 'up again' 4 is_settled "$folder/${all[4]}"
   kill -KILL "$svscan"
+  soon 'svscan is dead' 3 is_gone "$svscan"
   start told2 "$folder"
   soon 'told by its name' 8 grep -q -F "svscan: ${all[4]}: process " told2
 }
@@ -675,13 +706,13 @@ cat >silent.py <<'END'
 import socket, sys, time
 held = []
 for _ in range(200):
-    guest = socket.socket(socket.AF_UNIX)
-    guest.settimeout(5)
+    stream = socket.socket(socket.AF_UNIX)
+    stream.settimeout(5)
     try:
-        guest.connect(sys.argv[1])
+        stream.connect(sys.argv[1])
     except OSError:
         break
-    held.append(guest)
+    held.append(stream)
 open(sys.argv[2], "w").write(f"{len(held)}\n")
 time.sleep(60)
 END
@@ -697,31 +728,31 @@ silent() {
   soon 'there are clients' 20 test -s there
   lies 'clients' 100 200 "$(cat there)"
   svc -d d/other
-  soon 'another service is served at once' 1 is_put_down d/other
+  soon 'another service is served at once' 4 is_put_down d/other
   svc -u d/other
-  soon 'and again' 1 wants u d/other
-  soon 'the same one is still told as served' 1 is_served d/held
-  soon 'the same one has a line' 1 is_up d/held
+  soon 'and again' 4 wants u d/other
+  soon 'the same one is still told as served' 4 is_served d/held
+  soon 'the same one has a line' 4 is_up d/held
   kill -KILL "$(process d/held)"
-  soon 'the same one starts again after a death' 3 has_lines 2 d/held/starts
+  soon 'the same one starts again after a death' 4 has_lines 2 d/held/starts
   kill "$clients"
   wait "$clients" 2>/dev/null
-  soon 'once they are gone the same one is served' 3 hears_d d/held
+  soon 'once they are gone the same one is served' 10 hears_d d/held
 }
 
 # sends d until it is heard
 hears_d() {
   svc -d "$1"
-  until_true 1 is_put_down "$1"
+  until_true 2 is_put_down "$1"
 }
 
 # Connects to the socket that the first word names, makes the file `connected`, sends each piece after it, and cuts the
 # connection. A piece is letters, or a letter, a star and how often it comes, or `wait:` and seconds.
 cat >say.py <<'END'
 import socket, sys, time
-guest = socket.socket(socket.AF_UNIX)
-guest.settimeout(5)
-guest.connect(sys.argv[1])
+stream = socket.socket(socket.AF_UNIX)
+stream.settimeout(5)
+stream.connect(sys.argv[1])
 open("connected", "w").close()
 for piece in sys.argv[2:]:
     if piece.startswith("wait:"):
@@ -729,10 +760,10 @@ for piece in sys.argv[2:]:
         continue
     letter, _, times = piece.partition("*")
     try:
-        guest.sendall(letter.encode() * int(times or 1))
+        stream.sendall(letter.encode() * int(times or 1))
     except OSError:
         pass
-guest.close()
+stream.close()
 END
 
 # What comes over one control connection.
@@ -840,6 +871,8 @@ END
   is 'two rounds: no socket is left' 0 "$(sockets d)"
   is 'two rounds: records' '0 0 0 0 0 0' \
     "$(for folder in d/web d/web/log d/web.2 d/exits d/missing d/down; do process $folder; done | paste -sd ' ')"
+  is 'two rounds: all are gone' '1 5' \
+    "$(for folder in d/web d/web/log d/web.2 d/exits d/missing d/down; do phase $folder; done | sort -u)"
   is 'two rounds: started once' '1 1 1' "$(count d/web/starts) $(count d/web/log/starts) $(count d/web.2/starts)"
   is 'two rounds: down was not started' 0 "$(count d/down/starts)"
   is 'two rounds: traces are kept' 6 "$(find d -name trace -size +0 | wc -l)"
@@ -858,6 +891,163 @@ END
   start ../told.inside
   cd ..
   soon 'the folder that it is in: up' 5 has_lines 2 d/web/starts
+}
+
+# A hundred services end, each with bytes under way until the last moment: the trace that is left of each ends in the entry
+# after which it was gone.
+last_entries() {
+  mkdir d real
+  local name
+  for name in $(seq 100 199); do
+    sleeper real/$name
+    ln -s ../real/$name d/$name
+  done
+  start told d
+  soon 'all are up' 20 all_are is_settled real/*
+  rm d/*
+  python3 -c 'import os, socket, time
+while not os.path.exists("stop"):
+    for name in os.listdir("real"):
+        try:
+            client = socket.socket(socket.AF_UNIX)
+            client.connect("real/" + name + "/supervise/control")
+            client.send(b"ccc")
+            client.close()
+        except OSError:
+            pass
+        time.sleep(0.001)' &
+  local sender=$!
+  sleep 0.5
+  svc -dx real/*
+  soon 'all have ended' 20 all_are not_served real/*
+  : >stop
+  wait "$sender"
+  is 'each trace ends where the service was gone' 100 "$(for name in real/*; do ends_gone "$name" && echo yes; done | wc -l)"
+  is 'nothing is told but bytes that were not taken' '' "$(grep -vE '^svscan: 1..: [0-9]+ bytes were not taken$' told)"
+}
+
+# all_are TEST FOLDER..: the test holds of each
+all_are() {
+  local test=$1 each
+  shift
+  for each in "$@"; do "$test" "$each" || return 1; done
+}
+
+not_served() { not is_served "$1"; }
+
+# Threads, descriptors and sockets are given back where services and pairs end, 100 of them.
+given_back() {
+  sleeper d/stays
+  start told d
+  soon 'the first one is up' 10 is_settled d/stays
+  local before name
+  sleep 1
+  before="$(threads "$svscan") $(descriptors "$svscan")"
+  mkdir real
+  for name in $(seq 10 49); do sleeper real/$name; done
+  for name in $(seq 50 79); do
+    sleeper real/$name
+    sleeper real/$name/log
+  done
+  for name in real/*; do ln -s "../$name" d/; done
+  soon 'all are up' 30 all_are is_settled real/* real/*/log
+  lies 'threads of 100 more' 200 300 $(($(threads "$svscan") - ${before% *}))
+  rm d/[0-9]*
+  svc -dx real/* real/*/log
+  soon 'all have ended' 30 all_are not_served real/* real/*/log
+  soon 'their threads and descriptors are given back' 12 has "$before" numbers "$svscan"
+  is 'their sockets are gone' 0 "$(sockets real)"
+  is 'nothing is told' '' "$(cat told)"
+}
+
+threads() { find "/proc/$1/task" -mindepth 1 -maxdepth 1 | wc -l; }
+numbers() { echo "$(threads "$1") $(descriptors "$1")"; }
+# has TEXT COMMAND..: the command prints this
+has() {
+  local text=$1
+  shift
+  [ "$("$@")" = "$text" ]
+}
+
+# Whether the last entry of a service's trace is the one after which it was gone.
+ends_gone() {
+  [[ $(timeout 10 "$program" trace "$1/supervise/trace" | tail -n 2 | head -n 1) == *' -> gone' ]]
+}
+
+# What is posted to a service that ends without it is told, once: here d and x are taken after the second of its start,
+# and the rest never. So is a trace that can't be written.
+untaken() {
+  service d/short <<<'exit 0'
+  sleeper d/other
+  start told d
+  soon 'both are served' 10 all_are is_served d/short d/other
+  python3 ../say.py d/short/supervise/control dxccc
+  soon 'bytes are told' 15 holds '^svscan: short: 3 bytes were not taken$' told
+  soon 'it begins anew' 10 is_served d/short
+  mkdir d/other/supervise/trace.new
+  svc -dx d/other
+  soon 'a trace is told' 15 holds '^svscan: other: unable to write the trace$' told
+  soon 'it begins anew' 10 is_served d/other
+  sleep 6
+  is 'each is told once' 2 "$(count told)"
+}
+
+# svscan-run ends everything in order: the last words of a service are in its log, and no process is left, not even of one
+# that comes back each second.
+ordered() {
+  service d/web <<'END'
+exec 2>&1
+trap 'sleep 0.3; echo last words; exit' TERM
+echo $$ >pid
+while :; do sleep 0.05; done
+END
+  logger d/web/log
+  service d/short <<<'exit 0'
+  sleeper 'd/two words'
+  set -m
+  DTOOLS=$program "$contrib/svscan-run" d </dev/null >out 2>told &
+  local wrapper=$!
+  set +m
+  echo "$wrapper" >>"$room/$scenario.groups"
+  soon 'all are up' 15 all_are is_settled d/web d/web/log 'd/two words'
+  ps -o pid= --ppid "$wrapper" | tr -d ' ' >>"$room/$scenario.groups"
+  local processes
+  processes=$(process d/web; process d/web/log; process 'd/two words')
+  kill -TERM "$wrapper"
+  sleep 0.05
+  kill -TERM "$wrapper"
+  local begin=$EPOCHREALTIME
+  wait "$wrapper"
+  is 'status' 0 "$?"
+  lies 'tenths of a second' 0 60 $(((${EPOCHREALTIME/[.,]/} - ${begin/[.,]/}) / 100000))
+  is 'last words' 'last words' "$(tail -n 1 d/web/log/main/current)"
+  is 'no process is left' '' "$(for number in $processes; do lives "$number" && echo "$number"; done)"
+  is 'no service is served' 100 "$(is_served d/web; echo $?)"
+  is 'told' '' "$(cat told)"
+  is 'a bad folder: status' 0 "$(DTOOLS=$program "$contrib/svscan-run" none/at/all 2>none & sleep 1; kill -TERM $!; wait $!; echo $?)"
+}
+
+# As the first process of a space of its own svscan-run leaves no zombie, and ends with all others.
+first_process() {
+  unshare --pid --fork --mount-proc --kill-child true 2>/dev/null || return
+  service d/orphans <<'END'
+(sleep 0.3 & sleep 0.1 &)
+exec sleep 1000
+END
+  set -m
+  DTOOLS=$program unshare --pid --fork --mount-proc --kill-child "$contrib/svscan-run" d </dev/null >out 2>told &
+  local outer=$! first
+  set +m
+  echo "$outer" >>"$room/$scenario.groups"
+  soon 'served' 10 is_served d/orphans
+  sleep 1.5
+  first=$(ps -o pid= --ppid "$outer" | tr -d ' ')
+  is 'no zombie' '' "$(ps -o stat= --ppid "$first" | grep Z)"
+  kill -TERM "$first"
+  soon 'it ends' 3 not lives "$first"
+  wait "$outer"
+  is 'status' 0 "$?"
+  is 'told' '' "$(cat told)"
 }
 
 # Two services over three rounds, each asked by the programs in turn, until the trace says how one of them ended.
@@ -929,7 +1119,8 @@ shortage() {
   under=(bash -c 'ulimit -n 60; exec "$@"' bash)
   start told d
   under=()
-  sleep 7
+  soon 'some are up' 10 some_is_up
+  sleep 5
   so 'svscan lives' lives "$svscan"
   local up=()
   for each in d/s{1..20}; do is_served "$each" && is_up "$each" && up+=("$each"); done
@@ -940,7 +1131,13 @@ shortage() {
   after=$(ticks "$svscan")
   lies 'svscan does not spin: ticks in 5 s' 0 50 $((after - before))
   so 'svscan lives on' lives "$svscan"
-  so 'the service too' lives "$(process "${up[0]}")"
+  so 'the service too' lives "$(process "${up[0]:-none}")"
+}
+
+some_is_up() {
+  local each
+  for each in d/s{1..20}; do is_served "$each" && is_up "$each" && return; done
+  return 1
 }
 
 # What stands in the folder when a service begins anew counts, though rounds passed in which it was not looked at.
@@ -994,12 +1191,14 @@ many() {
   under=()
   is 'the last one is refused' 'svscan: s1001: TooMany' "$(cat told)"
   is 'sockets' 0 "$(sockets d)"
-  is 'records' 1000 "$(find d -name status -size 18c | wc -l)"
+  is 'records' 1000 "$(find d -name status -size 20c | wc -l)"
 }
 
 # play SCENARIO: in a folder of its own
 play() {
   scenario=$1
+  checked=0
+  failed=0
   mkdir "$scenario"
   cd "$scenario" || exit 1
   "$scenario"
@@ -1012,24 +1211,38 @@ has_counts() {
   for name in "$@"; do [ -s "$room/$name.count" ] || return 1; done
 }
 
-scenarios=(life modes_kept exits no_run links stubborn killed_service killed_logger killed_svscan late_logger changes twice
-  names silent connections no_supervise rounds two_services child begins_anew shortage many)
-set -m
-for each in "${scenarios[@]}"; do
-  (play "$each") </dev/null &
-  echo $! >>"$room/scenarios.groups"
-  disown
-done
-set +m
-until_true 115 has_counts "${scenarios[@]}"
-for each in "${scenarios[@]}"; do
-  if ! read -r ran wrong 2>/dev/null <"$room/$each.count"; then
-    echo "FAILED $each: it did not end in time"
-    ran=1
-    wrong=1
-  fi
-  checked=$((checked + ran))
-  failed=$((failed + wrong))
-done
+# play_all SCENARIO..: side by side, until all have ended
+play_all() {
+  local each ran wrong
+  set -m
+  for each in "$@"; do
+    (play "$each") </dev/null &
+    echo $! >>"$room/scenarios.groups"
+    disown
+  done
+  set +m
+  until_true 120 has_counts "$@"
+  for each in "$@"; do
+    if ! read -r ran wrong 2>/dev/null <"$room/$each.count"; then
+      echo "FAILED $each: it did not end in time"
+      ran=1
+      wrong=1
+    fi
+    checked=$((checked + ran))
+    failed=$((failed + wrong))
+  done
+}
+
+scenarios=(life modes_kept exits no_run links stubborn killed_service killed_svscan earlier_record changes twice names silent
+  connections no_supervise rounds untaken ordered first_process two_services child begins_anew shortage)
+# These keep every processor busy, and have the machine for themselves.
+crowds=(killed_logger late_logger last_entries given_back many)
+shift
+if [ $# -gt 0 ]; then
+  play_all "$@"
+else
+  play_all "${scenarios[@]}"
+  play_all "${crowds[@]}"
+fi
 
 counts svscan

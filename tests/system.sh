@@ -1,5 +1,5 @@
 #!/usr/bin/env bash
-# What no contract can say: that the machine's own files, folders, children, pipes and clock are what the program takes
+# What no contract can say: that the system's own files, folders, children, pipes and clock are what the program takes
 # them for. Runs the program that the first word names, prints each check that fails, and ends with how many did not.
 # The wanted values are those of the daemontools pages and of docs/FORMATS.md.
 . "$(dirname "$0")/checks.sh" "$1"
@@ -90,7 +90,7 @@ done
 coproc simulating { timeout 20 "$program" sim; }
 echo 'begin up @400000000000000a00000000' >&"${simulating[1]}"
 IFS= read -r -t 10 answer <&"${simulating[0]}"
-is 'answered at once' 'took record:400000000000000a00000000000000000075 start -> starting' "$answer"
+is 'answered at once' 'took record:400000000000000a000000000000000000750000 start -> starting' "$answer"
 coproc_input=${simulating[1]}
 exec {coproc_input}>&-
 wait
@@ -103,4 +103,4 @@ if [ -w /dev/full ]; then
   is 'a full device: told' 'sim: write fault' "$(cat told)"
 fi
 
-counts machine
+counts system

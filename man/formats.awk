@@ -1,0 +1,108 @@
+# Makes the manual page dtools-formats(5) of docs/FORMATS.md. Knows of Markdown what stands there: headings, paragraphs,
+# tables, blocks of code, links to other pages, and text in back quotes.
+
+# What a piece of text is for mdoc: no escapes and no control lines of its own.
+function plain(text) {
+  gsub(/\\/, "\\e", text)
+  if (text ~ /^['.]/) text = "\\\&" text
+  return text
+}
+
+# A text whose pieces in back quotes are bold, and whose links are their words.
+function shown(text,    out, pieces, count, at) {
+  gsub(/\]\([^)]*\)/, "", text)
+  gsub(/\[/, "", text)
+  gsub(/\*\*/, "", text)
+  count = split(text, pieces, "`")
+  out = ""
+  for (at = 1; at <= count; at++) {
+    gsub(/\\/, "\\e", pieces[at])
+    out = out (at % 2 ? pieces[at] : "\\fB" pieces[at] "\\fR")
+  }
+  if (out ~ /^['.]/) out = "\\\&" out
+  return out
+}
+
+# Prints text, each sentence on a line of its own.
+function say(text,    at) {
+  while (match(text, /[.:?] +[A-Z]/) || match(text, /\. +\\fB/)) {
+    at = RSTART
+    print text_line(substr(text, 1, at))
+    text = substr(text, at + 1)
+    sub(/^ +/, "", text)
+  }
+  print text_line(text)
+}
+function text_line(text) {
+  return text ~ /^['.]/ ? "\\&" text : text
+}
+
+function end_table() {
+  if (in_table) print ".El"
+  in_table = 0
+}
+
+# The cells of a row. A bar in back quotes is none between cells.
+function row(line,    cells, count, at, text) {
+  sub(/^\| */, "", line)
+  sub(/ *\|$/, "", line)
+  count = split(line, cells, / *\| */)
+  print ".It " shown(cells[1])
+  text = ""
+  for (at = 2; at <= count; at++) {
+    if (cells[at] != "") text = text (text == "" ? "" : "; ") (columns > 2 ? columns_of[at] ": " : "") cells[at]
+  }
+  if (text != "") say(shown(text))
+}
+
+BEGIN {
+  print ".Dd November 25, 2026"
+  print ".Dt DTOOLS-FORMATS 5"
+  print ".Os"
+  print ".Sh NAME"
+  print ".Nm dtools-formats"
+  print ".Nd files, lines and faults of dtools"
+  print ".Sh DESCRIPTION"
+  print "What the commands of"
+  print ".Xr dtools 1"
+  print "read and write."
+}
+
+/^```/ {
+  end_table()
+  in_code = !in_code
+  is_first = 0
+  print in_code ? ".Bd -literal -offset indent" : ".Ed"
+  next
+}
+in_code { print plain($0); next }
+/^# / { next }
+/^## / { end_table(); print ".Ss " substr($0, 4); is_first = 1; next }
+/^\|[-|]*$/ { next }
+/^\|/ {
+  if (!in_table) {
+    print ".Bl -tag -width Ds"
+    in_table = 1
+    is_first = 0
+    # The first row names the columns.
+    sub(/^\| */, "")
+    sub(/ *\|$/, "")
+    columns = split($0, columns_of, / *\| */)
+    next
+  }
+  row($0)
+  next
+}
+/^$/ { if (in_table) end_table(); is_open = 1; next }
+{
+  if (is_open && !is_first) print ".Pp"
+  is_open = 0
+  is_first = 0
+  say(shown($0))
+}
+END {
+  end_table()
+  print ".Sh SEE ALSO"
+  print ".Xr dtools 1 ,"
+  print ".Xr dtools-svscan 8"
+}

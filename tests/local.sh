@@ -1,0 +1,140 @@
+#!/usr/bin/env bash
+# `tai64nlocal`: local times of several zones, hostile lines, lines in pieces, and a million lines. The wanted values
+# were written down from daemontools 0.76 (cr.yp.to/daemontools/tai64nlocal.html); where Debian's daemontools are
+# installed, also what their tai64nlocal makes.
+top=$(realpath "$(dirname "$0")/..")
+. "$top/tests/checks.sh" "$1"
+leave() { rm -rf "$room"; }
+trap leave EXIT
+[ -e /usr/share/zoneinfo/Europe/Berlin ] || { echo 'local: tzdata is missing'; exit 1; }
+unset TZ TZDIR
+real=/usr/bin/tai64nlocal
+dpkg -S "$real" 2>/dev/null | grep -q ^daemontools: || real=
+
+# localised ZONE: what becomes of the standard input
+localised() { TZ=$1 timeout 20 "$program" tai64nlocal; }
+
+# becomes NAME ZONE TEXT WANTED: both with the escapes of printf
+becomes() { is "$1" "$(printf "$4" | od -An -c)" "$(printf "$3" | localised "$2" | od -An -c)"; }
+
+# as_real NAME ZONE FILE: byte for byte what Debian's makes
+as_real() {
+  [ -n "$real" ] || return
+  TZ=$2 "$real" <"$3" >by_daemontools
+  localised "$2" <"$3" >by_program
+  is "$1: as daemontools'" '' "$(cmp by_daemontools by_program 2>&1)"
+}
+
+# Zones. 1,795,568,523 is 2026-11-25 01:02:03 UTC; the clocks of Berlin change at 1,774,746,000 and 1,792,890,000.
+label() { printf '@%016x%08x' $((0x400000000000000a + $1)) "$2"; }
+noon=$(label 1795568523 123456789)
+becomes UTC UTC "$noon x\n" '2026-11-25 01:02:03.123456789 x\n'
+becomes 'TZ empty' '' "$noon x\n" '2026-11-25 01:02:03.123456789 x\n'
+becomes 'no such zone' No/Such_Zone "$noon x\n" '2026-11-25 01:02:03.123456789 x\n'
+becomes 'half an hour' Asia/Kolkata "$noon x\n" '2026-11-25 06:32:03.123456789 x\n'
+becomes Berlin Europe/Berlin "$noon x\n" '2026-11-25 02:02:03.123456789 x\n'
+becomes 'a colon' :Europe/Berlin "$noon x\n" '2026-11-25 02:02:03.123456789 x\n'
+becomes 'a path' /usr/share/zoneinfo/Europe/Berlin "$noon x\n" '2026-11-25 02:02:03.123456789 x\n'
+becomes 'a rule' 'EST5EDT,M3.2.0,M11.1.0' "$noon x\n" '2026-11-24 20:02:03.123456789 x\n'
+becomes 'a rule without days' CET-1CEST "$noon\n" '2026-11-25 02:02:03.123456789\n'
+becomes 'a rule without days in summer' CET-1CEST "$(label 1782000000 0)\n" '2026-06-21 02:00:00.000000000\n'
+becomes 'no rule' CET "$noon\n" '2026-11-25 02:02:03.123456789\n'
+becomes 'the changes of a rule without them' CET-1CEST "$(label 1773500000 0)\n" '2026-03-14 16:53:20.000000000\n'
+becomes 'a rule of one offset' XYZ-5 "$noon\n" '2026-11-25 06:02:03.123456789\n'
+becomes 'a rule in summer' 'EST5EDT,M3.2.0,M11.1.0' "$(label 1782000000 0)\n" '2026-06-20 20:00:00.000000000\n'
+becomes 'before summer' Europe/Berlin "$(label 1774745999 999999999)\n" '2026-03-29 01:59:59.999999999\n'
+becomes 'summer begins' Europe/Berlin "$(label 1774746000 0)\n" '2026-03-29 03:00:00.000000000\n'
+becomes 'before winter' Europe/Berlin "$(label 1792889999 0)\n" '2026-10-25 02:59:59.000000000\n'
+becomes 'winter begins' Europe/Berlin "$(label 1792890000 0)\n" '2026-10-25 02:00:00.000000000\n'
+mkdir zones
+cp /usr/share/zoneinfo/Asia/Kolkata zones/Here
+is 'TZDIR' '2026-11-25 06:32:03.123456789' "$(echo "$noon" | TZDIR=$room/zones localised Here)"
+printf 'no zone' >zones/Broken
+is 'a broken zone' '2026-11-25 01:02:03.123456789' "$(echo "$noon" | TZDIR=$room/zones localised Broken)"
+is 'a folder' '2026-11-25 01:02:03.123456789' "$(echo "$noon" | localised "$room/zones")"
+is 'no TZ' "$(date -d @1795568523 '+%Y-%m-%d %H:%M:%S.123456789')" "$(echo "$noon" | "$program" tai64nlocal)"
+
+# Labels: of the years 1900 to 9999, with any nanoseconds; no others.
+becomes 'the first second' UTC "$(label -2208988800 0)\n" '1900-01-01 00:00:00.000000000\n'
+becomes 'before it' UTC "$(label -2208988801 0)\n" "$(label -2208988801 0)\n"
+becomes 'the last second' UTC "$(label 253402300799 999999999)\n" '9999-12-31 23:59:59.999999999\n'
+becomes 'after it' UTC "$(label 253402300800 0)\n" "$(label 253402300800 0)\n"
+becomes 'leap day' UTC "$(label 951782400 1)\n" '2000-02-29 00:00:00.000000001\n'
+becomes 'no leap day' UTC "$(label 4107542400 0)\n" '2100-03-01 00:00:00.000000000\n'
+becomes 'too many nanoseconds' UTC "$(label 1795568523 0xffffffff)\n" '2026-11-25 01:02:03.4294967295\n'
+for line in @ '@\n' '@ x\n' '@@@\n' "@${noon}\n" " $noon\n" "x$noon\n" "${noon^^}\n" "${noon}0\n" "${noon}f x\n" \
+  "${noon%?}\n" "${noon%?} x\n" "${noon%?}g\n" "${noon%?}" '@8000000000000000' '@800000000000000000000000\n' \
+  '@ffffffffffffffffffffffff\n' '@000000000000000000000000\n' '' '\n' '\n\n' 'plain' 'plain\nlines\n' '\0\0\n\0' \
+  '@\0\n' '\377\376\n' \
+  "$(head -c 70000 /dev/zero | tr '\0' 0)\n" "@$(head -c 70000 /dev/zero | tr '\0' a)\n"; do
+  becomes "stays: ${line:0:30}" UTC "$line" "$line"
+done
+time='2026-11-25 01:02:03.123456789'
+becomes 'alone, without a newline' UTC "$noon" "$time"
+becomes 'without a newline' UTC "$noon x" "$time x"
+becomes 'a NUL behind it' UTC "$noon\0x\n" "$time\0x\n"
+becomes 'an upper-case letter behind it' UTC "${noon}A\n" "${time}A\n"
+becomes 'a label behind it' UTC "$noon$noon\n" "$time$noon\n"
+becomes 'a label in the next line' UTC "$noon\n\n$noon\nx\n" "$time\n\n$time\nx\n"
+long=$(head -c 300000 /dev/zero | tr '\0' x)
+is 'a long line' "$time $long" "$(printf '%s %s' "$noon" "$long" | localised UTC)"
+
+# In pieces: wherever a read ends; and a line is written before the next read.
+text="$noon one\n$noon\n@\n${noon}0\n${noon%?}\nplain\n$noon"
+slowly() { while IFS= read -rn1 -d '' byte; do printf '%s' "$byte"; sleep 0.001; done; }
+is 'byte by byte' "$(printf "$text" | localised UTC)" "$(printf "$text" | slowly | localised UTC)"
+{ echo; head -c 32750 /dev/zero | tr '\0' x; } >block
+for more in {0..30}; do
+  { cat block; head -c "$more" /dev/zero | tr '\0' y; printf '\n%s z\n%s' "$noon" "$noon"; } >input
+  sed "s/$noon/$time/" input >wanted
+  is "a label over the end of a block, $more" '' "$(localised UTC <input | cmp - wanted 2>&1)"
+done
+mkfifo waits
+localised UTC <waits >shown &
+exec 3>waits
+printf '%s now\nfront of a line' "$noon" >&3
+until_shown() {
+  local looks
+  for looks in {1..100}; do [ "$(cat shown)" = "$1" ] && echo yes && return; sleep 0.05; done
+  cat shown
+}
+is 'written before the next read' yes "$(until_shown "$time now
+front of a line")"
+exec 3>&-
+wait
+
+# Words and faults.
+"$program" tai64nlocal word </dev/null >out 2>told
+is 'a word: status' 100 "$?"
+is 'a word: told' 'dtools: usage' "$(cat told)"
+echo "$noon" | "$program" tai64nlocal >/dev/full 2>told
+is 'a full device: status' 111 "$?"
+is 'a full device: told' 'tai64nlocal: Write' "$(cat told)"
+"$program" tai64nlocal <. >out 2>told
+is 'a folder for the input: status' 111 "$?"
+is 'a folder for the input: told' 'tai64nlocal: Read' "$(cat told)"
+localised UTC </dev/null >out
+is 'no input: status' 0 "$?"
+is 'no input: printed' '' "$(cat out)"
+
+# Seconds of all these years, and a million lines, beside daemontools' where it is installed.
+RANDOM=7
+for number in {1..10000}; do
+  second=$(((RANDOM << 30 | RANDOM << 15 | RANDOM) % 255611203200 - 2208902400))
+  label $second $((RANDOM << 17 | RANDOM << 2 | RANDOM & 3))
+  echo " line $number"
+done >years
+clock='[0-2][0-9]:[0-5][0-9]:[0-5][0-9]\.[0-9]\{9,10\}'
+is 'all years: all have a time' 10000 \
+  "$(localised UTC <years | grep -c "^[1-9][0-9]\{3\}-[01][0-9]-[0-3][0-9] $clock line [0-9]*$")"
+for zone in UTC Europe/Berlin Asia/Kolkata America/New_York Australia/Lord_Howe Pacific/Apia Africa/Casablanca \
+  America/St_Johns; do
+  as_real "all years, $zone" "$zone" years
+done
+awk 'BEGIN {
+  for (i = 0; i < 1000000; i++)
+    printf "@40000000%08x%08x line %d of a log\n", 1774740000 + int(i / 100), i * 997 % 1000000000, i
+}' >million
+is 'a million lines' 1000000 "$(localised Europe/Berlin <million | grep -c "^2026-03-29 $clock line [0-9]* of a log$")"
+as_real 'a million lines' Europe/Berlin million
+counts local

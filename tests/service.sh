@@ -1,0 +1,71 @@
+#!/usr/bin/env bash
+# Services are added and removed by dtools-service, under a svscan that keeps their folder. Runs on the program that the first
+# word names.
+top=$(realpath "$(dirname "$0")/..")
+. "$top/tests/checks.sh" "$1"
+leave() {
+  [ -z "${svscan:-}" ] || kill -KILL -- "-$svscan" 2>/dev/null
+  rm -rf "$room"
+}
+trap leave EXIT
+export DTOOLS=$program SVDIR=$room/services
+service() { "$top/contrib/dtools-service" "$@"; }
+
+# ended NAME STATUS TOLD WORDS..
+ended() {
+  local name=$1 status=$2 told=$3
+  shift 3
+  service "$@" >out 2>told
+  is "$name: status" "$status" "$?"
+  is "$name: told" "$told" "$(cat told)"
+}
+
+# soon NAME COMMAND..: the command succeeds within half a minute
+soon() {
+  local name=$1
+  shift
+  for _ in $(seq 300); do "$@" >/dev/null 2>&1 && break; sleep 0.1; done
+  is "$name" yes "$("$@" >/dev/null 2>&1 && echo yes)"
+}
+is_up() { "$program" svstat "$1" | grep -q ': up (pid .*seconds$'; }
+is_served() { "$program" svok "$1"; }
+
+mkdir -p services 'own/a b/log' own/empty
+cat >'own/a b/run' <<'END'
+#!/bin/sh
+trap 'sleep 0.3; echo last words; exit' TERM
+while :; do sleep 0.05; done
+END
+printf '#!/bin/sh\nexec %q multilog ./main\n' "$program" >'own/a b/log/run'
+chmod +x own/*/run own/*/log/run
+
+usage='dtools-service: usage: dtools-service --add folder [name] | --remove name | --list [name]'
+ended 'no words' 100 "$usage"
+ended 'an unknown word' 100 "$usage" --delete x
+ended 'too many words' 100 "$usage" --add own/empty x y
+ended 'a missing folder' 111 'dtools-service: own/none: no such folder' --add own/none
+ended 'no run' 111 'dtools-service: own/empty: it has no run that can be executed' --add own/empty
+ended 'a name with a dot' 111 'dtools-service: .x: no name of a service' --add 'own/a b' .x
+ended 'a name with a slash' 111 'dtools-service: x/y: no name of a service' --add 'own/a b' x/y
+ended 'nothing was added' 1 '' --list x
+ended 'not there' 111 'dtools-service: x: it was not added so' --remove x
+
+set -m
+"$program" svscan services </dev/null >scan.out 2>scan.told &
+svscan=$!
+disown
+set +m
+ended 'added' 0 '' --add 'own/a b'
+ended 'added again' 111 'dtools-service: a b: it is there already' --add 'own/a b'
+ended 'it is there' 0 '' --list 'a b'
+ended 'the list' 0 '' --list
+is 'the list' "a b $room/own/a b" "$(cat out)"
+soon 'it is up' is_up 'services/a b'
+soon 'its logger is up' is_up 'services/a b/log'
+ended 'removed' 0 '' --remove 'a b'
+is 'neither is served' '100 100' "$(for part in 'own/a b' 'own/a b/log'; do is_served "$part"; echo $?; done | xargs)"
+is 'its last words are logged' 'last words' "$(cat 'own/a b/log/main/current')"
+sleep 6
+is 'it does not begin anew' 100 "$(is_served 'own/a b'; echo $?)"
+is 'svscan told nothing' '' "$(cat scan.told)"
+counts service

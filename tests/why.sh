@@ -1,0 +1,347 @@
+#!/usr/bin/env bash
+# What `dtools why` says of services, over folders that are made here: status records and traces of given bytes, and sockets
+# at which python3 listens. Runs the program that the first word names. The wanted sentences are written by hand from the
+# rules in the doc of `why_line` (crates/cmd_why/src/sentences.rt), the records and traces from docs/FORMATS.md.
+command -v python3 >/dev/null || { echo 'why: python3 is missing'; exit 1; }
+. "$(dirname "$0")/checks.sh" "$1"
+export TZ=UTC
+listeners=()
+leave() {
+  for pid in "${listeners[@]}"; do kill "$pid" 2>/dev/null; done
+  chmod -R u+rwx "$room"
+  rm -rf "$room"
+}
+trap leave EXIT
+
+# listen FOLDER: somebody accepts at its socket supervise/ok
+listen() {
+  mkdir -p "$1/supervise"
+  (cd "$1" && exec python3 -c '
+import socket
+door = socket.socket(socket.AF_UNIX)
+door.bind("supervise/ok")
+door.listen(16)
+open("supervise/ready", "w").close()
+while True:
+    door.accept()[0].close()
+') &
+  listeners+=($!)
+  for _ in $(seq 100); do [ -e "$1/supervise/ready" ] && return; sleep 0.02; done
+  echo "why: nobody listens in $1"
+  exit 1
+}
+
+# bytes DIGITS: the bytes of these hexadecimal digits
+bytes() { printf "$(printf '%s' "$1" | sed 's/../\\x&/g')"; }
+
+# Moments are seconds after `start`, 100 seconds ago, with up to nine places: 90.5 is a half second after the 90th.
+# digits MOMENT: those of its label
+digits() {
+  local second=${1%.*} places=000000000
+  [[ $1 == *.* ]] && places=${1#*.}000000000
+  printf '%016x%08x' $((4611686018427387914 + start + second)) $((10#${places:0:9}))
+}
+
+# record MOMENT NUMBER PAUSED WANT [EXITING PHASE]: the digits of a record, of 18 bytes or of 20
+record() {
+  local number
+  number=$(printf '%08x' "$2")
+  printf '%s%s%s%s%s%s%s' "$(digits "$1")" "${number:6:2}" "${number:4:2}" "${number:2:2}" "${number:0:2}" "0$3" "$4"
+  [ $# -gt 4 ] && printf '0%s0%s' "$5" "$6"
+}
+up=75 down=64 once=00
+
+# status MOMENT NUMBER PAUSED WANT [EXITING PHASE]: writes it for s
+status() { bytes "$(record "$@")" >s/supervise/status; }
+
+# trace FOLDED PHASE RECORD UNTIL ENTRIES..: writes a trace for s; an entry is an event's line whose label is a moment
+trace() {
+  local folded=$1 phase=$2 before=$3 until=$4 entry
+  shift 4
+  [ "$until" = - ] || until=@$(digits "$until")
+  {
+    printf 'dtools-trace 1\nbase %s %s %s stay %s\n' "$folded" "$phase" "$before" "$until"
+    for entry; do
+      case $entry in
+        byte*) echo "$entry" ;;
+        *) echo "${entry% *} @$(digits "${entry##* }")" ;;
+      esac
+    done
+    echo "end $#"
+  } >s/supervise/trace
+}
+
+# said NAME STATUS LINE [FOLDER]: what is said; {M} is the local time of the moment M, and how long ago that was
+said() {
+  local name=$1 wanted_status=$2 line=$3 folder=${4-s} before got_status moment time found=no second
+  before=$(date +%s)
+  timeout 5 "$program" why "$folder" >out 2>told </dev/null
+  got_status=$?
+  is "$name: status" "$wanted_status" "$got_status"
+  is "$name: told" '' "$(cat told)"
+  moment=$(printf '%s' "$line" | sed -n 's/.*{\([0-9]*\)}.*/\1/p')
+  if [ -n "$moment" ]; then
+    time=$(date -u -d "@$((start + moment))" '+%Y-%m-%d %H:%M:%S')
+    for second in $(seq "$before" "$(date +%s)"); do
+      [ "$(cat out)" = "${line/"{$moment}"/"$time ($((second - start - moment)) s)"}" ] && found=yes
+    done
+    [ $found = yes ] || is "$name" "${line/"{$moment}"/"$time (..)"}" "$(cat out)"
+    checked=$((checked + 1))
+  else
+    is "$name" "$line" "$(cat out)"
+  fi
+}
+
+# again: the present is moment 100 again
+again() { start=$(($(date +%s) - 100)); }
+
+again
+listen s
+
+# Records alone, of both lengths.
+status 88 4711 0 $up
+said 'up' 0 's is up since {88}, process 4711.'
+status 88 4711 0 $up 0 3
+said 'up: 20 bytes' 0 's is up since {88}, process 4711.'
+status 88 4711 1 $down 1 3
+said 'paused, wanted down, exiting' 0 's is up since {88}, process 4711, paused, wanted down, and supervise is to end.'
+status 88 4711 0 $once
+said 'once' 0 's is up since {88}, process 4711, wanted once.'
+status 88 4711 0 $up 0 1
+said 'settling' 0 's is up since {88}, process 4711, settling after its start.'
+status 88 0 0 $down
+said 'down' 0 's is down since {88}, normally up.'
+status 88 0 0 $up 0 0
+said 'starting' 0 's is down since {88}, being started, wanted up, normally up.'
+status 88 0 0 $up 0 2
+said 'resting' 0 's is down since {88}, resting after a failed start, wanted up, normally up.'
+status 88 0 0 $down 1 5
+said 'gone' 0 's is down since {88}, normally up, and supervise is gone.'
+: >s/down
+status 88 0 0 $down 0 4
+said 'down: a file down' 0 's is down since {88}.'
+status 88 4711 0 $up
+said 'up: a file down' 0 's is up since {88}, process 4711, normally down.'
+rm s/down
+
+# Times that no calendar tells.
+bytes 000000000000000000000000671200000075 >s/supervise/status
+timeout 5 "$program" why s >out
+is 'long ago' 's is up since @000000000000000000000000 (' "$(grep -o '^s is up since @[0-9a-f]* (' out)"
+bytes 7fffffffffffffff3b9ac9ff671200000075 >s/supervise/status
+timeout 5 "$program" why s >out
+is 'at the end of all labels' 's is up since @7fffffffffffffff3b9ac9ff (0 s), process 4711.' "$(cat out)"
+bytes 400000003a4fc88a00000000671200000075 >s/supervise/status
+timeout 5 "$program" why s >out
+is 'the first second of 2001' 's is up since 2001-01-01 00:00:00 (' "$(grep -o '^s is up since [^(]*(' out)"
+bytes 400000003c30fc0900000000671200000075 >s/supervise/status
+timeout 5 "$program" why s >out
+is 'the last second of 2001' "s is up since $(date -u -d @$((0x3c30fc09 - 10)) '+%F %T') (" "$(grep -o '^s is up since [^(]*(' out)"
+for day in 2000-02-28 2000-02-29 2000-03-01 2024-12-31 2025-01-01 2100-02-28 2100-03-01 9999-12-31 1970-01-01; do
+  bytes "$(printf '%016x00000000671200000075' $((4611686018427387914 + $(date -u -d "$day 23:59:58" +%s))))" >s/supervise/status
+  timeout 5 "$program" why s >out
+  is "the day $day" "s is up since $day 23:59:58 (" "$(grep -o '^s is up since [^(]*(' out)"
+done
+
+# What a trace tells beside a record that it leads to. Supervise began at the moment 1, and asked for a start.
+again
+begun=$(record 1 0 0 $up)
+status 90 4711 0 $up 0 3
+trace 0 starting "$begun" - 'started 4711 90' 'clock 91'
+said 'a first start' 0 's is up since {90}, process 4711. 1 start in the last 60 s.'
+trace 0 starting "$begun" - 'started 4711 90' 'clock 91' 'byte t'
+said 'sent t' 0 's is up since {90}, process 4711. It was sent TERM (t). 1 start in the last 60 s.'
+trace 0 starting "$begun" - 'started 4711 90' 'clock 91' 'byte t' 'byte 1' 'byte u' 'byte x' 'byte 0a'
+said 'the last signal' 0 's is up since {90}, process 4711. It was sent USR1 (1). 1 start in the last 60 s.'
+status 90 4711 1 $up 0 3
+trace 0 starting "$begun" - 'started 4711 90' 'clock 91' 'byte p'
+said 'paused' 0 's is up since {90}, process 4711, paused. It was sent STOP (p). 1 start in the last 60 s.'
+status 90 4711 0 $down 0 3
+trace 0 starting "$begun" - 'started 4711 90' 'clock 91' 'byte d'
+said 'd, and still up' 0 's is up since {90}, process 4711, wanted down. It was sent TERM (d). 1 start in the last 60 s.'
+status 90 4711 0 $up 0 3
+trace 0 starting "$begun" - 'started 4710 86.25' 'clock 87.25' 'death 89.3' 'started 4711 90' 'clock 91'
+said 'after a death by itself' 0 's is up since {90}, process 4711. Before it process 4710 ran 3.0 s and ended without a control byte. 2 starts in the last 60 s.'
+trace 0 starting "$begun" - 'started 4710 86.25' 'clock 87.25' 'byte t' 'death 89.349999999' 'started 4711 90' 'clock 91' 'byte h'
+said 'after t' 0 's is up since {90}, process 4711. It was sent HUP (h). Before it process 4710 ran 3.0 s and ended after TERM (t). 2 starts in the last 60 s.'
+trace 0 starting "$begun" - 'started 4710 86' 'clock 87' 'byte d' 'death 89' 'byte u' 'started 4711 90'
+said 'd, and u again' 0 's is up since {90}, process 4711. Before it process 4710 ran 3.0 s and ended after TERM (d). 2 starts in the last 60 s.'
+
+# Down.
+status 88 0 0 $down 0 4
+trace 0 starting "$begun" - 'started 11261 85' 'clock 86' 'byte d' 'death 88'
+said 'brought down' 0 's is down since {88}, normally up. It was brought down (d). Process 11261 ran 3.0 s and ended after TERM (d). 1 start in the last 60 s.'
+trace 0 starting "$begun" - 'started 11261 85' 'clock 86' 'byte d' 'byte k' 'death 88' 'byte t'
+said 'd and k' 0 's is down since {88}, normally up. It was brought down (d). Process 11261 ran 3.0 s and ended after KILL (k). 1 start in the last 60 s.'
+trace 0 starting "$begun" - 'started 11261 85' 'clock 86' 'byte d' 'byte u' 'byte o' 'death 88' 'byte d'
+said 'd, u, o; and d when it was down' 0 's is down since {88}, normally up. It was to run once (o). Process 11261 ran 3.0 s and ended after TERM (d). 1 start in the last 60 s.'
+status 88 0 0 $once 0 4
+trace 0 starting "$begun" - 'started 11261 85' 'clock 86' 'byte o' 'death 88'
+said 'once' 0 's is down since {88}, normally up. It was to run once (o). Process 11261 ran 3.0 s and ended. 1 start in the last 60 s.'
+: >s/down
+status 1 0 0 $down 0 4
+trace 0 down "$(record 1 0 0 $down)" -
+said 'down from the beginning' 0 's is down since {1}. It has not run since supervise began.'
+trace 3 down "$(record 1 0 0 $down)" -
+said 'down, and a trace that does not reach back' 0 's is down since {1}.'
+rm s/down
+status 1 0 0 $up 0 2
+trace 0 starting "$begun" - 'failed 99'
+said 'a failed start' 0 's is down since {1}, resting after a failed start, wanted up, normally up. Its last start failed. It has not run since supervise began.'
+# The start of the process, and d, were folded: what the entries do not have is not said.
+status 88 0 0 $down 0 4
+trace 9 up "$(record 85 11261 0 $down)" - 'death 88'
+said 'd is folded' 0 's is down since {88}, normally up. Process 11261 ran 3.0 s and ended.'
+
+# Starts: those of the last 60 seconds, 5 or more of which are flapping.
+again
+crash() { printf '%s\n' "started $1 $2" "clock $(($2 + 1))" "death $(($2 + 1))"; }
+status 90 0 0 $up 0 0
+mapfile -t entries < <(for start_at in 20 50 60 70 80 89; do crash $((4700 + start_at)) $start_at; done)
+trace 0 starting "$begun" - "${entries[@]}"
+said 'flapping: five' 0 's is down since {90}, being started, wanted up, normally up. Process 4789 ran 1.0 s and ended without a control byte. It is flapping: 5 starts in the last 60 s.'
+mapfile -t entries < <(for start_at in 20 60 70 80 89; do crash $((4700 + start_at)) $start_at; done)
+trace 0 starting "$begun" - "${entries[@]}"
+said 'four are not flapping' 0 's is down since {90}, being started, wanted up, normally up. Process 4789 ran 1.0 s and ended without a control byte. 4 starts in the last 60 s.'
+# Events before the entries were folded: where the machine before them is of the last 60 seconds, there may be more.
+mapfile -t entries < <(for start_at in 60 70 80 89; do crash $((4700 + start_at)) $start_at; done)
+trace 7 starting "$(record 55 0 0 $up)" - "${entries[@]}"
+said 'folded lately' 0 's is down since {90}, being started, wanted up, normally up. Process 4789 ran 1.0 s and ended without a control byte. At least 4 starts in the last 60 s.'
+trace 7 starting "$(record 5 0 0 $up)" - "${entries[@]}"
+said 'folded long ago' 0 's is down since {90}, being started, wanted up, normally up. Process 4789 ran 1.0 s and ended without a control byte. 4 starts in the last 60 s.'
+again
+status 30 4711 0 $up
+trace 0 starting "$begun" - 'started 4711 30' 'clock 31'
+said 'long up' 0 's is up since {30}, process 4711.'
+
+# A trace that does not lead to the record: of the record's moment only the record tells, and starts are told at least.
+status 95 4712 0 $up 0 1
+trace 0 starting "$begun" - 'started 4710 86' 'clock 87' 'byte t' 'death 89' 'started 4711 90' 'clock 91' 'byte k'
+said 'a trace of a moment before' 0 's is up since {95}, process 4712, settling after its start. At least 2 starts in the last 60 s.'
+status 90 0 0 $down 0 4
+said 'a trace of another state' 0 's is down since {90}, normally up. At least 2 starts in the last 60 s.'
+status 90 4712 0 $up 0 3
+said 'a trace of another process' 0 's is up since {90}, process 4712. At least 2 starts in the last 60 s.'
+mapfile -t entries < <(for start_at in 50 60 70 80 89; do crash $((4700 + start_at)) $start_at; done)
+trace 0 starting "$begun" - "${entries[@]}"
+said 'flapping at least' 0 's is up since {90}, process 4712. It is flapping: at least 5 starts in the last 60 s.'
+# Bytes that came since the trace are not told, and those that it has are.
+status 90 4711 1 $down 0 3
+trace 0 starting "$begun" - 'started 4711 90' 'clock 91' 'byte h'
+said 'a trace before p and d' 0 's is up since {90}, process 4711, paused, wanted down. It was sent HUP (h). 1 start in the last 60 s.'
+# A start that is still to come, by its label.
+status 200 4711 0 $up 0 3
+trace 0 starting "$begun" - 'started 4711 200' 'clock 201'
+timeout 5 "$program" why s >out
+is 'a start to come' "s is up since $(date -u -d "@$((start + 200))" '+%F %T') (0 s), process 4711." "$(cat out)"
+
+# Traces that can't be read.
+status 90 4711 0 $up 0 3
+plain='s is up since {90}, process 4711.'
+trace 0 starting "$begun" - 'started 4711 90' 'clock 91' 'byte t'
+cp s/supervise/trace whole
+for size in 0 1 14 15 60 $(($(stat -c %s whole) - 6)) $(($(stat -c %s whole) - 1)); do
+  head -c "$size" whole >s/supervise/trace
+  said "a trace cut at $size" 0 "$plain"
+done
+{ cat whole; echo; } >s/supervise/trace
+said 'a trace and more' 0 "$plain"
+sed 's/byte t/byte tt/' whole >s/supervise/trace
+said 'a trace with a bad line' 0 "$plain"
+sed 's/^clock .*/death @4000000000000000000000ff/' whole >s/supervise/trace
+said 'a trace with an event that is not taken' 0 "$plain"
+head -c 1000 /dev/urandom >s/supervise/trace
+said 'a trace of any bytes' 0 "$plain"
+rm s/supervise/trace
+said 'no trace' 0 "$plain"
+mkfifo s/supervise/trace
+said 'a trace that is a pipe' 0 "$plain"
+rm s/supervise/trace
+mkdir s/supervise/trace
+said 'a trace that is a folder' 0 "$plain"
+rmdir s/supervise/trace
+head -c 30000000 /dev/zero >s/supervise/trace
+said 'a trace without an end' 0 "$plain"
+rm s/supervise/trace
+
+# Services that can't be read.
+for row in "Length|" "Length|$(record 90 4711 0 $up)00" "WantByte|$(record 90 4711 0 78)" "PhaseNumber|$(record 90 4711 0 $up 0 6)" \
+  "NoSuchState|$(record 90 4711 0 $up 0 4)" "PausedNoProcess|$(record 90 0 1 $up)" "ExitingFlag|$(record 90 4711 0 $up 2 3)" \
+  "BadLabel|40000000000000003b9aca00671200000075" "PausedFlag|$(record 90 4711 2 $up)"; do
+  IFS='|' read -r kind hex <<<"$row"
+  bytes "$hex" >s/supervise/status
+  said "a bad record: $kind" 111 "s is supervised, but its status is no record: $kind."
+done
+rm s/supervise/status
+said 'no status' 111 "s is supervised, but its status can't be read."
+mkdir -p dead/supervise empty closed
+python3 -c 'import socket; s = socket.socket(socket.AF_UNIX); s.bind("dead/supervise/ok")'
+said 'no such folder' 111 'nosuch is not supervised: there is no such folder.' nosuch
+said 'an empty folder' 0 'empty is not supervised: nobody answers at its supervise/ok.' empty
+said 'a dead socket' 0 'dead is not supervised: nobody answers at its supervise/ok.' dead
+: >file
+said 'a file' 111 'file is not supervised: there is no such folder.' file
+ln -s self self
+said 'a folder that can not be looked at' 111 "self can't be reached." self
+mkdir -p full/supervise
+python3 -c '
+import socket, time
+door = socket.socket(socket.AF_UNIX)
+door.bind("full/supervise/ok")
+door.listen(0)
+first = socket.socket(socket.AF_UNIX)
+first.connect("full/supervise/ok")
+open("full/supervise/ready", "w").close()
+time.sleep(60)
+' &
+listeners+=($!)
+for _ in $(seq 100); do [ -e full/supervise/ready ] && break; sleep 0.02; done
+said 'a full queue' 111 "full can't be reached." full
+# As another user, where this one may be that.
+if [ "$(id -u)" = 0 ] && command -v setpriv >/dev/null; then
+  chmod 711 . s
+  chmod 700 s/supervise
+  cp "$program" /tmp/why.$$ && chmod 755 /tmp/why.$$
+  setpriv --reuid=65534 --regid=65534 --clear-groups /tmp/why.$$ why s >out
+  is 'no permission: status' 111 "$?"
+  is 'no permission' "s can't be reached: no permission." "$(cat out)"
+  rm -f /tmp/why.$$
+fi
+
+# Names of folders.
+for name in 'a b' '%s%n' '*' "it's" $'two\nlines' 'ä€' '-x' '$HOME' '{x}' "$(printf 'n%.0s' $(seq 200))"; do
+  case $name in -*) listen "./$name" ;; *) listen "$name" ;; esac
+  bytes 7fffffffffffffff3b9ac9ff671200000075 >"./$name/supervise/status"
+  said "the name $name" 0 "$name is up since @7fffffffffffffff3b9ac9ff (0 s), process 4711." "$name"
+done
+bytes 7fffffffffffffff3b9ac9ff671200000075 >s/supervise/status
+long=$room/$(printf 'n%.0s' $(seq 200))
+said 'a long path' 0 "$long is up since @7fffffffffffffff3b9ac9ff (0 s), process 4711." "$long"
+far=$(printf '/%.0s' $(seq 5000))
+said 'a path beyond all' 111 "$far can't be reached." "$far"
+said 'no name' 111 ' is not supervised: there is no such folder.' ''
+
+# Words.
+told() {
+  is "$1: status" "$2" "$status"
+  is "$1: printed" "$3" "$(cat out)"
+  is "$1: told" "$4" "$(cat told)"
+}
+timeout 5 "$program" why >out 2>told </dev/null
+status=$?
+told 'no words' 0 '' ''
+timeout 5 "$program" why s nosuch -x empty >out 2>told </dev/null
+status=$?
+told 'in order' 111 's is up since @7fffffffffffffff3b9ac9ff (0 s), process 4711.
+nosuch is not supervised: there is no such folder.
+-x is up since @7fffffffffffffff3b9ac9ff (0 s), process 4711.
+empty is not supervised: nobody answers at its supervise/ok.' ''
+timeout 5 "$program" why $'\xff' >out 2>told </dev/null
+status=$?
+told 'words that are no text' 100 '' 'dtools: usage'
+timeout 5 "$program" why s >/dev/full 2>told </dev/null
+status=$?
+: >out
+told 'a full device' 111 '' 'why: write fault'
+
+counts why

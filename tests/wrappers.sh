@@ -1,0 +1,125 @@
+#!/usr/bin/env bash
+# The scripts that stand in for the other names of daemontools: setuidgid, envuidgid, softlimit, setlock. The wanted values
+# were written down from Debian's daemontools 0.76; where those are installed each line is compared with theirs too.
+top=$(realpath "$(dirname "$0")/..")
+. "$top/tests/checks.sh" "$1"
+trap 'rm -rf "$room"' EXIT
+[ "$(id -u)" = 0 ] || { echo 'wrappers: root alone may change accounts'; exit 0; }
+
+# is_real COMMAND: whether daemontools' own is installed
+real=$(dpkg -L daemontools 2>/dev/null)
+is_real() { grep -qx "/usr/bin/$1" <<<"$real"; }
+
+# ended NAME STATUS PRINTED TOLD COMMAND WORDS..: this command of contrib/ ends so, and the installed one of daemontools with
+# the same status and the same bytes printed
+ended() {
+  local name=$1 status=$2 printed=$3 told=$4 command=$5
+  shift 5
+  timeout 10 "$top/contrib/$command" "$@" >out 2>told </dev/null
+  is "$command, $name: status" "$status" "$?"
+  is "$command, $name: printed" "$printed" "$(cat out)"
+  is "$command, $name: told" "$told" "$(cat told)"
+  is_real "$command" || return
+  timeout 10 "/usr/bin/$command" "$@" >real.out 2>/dev/null </dev/null
+  is "$command of daemontools, $name: status" "$status" "$?"
+  is "$command of daemontools, $name: printed" "$printed" "$(cat real.out)"
+}
+
+# one_number COMMAND WORDS..: the program has the process number of the command
+one_number() {
+  local command=$1
+  shift
+  sh -c 'echo $$; exec "$0" "$@"' "$top/contrib/$command" "$@" sh -c 'echo $$' >numbers
+  is "$command: one process" 1 "$(sort -u numbers | wc -l)"
+}
+
+usage='setuidgid: usage: setuidgid account child'
+ended 'no words' 100 '' "$usage" setuidgid
+ended 'no program' 100 '' "$usage" setuidgid nobody
+ended 'no account' 111 '' 'setuidgid: unknown account nosuch' setuidgid nosuch true
+ended 'a number' 111 '' 'setuidgid: unknown account 0' setuidgid 0 true
+ended 'an empty name' 111 '' 'setuidgid: unknown account ' setuidgid '' true
+ended 'a missing program' 111 '' 'setuidgid: unable to run ./none such' setuidgid nobody './none such'
+ended 'numbers' 0 "$(id -u nobody) $(id -g nobody) $(id -g nobody)" '' setuidgid nobody sh -c 'echo $(id -u) $(id -g) $(id -G)'
+ended 'words' 7 "a b|'|-x||" '' setuidgid nobody sh -c 'printf "%s|" "$@"; exit 7' sh 'a b' "'" -x ''
+one_number setuidgid nobody
+mkdir -m 755 seen
+printf '#!/bin/sh\n' >seen/own
+chmod 700 seen/own
+chmod 755 .
+ended 'not for the account' 111 '' "setuidgid: unable to run $room/seen/own" setuidgid nobody "$room/seen/own"
+setpriv --reuid 65534 "$top/contrib/setuidgid" root true 2>told
+is 'setuidgid, no right: status' 111 "$?"
+is 'setuidgid, no right: told' 'setuidgid: unable to change to the account' "$(cat told)"
+
+ended 'no words' 100 '' 'envuidgid: usage: envuidgid account child' envuidgid
+ended 'no account' 111 '' 'envuidgid: unknown account nosuch' envuidgid nosuch true
+ended 'a missing program' 111 '' 'envuidgid: unable to run nosuch' envuidgid nobody nosuch
+ended 'numbers' 0 "UID=$(id -u nobody) GID=$(id -g nobody)" '' envuidgid nobody bash -c 'env | grep "^[UG]ID=" | sort -r | xargs'
+cp /bin/true ./a=b
+ended 'a name with =' 0 '' '' envuidgid nobody ./a=b
+one_number envuidgid nobody
+
+usage='softlimit: usage: softlimit [-a allbytes] [-c corebytes] [-d databytes] [-f filebytes] [-l lockbytes] [-m membytes] [-o openfiles] [-p processes] [-r residentbytes] [-s stackbytes] [-t cpusecs] child'
+ended 'no words' 100 '' "$usage" softlimit
+ended 'no number' 100 '' "$usage" softlimit -d abc true
+ended 'half a number' 100 '' "$usage" softlimit -d 5x true
+ended 'no program' 100 '' "$usage" softlimit -d 5000000
+ended 'a missing program' 111 '' 'softlimit: unable to run no such' softlimit 'no such'
+ended 'no limit' 3 '' '' softlimit sh -c 'exit 3'
+show='for limit in AS CORE DATA FSIZE MEMLOCK NOFILE NPROC RSS STACK CPU; do
+  set -- $(prlimit --raw --noheadings --output SOFT,HARD --$(echo $limit | tr A-Z a-z)); echo $limit $1 $2; done'
+for words in '-a 900000000' '-c 5000' '-d 90000000' '-f 70000' '-l 30000' '-m 900000000' '-o 20' '-p 900' '-r 8000000' \
+  '-s 4000000' '-t 100' '-o =' '-o 99999999999' '-c 99999999999999999999999' '-m 900000000 -d 80000000 -o 30 -c 0'; do
+  # shellcheck disable=SC2086
+  "$top/contrib/softlimit" $words sh -c "$show" >ours 2>&1
+  case $words in
+    -o\ 20) is 'softlimit, open files' 'NOFILE 20' "$(grep NOFILE ours | cut -d' ' -f1,2)" ;;
+    -m\ 900000000) is 'softlimit, memory' 'AS 900000000 DATA 900000000' "$(grep -E '^(AS|DATA)' ours | cut -d' ' -f1,2 | xargs)" ;;
+    -c\ 9999*) is 'softlimit, too large a number' "CORE $(ulimit -Hc)" "$(grep CORE ours | cut -d' ' -f1,2)" ;;
+    *-c\ 0) is 'softlimit, several' 'AS 900000000 CORE 0 DATA 80000000 NOFILE 30' \
+      "$(grep -E '^(AS|CORE|DATA|NOFILE)' ours | cut -d' ' -f1,2 | xargs)" ;;
+  esac
+  is "softlimit, hard limits stay ($words)" "$(sh -c "$show" | cut -d' ' -f1,3)" "$(cut -d' ' -f1,3 ours)"
+  # Of a number that has no place in 64 bits the real one takes what is left of it.
+  [ "$words" != '-c 99999999999999999999999' ] && is_real softlimit || continue
+  # shellcheck disable=SC2086
+  /usr/bin/softlimit $words sh -c "$show" >real 2>&1
+  is "softlimit as daemontools' ($words)" "$(cat real)" "$(cat ours)"
+done
+one_number softlimit -o 50
+
+usage='setlock: usage: setlock [ -nNxX ] file program [ arg ... ]'
+ended 'no words' 100 '' "$usage" setlock
+ended 'no program' 100 '' "$usage" setlock lock
+ended 'a missing program' 111 '' 'setlock: unable to run no such' setlock lock 'no such'
+ended 'no file' 111 '' 'setlock: unable to open nosuch/lock' setlock nosuch/lock true
+ended 'no file, -x' 0 '' '' setlock -x nosuch/lock true
+ended 'words' 7 'a b|' '' setlock 'a lock' sh -c 'printf "%s|" "$1"; exit 7' sh 'a b'
+rm lock
+"$top/contrib/setlock" lock true
+is 'setlock, mode of a new file' 600 "$(stat -c %a lock)"
+echo kept >>lock
+# The holder of a lock goes on once a file `go` is there, so that nothing here depends on how fast this machine is.
+"$top/contrib/setlock" lock sh -c 'echo held >held; while ! [ -e go ]; do sleep 0.05; done; echo first >>order' &
+while ! [ -s held ]; do sleep 0.05; done
+ended 'locked, -n' 111 '' 'setlock: unable to lock lock' setlock -n lock true
+ended 'locked, -nx' 0 '' '' setlock -nx lock echo ran
+"$top/contrib/setlock" lock sh -c 'echo second >>order' &
+second=$!
+sleep 0.3
+: >go
+wait "$second"
+is 'setlock, waits' 'first second' "$(xargs <order)"
+is 'setlock, the file stays as it is' kept "$(cat lock)"
+one_number setlock lock
+wait
+rm go
+# A lock under another one: both are held.
+"$top/contrib/setlock" lock "$top/contrib/setlock" other sh -c ': >both; while ! [ -e go ]; do sleep 0.05; done' &
+while ! [ -e both ]; do sleep 0.05; done
+ended 'the outer lock, -n' 111 '' 'setlock: unable to lock lock' setlock -n lock true
+ended 'the inner lock, -n' 111 '' 'setlock: unable to lock other' setlock -n other true
+: >go
+wait
+counts wrappers
