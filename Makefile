@@ -13,7 +13,7 @@ DESTDIR ?=
 NAMES ?=
 JOBS ?= $(shell nproc)
 PROGRAM ?= crates/dtools/out/dtools
-COMMANDS = svscan svc svstat svok tai64n tai64nlocal readproctitle
+COMMANDS = svscan svc svstat svok svwait tai64n tai64nlocal readproctitle
 # Scripts that stand in a place of their own: multilog and envdir over the program, the others over tools of the system.
 SCRIPTS = multilog envdir setuidgid envuidgid softlimit setlock
 BIN = $(DESTDIR)$(PREFIX)/bin
@@ -40,7 +40,7 @@ test:
 	.ci/run
 
 check:
-	for script in cases system multilog svc svscan envdir wrappers local why service install manual package; do tests/$$script.sh $(PROGRAM) || exit 1; done
+	for script in cases system multilog svc report machines svscan envdir wrappers local why wait service install manual package; do tests/$$script.sh $(PROGRAM) || exit 1; done
 
 package tarball:
 	packaging/build $(PROGRAM) packages
@@ -55,7 +55,8 @@ install:
 	install -d $(BIN) $(PLACES) $(COMPLETIONS) $(DESTDIR)$(UNITS) $(addprefix $(MANUAL)/man,1 5 7 8)
 	install -m 755 $(PROGRAM) $(BIN)/dtools
 	for place in $(PLACES); do for command in $(COMMANDS); do \
-	  printf '#!/bin/sh\nexec $(PREFIX)/bin/dtools %s "$$@"\n' $$command >$$place/$$command && chmod 755 $$place/$$command; \
+	  case $$command in svwait) word=wait ;; *) word=$$command ;; esac; \
+	  printf '#!/bin/sh\nexec $(PREFIX)/bin/dtools %s "$$@"\n' $$word >$$place/$$command && chmod 755 $$place/$$command; \
 	done; done
 	for place in $(PLACES); do for script in $(SCRIPTS); do \
 	  $(call SCRIPT,$$script) >$$place/$$script && chmod 755 $$place/$$script; \
@@ -72,7 +73,7 @@ install:
 	done
 	chmod 644 $(MANUAL)/man*/*
 	install -m 644 contrib/dtools.bash $(COMPLETIONS)/dtools
-	for command in svc svstat svok; do ln -sf dtools $(COMPLETIONS)/$$command; done
+	for command in svc svstat svok svwait; do ln -sf dtools $(COMPLETIONS)/$$command; done
 
 # Of PREFIX/bin it takes away only wrappers of this program.
 uninstall:
@@ -86,5 +87,5 @@ uninstall:
 	done
 	rm -f $(BIN)/dtools $(WRAPPERS)/svscan-run $(WRAPPERS)/dtools-service $(DESTDIR)$(UNITS)/dtools.service
 	for page in $(PAGES); do rm -f $(MANUAL)/man$${page##*.}/$$page.gz; done
-	for command in dtools svc svstat svok; do rm -f $(COMPLETIONS)/$$command; done
+	for command in dtools svc svstat svok svwait; do rm -f $(COMPLETIONS)/$$command; done
 	for folder in $(WRAPPERS) $(DESTDIR)$(UNITS) $(COMPLETIONS) $(addprefix $(MANUAL)/man,1 5 7 8); do ! [ -d $$folder ] || rmdir -p --ignore-fail-on-non-empty $$folder; done

@@ -16,16 +16,19 @@ _dtools() {
   local word=${COMP_WORDS[COMP_CWORD]} before=${COMP_WORDS[COMP_CWORD - 1]} command=${COMP_WORDS[0]##*/}
   if [ "$command" = dtools ]; then
     if [ "$COMP_CWORD" = 1 ]; then
-      mapfile -t COMPREPLY < <(compgen -W 'svscan svc svstat svok multilog tai64n tai64nlocal envdir readproctitle sim trace why help version' -- "$word")
+      mapfile -t COMPREPLY < <(compgen -W 'svscan svc svstat svok wait multilog tai64n tai64nlocal envdir readproctitle sim trace why help version' -- "$word")
       return
     fi
     command=${COMP_WORDS[1]}
   fi
   case $command:$word:$before in
-    svc:-*) mapfile -t COMPREPLY < <(compgen -W '-u -d -o -p -c -h -a -i -t -k -x -1 -2 -q -dx' -- "$word") ;;
-    svc:* | svstat:* | svok:* | why:*) _dtools_services ;;
+    svc:-*) mapfile -t COMPREPLY < <(compgen -W '-u -d -o -p -c -h -a -i -t -k -x -1 -2 -q -dx -W' -- "$word") ;;
+    svstat:-*) mapfile -t COMPREPLY < <(compgen -W '--json --metrics' -- "$word") ;;
+    wait:-* | svwait:-*) mapfile -t COMPREPLY < <(compgen -W '-u -d -x -t' -- "$word") ;;
+    wait:*:-t | svwait:*:-t) ;;
+    svc:* | svstat:* | svok:* | why:* | wait:* | svwait:*) _dtools_services ;;
     svscan:*) mapfile -t COMPREPLY < <(compgen -d -- "$word") ;;
-    help:*) mapfile -t COMPREPLY < <(compgen -W 'svscan svc svstat svok multilog tai64n tai64nlocal envdir readproctitle sim trace why' -- "$word") ;;
+    help:*) mapfile -t COMPREPLY < <(compgen -W 'svscan svc svstat svok wait multilog tai64n tai64nlocal envdir readproctitle sim trace why' -- "$word") ;;
     sim:*) mapfile -t COMPREPLY < <(compgen -W 'table' -- "$word") ;;
     trace:*:--break)
       mapfile -t COMPREPLY < <(compgen -W 'byte: phase:up phase:down phase:gone signal:TERM signal:KILL' -- "$word")
@@ -34,4 +37,4 @@ _dtools() {
     *) mapfile -t COMPREPLY < <(compgen -f -- "$word") ;;
   esac
 }
-complete -o filenames -F _dtools dtools svc svstat svok
+complete -o filenames -F _dtools dtools svc svstat svok svwait

@@ -10,15 +10,15 @@ run_make() { make -s -C "$top" PROGRAM="$program" DESTDIR="$room/root" PREFIX=/u
 found() { sorted "$(cd root 2>/dev/null && find . -type f -o -type l)"; }
 # sorted PATHS: paths on one line, in byte order
 sorted() { echo $1 | tr ' ' '\n' | LC_ALL=C sort | xargs; }
-wrappers() { printf "./usr/local/$1/%s " envdir envuidgid multilog readproctitle setlock setuidgid softlimit svc svok svscan svstat tai64n tai64nlocal; }
-completions=$(printf './usr/local/share/bash-completion/completions/%s ' dtools svc svok svstat)
+wrappers() { printf "./usr/local/$1/%s " envdir envuidgid multilog readproctitle setlock setuidgid softlimit svc svok svscan svstat svwait tai64n tai64nlocal; }
+completions=$(printf './usr/local/share/bash-completion/completions/%s ' dtools svc svok svstat svwait)
 # pages SECTION NAME..
 pages() {
   local section=$1
   shift
   printf "./usr/local/share/man/man$section/%s.$section.gz " "$@"
 }
-commands='envdir envuidgid multilog readproctitle service setlock setuidgid softlimit svc svok svscan svscan-run svstat tai64n tai64nlocal'
+commands='envdir envuidgid multilog readproctitle service setlock setuidgid softlimit svc svok svscan svscan-run svstat tai64n tai64nlocal wait'
 manual="$(pages 1 dtools dtools-sim dtools-trace dtools-why) $(pages 5 dtools-formats) $(pages 7 dtools)
   $(pages 8 $(printf 'dtools-%s ' $commands))"
 own="./usr/local/bin/dtools $(wrappers lib/dtools/bin) ./usr/local/lib/dtools/bin/svscan-run
@@ -30,6 +30,7 @@ is 'status' 0 "$?"
 is 'what it makes' "$(sorted "$own")" "$(found)"
 is 'modes' '755 755 644' "$(cd root/usr/local && stat -c %a bin/dtools lib/dtools/bin/svc share/bash-completion/completions/dtools | xargs)"
 is 'a wrapper' "$(printf '%s\n' '#!/bin/sh' 'exec /usr/local/bin/dtools svc "$@"')" "$(cat root/usr/local/lib/dtools/bin/svc)"
+is 'a wrapper of another name' 'exec /usr/local/bin/dtools wait "$@"' "$(tail -n 1 root/usr/local/lib/dtools/bin/svwait)"
 is 'envdir, a script, knows where' 'dtools() { /usr/local/bin/dtools "$@"; }' "$(grep '^dtools()' root/usr/local/lib/dtools/bin/envdir)"
 is 'svscan-run knows where' 'dtools=/usr/local/bin/dtools export PATH=/usr/local/lib/dtools/bin:$PATH' \
   "$(grep -E '^(dtools=|export)' root/usr/local/lib/dtools/bin/svscan-run | xargs)"
@@ -66,6 +67,8 @@ completes() {
 mkdir -p services/web/log services/db
 is 'completion of a command' 'svscan svc svstat svok' "$(completes dtools sv)"
 is 'completion of a service' 'services/web services/web/log' "$(completes svc -t services/w)"
+is 'completion of an option' '-u' "$(completes svwait -u)"
+is 'completion of a service to wait for' 'services/db' "$(completes svwait -d services/d)"
 is 'completion of a service of dtools' 'services/db' "$(completes dtools svstat services/d)"
 
 make -s -C "$top" PROGRAM="$room/none" DESTDIR="$room/root" install >/dev/null 2>told

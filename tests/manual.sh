@@ -61,7 +61,7 @@ for page in "$pages"/man*/*.gz; do
   is "$name" "$(printed examples | numbers)" "$got"
   rm -rf session
 done
-for command in svscan svc svstat svok multilog tai64n tai64nlocal envdir readproctitle; do
+for command in svscan svc svstat svok wait multilog tai64n tai64nlocal envdir readproctitle; do
   is "a page of $command" yes "$([ -e "$pages/man8/dtools-$command.8.gz" ] && echo yes)"
 done
 if command -v mandoc >/dev/null; then

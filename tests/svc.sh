@@ -126,6 +126,29 @@ ended 'a path beyond all' 0 '' "$warning $(printf '/%.0s' $(seq 5000)): not runn
 ended 'a slash behind' 0 '' '' svc -t s/
 arrived 'a slash behind' 's/control t'
 
+# svc -W: the same is sent and told, and the status says whether each was reached.
+ended '-W: each was reached' 0 '' '' svc -W -d s -x
+arrived '-W: each was reached' 's/control d' './-x/control d'
+ended '-W: one was not' 111 '' "$warning nosuch: not running" svc -W -u nosuch s
+arrived '-W: one was not' 's/control u'
+ended '-W: not the last' 111 '' "$warning nosuch: not running" svc -W -u s nosuch
+arrived '-W: not the last' 's/control u'
+ended '-W: two were not' 111 '' "$warning nosuch: not running
+$warning dead: not running" svc -W -du -t -- nosuch s dead -x
+arrived '-W: two were not' 's/control dut' './-x/control dut'
+ended '-W: no letter' 0 '' '' svc -W s nosuch
+ended '-W: no service' 0 '' '' svc -W -d
+ended '-W: no words' 0 '' '' svc -W
+ended '-W: an unknown letter' 100 '' 'svc: unknown letter 7a' svc -W -uz s nosuch
+ended '-W behind a letter' 100 '' 'svc: unknown letter 57' svc -u -W s
+ended '-W twice' 100 '' 'svc: unknown letter 57' svc -W -W s
+ended '-W with a letter' 100 '' 'svc: unknown letter 57' svc -Wu s
+ended '-W behind --' 0 '' "$warning -W: not running" svc -d -- -W
+ended '-- behind -W' 0 '' '' svc -W -t -- s
+arrived '-- behind -W' 's/control t'
+ended 'a slash behind again' 0 '' '' svc -t s/
+arrived 'a slash behind' 's/control t'
+
 # Sockets whose queue is full: nobody waits for ever.
 mkdir -p full/supervise
 python3 - <<'END' &
@@ -144,6 +167,7 @@ END
 listeners+=($!)
 for _ in $(seq 100); do [ -e full/supervise/ready ] && break; sleep 0.02; done
 ended 'a full queue' 0 '' "$warning full: no answer" svc -t full
+ended 'a full queue: -W' 111 '' "$warning full: no answer" svc -W -t full
 ended 'a full queue: svstat' 0 'full: unable to open supervise/ok: no answer' '' svstat full
 ended 'a full queue: svok' 100 '' '' svok full
 
@@ -158,6 +182,7 @@ if [ "$(id -u)" = 0 ] && command -v setpriv >/dev/null; then
   chmod 755 as_other
   ended 'another user: svstat' 0 's: unable to open supervise/ok: Permission denied' '' svstat s
   ended 'another user: svc' 0 '' "$warning s: Permission denied" svc -t s
+  ended 'another user: svc -W' 111 '' "$warning s: Permission denied" svc -W -t s
   ended 'another user: svok' 100 '' '' svok s
   program=$root_program
 fi

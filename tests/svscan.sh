@@ -276,6 +276,63 @@ END
   is 'nothing was told' '' "$(cat told told.out)"
 }
 
+# exit_says PATTERN FOLDER: how its last process ended, without the label
+exit_says() { grep -qE "^$1 @[0-9a-f]{24}\$" "$2/supervise/exit"; }
+# counts_are COUNTS FOLDER
+counts_are() { [ "$(cat "$2/supervise/counts" 2>/dev/null)" = "$1" ]; }
+
+# How processes end, and how many began and ended, in the files exit and counts.
+endings() {
+  service d/status <<'END'
+echo $$ >pid
+exit 3
+END
+  service d/killed <<'END'
+echo $$ >pid
+kill -SEGV $$
+END
+  sleeper d/web
+  sleeper d/down
+  : >d/down/down
+  mkdir -p d/down/supervise
+  echo '7 7' >d/down/supervise/counts
+  start told d
+  local name first
+  soon 'a status' 5 exit_says '[0-9]+ status 3' d/status
+  soon 'a signal' 5 exit_says '[0-9]+ signal SEGV' d/killed
+  svc -o d/status d/killed
+  for name in status killed; do
+    soon "$name: it ends for good" 8 is_down d/$name
+    is "$name: of its last process" "$(cat d/$name/pid)" "$(cut -d ' ' -f 1 d/$name/supervise/exit)"
+    is "$name: as many ended as began" "$(sed -E 's/^([0-9]+) [0-9]+$/\1 \1/' d/$name/supervise/counts)" "$(cat d/$name/supervise/counts)"
+  done
+  soon 'up' 5 is_settled d/web
+  first=$(process d/web)
+  is 'none has ended' no "$(exists d/web/supervise/exit)"
+  is 'one began' '1 0' "$(cat d/web/supervise/counts)"
+  svc -t d/web
+  soon 't: another one' 5 is_another d/web "$first"
+  so 't: how it ended' exit_says "$first signal TERM" d/web
+  so 't: two began' counts_are '2 1' d/web
+  soon 'it settles' 5 is_settled d/web
+  first=$(process d/web)
+  svc -k d/web
+  soon 'k: another one' 5 is_another d/web "$first"
+  so 'k: how it ended' exit_says "$first signal KILL" d/web
+  so 'k: three began' counts_are '3 2' d/web
+  is 'one that never ran: the counts of an earlier svscan are gone' 'no no' \
+    "$(exists d/down/supervise/counts) $(exists d/down/supervise/exit)"
+  soon 'web is up again' 5 is_settled d/web
+  first=$(process d/web)
+  svc -d d/web
+  soon 'd' 3 is_put_down d/web
+  soon 'why says it' 8 why_says "Process $first ran .* and ended by SIGTERM after TERM \\(d\\)\\." d/web
+  is 'modes' '600 600' "$(stat -c %a d/web/supervise/exit d/web/supervise/counts | xargs)"
+  is 'nothing was told' '' "$(cat told)"
+}
+exists() { [ -e "$1" ] && echo yes || echo no; }
+why_says() { timeout 10 "$program" why "$2" | grep -qE "$1"; }
+
 # No run, one that can't be executed, and one that is no program.
 no_run() {
   mkdir -p d/missing d/closed d/garbage
@@ -1233,7 +1290,7 @@ play_all() {
   done
 }
 
-scenarios=(life modes_kept exits no_run links stubborn killed_service killed_svscan earlier_record changes twice names silent
+scenarios=(life modes_kept exits endings no_run links stubborn killed_service killed_svscan earlier_record changes twice names silent
   connections no_supervise rounds untaken ordered first_process two_services child begins_anew shortage)
 # These keep every processor busy, and have the machine for themselves.
 crowds=(killed_logger late_logger last_entries given_back many)

@@ -193,6 +193,50 @@ status 88 0 0 $down 0 4
 trace 9 up "$(record 85 11261 0 $down)" - 'death 88'
 said 'd is folded' 0 's is down since {88}, normally up. Process 11261 ran 3.0 s and ended.'
 
+# How it ended: where its file exit says that of the very process, and time, of which the trace tells.
+# ended_so WORDS..: writes how the last process of s ended; MOMENT is when
+ended_so() { printf '%s @%s\n' "$1" "$(digits "$2")" >s/supervise/exit; }
+again
+status 88 0 0 $down 0 4
+trace 0 starting "$begun" - 'started 11261 85' 'clock 86' 'byte d' 'death 88'
+ended_so '11261 signal TERM' 88
+said 'by a signal' 0 's is down since {88}, normally up. It was brought down (d). Process 11261 ran 3.0 s and ended by SIGTERM after TERM (d). 1 start in the last 60 s.'
+ended_so '11261 signal 35' 88
+said 'by a signal without a name' 0 's is down since {88}, normally up. It was brought down (d). Process 11261 ran 3.0 s and ended by signal 35 after TERM (d). 1 start in the last 60 s.'
+ended_so '11261 status 0' 88
+said 'with status 0' 0 's is down since {88}, normally up. It was brought down (d). Process 11261 ran 3.0 s and ended with status 0 after TERM (d). 1 start in the last 60 s.'
+ended_so '11261 status 255' 88
+said 'with status 255' 0 's is down since {88}, normally up. It was brought down (d). Process 11261 ran 3.0 s and ended with status 255 after TERM (d). 1 start in the last 60 s.'
+untold='s is down since {88}, normally up. It was brought down (d). Process 11261 ran 3.0 s and ended after TERM (d). 1 start in the last 60 s.'
+ended_so '11261 unknown' 88
+said 'unknown' 0 "$untold"
+ended_so '11262 signal TERM' 88
+said 'of another process' 0 "$untold"
+ended_so '11261 signal TERM' 87
+said 'of another time' 0 "$untold"
+for words in '11261 status 256' '11261 status 03' '11261 signal SIGTERM' '011261 signal TERM' '11261  signal TERM' '11261 signal' ''; do
+  ended_so "$words" 88
+  said "no line of an exit: $words" 0 "$untold"
+done
+printf '11261 signal TERM @%s' "$(digits 88)" >s/supervise/exit
+said 'without its newline' 0 "$untold"
+printf '11261 signal TERM @%s\n\n' "$(digits 88)" >s/supervise/exit
+said 'with two' 0 "$untold"
+head -c 1000000 /dev/zero >s/supervise/exit
+said 'a long file' 0 "$untold"
+rm s/supervise/exit
+mkdir s/supervise/exit
+said 'a folder' 0 "$untold"
+rmdir s/supervise/exit
+mkfifo s/supervise/exit
+said 'a pipe' 0 "$untold"
+rm s/supervise/exit
+status 90 4711 0 $up 0 3
+trace 0 starting "$begun" - 'started 4710 86.25' 'clock 87.25' 'death 89.3' 'started 4711 90' 'clock 91'
+ended_so '4710 status 1' 89.3
+said 'the one before' 0 's is up since {90}, process 4711. Before it process 4710 ran 3.0 s and ended with status 1 without a control byte. 2 starts in the last 60 s.'
+rm s/supervise/exit
+
 # Starts: those of the last 60 seconds, 5 or more of which are flapping.
 again
 crash() { printf '%s\n' "started $1 $2" "clock $(($2 + 1))" "death $(($2 + 1))"; }

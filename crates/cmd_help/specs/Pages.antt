@@ -10,6 +10,7 @@ overview = printed (
     codes "  svc            controls services" ∷
     codes "  svstat         shows how services stand" ∷
     codes "  svok           tells whether a service is supervised" ∷
+    codes "  wait           returns once services are up, or down, or no longer supervised" ∷
     codes "  multilog       logs lines into folders" ∷
     codes "  tai64n         puts a label before each line" ∷
     codes "  tai64nlocal    shows labels as local times" ∷
@@ -35,6 +36,7 @@ HasNoPage name = (name ≢ codes "svscan")
     × (name ≢ codes "trace")
     × (name ≢ codes "tai64nlocal")
     × (name ≢ codes "why")
+    × (name ≢ codes "wait")
     × (name ≢ codes "help")
     × (name ≢ codes "version")
 
@@ -43,8 +45,8 @@ pub record IsPageOf (name page : List ℕ) : Type 0 where
   pub svscan : name ≡ codes "svscan"
       → page ≡ codes "dtools svscan [DIR [ROUNDS]], over the working directory where no DIR is given" ++ 10 ∷ []
   pub svc : name ≡ codes "svc"
-      → page ≡ codes "dtools svc [-udopchaitkx12q] SERVICE.., with u up, d down, o once, x exit, and signals" ++ 10 ∷ []
-  pub svstat : name ≡ codes "svstat" → page ≡ codes "dtools svstat SERVICE.." ++ 10 ∷ []
+      → page ≡ codes "dtools svc [-W] [-udopchaitkx12q] SERVICE.., with u up, d down, o once, x exit, and signals" ++ 10 ∷ []
+  pub svstat : name ≡ codes "svstat" → page ≡ codes "dtools svstat [--json | --metrics] SERVICE.." ++ 10 ∷ []
   pub svok : name ≡ codes "svok" → page ≡ codes "dtools svok SERVICE" ++ 10 ∷ []
   pub multilog : name ≡ codes "multilog"
       → page ≡ codes "dtools multilog ACTION.., of t, -PATTERN, +PATTERN, e, =FILE, sSIZE, nNUMBER, folders" ++ 10 ∷ []
@@ -59,6 +61,8 @@ pub record IsPageOf (name page : List ℕ) : Type 0 where
   pub trace : name ≡ codes "trace"
       → page ≡ codes "dtools trace FILE [--break SPEC], where SPEC is byte:C, phase:PHASE or signal:NAME" ++ 10 ∷ []
   pub why : name ≡ codes "why" → page ≡ codes "dtools why SERVICE.." ++ 10 ∷ []
+  pub wait : name ≡ codes "wait"
+      → page ≡ codes "dtools wait [-u|-d|-x] [-t SECONDS] SERVICE.., with u up, d down, x no longer supervised" ++ 10 ∷ []
   pub help : name ≡ codes "help" → page ≡ codes "dtools help [COMMAND]" ++ 10 ∷ []
   pub version : name ≡ codes "version" → page ≡ codes "dtools version" ++ 10 ∷ []
   pub unknown : HasNoPage name → page ≡ []

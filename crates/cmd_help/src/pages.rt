@@ -11,6 +11,7 @@ pub fn overview() -> &'static [u8]
   svc            controls services
   svstat         shows how services stand
   svok           tells whether a service is supervised
+  wait           returns once services are up, or down, or no longer supervised
   multilog       logs lines into folders
   tai64n         puts a label before each line
   tai64nlocal    shows labels as local times
@@ -32,9 +33,9 @@ pub fn page_of(name: &str) -> &'static [u8]
         "svscan" =>
             b"dtools svscan [DIR [ROUNDS]], over the working directory where no DIR is given\n",
         "svc" => {
-            b"dtools svc [-udopchaitkx12q] SERVICE.., with u up, d down, o once, x exit, and signals\n"
+            b"dtools svc [-W] [-udopchaitkx12q] SERVICE.., with u up, d down, o once, x exit, and signals\n"
         }
-        "svstat" => b"dtools svstat SERVICE..\n",
+        "svstat" => b"dtools svstat [--json | --metrics] SERVICE..\n",
         "svok" => b"dtools svok SERVICE\n",
         "multilog" => {
             b"dtools multilog ACTION.., of t, -PATTERN, +PATTERN, e, =FILE, sSIZE, nNUMBER, folders\n"
@@ -49,6 +50,9 @@ pub fn page_of(name: &str) -> &'static [u8]
             b"dtools trace FILE [--break SPEC], where SPEC is byte:C, phase:PHASE or signal:NAME\n"
         }
         "why" => b"dtools why SERVICE..\n",
+        "wait" => {
+            b"dtools wait [-u|-d|-x] [-t SECONDS] SERVICE.., with u up, d down, x no longer supervised\n"
+        }
         "help" => b"dtools help [COMMAND]\n",
         "version" => b"dtools version\n",
         _ => b"",

@@ -1,6 +1,7 @@
 -- What `svc` sends, and how it ends (cr.yp.to/daemontools/svc.html).
-use Rattle.std.specs.Prelude.{◌≡◌, ◌<◌, ◌⊎◌, ℕ, List, [], ◌∷◌, ◌++◌, length, codes, Option, Some, None}
-use Rattle.std.specs.Prelude.{MatchOption}
+use Rattle.std.specs.Prelude.{◌≡◌, ◌<◌, ◌⊎◌, ℕ, Bool, true, false, ◌||◌, if◌then◌else◌, List, [], ◌∷◌, ◌++◌, length}
+use Rattle.std.specs.Prelude.{codes}
+use Rattle.std.specs.Prelude.{bytes_eq, Option, Some, None, is_some, MatchOption}
 use Rattle.hex.specs.Hex.{encode_lower}
 use Rattle.tai_status.specs.Counted.{Device, Tells}
 use Rattle.cmd_svc.specs.Words.{option_letters, order_bytes, service_words, first_unknown}
@@ -17,6 +18,14 @@ pub record Effects : Type 0 where
 
 abbrev pub effects : (calls : Option (List Call)) (faults : Device) → Effects
 effects calls faults = record { calls = calls; faults = faults }
+
+-- What it works with as it sends: whether a service was not reached so far, too.
+pub record Sending : Type 0 where
+  pub effects : Effects
+  pub missed : Bool
+
+abbrev pub sending : (effects : Effects) (missed : Bool) → Sending
+sending effects missed = record { effects = effects; missed = missed }
 
 -- Sayings
 
@@ -45,23 +54,26 @@ abbrev pub TellsFault : (fault : Option Unreached) (folder : List ℕ) (old new 
 TellsFault None folder old new = new ≡ old
 TellsFault (Some why) folder old new = Tells old new (unreached_told folder why)
 
--- These bytes are sent to the service in a folder, once; that they did not arrive is told, once.
-pub record Serves (bytes folder : List ℕ) (old new : Effects) : Type 0 where
+-- These bytes are sent to the service in a folder, once; that they did not arrive is told, once, and kept.
+pub record Serves (bytes folder : List ℕ) (old new : Sending) : Type 0 where
   pub fault : Option Unreached
-  pub sent : Extended old.calls new.calls (Sent folder bytes fault ∷ [])
-  pub told : TellsFault fault folder old.faults new.faults
+  pub sent : Extended old.effects.calls new.effects.calls (Sent folder bytes fault ∷ [])
+  pub told : TellsFault fault folder old.effects.faults new.effects.faults
+  pub missed : new.missed ≡ (is_some fault || old.missed)
 
 -- These services get the bytes, one after the other, whichever of them can be reached. No bytes are not sent.
-abbrev pub ServesAll : (bytes : List ℕ) (services : List (List ℕ)) (old new : Effects) → Type 0
+abbrev pub ServesAll : (bytes : List ℕ) (services : List (List ℕ)) (old new : Sending) → Type 0
 ServesAll [] services old new = new ≡ old
 ServesAll (byte ∷ bytes) services old new = InTurn (Serves (byte ∷ bytes)) services old new
 
 -- Ends
 
--- Each service got the bytes of the words, or it is told that it can't be reached.
-pub record ServesWords (words : List (List ℕ)) (status : ℕ) (old new : Effects) : Type 0 where
-  pub status_is : status ≡ 0
-  pub serves : ServesAll (order_bytes words) (service_words words) old new
+-- Each service got the bytes of the words, or it is told that it can't be reached. The status says whether one could
+-- not.
+pub record ServesWords (missed_status : ℕ) (words : List (List ℕ)) (status : ℕ) (old new : Effects) : Type 0 where
+  pub missed : Bool
+  pub status_is : status ≡ (if missed then missed_status else 0)
+  pub serves : ServesAll (order_bytes words) (service_words words) (sending old false) (sending new missed)
 
 -- There is no memory for the names of the services: nothing is sent, and it is told.
 pub record LacksMemory (words : List (List ℕ)) (status : ℕ) (old new : Effects) : Type 0 where
@@ -76,8 +88,26 @@ pub record RefusesLetter (letter : ℕ) (status : ℕ) (old new : Effects) : Typ
   pub unsent : new.calls ≡ old.calls
   pub told : Tells old.faults new.faults (letter_told letter)
 
--- `svc`, by its words: the first letter that it does not know is refused.
-abbrev pub SvcEnds : (words : List (List ℕ)) (status : ℕ) (old new : Effects) → Type 0
-SvcEnds words status old new = MatchOption (first_unknown (option_letters words))
-    (ServesWords words status old new ⊎ LacksMemory words status old new)
+-- `svc`, by its words, with this status where a service could not be reached: the first letter that it does not know is
+-- refused.
+abbrev pub OrderEnds : (missed_status : ℕ) (words : List (List ℕ)) (status : ℕ) (old new : Effects) → Type 0
+OrderEnds missed_status words status old new = MatchOption (first_unknown (option_letters words))
+    (ServesWords missed_status words status old new ⊎ LacksMemory words status old new)
     (λ letter. RefusesLetter letter status old new)
+
+-- Behind a first word `-W` that a service could not be reached is a fault, and else it is not.
+
+abbrev pub is_strict : List ℕ → Bool
+is_strict word = bytes_eq word (codes "-W")
+
+abbrev pub missed_status : List (List ℕ) → ℕ
+missed_status [] = 0
+missed_status (word ∷ words) = if is_strict word then 111 else 0
+
+-- the words without a `-W` in their first place
+abbrev pub order_words : List (List ℕ) → List (List ℕ)
+order_words [] = []
+order_words (word ∷ words) = if is_strict word then words else word ∷ words
+
+abbrev pub SvcEnds : (words : List (List ℕ)) (status : ℕ) (old new : Effects) → Type 0
+SvcEnds words status old new = OrderEnds (missed_status words) (order_words words) status old new

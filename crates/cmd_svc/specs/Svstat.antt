@@ -95,11 +95,15 @@ look_line folder look.Unread = folder ++ codes ": unable to read status"
 look_line folder (look.Bad cause) = folder ++ codes ": bad status record: " ++ fault_name cause
 look_line folder (look.Standing loaded normally_up now) = status_line folder loaded normally_up now
 
--- The service in a folder was looked at, and then the line of that was written.
-pub record Shows (folder : List ℕ) (old new : Scene) : Type 0 where
+-- How the line of a look at the service in a folder reads, without a newline
+abbrev pub Form : Type 0
+Form = (folder : List ℕ) → Look → List ℕ
+
+-- The service in a folder was looked at, and then the line of that was written, in a form.
+pub record Shows (line_of : Form) (folder : List ℕ) (old new : Scene) : Type 0 where
   pub look : Look
   pub finds : Finds folder look old.sight new.sight
-  pub wrote : Wrote old.writer new.writer (look_line folder look ++ 10 ∷ [])
+  pub wrote : Wrote old.writer new.writer (line_of folder look ++ 10 ∷ [])
   pub works : Works old.writer new.writer
 
 -- Faults
@@ -110,20 +114,20 @@ WritesNot why.OutOfMemory line old new = new ≡ old
 WritesNot why.Write line old new = WroteFront old new line × Fails old new
 
 -- The service in a folder was looked at, and the line of that was not written.
-pub record ShowsNot (folder : List ℕ) (cause : SvstatFault) (old new : Scene) : Type 0 where
+pub record ShowsNot (line_of : Form) (folder : List ℕ) (cause : SvstatFault) (old new : Scene) : Type 0 where
   pub look : Look
   pub finds : Finds folder look old.sight new.sight
-  pub unwritten : WritesNot cause (look_line folder look ++ 10 ∷ []) old.writer new.writer
+  pub unwritten : WritesNot cause (line_of folder look ++ 10 ∷ []) old.writer new.writer
 
 -- The words before one have their lines, and that one has not. The words after it are not looked at.
-pub record ShowsUpTo (words : List (List ℕ)) (cause : SvstatFault) (old new : Scene) : Type 0 where
+pub record ShowsUpTo (line_of : Form) (words : List (List ℕ)) (cause : SvstatFault) (old new : Scene) : Type 0 where
   pub before : List (List ℕ)
   pub folder : List ℕ
   pub after : List (List ℕ)
   pub words_are : words ≡ before ++ folder ∷ after
   pub middle : Scene
-  pub shown : InTurn Shows before old middle
-  pub fails : ShowsNot folder cause middle new
+  pub shown : InTurn (Shows line_of) before old middle
+  pub fails : ShowsNot line_of folder cause middle new
 
 -- what is told of a fault
 abbrev pub svstat_told : SvstatFault → List ℕ
@@ -133,19 +137,22 @@ svstat_told why.Write = codes "svstat: write fault" ++ 10 ∷ []
 -- Ends
 
 -- Each word has its line, and nothing is told.
-pub record ShowsAll (words : List (List ℕ)) (status : ℕ) (old new : Scene) (faults tells : Device) : Type 0 where
+pub record ShowsAll (line_of : Form) (words : List (List ℕ)) (status : ℕ) (old new : Scene) (faults tells : Device)
+    : Type 0 where
   pub status_is : status ≡ 0
-  pub shown : InTurn Shows words old new
+  pub shown : InTurn (Shows line_of) words old new
   pub untold : tells ≡ faults
 
 -- A line could not be written, and it is told why.
-pub record Stops (words : List (List ℕ)) (status : ℕ) (old new : Scene) (faults tells : Device) : Type 0 where
+pub record Stops (line_of : Form) (words : List (List ℕ)) (status : ℕ) (old new : Scene) (faults tells : Device)
+    : Type 0 where
   pub cause : SvstatFault
-  pub stops : ShowsUpTo words cause old new
+  pub stops : ShowsUpTo line_of words cause old new
   pub status_is : status ≡ 111
   pub told : Tells faults tells (svstat_told cause)
 
--- `svstat`, by its words
-abbrev pub SvstatEnds : (words : List (List ℕ)) (status : ℕ) (old new : Scene) (faults tells : Device) → Type 0
-SvstatEnds words status old new faults tells =
-    ShowsAll words status old new faults tells ⊎ Stops words status old new faults tells
+-- `svstat`, by its words, with lines of a form
+abbrev pub SvstatEnds : (line_of : Form) (words : List (List ℕ)) (status : ℕ) (old new : Scene) (faults tells : Device)
+    → Type 0
+SvstatEnds line_of words status old new faults tells =
+    ShowsAll line_of words status old new faults tells ⊎ Stops line_of words status old new faults tells

@@ -5,6 +5,7 @@
 //! svstat prints it (<https://cr.yp.to/daemontools/svstat.html>).
 #![tactic(auto)]
 
+mod form;
 mod line;
 mod look;
 mod order;
@@ -15,12 +16,13 @@ mod svstat;
 mod system;
 mod words;
 
+pub use form::LineForm;
 pub use line::stat_line;
-pub use look::{Look, fault_name};
+pub use look::{Look, fault_name, look_at};
 pub use order::{LETTER_COUNT, LETTERS, Order, OrderBytes, SvcFault};
 pub use services::{Services, Unreached};
 pub use svc::run_svc;
 pub use svok::run_svok;
-pub use svstat::{SvstatFault, run_svstat};
+pub use svstat::{SvstatFault, run_svstat, run_svstat_as, svstat_told};
 pub use system::SystemServices;
-pub use words::assemble;
+pub use words::{assemble, is_option};

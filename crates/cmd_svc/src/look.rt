@@ -26,11 +26,7 @@ pub enum Look {
 
 /// Looks at the service in a folder: whether it is supervised, then its status, then its file `down` and the clock. The
 /// first that fails ends the look.
-pub(crate) fn look_at<S: Services, C: TimeSource>(
-    services: &mut S,
-    clock: &mut C,
-    folder: &str,
-) -> Look
+pub fn look_at<S: Services, C: TimeSource>(services: &mut S, clock: &mut C, folder: &str) -> Look
     ensures { Finds folder.now result (sight (S.calls services.old) (C.readings clock.old))
         (sight (S.calls services.new) (C.readings clock.new)) }
 {

@@ -1,9 +1,10 @@
 //! The command `svc`.
-ghost use Rattle.std.specs.Prelude.{◌≡◌};
+ghost use Rattle.std.specs.Prelude.{◌≡◌, false, if◌then◌else◌};
 ghost use Rattle.cmd_svc.specs.Words.{texts};
 ghost use Rattle.tai_status.specs.Counted.{Tells};
 ghost use Rattle.cmd_svc.specs.Turns.{InTurn};
-ghost use Rattle.cmd_svc.specs.Svc.{effects, letter_told, reason, Serves, ServesAll, SvcEnds};
+ghost use Rattle.cmd_svc.specs.Svc.{effects, letter_told, missed_status, order_words, reason, sending};
+ghost use Rattle.cmd_svc.specs.Svc.{OrderEnds, Serves, ServesAll, SvcEnds};
 
 use crate::order::SvcFault;
 use crate::services::{Services, Unreached};
@@ -34,18 +35,20 @@ fn reason(why: Unreached) -> &'static [u8]
     }
 }
 
-/// Sends bytes to a service, and tells that it can't be reached, and why.
+/// Sends bytes to a service, and tells that it can't be reached, and why. Answers whether some service was not reached,
+/// this one or one before it.
 fn serve<S: Services, E: Write>(
     services: &mut S,
     folder: &str,
     bytes: &[u8],
+    missed: bool,
     faults: &mut Output<E>,
-)
-    ensures { Serves bytes.now folder.now (effects (S.calls services.old) faults.old)
-        (effects (S.calls services.new) faults.new) }
+) -> bool
+    ensures { Serves bytes.now folder.now (sending (effects (S.calls services.old) faults.old) missed)
+        (sending (effects (S.calls services.new) faults.new) result) }
 {
     match services.send(folder, bytes) {
-        Ok(()) => {}
+        Ok(()) => missed,
         Err(why) => {
             report_parts(
                 faults,
@@ -54,45 +57,100 @@ fn serve<S: Services, E: Write>(
                 reason(why),
                 DONE,
             );
+            true
         }
     }
 }
 
-/// Sends bytes to services, one after the other.
+/// Sends bytes to services, one after the other. Answers whether some service was not reached.
 fn serve_each<S: Services, A: Allocator, E: Write>(
     services: &mut S,
     names: &[Name<A>],
     bytes: &[u8],
     faults: &mut Output<E>,
-)
-    ensures { InTurn (Serves bytes.now) names.now (effects (S.calls services.old) faults.old)
-        (effects (S.calls services.new) faults.new) }
+) -> bool
+    ensures { InTurn (Serves bytes.now) names.now (sending (effects (S.calls services.old) faults.old) false)
+        (sending (effects (S.calls services.new) faults.new) result) }
 {
+    let mut missed = false;
     for name in names {
-        serve(services, name.as_str(), bytes, faults);
+        missed = serve(services, name.as_str(), bytes, missed, faults);
     }
+    missed
 }
 
-/// Sends bytes to services. No bytes are not sent.
+/// Sends bytes to services. No bytes are not sent. Answers whether some service was not reached.
 fn serve_all<S: Services, A: Allocator, E: Write>(
     services: &mut S,
     names: &[Name<A>],
     bytes: &[u8],
     faults: &mut Output<E>,
-)
-    ensures { ServesAll bytes.now names.now (effects (S.calls services.old) faults.old)
+) -> bool
+    ensures { ServesAll bytes.now names.now (sending (effects (S.calls services.old) faults.old) false)
+        (sending (effects (S.calls services.new) faults.new) result) }
+{
+    if bytes.is_empty() {
+        return false;
+    }
+    serve_each(services, names, bytes, faults)
+}
+
+/// The status behind services that were served.
+fn served_status(missed: bool, missed_status: u8) -> u8
+    ensures { result ≡ (if missed then missed_status else 0) }
+{
+    if missed { missed_status } else { DONE }
+}
+
+/// Serves the order that words are, or tells that they are none. Answers the status, which is this one where a service
+/// was not reached.
+fn run_order<S: Services, A: Allocator + Clone, E: Write>(
+    alloc: A,
+    services: &mut S,
+    words: &[&str],
+    missed_status: u8,
+    faults: &mut Output<E>,
+) -> u8
+    ensures { OrderEnds missed_status (texts words.now) result (effects (S.calls services.old) faults.old)
         (effects (S.calls services.new) faults.new) }
 {
-    if !bytes.is_empty() {
-        serve_each(services, names, bytes, faults);
+    match assemble(alloc, words) {
+        Ok(order) => {
+            let names = order.services.as_slice();
+            let missed = serve_all(services, names, order.bytes.as_slice(), faults);
+            served_status(missed, missed_status)
+        }
+        Err(SvcFault::UnknownLetter(letter)) => report_letter(letter, faults),
+        Err(SvcFault::OutOfMemory) => report(faults, b"svc: OutOfMemory\n", TROUBLE),
+    }
+}
+
+/// The status where a service was not reached: a first word `-W` makes it a fault.
+fn missed_status(words: &[&str]) -> u8
+    ensures { result ≡ missed_status (texts words.now) }
+{
+    match words {
+        [first, ..] if *first == "-W" => TROUBLE,
+        _ => DONE,
+    }
+}
+
+/// The words without a `-W` in their first place.
+fn order_words<'a, 'b>(words: &'a [&'b str]) -> &'a [&'b str]
+    ensures { texts result.now ≡ order_words (texts words.entry.now) }
+{
+    match words {
+        [first, words @ ..] if *first == "-W" => words,
+        _ => words,
     }
 }
 
 /// The command `svc`: sends the letters of its option words, as control bytes, to each service that its other words
 /// name, in order (<https://cr.yp.to/daemontools/svc.html>). Each letter is sent once. A service that can't be reached
-/// is told as `svc: warning: unable to control DIR: WHY`, and the others are served. No letters, or no services: nothing
-/// is done. Answers the status: 0, also after such warnings; 100 for an unknown letter, and 111 for want of memory: then
-/// nothing is sent to anybody.
+/// is told as `svc: warning: unable to control DIR: WHY`, and the others are served. No letters, or no services:
+/// nothing is done. Answers the status: 0, also after such warnings, but 111 after one where the first word is `-W`,
+/// which is no option word then; 100 for an unknown letter, and 111 for want of memory: then nothing is sent to
+/// anybody.
 pub fn run_svc<S: Services, A: Allocator + Clone, E: Write>(
     alloc: A,
     services: &mut S,
@@ -102,17 +160,11 @@ pub fn run_svc<S: Services, A: Allocator + Clone, E: Write>(
     ensures ends { SvcEnds (texts words.now) result (effects (S.calls services.old) faults.old)
         (effects (S.calls services.new) faults.new) }
 {
-    match assemble(alloc, words) {
-        Ok(order) => {
-            serve_all(
-                services,
-                order.services.as_slice(),
-                order.bytes.as_slice(),
-                faults,
-            );
-            DONE
-        }
-        Err(SvcFault::UnknownLetter(letter)) => report_letter(letter, faults),
-        Err(SvcFault::OutOfMemory) => report(faults, b"svc: OutOfMemory\n", TROUBLE),
-    }
+    run_order(
+        alloc,
+        services,
+        order_words(words),
+        missed_status(words),
+        faults,
+    )
 }

@@ -1,11 +1,12 @@
 //! The command `svstat`.
-ghost use Rattle.std.specs.Prelude.{◌≡◌, ◌∷◌, [], ◌++◌, map, string_bytes, OnOk, IfOk, IfErr};
+ghost use Rattle.std.specs.Prelude.{◌≡◌, ◌∷◌, [], ◌++◌, map, OnOk, IfOk, IfErr};
 ghost use Rattle.tai_status.specs.Counted.{Wrote, Works};
 ghost use Rattle.cmd_svc.specs.Turns.{InTurn};
 ghost use Rattle.cmd_svc.specs.Svstat.{scene, look_line, Shows, ShowsNot, ShowsUpTo};
 ghost use Rattle.cmd_svc.specs.Svstat.{SvstatEnds, WritesNot, svstat_told};
 
-use crate::look::{Look, look_at, look_line};
+use crate::form::{LineForm, PlainLine};
+use crate::look::{Look, look_at};
 use crate::services::Services;
 use cmd_base::{DONE, TROUBLE, report};
 use std::alloc::{AllocError, Allocator};
@@ -22,85 +23,119 @@ pub enum SvstatFault {
 }
 
 /// The line of a look at the service in a folder, with its newline.
-fn whole_line<A: Allocator + Clone>(
+fn whole_line<F: LineForm, A: Allocator + Clone>(
+    form: &F,
     alloc: &A,
     folder: &str,
     look: &Look,
-) -> Result<String<A>, AllocError>
-    ensures { IfOk result (λ line. string_bytes line ≡ look_line folder.now look.now ++ 10 ∷ []) }
+) -> Result<Vec<u8, A>, AllocError>
+    ensures { IfOk result (λ line. line.items ≡ F.line_of form.now folder.now look.now ++ 10 ∷ []) }
 {
-    let mut line = look_line(alloc.clone()?, folder, look)?;
-    line.push_str("\n")?;
+    let mut line = form.line(alloc.clone()?, folder, look)?;
+    line.push(b'\n')?;
     Ok(line)
 }
 
 /// Writes the line of a look at the service in a folder.
-fn write_line<A: Allocator + Clone, W: Write>(
+fn write_line<F: LineForm, A: Allocator + Clone, W: Write>(
+    form: &F,
     alloc: &A,
     folder: &str,
     look: &Look,
     writer: &mut Output<W>,
 ) -> Result<(), SvstatFault>
-    ensures ok { OnOk result (Wrote writer.old writer.new (look_line folder.now look.now ++ 10 ∷ [])) }
+    ensures ok { OnOk result
+        (Wrote writer.old writer.new (F.line_of form.now folder.now look.now ++ 10 ∷ [])) }
     ensures works { OnOk result (Works writer.old writer.new) }
     ensures err { IfErr result (λ cause.
-        WritesNot cause (look_line folder.now look.now ++ 10 ∷ []) writer.old writer.new) }
+        WritesNot cause (F.line_of form.now folder.now look.now ++ 10 ∷ []) writer.old writer.new) }
 {
-    let Ok(line) = whole_line(alloc, folder, look) else {
+    let Ok(line) = whole_line(form, alloc, folder, look) else {
         return Err(SvstatFault::OutOfMemory);
     };
-    match writer.write_all(line.as_bytes()) {
+    match writer.write_all(&line) {
         Ok(()) => Ok(()),
         Err(_) => Err(SvstatFault::Write),
     }
 }
 
 /// Looks at the service in a folder, and writes the line of that.
-fn show<S: Services, A: Allocator + Clone, W: Write, C: TimeSource>(
+fn show<F: LineForm, S: Services, A: Allocator + Clone, W: Write, C: TimeSource>(
+    form: &F,
     alloc: &A,
     services: &mut S,
     folder: &str,
     writer: &mut Output<W>,
     clock: &mut C,
 ) -> Result<(), SvstatFault>
-    ensures ok { OnOk result (Shows folder.now (scene (S.calls services.old) (C.readings clock.old) writer.old)
+    ensures ok { OnOk result (Shows (F.line_of form.now) folder.now
+        (scene (S.calls services.old) (C.readings clock.old) writer.old)
         (scene (S.calls services.new) (C.readings clock.new) writer.new)) }
-    ensures err { IfErr result (λ cause. ShowsNot folder.now cause
+    ensures err { IfErr result (λ cause. ShowsNot (F.line_of form.now) folder.now cause
         (scene (S.calls services.old) (C.readings clock.old) writer.old)
         (scene (S.calls services.new) (C.readings clock.new) writer.new)) }
 {
     let look = look_at(services, clock, folder);
-    write_line(alloc, folder, &look, writer)
+    write_line(form, alloc, folder, &look, writer)
 }
 
 /// Shows the services in folders, one after the other, up to the first whose line can't be written.
-fn show_all<S: Services, A: Allocator + Clone, W: Write, C: TimeSource>(
+fn show_all<F: LineForm, S: Services, A: Allocator + Clone, W: Write, C: TimeSource>(
+    form: &F,
     alloc: &A,
     services: &mut S,
     folders: &[&str],
     writer: &mut Output<W>,
     clock: &mut C,
 ) -> Result<(), SvstatFault>
-    ensures ok { OnOk result (InTurn Shows (map (λ word. word.now) folders.now)
+    ensures ok { OnOk result (InTurn (Shows (F.line_of form.now)) (map (λ word. word.now) folders.now)
         (scene (S.calls services.old) (C.readings clock.old) writer.old)
         (scene (S.calls services.new) (C.readings clock.new) writer.new)) }
-    ensures err { IfErr result (λ cause. ShowsUpTo (map (λ word. word.now) folders.now) cause
+    ensures err { IfErr result (λ cause.
+        ShowsUpTo (F.line_of form.now) (map (λ word. word.now) folders.now) cause
         (scene (S.calls services.old) (C.readings clock.old) writer.old)
         (scene (S.calls services.new) (C.readings clock.new) writer.new)) }
 {
     for folder in folders {
-        show(alloc, services, folder, writer, clock)?;
+        show(form, alloc, services, folder, writer, clock)?;
     }
     Ok(())
 }
 
 /// What is told of a fault.
-fn fault_text(fault: SvstatFault) -> &'static [u8]
+pub fn svstat_told(fault: SvstatFault) -> &'static [u8]
     ensures { result.now ≡ svstat_told fault }
 {
     match fault {
         SvstatFault::OutOfMemory => b"svstat: OutOfMemory\n",
         SvstatFault::Write => b"svstat: write fault\n",
+    }
+}
+
+/// The command `svstat` with lines of a form: as [`run_svstat`], whose form is that of svstat itself.
+pub fn run_svstat_as<F, S, A, W, E, C>(
+    form: &F,
+    alloc: A,
+    services: &mut S,
+    words: &[&str],
+    writer: &mut Output<W>,
+    faults: &mut Output<E>,
+    clock: &mut C,
+) -> u8
+where
+    F: LineForm,
+    S: Services,
+    A: Allocator + Clone,
+    W: Write,
+    E: Write,
+    C: TimeSource,
+    ensures ends { SvstatEnds (F.line_of form.now) (map (λ word. word.now) words.now) result
+        (scene (S.calls services.old) (C.readings clock.old) writer.old)
+        (scene (S.calls services.new) (C.readings clock.new) writer.new) faults.old faults.new }
+{
+    match show_all(form, &alloc, services, words, writer, clock) {
+        Ok(()) => DONE,
+        Err(fault) => report(faults, svstat_told(fault), TROUBLE),
     }
 }
 
@@ -117,12 +152,9 @@ pub fn run_svstat<S: Services, A: Allocator + Clone, W: Write, E: Write, C: Time
     faults: &mut Output<E>,
     clock: &mut C,
 ) -> u8
-    ensures ends { SvstatEnds (map (λ word. word.now) words.now) result
+    ensures ends { SvstatEnds look_line (map (λ word. word.now) words.now) result
         (scene (S.calls services.old) (C.readings clock.old) writer.old)
         (scene (S.calls services.new) (C.readings clock.new) writer.new) faults.old faults.new }
 {
-    match show_all(&alloc, services, words, writer, clock) {
-        Ok(()) => DONE,
-        Err(fault) => report(faults, fault_text(fault), TROUBLE),
-    }
+    run_svstat_as(&PlainLine, alloc, services, words, writer, faults, clock)
 }

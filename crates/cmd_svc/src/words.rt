@@ -28,7 +28,7 @@ pub fn assemble<A: Allocator + Clone>(alloc: A, words: &[&str]) -> Result<Order<
 }
 
 /// Whether a word is an option word.
-fn is_option(word: &str) -> bool
+pub fn is_option(word: &str) -> bool
     ensures { result ≡ is_option word.now }
 {
     word.len() >= 2 && word.as_bytes()[0] == b'-' && word != "--"

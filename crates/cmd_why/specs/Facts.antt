@@ -60,6 +60,7 @@ label_of_start before other = before.label
 abbrev pub ended_at : Status → List Event → Tai64n → Ended
 ended_at before entries label = record {
   pid = pid_of_start before (last_of Start entries);
+  label = label;
   tenths = tenths_between (label_of_start before (last_of Start entries)) label;
   wanted = byte_in (last_of Want (behind_last Start entries));
   sent = byte_in (last_of Signal (behind_last Start entries));
@@ -99,3 +100,8 @@ facts_of told status now = record {
   failed = is_failure (last_of Attempt told.entries);
   unrun = has_not_run told;
 }
+
+-- the process that ended last, where a trace tells of one
+abbrev pub ended_in : Option Facts → Option Ended
+ended_in (Some facts) = facts.ended
+ended_in None = None

@@ -13,6 +13,9 @@ use Rattle.tai_status.specs.declared.record.Want.TheVariants as want
 use Rattle.sup_core.specs.declared.asks.Sig.{Sig}
 use Rattle.sup_core.specs.Rules.{signals_of}
 use Rattle.sup_core.specs.Text.{signal_name}
+use Rattle.svc_exit.specs.Exits.{signal_name as name_of_signal}
+use Rattle.svc_exit.specs.declared.ending.Ending.{Ending}
+use Rattle.svc_exit.specs.declared.ending.Ending.TheVariants.{Status as OfStatus, Signal}
 use Rattle.cmd_svc.specs.Line.{is_running, seconds, note, normal_notes}
 use Rattle.cmd_why.specs.Entries.{is_signal}
 use Rattle.cmd_why.specs.declared.facts.Ended.{Ended}
@@ -104,11 +107,25 @@ how_words None unasked = note unasked (codes " without a control byte")
 unfoldable pub tenths_text : ℕ → List ℕ
 tenths_text tenths = decimal (tenths / 10) ++ codes "." ++ decimal (tenths % 10)
 
+-- a signal: its name, or the number of one that has none
+abbrev pub named : (name : List ℕ) (number : ℕ) → List ℕ
+named [] number = codes "signal " ++ decimal number
+named (byte ∷ name) number = codes "SIG" ++ byte ∷ name
+
+unfoldable pub signal_text : (number : ℕ) → List ℕ
+signal_text number = named (name_of_signal number) number
+
+-- with which status or by which signal a process ended, where that is known
+unfoldable pub ending_words : Option Ending → List ℕ
+ending_words (Some (OfStatus code)) = codes " with status " ++ decimal code
+ending_words (Some (Signal number)) = codes " by " ++ signal_text number
+ending_words other = []
+
 -- which process ended, how long it ran, and how it ended
-abbrev pub ended_words : Ended → List ℕ
-ended_words ended =
+abbrev pub ended_words : Ended → Option Ending → List ℕ
+ended_words ended ending =
     decimal ended.pid ++ codes " ran " ++ tenths_text ended.tenths ++ codes " s and ended"
-    ++ how_words ended.sent ended.unasked ++ codes "."
+    ++ ending_words ending ++ how_words ended.sent ended.unasked ++ codes "."
 
 -- that the process was sent a signal since its start: the last one
 abbrev pub sent_sentence : Option ℕ → List ℕ
@@ -116,9 +133,9 @@ sent_sentence (Some byte) = codes " It was sent " ++ signal_end byte
 sent_sentence None = []
 
 -- the process before the one that runs
-abbrev pub before_sentence : Option Ended → List ℕ
-before_sentence (Some ended) = codes " Before it process " ++ ended_words ended
-before_sentence None = []
+abbrev pub before_sentence : Option Ended → Option Ending → List ℕ
+before_sentence (Some ended) ending = codes " Before it process " ++ ended_words ended ending
+before_sentence None ending = []
 
 -- why a service is down: by the last of u, d and o behind the start of the process that ended
 abbrev pub wanted_sentence : Option ℕ → List ℕ
@@ -129,14 +146,14 @@ wanted_sentence (Some byte) =
 wanted_sentence None = []
 
 -- the process that ended
-abbrev pub last_sentence : Option Ended → List ℕ
-last_sentence (Some ended) = wanted_sentence ended.wanted ++ codes " Process " ++ ended_words ended
-last_sentence None = []
+abbrev pub last_sentence : Option Ended → Option Ending → List ℕ
+last_sentence (Some ended) ending = wanted_sentence ended.wanted ++ codes " Process " ++ ended_words ended ending
+last_sentence None ending = []
 
-abbrev pub past_sentences : (running : Bool) → Facts → List ℕ
-past_sentences running facts =
-    if running then sent_sentence facts.sent ++ before_sentence facts.ended
-    else last_sentence facts.ended
+abbrev pub past_sentences : (running : Bool) → Facts → Option Ending → List ℕ
+past_sentences running facts ending =
+    if running then sent_sentence facts.sent ++ before_sentence facts.ended ending
+    else last_sentence facts.ended ending
     ++ note facts.failed (codes " Its last start failed.")
     ++ note facts.unrun (codes " It has not run since supervise began.")
 
@@ -161,16 +178,16 @@ abbrev pub count_sentence : (starts : ℕ) → (all : Bool) → List ℕ
 count_sentence starts all = if starts == 0 then [] else starts_opening starts all ++ count_words starts
 
 -- what a trace tells, where there is one
-abbrev pub trace_sentences : (running : Bool) → Option Facts → List ℕ
-trace_sentences running None = []
-trace_sentences running (Some facts) =
-    (if facts.leads then past_sentences running facts else []) ++ count_sentence facts.starts (has_all facts)
+abbrev pub trace_sentences : (running : Bool) → Option Facts → Option Ending → List ℕ
+trace_sentences running None ending = []
+trace_sentences running (Some facts) ending =
+    (if facts.leads then past_sentences running facts ending else []) ++ count_sentence facts.starts (has_all facts)
 
 -- The line
 
 -- the line of a service in this folder, without a newline
-abbrev pub why_line : (folder : List ℕ) → Loaded → (normally_up : Bool) → Option Facts → (time : List ℕ)
-    → (now : Tai64n) → List ℕ
-why_line folder loaded normally_up facts time now =
+abbrev pub why_line : (folder : List ℕ) → Loaded → (normally_up : Bool) → Option Facts → Option Ending
+    → (time : List ℕ) → (now : Tai64n) → List ℕ
+why_line folder loaded normally_up facts ending time now =
     folder ++ state_text loaded normally_up time now
-    ++ trace_sentences (is_running (status_in loaded)) facts
+    ++ trace_sentences (is_running (status_in loaded)) facts ending

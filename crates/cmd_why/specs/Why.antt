@@ -19,8 +19,11 @@ use Rattle.cmd_svc.specs.declared.services.Unreached.{Unreached}
 use Rattle.cmd_svc.specs.declared.services.Unreached.TheVariants as unreached
 use Rattle.cmd_svc.specs.Svstat.{fault_name}
 use Rattle.cmd_svc.specs.Turns.{InTurn}
-use Rattle.cmd_why.specs.Facts.{facts_of}
+use Rattle.svc_exit.specs.Exits.{IsEnding, Says}
+use Rattle.svc_exit.specs.declared.ending.Ending.{Ending}
+use Rattle.cmd_why.specs.Facts.{ended_in, facts_of}
 use Rattle.cmd_why.specs.Sentences.{why_line}
+use Rattle.cmd_why.specs.declared.facts.Ended.{Ended}
 use Rattle.cmd_why.specs.declared.lines.Absence.{Absence}
 use Rattle.cmd_why.specs.declared.lines.Absence.TheVariants as absence
 use Rattle.cmd_why.specs.declared.lines.Found.{Found}
@@ -73,7 +76,7 @@ found_line folder (found.Absent absence) = folder ++ absence_words absence
 found_line folder found.Unread = folder ++ codes " is supervised, but its status can't be read."
 found_line folder (found.Bad cause) =
     folder ++ codes " is supervised, but its status is no record: " ++ fault_name cause ++ codes "."
-found_line folder (found.Standing s) = why_line folder s.loaded s.normally_up s.facts s.time.bytes s.now
+found_line folder (found.Standing s) = why_line folder s.loaded s.normally_up s.facts s.ending s.time.bytes s.now
 
 -- Whether a service could not be read. That nobody answers is an answer.
 abbrev pub is_unread : Found → Bool
@@ -83,16 +86,17 @@ is_unread other = true
 
 -- A look at a service
 
--- What is known of the files of services and of local times: the bytes of a trace, why a folder can't be looked at, and
--- the text of a label.
+-- What is known of the files of services and of local times: the bytes of a trace, the line of how the last process ended,
+-- why a folder can't be looked at, and the text of a label.
 pub record Knowledge : Type 0 where
   pub traces : List ℕ → Option (List ℕ)
+  pub exits : List ℕ → Option (List ℕ)
   pub looks : List ℕ → Option (Option ErrorKind)
   pub times : Tai64n → Option (List ℕ)
 
-abbrev pub knowledge : (traces : List ℕ → Option (List ℕ)) (looks : List ℕ → Option (Option ErrorKind))
+abbrev pub knowledge : (traces exits : List ℕ → Option (List ℕ)) (looks : List ℕ → Option (Option ErrorKind))
     (times : Tai64n → Option (List ℕ)) → Knowledge
-knowledge traces looks times = record { traces = traces; looks = looks; times = times }
+knowledge traces exits looks times = record { traces = traces; exits = exits; looks = looks; times = times }
 
 -- Bytes were read that are no trace, as the fault of a line tells.
 pub record IsRefused (trace : Option (List ℕ)) : Type 0 where
@@ -112,6 +116,24 @@ pub record IsTraceText (trace : Option (List ℕ)) (told : Told) : Type 0 where
 abbrev pub IsTraceOf : (trace : Option (List ℕ)) → Option Told → Type 0
 IsTraceOf trace None = (trace ≡ None) ⊎ IsRefused trace
 IsTraceOf trace (Some told) = IsTraceText trace told
+
+-- A line was read, and it says of this process that it ended so.
+pub record SaysOf (exit : Option (List ℕ)) (ended : Ended) (ending : Ending) : Type 0 where
+  pub line : List ℕ
+  pub line_is : IsKnown exit line
+  pub says : Says line ended.pid ended.label ending
+
+-- A line was read, and it says of this process no way to end.
+pub record SaysNothingOf (exit : Option (List ℕ)) (ended : Ended) : Type 0 where
+  pub line : List ℕ
+  pub line_is : IsKnown exit line
+  pub says : (ending : Ending) → IsEnding ending → Says line ended.pid ended.label ending → ⊥
+
+-- how a process ended, by the line of that; or none where it is not known to be there or is of another process
+abbrev pub IsEndingOf : (exit : Option (List ℕ)) → Option Ended → Option Ending → Type 0
+IsEndingOf exit None ending = ending ≡ None
+IsEndingOf exit (Some ended) (Some ending) = SaysOf exit ended ending
+IsEndingOf exit (Some ended) None = (exit ≡ None) ⊎ SaysNothingOf exit ended
 
 -- The bytes that were read are a record of this, and the service is normally up where no file `down` was found.
 pub record ReachesStanding (folder : List ℕ) (loaded : Loaded) (normally_up : Bool) (past now : Option (List Call))
@@ -145,7 +167,7 @@ Reaches k folder (reach.Bad cause) past now = ReachesBad folder cause past now
 Reaches k folder (reach.Standing loaded normally_up) past now = ReachesStanding folder loaded normally_up past now
 
 -- The trace of a service was read and then the clock, once; how it stands is told by its record, that trace and this
--- reading.
+-- reading; and how the process ended of which the trace tells last, by the line of that.
 pub record FindsStanding (k : Knowledge) (folder : List ℕ) (loaded : Loaded) (normally_up : Bool) (s : Standing)
     (past now : Option (List Tai64n)) : Type 0 where
   pub told : Option Told
@@ -154,6 +176,7 @@ pub record FindsStanding (k : Knowledge) (folder : List ℕ) (loaded : Loaded) (
   pub loaded_is : s.loaded ≡ loaded
   pub normally_is : s.normally_up ≡ normally_up
   pub facts : s.facts ≡ option_map (λ told. facts_of told (status_in loaded) s.now) told
+  pub ending : IsEndingOf (k.exits folder) (ended_in s.facts) s.ending
   pub time : IsKnown (k.times (status_in loaded).label) s.time.bytes
 
 -- What a look found, by what came of the calls.

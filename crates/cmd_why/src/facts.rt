@@ -25,6 +25,8 @@ pub const FLAPPING: u64 = 5;
 #[derive(Clone, Copy, Debug, PartialEq, Eq)]
 pub struct Ended {
     pub pid: u32,
+    /// When it ended.
+    pub label: Label,
     /// How long it ran, in whole tenths of a second.
     pub tenths: u128,
     /// The last control byte of `u`, `d` and `o` behind its start.
@@ -175,6 +177,7 @@ fn ended_at(before: &View, entries: &[Event], label: &Label) -> Ended
     let behind = behind_last(Kind::Start, entries);
     Ended {
         pid: pid_of_start(before, &start),
+        label: *label,
         tenths: tenths_between(&label_of_start(before, &start), label),
         wanted: last_want(entries),
         sent: last_signal(entries),

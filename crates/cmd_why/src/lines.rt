@@ -8,6 +8,7 @@ use crate::sources::LocalTime;
 use cmd_svc::{Unreached, fault_name};
 use std::alloc::{AllocError, Allocator};
 use std::io::ErrorKind;
+use svc_exit::Ending;
 use tai_status::{Label, Loaded, RecordFault};
 
 /// Why nobody answers for a service.
@@ -45,6 +46,8 @@ pub struct Standing {
     pub normally_up: bool,
     /// What its trace tells, where there is one that can be read.
     pub facts: Option<Facts>,
+    /// How the process ended that ended last, where its trace tells of one, and its file `exit` says it of that one.
+    pub ending: Option<Ending>,
     /// The local time of the record's label.
     pub time: LocalTime,
     /// When it was looked at.
@@ -142,6 +145,7 @@ pub fn found_line<A: Allocator>(
             &standing.loaded,
             standing.normally_up,
             standing.facts.as_ref(),
+            standing.ending,
             standing.time.as_str(),
             &standing.now,
         ),

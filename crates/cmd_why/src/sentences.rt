@@ -6,12 +6,14 @@ ghost use Rattle.cmd_why.specs.Sentences.{how_words, last_sentence, past_sentenc
 ghost use Rattle.cmd_why.specs.Sentences.{side_text, signal_words, since_text, state_text, trace_sentences, want_words};
 ghost use Rattle.cmd_why.specs.Sentences.{wanted_sentence, why_line, end_words, phase_words, starts_opening};
 ghost use Rattle.cmd_why.specs.Sentences.{normal_text, paused_text, sent_sentence};
-ghost use Rattle.cmd_why.specs.Sentences.{notes_text, signal_end, standing_text, tenths_text};
+ghost use Rattle.cmd_why.specs.Sentences.{ending_words, notes_text, signal_end, signal_text, standing_text};
+ghost use Rattle.cmd_why.specs.Sentences.{tenths_text};
 ghost use Rattle.std.specs.Option.{option_copied};
 
 use crate::facts::{Ended, FLAPPING, Facts};
 use itoa::Buffer;
 use std::alloc::{AllocError, Allocator};
+use svc_exit::{Ending, signal_name};
 use tai_status::{Label, Loaded, Phase, View, Want};
 
 /// The line of a service: how it stands, by its record and the clock; and then, where there is a trace, what it tells.
@@ -44,7 +46,7 @@ use tai_status::{Label, Loaded, Phase, View, Want};
 /// - `It has not run since supervise began.`: nothing was folded, there is no process before the entries, and no start
 ///   among them.
 ///
-/// A process ended ` after SIGNAL (C)` where C is the last control byte with a signal between its start and its death,
+/// A process ended ` with status S` or ` by SIGNAL` where its file `exit` says it of that process. It ended ` after SIGNAL (C)` where C is the last control byte with a signal between its start and its death,
 /// and ` without a control byte` where the trace has its start and no control byte between them. Starts, last:
 ///
 /// - `N starts in the last 60 s.`: so many entries are starts whose label lies within 60 seconds before the clock, if
@@ -59,15 +61,16 @@ pub fn why_line<A: Allocator>(
     loaded: &Loaded,
     normally_up: bool,
     facts: Option<&Facts>,
+    ending: Option<Ending>,
     time: &str,
     now: &Label,
 ) -> Result<String<A>, AllocError>
     ensures { IfOk result (λ line. string_bytes line
-        ≡ why_line dir.now loaded.now normally_up (option_copied facts.entry) time.now now.now) }
+        ≡ why_line dir.now loaded.now normally_up (option_copied facts.entry) ending time.now now.now) }
 {
     let mut line = String::from_str(alloc, dir)?;
     push_state(&mut line, loaded, normally_up, time, now)?;
-    push_trace(&mut line, is_running(&loaded.view()), facts)?;
+    push_trace(&mut line, is_running(&loaded.view()), facts, ending)?;
     Ok(line)
 }
 
@@ -304,14 +307,59 @@ fn unasked_text(unasked: bool) -> &'static str
     }
 }
 
+/// Writes a signal: its name, or the number of one that has none.
+#[tactic(auto, unfolding(crate::specs::Sentences::signal_text))]
+fn push_signal_text<A: Allocator>(out: &mut String<A>, number: u8) -> Result<(), AllocError>
+    ensures { OnOk result (string_bytes out.new ≡ string_bytes out.old ++ signal_text number) }
+{
+    match signal_name(number) {
+        "" => {
+            out.push_str("signal ")?;
+            push_number(out, u128::from(number))
+        }
+        name => {
+            out.push_str("SIG")?;
+            out.push_str(name)
+        }
+    }
+}
+
+/// Writes with which status a process exited.
+fn push_status<A: Allocator>(out: &mut String<A>, code: u8) -> Result<(), AllocError>
+    ensures { OnOk result (string_bytes out.new ≡ string_bytes out.old ++ codes " with status " ++ decimal code) }
+{
+    out.push_str(" with status ")?;
+    push_number(out, u128::from(code))
+}
+
+/// Writes with which status or by which signal a process ended, where that is known.
+#[tactic(auto, unfolding(crate::specs::Sentences::ending_words))]
+fn push_ending<A: Allocator>(out: &mut String<A>, ending: Option<Ending>) -> Result<(), AllocError>
+    ensures { OnOk result (string_bytes out.new ≡ string_bytes out.old ++ ending_words ending) }
+{
+    match ending {
+        Some(Ending::Status(code)) => push_status(out, code),
+        Some(Ending::Signal(number)) => {
+            out.push_str(" by ")?;
+            push_signal_text(out, number)
+        }
+        Some(Ending::Unknown) | None => Ok(()),
+    }
+}
+
 /// Writes which process ended, how long it ran, and how it ended.
-fn push_ended<A: Allocator>(out: &mut String<A>, ended: &Ended) -> Result<(), AllocError>
-    ensures { OnOk result (string_bytes out.new ≡ string_bytes out.old ++ ended_words ended.now) }
+fn push_ended<A: Allocator>(
+    out: &mut String<A>,
+    ended: &Ended,
+    ending: Option<Ending>,
+) -> Result<(), AllocError>
+    ensures { OnOk result (string_bytes out.new ≡ string_bytes out.old ++ ended_words ended.now ending) }
 {
     push_number(out, u128::from(ended.pid))?;
     out.push_str(" ran ")?;
     push_tenths(out, ended.tenths)?;
     out.push_str(" s and ended")?;
+    push_ending(out, ending)?;
     push_how(out, ended.sent, ended.unasked)?;
     out.push_str(".")
 }
@@ -363,14 +411,18 @@ fn push_sent<A: Allocator>(out: &mut String<A>, sent: Option<u8>) -> Result<(), 
 }
 
 /// Writes of the process before the one that runs.
-fn push_before<A: Allocator>(out: &mut String<A>, ended: Option<&Ended>) -> Result<(), AllocError>
+fn push_before<A: Allocator>(
+    out: &mut String<A>,
+    ended: Option<&Ended>,
+    ending: Option<Ending>,
+) -> Result<(), AllocError>
     ensures { OnOk result (string_bytes out.new
-        ≡ string_bytes out.old ++ before_sentence (option_copied ended.entry)) }
+        ≡ string_bytes out.old ++ before_sentence (option_copied ended.entry) ending) }
 {
     match ended {
         Some(ended) => {
             out.push_str(" Before it process ")?;
-            push_ended(out, ended)
+            push_ended(out, ended, ending)
         }
         None => Ok(()),
     }
@@ -388,15 +440,19 @@ fn wanted_sentence(wanted: Option<u8>) -> &'static str
 }
 
 /// Writes of the process that ended.
-fn push_last<A: Allocator>(out: &mut String<A>, ended: Option<&Ended>) -> Result<(), AllocError>
+fn push_last<A: Allocator>(
+    out: &mut String<A>,
+    ended: Option<&Ended>,
+    ending: Option<Ending>,
+) -> Result<(), AllocError>
     ensures { OnOk result (string_bytes out.new
-        ≡ string_bytes out.old ++ last_sentence (option_copied ended.entry)) }
+        ≡ string_bytes out.old ++ last_sentence (option_copied ended.entry) ending) }
 {
     match ended {
         Some(ended) => {
             out.push_str(wanted_sentence(ended.wanted))?;
             out.push_str(" Process ")?;
-            push_ended(out, ended)
+            push_ended(out, ended, ending)
         }
         None => Ok(()),
     }
@@ -429,14 +485,16 @@ fn push_past<A: Allocator>(
     out: &mut String<A>,
     running: bool,
     facts: &Facts,
+    ending: Option<Ending>,
 ) -> Result<(), AllocError>
-    ensures { OnOk result (string_bytes out.new ≡ string_bytes out.old ++ past_sentences running facts.now) }
+    ensures { OnOk result (string_bytes out.new
+        ≡ string_bytes out.old ++ past_sentences running facts.now ending) }
 {
     if running {
         push_sent(out, facts.sent)?;
-        return push_before(out, facts.ended.as_ref());
+        return push_before(out, facts.ended.as_ref(), ending);
     }
-    push_last(out, facts.ended.as_ref())?;
+    push_last(out, facts.ended.as_ref(), ending)?;
     out.push_str(failed_text(facts.failed))?;
     out.push_str(unrun_text(facts.unrun))
 }
@@ -478,15 +536,16 @@ fn push_trace<A: Allocator>(
     out: &mut String<A>,
     running: bool,
     facts: Option<&Facts>,
+    ending: Option<Ending>,
 ) -> Result<(), AllocError>
     ensures { OnOk result (string_bytes out.new
-        ≡ string_bytes out.old ++ trace_sentences running (option_copied facts.entry)) }
+        ≡ string_bytes out.old ++ trace_sentences running (option_copied facts.entry) ending) }
 {
     let Some(facts) = facts else {
         return Ok(());
     };
     if facts.leads {
-        push_past(out, running, facts)?;
+        push_past(out, running, facts, ending)?;
     }
     push_starts(out, facts.starts, facts.leads && facts.reaches)
 }

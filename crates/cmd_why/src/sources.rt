@@ -3,16 +3,20 @@ use arrayvec::ArrayString;
 use std::alloc::Allocator;
 use std::io;
 use std::io::ErrorKind;
+use svc_exit::ExitText;
 use tai_status::Label;
 
 /// The files of services, as `why` reads them. Contracts see what they hold, where it tells that.
 pub trait ServiceFiles {
-    ghost use Rattle.std.specs.Prelude.{ℕ, List, Option, None, IfOk, IfErr};
+    ghost use Rattle.std.specs.Prelude.{◌≡◌, ℕ, List, Option, None, IfOk, IfErr, OnErr};
     ghost use Rattle.cmd_base.specs.Known.{IsKnown, IsMissed};
     ghost use Rattle.std.specs.declared.io.ErrorKind.{ErrorKind};
 
     // the bytes of the trace of the service in a folder
     ghost trace_at: { Self → List ℕ → Option (List ℕ) } = { λ _ _. None };
+
+    // the line of how the last process of the service in a folder ended
+    ghost exit_at: { Self → List ℕ → Option (List ℕ) } = { λ _ _. None };
 
     // why a folder can't be looked at, where it can't
     ghost fault_at: { Self → List ℕ → Option (Option ErrorKind) } = { λ _ _. None };
@@ -21,6 +25,11 @@ pub trait ServiceFiles {
     fn read_trace<A: Allocator>(&self, alloc: A, folder: &str) -> io::Result<Vec<u8, A>>
         ensures known { IfOk result (λ bytes. IsKnown (trace_at self.now folder.now) bytes.items) }
         ensures missing { IfErr result (λ fault. IsMissed fault (trace_at self.now folder.now)) };
+
+    /// The line of how the last process of the service in a folder ended, with its newline.
+    fn read_exit(&self, folder: &str) -> io::Result<ExitText>
+        ensures known { IfOk result (λ line. IsKnown (exit_at self.now folder.now) line.items) }
+        ensures missing { OnErr result (exit_at self.now folder.now ≡ None) };
 
     /// Why the folder of a service can't be looked at, where it can't. Something else of its name is `NotADirectory`.
     fn folder_fault(&self, folder: &str) -> Option<ErrorKind>

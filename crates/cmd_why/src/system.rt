@@ -6,12 +6,16 @@ use arrayvec::ArrayString;
 use std::alloc::Allocator;
 use std::io::{Error, ErrorKind, Read};
 use std::{fs, io};
+use svc_exit::ExitText;
 
 /// How long a path is at most on this system, with the zero behind it.
 const PATH_BYTES: usize = 4096;
 
 /// How many bytes a trace has at most: those of 65,536 entries are fewer. A longer file is none.
 const TRACE_BYTES: u64 = 1 << 22;
+
+/// How many bytes of the line of an exit are read: it has fewer.
+const EXIT_BYTES: u64 = 64;
 
 /// The path of something in a folder. One that is longer than any path of this system is a fault.
 fn path_in(folder: &str, rest: &str) -> io::Result<ArrayString<PATH_BYTES>>
@@ -37,6 +41,19 @@ impl ServiceFiles for HostRuntime {
             .take(TRACE_BYTES)
             .read_to_end(&mut bytes)?;
         Ok(bytes)
+    }
+
+    fn read_exit(&self, folder: &str) -> io::Result<ExitText> {
+        let path = path_in(folder, "/supervise/exit")?;
+        if !fs::metadata(self, path.as_str())?.is_file() {
+            return Err(Error::from(ErrorKind::InvalidInput));
+        }
+        let mut line = ExitText::new();
+        io::copy(
+            &mut fs::open(self, path.as_str())?.take(EXIT_BYTES),
+            &mut line,
+        )?;
+        Ok(line)
     }
 
     fn folder_fault(&self, folder: &str) -> Option<ErrorKind> {

@@ -4,9 +4,9 @@ ghost use Rattle.std.specs.Option.{option_copied};
 ghost use Rattle.std.specs.Prelude.{option_map};
 ghost use Rattle.tai_status.specs.Counted.{Wrote, Works};
 ghost use Rattle.cmd_svc.specs.Turns.{InTurn};
-ghost use Rattle.cmd_why.specs.Facts.{facts_of};
-ghost use Rattle.cmd_why.specs.Why.{found_line, is_unread, knowledge, scene, why_told, Finds, FindsStanding, IsTraceOf};
-ghost use Rattle.cmd_why.specs.Why.{Reaches, Shows, ShowsNot, ShowsUpTo, WhyEnds, WritesNot};
+ghost use Rattle.cmd_why.specs.Facts.{ended_in, facts_of};
+ghost use Rattle.cmd_why.specs.Why.{found_line, is_unread, knowledge, scene, why_told, Finds, FindsStanding, IsEndingOf};
+ghost use Rattle.cmd_why.specs.Why.{IsTraceOf, Reaches, Shows, ShowsNot, ShowsUpTo, WhyEnds, WritesNot};
 
 use crate::facts::{Facts, facts_of};
 use crate::lines::{Absence, Found, Standing, absence_of, found_line};
@@ -16,6 +16,7 @@ use cmd_svc::Services;
 use std::alloc::{AllocError, Allocator};
 use std::io::{ErrorKind, Write};
 use sup_trace::{TraceFaultKind, TraceText, read_text};
+use svc_exit::{Ending, read_ending};
 use tai_status::{Label, Loaded, Output, RecordFault, TimeSource, View, decode_front};
 
 /// Why the line of a service is not written.
@@ -48,7 +49,7 @@ fn reach_service<S: Services, F: ServiceFiles, T: LocalTimes>(
     times: &T,
     folder: &str,
 ) -> Reach
-    ensures { Reaches (knowledge (F.trace_at files.now) (F.fault_at files.now) (T.text_at times.now)) folder.now
+    ensures { Reaches (knowledge (F.trace_at files.now) (F.exit_at files.now) (F.fault_at files.now) (T.text_at times.now)) folder.now
         result (S.calls services.old) (S.calls services.new) }
 {
     if let Err(why) = services.reach(folder) {
@@ -92,6 +93,17 @@ fn facts_in<A: Allocator>(told: Option<&TraceText<A>>, status: &View, now: &Labe
     }
 }
 
+/// How the process that ended last ended, where the trace tells of one, and the line of how the last one ended is of it.
+fn read_how<F: ServiceFiles>(files: &F, folder: &str, facts: Option<&Facts>) -> Option<Ending>
+    ensures { IsEndingOf (F.exit_at files.now folder.now) (ended_in (option_copied facts.entry)) result }
+{
+    let ended = facts?.ended?;
+    match files.read_exit(folder) {
+        Ok(line) => read_ending(line.as_slice(), ended.pid, &ended.label),
+        Err(_) => None,
+    }
+}
+
 /// How the service in a folder stands, whose record tells this.
 fn stand<A: Allocator + Clone, F: ServiceFiles, T: LocalTimes, C: TimeSource>(
     alloc: &A,
@@ -103,16 +115,19 @@ fn stand<A: Allocator + Clone, F: ServiceFiles, T: LocalTimes, C: TimeSource>(
     normally_up: bool,
 ) -> Result<Standing, AllocError>
     ensures ok { IfOk result (λ standing.
-        FindsStanding (knowledge (F.trace_at files.now) (F.fault_at files.now) (T.text_at times.now)) folder.now
+        FindsStanding (knowledge (F.trace_at files.now) (F.exit_at files.now) (F.fault_at files.now) (T.text_at times.now)) folder.now
         loaded normally_up standing (C.readings clock.old) (C.readings clock.new)) }
 {
     let told = read_told(alloc, files, folder)?;
     let now = clock.now();
     let status = loaded.view();
+    let facts = facts_in(told.as_ref(), &status, &now);
+    let ending = read_how(files, folder, facts.as_ref());
     Ok(Standing {
         loaded,
         normally_up,
-        facts: facts_in(told.as_ref(), &status, &now),
+        facts,
+        ending,
         time: times.local_time(&status.label),
         now,
     })
@@ -128,7 +143,7 @@ fn find<A: Allocator + Clone, F: ServiceFiles, T: LocalTimes, C: TimeSource>(
     reach: Reach,
 ) -> Result<Found, AllocError>
     ensures { IfOk result (λ found.
-        Finds (knowledge (F.trace_at files.now) (F.fault_at files.now) (T.text_at times.now)) folder.now
+        Finds (knowledge (F.trace_at files.now) (F.exit_at files.now) (F.fault_at files.now) (T.text_at times.now)) folder.now
         reach found (C.readings clock.old) (C.readings clock.new)) }
 {
     match reach {
@@ -212,11 +227,11 @@ where
     W: Write,
     C: TimeSource,
     ensures ok { IfOk result (λ unread_now.
-        Shows (knowledge (F.trace_at files.now) (F.fault_at files.now) (T.text_at times.now)) folder.now
+        Shows (knowledge (F.trace_at files.now) (F.exit_at files.now) (F.fault_at files.now) (T.text_at times.now)) folder.now
         (scene (S.calls services.old) (C.readings clock.old) writer.old unread)
         (scene (S.calls services.new) (C.readings clock.new) writer.new unread_now)) }
     ensures err { IfErr result (λ cause.
-        ShowsNot (knowledge (F.trace_at files.now) (F.fault_at files.now) (T.text_at times.now)) folder.now cause
+        ShowsNot (knowledge (F.trace_at files.now) (F.exit_at files.now) (F.fault_at files.now) (T.text_at times.now)) folder.now cause
         (scene (S.calls services.old) (C.readings clock.old) writer.old unread)
         (scene (S.calls services.new) (C.readings clock.new) writer.new false)) }
 {
@@ -247,12 +262,12 @@ where
     W: Write,
     C: TimeSource,
     ensures ok { IfOk result (λ unread.
-        InTurn (Shows (knowledge (F.trace_at files.now) (F.fault_at files.now) (T.text_at times.now)))
+        InTurn (Shows (knowledge (F.trace_at files.now) (F.exit_at files.now) (F.fault_at files.now) (T.text_at times.now)))
         (map (λ word. word.now) folders.now)
         (scene (S.calls services.old) (C.readings clock.old) writer.old false)
         (scene (S.calls services.new) (C.readings clock.new) writer.new unread)) }
     ensures err { IfErr result (λ cause.
-        ShowsUpTo (knowledge (F.trace_at files.now) (F.fault_at files.now) (T.text_at times.now))
+        ShowsUpTo (knowledge (F.trace_at files.now) (F.exit_at files.now) (F.fault_at files.now) (T.text_at times.now))
         (map (λ word. word.now) folders.now) cause
         (scene (S.calls services.old) (C.readings clock.old) writer.old false)
         (scene (S.calls services.new) (C.readings clock.new) writer.new false)) }
@@ -297,7 +312,7 @@ where
     W: Write,
     E: Write,
     C: TimeSource,
-    ensures ends { WhyEnds (knowledge (F.trace_at files.now) (F.fault_at files.now) (T.text_at times.now))
+    ensures ends { WhyEnds (knowledge (F.trace_at files.now) (F.exit_at files.now) (F.fault_at files.now) (T.text_at times.now))
         (map (λ word. word.now) words.now) result
         (scene (S.calls services.old) (C.readings clock.old) writer.old)
         (scene (S.calls services.new) (C.readings clock.new) writer.new) faults.old faults.new }

@@ -17,10 +17,16 @@ use Rattle.cmd_multilog.specs.Shelf.{Shelf}
 use Rattle.cmd_multilog.specs.Ends.{Stage, stage, MultilogEnds}
 use Rattle.cmd_svc.specs.Calls.{Call}
 use Rattle.cmd_svc.specs.Svc.{Effects, effects, SvcEnds}
-use Rattle.cmd_svc.specs.Svstat.{Scene, scene, SvstatEnds}
+use Rattle.cmd_svc.specs.Svstat.{Scene, scene}
 use Rattle.cmd_svc.specs.Svok.{SvokEnds}
+use Rattle.cmd_report.specs.Ends.{ReportEnds}
+use Rattle.cmd_report.specs.MetricsEnds.{CountFiles}
 use Rattle.cmd_why.specs.Why.{Knowledge, WhyEnds}
 use Rattle.cmd_why.specs.Why as why
+use Rattle.cmd_wait.specs.Steps.{Step}
+use Rattle.cmd_wait.specs.Rounds.{sight}
+use Rattle.cmd_wait.specs.Ends.{WaitEnds}
+use Rattle.cmd_wait.specs.Ends as waiting
 use Rattle.cmd_svscan.specs.Calls as handling
 use Rattle.cmd_svscan.specs.Rounds as svscan
 
@@ -49,36 +55,46 @@ scene_of calls e = scene calls e.readings e.console.writer
 abbrev pub why_scene : Option (List Call) → Equipment → Bool → why.Scene
 why_scene calls e = why.scene calls e.readings e.console.writer
 
+-- What `wait` works with, of it
+abbrev pub wait_scene : Option (List Call) → Option (List Step) → Equipment → waiting.Scene
+wait_scene calls steps e = waiting.scene (sight calls steps) e.console.faults
+
 -- What `svscan` works with, of it
 abbrev pub watch_of : Option (List handling.Call) → Equipment → svscan.Effects
 watch_of rounds e = svscan.effects rounds e.console.faults
 
 -- What the operating system holds, where that is known: its files; the folders and variables; the files of services, and
--- local times; and by how many seconds the clocks of its zone are ahead of UTC, at each second of Unix time.
+-- local times; by how many seconds the clocks of its zone are ahead of UTC, at each second of Unix time; and the counts of
+-- services.
 pub record System : Type 0 where
   pub files : List ℕ → Option (List ℕ)
   pub state : SystemState
   pub services : Knowledge
   pub ahead : ℤ → ℤ
+  pub counts : CountFiles
 
 -- What was asked of the operating system so far, where that is kept: the commands that it was handed to start; the
--- store of logs; the calls of services that were made; and what was asked of the services of a folder.
+-- store of logs; the calls of services that were made; what was asked of the services of a folder; and the steps of a
+-- pace.
 pub record CallsSoFar : Type 0 where
   pub launches : Option (List Launch)
   pub shelf : Shelf
   pub calls : Option (List Call)
   pub rounds : Option (List handling.Call)
+  pub steps : Option (List Step)
 
 -- A word that names no command.
 abbrev pub NamesNoCommand : List ℕ → Type 0
 NamesNoCommand word = (word ≢ codes "sim") × (word ≢ codes "tai64n") × (word ≢ codes "tai64nlocal")
-    × (word ≢ codes "readproctitle") × (word ≢ codes "envdir") × (word ≢ codes "trace") × (word ≢ codes "multilog") × (word ≢ codes "svc")
-    × (word ≢ codes "svstat") × (word ≢ codes "svok") × (word ≢ codes "svscan") × (word ≢ codes "why") × (word ≢ codes "help")
-    × (word ≢ codes "--help") × (word ≢ codes "version") × (word ≢ codes "--version")
+    × (word ≢ codes "readproctitle") × (word ≢ codes "envdir") × (word ≢ codes "trace") × (word ≢ codes "multilog")
+    × (word ≢ codes "svc") × (word ≢ codes "svstat") × (word ≢ codes "svok") × (word ≢ codes "svscan")
+    × (word ≢ codes "why") × (word ≢ codes "wait") × (word ≢ codes "help") × (word ≢ codes "--help")
+    × (word ≢ codes "version") × (word ≢ codes "--version")
 
 -- A command that asks no service.
 abbrev pub AsksNoService : List ℕ → Type 0
 AsksNoService name = (name ≢ codes "svc") × (name ≢ codes "svstat") × (name ≢ codes "svok") × (name ≢ codes "why")
+    × (name ≢ codes "wait")
 
 -- A command that reads no clock.
 abbrev pub ReadsNoClock : List ℕ → Type 0
@@ -95,8 +111,9 @@ Prints end words status old new =
     end words status old.writer new.writer old.faults new.faults × (new.reader ≡ old.reader)
 
 -- The command of this name was given these words, and ended as it promises. Only `tai64n`, `multilog`, `svstat` and
--- `why` read the clock that is among the devices, only `envdir` starts a command, only `multilog` keeps logs, only `svc`,
--- `svstat`, `svok` and `why` ask services, and only `svscan` keeps services running.
+-- `why` read the clock that is among the devices, only `envdir` starts a command, only `multilog` keeps logs, only
+-- `svc`, `svstat`, `svok`, `why` and `wait` ask services, only `wait` has a pace, and only `svscan` keeps services
+-- running.
 pub record CommandEnds (name : List ℕ) (words : List (List ℕ)) (status : ℕ) (system : System) (before after : CallsSoFar)
     (old new : Equipment) : Type 0 where
   pub unknown : NamesNoCommand name → RefusesWords status old.console new.console
@@ -116,8 +133,8 @@ pub record CommandEnds (name : List ℕ) (words : List (List ℕ)) (status : ℕ
   pub svc : name ≡ codes "svc" → SvcEnds words status (effects_of before.calls old) (effects_of after.calls new)
   pub svc_silent : name ≡ codes "svc"
       → (new.console.reader ≡ old.console.reader) × (new.console.writer ≡ old.console.writer)
-  pub svstat : name ≡ codes "svstat" → SvstatEnds words status (scene_of before.calls old) (scene_of after.calls new)
-      old.console.faults new.console.faults
+  pub svstat : name ≡ codes "svstat" → ReportEnds system.counts words status (scene_of before.calls old)
+      (scene_of after.calls new) old.console.faults new.console.faults
   pub svstat_unread : name ≡ codes "svstat" → new.console.reader ≡ old.console.reader
   pub svok : name ≡ codes "svok" → SvokEnds words status before.calls after.calls
   pub svok_silent : name ≡ codes "svok" → new.console ≡ old.console
@@ -133,11 +150,16 @@ pub record CommandEnds (name : List ℕ) (words : List (List ℕ)) (status : ℕ
       → WhyEnds system.services words status (why_scene before.calls old) (why_scene after.calls new) old.console.faults
       new.console.faults
   pub why_unread : name ≡ codes "why" → new.console.reader ≡ old.console.reader
+  pub wait : name ≡ codes "wait"
+      → WaitEnds words status (wait_scene before.calls before.steps old) (wait_scene after.calls after.steps new)
+  pub wait_silent : name ≡ codes "wait"
+      → (new.console.reader ≡ old.console.reader) × (new.console.writer ≡ old.console.writer)
   pub clock : ReadsNoClock name → new.readings ≡ old.readings
   pub child : name ≢ codes "envdir" → after.launches ≡ before.launches
   pub logs : name ≢ codes "multilog" → after.shelf ≡ before.shelf
   pub services : AsksNoService name → after.calls ≡ before.calls
   pub kept : name ≢ codes "svscan" → after.rounds ≡ before.rounds
+  pub paced : name ≢ codes "wait" → after.steps ≡ before.steps
 
 -- what is told where there is no word
 abbrev pub no_word_told : List ℕ
@@ -160,9 +182,11 @@ ProgramEnds (name ∷ words) status system before after old new =
     CommandEnds name words status system before after old new
 
 abbrev pub system : (files : List ℕ → Option (List ℕ)) (state : SystemState) (services : Knowledge) (ahead : ℤ → ℤ)
-    → System
-system files state services ahead = record { files = files; state = state; services = services; ahead = ahead }
+    (counts : CountFiles) → System
+system files state services ahead counts =
+    record { files = files; state = state; services = services; ahead = ahead; counts = counts }
 
 abbrev pub calls_so_far : (launches : Option (List Launch)) (shelf : Shelf) (calls : Option (List Call))
-    (rounds : Option (List handling.Call)) → CallsSoFar
-calls_so_far launches shelf calls rounds = record { launches = launches; shelf = shelf; calls = calls; rounds = rounds }
+    (rounds : Option (List handling.Call)) (steps : Option (List Step)) → CallsSoFar
+calls_so_far launches shelf calls rounds steps =
+    record { launches = launches; shelf = shelf; calls = calls; rounds = rounds; steps = steps }

@@ -12,10 +12,12 @@ use cmd_filters::{run_readproctitle, run_tai64n};
 use cmd_help::{run_help, run_version};
 use cmd_local::{Zone, run_tai64nlocal};
 use cmd_multilog::{FolderStore, LogSystem, run_multilog};
+use cmd_report::{CountFiles, run_report};
 use cmd_sim::run_sim;
-use cmd_svc::{Services, run_svc, run_svok, run_svstat};
+use cmd_svc::{Services, run_svc, run_svok};
 use cmd_svscan::{ServiceSet, run_svscan};
 use cmd_trace::run_trace;
+use cmd_wait::{Pace, run_wait};
 use cmd_why::{LocalTimes, ServiceFiles, run_why};
 use std::io::{Read, Write};
 use std::sync::Wait;
@@ -23,25 +25,27 @@ use tai_status::{Output, TimeSource};
 
 /// Runs the command of this name over words, and answers its status. A name of no command is
 /// `dtools: usage`, 100.
-fn run_command<R, L, K, S, P, V, Z, D, W, E, C>(
+fn run_command<R, L, K, S, P, V, T, Z, D, W, E, C>(
     rt: &R,
     launcher: &mut L,
     store: &mut FolderStore<K>,
     services: &mut S,
     service_set: &mut P,
     waiting: &V,
+    pace: &mut T,
     zone: &Z,
     name: &str,
     words: &[&str],
     devices: &mut Devices<D, W, E, C>,
 ) -> u8
 where
-    R: FileSource + EnvSystem + ServiceFiles + AllocGlobal,
+    R: FileSource + EnvSystem + ServiceFiles + CountFiles + AllocGlobal,
     L: Launcher,
     K: LogSystem + Drop,
     S: Services,
     P: ServiceSet,
     V: Wait,
+    T: Pace,
     Z: Zone + LocalTimes,
     D: Read,
     W: Write,
@@ -52,9 +56,12 @@ where
     requires no_files { store.old.statuses ≡ [] }
     ensures ends { CommandEnds name.now (texts words.now) result
         (system (R.file_at rt.now) (R.state rt.now)
-        (knowledge (R.trace_at rt.now) (R.fault_at rt.now) (Z.text_at zone.now)) (Z.ahead_at zone.now))
-        (calls_so_far (L.calls launcher.old) store.old (S.calls services.old) (P.calls service_set.old))
-        (calls_so_far (L.calls launcher.new) store.new (S.calls services.new) (P.calls service_set.new))
+        (knowledge (R.trace_at rt.now) (R.exit_at rt.now) (R.fault_at rt.now) (Z.text_at zone.now)) (Z.ahead_at zone.now)
+        (R.counts_at rt.now))
+        (calls_so_far (L.calls launcher.old) store.old (S.calls services.old)
+        (P.calls service_set.old) (T.steps pace.old))
+        (calls_so_far (L.calls launcher.new) store.new (S.calls services.new)
+        (P.calls service_set.new) (T.steps pace.new))
         devices.old devices.new }
 {
     let Devices {
@@ -70,11 +77,12 @@ where
         "readproctitle" => return run_readproctitle(rt.alloc(), words, reader, writer, faults),
         "multilog" => return run_multilog(rt.alloc(), store, words, reader, faults, clock),
         "svc" => return run_svc(rt.alloc(), services, words, faults),
-        "svstat" => return run_svstat(rt.alloc(), services, words, writer, faults, clock),
+        "svstat" => return run_report(rt.alloc(), services, rt, words, writer, faults, clock),
         "svok" => return run_svok(services, words),
         "why" => {
             return run_why(rt.alloc(), services, rt, zone, words, writer, faults, clock);
         }
+        "wait" => return run_wait(waiting, rt.alloc(), services, pace, words, faults),
         "svscan" => return run_svscan(waiting, service_set, words, faults),
         "envdir" => return run_envdir(rt, launcher, rt.alloc(), words, writer, faults),
         "trace" => return run_trace(rt, rt.alloc(), words, writer, faults),
@@ -99,24 +107,26 @@ fn refuse_no_word<E: Write>(faults: &mut Output<E>) -> u8
 /// Runs the command that the first word names, over the words after it, and answers its status. No
 /// word, or one that names no command, is `dtools: usage`, 100; where there is none, a line behind it
 /// names `dtools help`.
-pub fn run<R, L, K, S, P, V, Z, D, W, E, C>(
+pub fn run<R, L, K, S, P, V, T, Z, D, W, E, C>(
     rt: &R,
     launcher: &mut L,
     store: &mut FolderStore<K>,
     services: &mut S,
     service_set: &mut P,
     waiting: &V,
+    pace: &mut T,
     zone: &Z,
     words: &[&str],
     devices: &mut Devices<D, W, E, C>,
 ) -> u8
 where
-    R: FileSource + EnvSystem + ServiceFiles + AllocGlobal,
+    R: FileSource + EnvSystem + ServiceFiles + CountFiles + AllocGlobal,
     L: Launcher,
     K: LogSystem + Drop,
     S: Services,
     P: ServiceSet,
     V: Wait,
+    T: Pace,
     Z: Zone + LocalTimes,
     D: Read,
     W: Write,
@@ -127,9 +137,12 @@ where
     requires no_files { store.old.statuses ≡ [] }
     ensures ends { ProgramEnds (texts words.now) result
         (system (R.file_at rt.now) (R.state rt.now)
-        (knowledge (R.trace_at rt.now) (R.fault_at rt.now) (Z.text_at zone.now)) (Z.ahead_at zone.now))
-        (calls_so_far (L.calls launcher.old) store.old (S.calls services.old) (P.calls service_set.old))
-        (calls_so_far (L.calls launcher.new) store.new (S.calls services.new) (P.calls service_set.new))
+        (knowledge (R.trace_at rt.now) (R.exit_at rt.now) (R.fault_at rt.now) (Z.text_at zone.now)) (Z.ahead_at zone.now)
+        (R.counts_at rt.now))
+        (calls_so_far (L.calls launcher.old) store.old (S.calls services.old)
+        (P.calls service_set.old) (T.steps pace.old))
+        (calls_so_far (L.calls launcher.new) store.new (S.calls services.new)
+        (P.calls service_set.new) (T.steps pace.new))
         devices.old devices.new }
 {
     match words {
@@ -140,6 +153,7 @@ where
             services,
             service_set,
             waiting,
+            pace,
             zone,
             name,
             words,

@@ -11,6 +11,7 @@ use cmd_local::{LocalZone, system_zone};
 use cmd_multilog::{FolderStore, Stoppable, SystemInput, SystemLogs, stop_channel};
 use cmd_svc::SystemServices;
 use cmd_svscan::{FolderServices, Request, ServiceSet, SystemHost, handle};
+use cmd_wait::SystemPace;
 use command::run;
 use devices::Devices;
 use std::env;
@@ -70,6 +71,7 @@ fn run_arguments<V: Wait, P: ServiceSet, D: Read, W: Write, E: Write, C: TimeSou
             &mut SystemServices::new(rt),
             service_set,
             waiting,
+            &mut SystemPace::new(rt),
             &zone_for(rt, &words),
             &words,
             devices,

@@ -148,6 +148,7 @@ where
             return None;
         };
         let earlier = folder.folder.earlier();
+        let _ = folder.folder.remove_counts();
         let Ok((children, reaper)) = self.children(folder, name, streams, notifier) else {
             return None;
         };

@@ -1,5 +1,5 @@
 -- What a service's world knows between two calls, and what each call does.
-use Rattle.std.specs.Prelude.{◌≡◌, ℕ, Bool, true, false, List, [], ◌∷◌, ◌++◌, Option, Some, None}
+use Rattle.std.specs.Prelude.{◌≡◌, ◌⊎◌, ℕ, Bool, true, false, List, [], ◌∷◌, ◌++◌, Option, Some, None}
 use Rattle.tai_status.specs.Label.{Tai64n}
 use Rattle.tai_status.specs.Counted.{Rose}
 use Rattle.sup_core.specs.declared.asks.Sig.{Sig}
@@ -8,9 +8,15 @@ use Rattle.svc_house.specs.declared.call.StartAnswer.TheVariants.{Started, Faile
 use Rattle.svc_house.specs.Calls.{ExtendedWhileKept}
 use Rattle.svc_world.specs.declared.begin.Begin.{Begin}
 use Rattle.svc_world.specs.declared.begin.Begin.TheVariants.{Run, StillRuns}
+use Rattle.svc_exit.specs.declared.exit.Exit.{Exit}
+use Rattle.svc_exit.specs.Exits.{exit_text}
+use Rattle.svc_exit.specs.declared.counts.Counts.{Counts}
+use Rattle.svc_exit.specs.Counts.{counts_text, one_ended, one_started}
+use Rattle.svc_world.specs.declared.begin.Death.{Death}
 use Rattle.svc_world.specs.declared.begin.LastChild.{LastChild}
 use Rattle.svc_world.specs.declared.begin.LastChild.TheVariants.{Gone, Alive, Dead}
 use Rattle.svc_world.specs.Calls.{Call, Spawned, SoughtDeath, Signalled, Recorded, SoughtProcess, ReadClock}
+use Rattle.svc_world.specs.Calls.{RecordedExit, RecordedCounts}
 
 pub record Watch : Type 0 where
   -- what the system was asked, where that is kept
@@ -21,6 +27,8 @@ pub record Watch : Type 0 where
   pub answer : Option StartAnswer
   -- the child that was spawned last
   pub child : LastChild
+  -- how many children began and ended
+  pub counts : Counts
   -- how many status records could not be written
   pub unwritten : ℕ
 
@@ -60,76 +68,116 @@ abbrev pub child_of : (child : Option ℕ) → LastChild
 child_of None = Gone
 child_of (Some pid) = Alive pid
 
--- A start: where an earlier svscan left a process, that is sought; the clock is read, and then one child is spawned.
+-- the counts after a start that made this child, or none
+abbrev pub counts_after : (child : Option ℕ) → Counts → Counts
+counts_after None counts = counts
+counts_after (Some pid) counts = one_started counts
+
+-- what is recorded of counts after a start that made this child, or none
+abbrev pub counts_recorded : (child : Option ℕ) → Counts → (written : Bool) → List Call
+counts_recorded None counts written = []
+counts_recorded (Some pid) counts written = RecordedCounts (counts_text (one_started counts)) written ∷ []
+
+-- The counts were recorded where a start made this child, or none.
+pub record CountsStart (child : Option ℕ) (old new : Watch) : Type 0 where
+  pub written : Bool
+  pub calls : ExtendedWhileKept old.calls new.calls (counts_recorded child old.counts written)
+  pub stands : new ≡ record old { calls = new.calls; counts = counts_after child old.counts }
+
+-- A start: where an earlier svscan left a process, that is sought; the clock is read, and then one child is spawned. It
+-- is counted, and the counts are recorded once.
 pub record Starts (old new : Watch) : Type 0 where
   pub runs : Bool
   pub child : Option ℕ
   pub label : Tai64n
-  pub calls : ExtendedWhileKept old.calls new.calls
-      (search_for old.earlier runs ++ (ReadClock label ∷ Spawned (begin_beside old.earlier runs) child ∷ []))
+  pub written : Bool
+  pub calls : ExtendedWhileKept old.calls new.calls (search_for old.earlier runs
+      ++ (ReadClock label ∷ Spawned (begin_beside old.earlier runs) child ∷ counts_recorded child old.counts written))
   pub stands : new ≡ record old {
     calls = new.calls;
     earlier = left_of old.earlier runs;
     answer = Some (answer_of child label);
     child = child_of child;
+    counts = counts_after child old.counts;
   }
 
 -- Signals
 
+-- the exit of the child of this number that died so
+abbrev pub exit_of : (pid : ℕ) → Death → Exit
+exit_of pid death = record { pid = pid; ending = death.ending; label = death.label }
+
 -- what is sent to a child of which this death was found
-abbrev pub sent : Sig → (pid : ℕ) → (death : Option Tai64n) → List Call
+abbrev pub sent : Sig → (pid : ℕ) → (death : Option Death) → List Call
 sent sig pid None = Signalled sig pid ∷ []
-sent sig pid (Some label) = []
+sent sig pid (Some death) = []
 
 -- the child, after its death was sought and is not told yet
-abbrev pub found : (pid : ℕ) (death : Option Tai64n) → LastChild
+abbrev pub found : (pid : ℕ) (death : Option Death) → LastChild
 found pid None = Alive pid
-found pid (Some label) = Dead label
+found pid (Some death) = Dead (exit_of pid death)
 
 -- A signal to the child spawned last, whose death is not known: its death is sought, and only where there is none the
 -- signal is sent. A death that is found is kept, to be told.
 pub record SignalsChild (sig : Sig) (pid : ℕ) (old new : Watch) : Type 0 where
-  pub death : Option Tai64n
+  pub death : Option Death
   pub calls : ExtendedWhileKept old.calls new.calls (SoughtDeath death ∷ sent sig pid death)
   pub stands : new ≡ record old { calls = new.calls; child = found pid death }
 
 -- Deaths
 
--- the death of a child that was found and is not told yet
-abbrev pub untold : LastChild → Option Tai64n
-untold Gone = None
-untold (Alive pid) = None
-untold (Dead label) = Some label
+-- what is recorded of a child that ended so
+abbrev pub death_recorded : Exit → Counts → (exit_written counts_written : Bool) → List Call
+death_recorded exit counts exit_written counts_written =
+    RecordedExit (exit_text exit) exit_written ∷ RecordedCounts (counts_text (one_ended counts)) counts_written ∷ []
 
--- the child, after this was told of its death
-abbrev pub told : (pid : ℕ) (death : Option Tai64n) → LastChild
-told pid None = Alive pid
-told pid (Some label) = Gone
+-- A death is told, and no more kept to be told: how the child ended is recorded, once, and it is counted, and the counts
+-- are recorded, once.
+pub record TellsDeath (exit : Exit) (old new : Watch) : Type 0 where
+  pub exit_written : Bool
+  pub counts_written : Bool
+  pub calls : ExtendedWhileKept old.calls new.calls (death_recorded exit old.counts exit_written counts_written)
+  pub stands : new ≡ record old { calls = new.calls; child = Gone; counts = one_ended old.counts }
 
--- The death of the child was sought, and is told where there is one.
-pub record SeeksDeath (pid : ℕ) (death : Option Tai64n) (old new : Watch) : Type 0 where
-  pub calls : ExtendedWhileKept old.calls new.calls (SoughtDeath death ∷ [])
-  pub stands : new ≡ record old { calls = new.calls; child = told pid death }
+-- The death of the child was sought, and there was none.
+pub record LivesOn (death : Option Tai64n) (old new : Watch) : Type 0 where
+  pub told : death ≡ None
+  pub calls : ExtendedWhileKept old.calls new.calls (SoughtDeath None ∷ [])
+  pub stands : new ≡ record old { calls = new.calls }
+
+-- The death of the child of this number was sought, found and told.
+pub record FindsDeath (pid : ℕ) (death : Option Tai64n) (old new : Watch) : Type 0 where
+  pub died : Death
+  pub told : death ≡ Some died.label
+  pub exit_written : Bool
+  pub counts_written : Bool
+  pub calls : ExtendedWhileKept old.calls new.calls
+      (SoughtDeath (Some died) ∷ death_recorded (exit_of pid died) old.counts exit_written counts_written)
+  pub stands : new ≡ record old { calls = new.calls; child = Gone; counts = one_ended old.counts }
+
+-- The death of a child that lives was sought: there was none, or it was found and told.
+abbrev pub SeeksDeath : (pid : ℕ) (death : Option Tai64n) (old new : Watch) → Type 0
+SeeksDeath pid death old new = LivesOn death old new ⊎ FindsDeath pid death old new
 
 -- What a poll for a death tells: one that was found already, else what the system finds of a child that lives. Each
 -- death is told once.
 abbrev pub PollsDeath : LastChild → (death : Option Tai64n) → (old new : Watch) → Type 0
 PollsDeath Gone death old new = (death ≡ None) × (new ≡ old)
-PollsDeath (Dead label) death old new = (death ≡ Some label) × (new ≡ record old { child = Gone })
+PollsDeath (Dead exit) death old new = (death ≡ Some exit.label) × TellsDeath exit old new
 PollsDeath (Alive pid) death old new = SeeksDeath pid death old new
 
 -- Records
 
 -- the count rises for a record that was not written
-abbrev pub Counts : (written : Bool) → ℕ → ℕ → Type 0
-Counts true old new = new ≡ old
-Counts false old new = Rose old new
+abbrev pub CountsUnwritten : (written : Bool) → ℕ → ℕ → Type 0
+CountsUnwritten true old new = new ≡ old
+CountsUnwritten false old new = Rose old new
 
 -- A status record is to be written, once. One that can't be written is counted, and nothing else comes of it.
 pub record Records (bytes : List ℕ) (old new : Watch) : Type 0 where
   pub written : Bool
   pub calls : ExtendedWhileKept old.calls new.calls (Recorded bytes written ∷ [])
-  pub counts : Counts written old.unwritten new.unwritten
+  pub counts : CountsUnwritten written old.unwritten new.unwritten
   pub stands : new ≡ record old { calls = new.calls; unwritten = new.unwritten }
 
 -- The clock was read, once.

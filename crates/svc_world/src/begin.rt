@@ -1,4 +1,5 @@
 //! How a child is begun, and what is known of it.
+use svc_exit::{Ending, Exit};
 use tai_status::Label;
 
 /// How a child is begun.
@@ -10,6 +11,13 @@ pub enum Begin {
     StillRuns(u32),
 }
 
+/// How a child ended, and when.
+#[derive(Clone, Copy, Debug, PartialEq, Eq)]
+pub struct Death {
+    pub ending: Ending,
+    pub label: Label,
+}
+
 /// What is known of the child that was spawned last.
 #[derive(Clone, Copy, Debug, PartialEq, Eq)]
 pub enum LastChild {
@@ -18,20 +26,21 @@ pub enum LastChild {
     /// It has this number, and its death is not known.
     Alive(u32),
     /// Its death was found, and is not told yet.
-    Dead(Label),
+    Dead(Exit),
 }
 
-impl LastChild {
+impl Death {
     ghost use Rattle.std.specs.Prelude.{◌≡◌};
-    ghost use Rattle.svc_world.specs.Watch.{untold};
+    ghost use Rattle.svc_world.specs.Watch.{exit_of};
 
-    /// The death that was found and is not told yet.
-    pub(crate) fn untold(&self) -> Option<Label>
-        ensures { result ≡ untold self.now }
+    /// The exit of the child of this number that died so.
+    pub(crate) fn exit_of(&self, pid: u32) -> Exit
+        ensures { result ≡ exit_of pid self.now }
     {
-        match self {
-            LastChild::Dead(label) => Some(*label),
-            LastChild::Gone | LastChild::Alive(_) => None,
+        Exit {
+            pid,
+            ending: self.ending,
+            label: self.label,
         }
     }
 }

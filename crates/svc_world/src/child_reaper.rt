@@ -1,21 +1,23 @@
 //! What waits for the children of a service.
+use crate::begin::Death;
 use cmd_base::SystemClock;
 use std::alloc::{AllocError, Global};
 use std::process::{Child, SystemProcess};
 use std::sync::atomic::{AtomicBool, Ordering};
 use std::sync::{Arc, Mutex, OnceLock, Wait};
 use std::time::Clock;
+use svc_exit::ending_of;
 use svc_house::Notifier;
-use tai_status::{Label, TimeSource};
+use tai_status::TimeSource;
 
-/// Where the label of a child's death is put.
-pub(crate) type Death = Arc<OnceLock<Label>, Global>;
+/// Where a child's death is put.
+pub(crate) type DeathSlot = Arc<OnceLock<Death>, Global>;
 
 /// A child that is handed to the reaper.
 #[derive(Drop)]
 pub(crate) struct WatchedChild {
     pub(crate) child: Child<SystemProcess>,
-    pub(crate) death: Death,
+    pub(crate) death: DeathSlot,
 }
 
 /// What the slot and the reaper share: the child that is handed over, and the notifier that the reaper waits for.
@@ -77,7 +79,7 @@ impl ChildReaper {
         ))
     }
 
-    /// Waits for each child of the service, puts the label of its death in its place, and then notifies the service's
+    /// Waits for each child of the service, puts its death in its place, and then notifies the service's
     /// notifier. It returns once the service's children are let go and the child that it waits for has died.
     pub fn run<R: Wait + Clock + Copy + Drop>(self, rt: R) {
         let ChildReaper { state, notifier } = self;
@@ -86,8 +88,9 @@ impl ChildReaper {
             let handed = state.child.lock(&rt).take();
             match handed {
                 Some(WatchedChild { mut child, death }) => {
-                    let _ = child.wait();
-                    let _ = death.set(&rt, clock.now());
+                    let ending = ending_of(child.wait());
+                    let label = clock.now();
+                    let _ = death.set(&rt, Death { ending, label });
                     notifier.notify();
                 }
                 None if state.closed.load(Ordering::SeqCst) => return,

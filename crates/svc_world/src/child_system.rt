@@ -1,5 +1,5 @@
 //! What the system does for one service.
-use crate::begin::Begin;
+use crate::begin::{Begin, Death};
 use std::io;
 use sup_core::Sig;
 use tai_status::Label;
@@ -11,6 +11,7 @@ pub trait ChildSystem {
     ghost use Rattle.std.specs.Prelude.{◌<◌, Option, None, List, [], ◌∷◌, IfSome, is_ok};
     ghost use Rattle.svc_house.specs.Calls.{ExtendedWhileKept};
     ghost use Rattle.svc_world.specs.Calls.{Call, Spawned, SoughtDeath, Signalled, Recorded, SoughtProcess, ReadClock};
+    ghost use Rattle.svc_world.specs.Calls.{RecordedExit, RecordedCounts};
 
     ghost calls: { Self → Option (List Call) } = { λ _. None };
 
@@ -19,8 +20,8 @@ pub trait ChildSystem {
         ensures calls { ExtendedWhileKept (calls self.old) (calls self.new) (Spawned begin result ∷ []) }
         ensures number { IfSome result (λ pid. 0 < pid) };
 
-    /// When the child that was made last died, once it has. It is told once.
-    fn death(&mut self) -> Option<Label>
+    /// How and when the child that was made last died, once it has. It is told once.
+    fn death(&mut self) -> Option<Death>
         ensures calls { ExtendedWhileKept (calls self.old) (calls self.new) (SoughtDeath result ∷ []) };
 
     /// Sends a signal to the process of this number, which is at least 1.
@@ -31,6 +32,15 @@ pub trait ChildSystem {
     /// Puts these bytes in the place of the status record. After a fault the old ones stand there.
     fn replace_status(&mut self, bytes: &[u8; 20]) -> io::Result<()>
         ensures calls { ExtendedWhileKept (calls self.old) (calls self.new) (Recorded bytes.now (is_ok result) ∷ []) };
+
+    /// Puts this line, how the last child ended, in the place of the one before. After a fault that stands there.
+    fn replace_exit(&mut self, line: &[u8]) -> io::Result<()>
+        ensures calls { ExtendedWhileKept (calls self.old) (calls self.new) (RecordedExit line.now (is_ok result) ∷ []) };
+
+    /// Puts this line, how many children began and ended, in the place of the one before. After a fault that stands
+    /// there.
+    fn replace_counts(&mut self, line: &[u8]) -> io::Result<()>
+        ensures calls { ExtendedWhileKept (calls self.old) (calls self.new) (RecordedCounts line.now (is_ok result) ∷ []) };
 
     /// Whether the process of this number runs in the folder of the service.
     fn is_running(&mut self, pid: u32) -> bool

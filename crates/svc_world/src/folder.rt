@@ -197,6 +197,22 @@ impl ServiceFolder {
         self.replace("supervise/status", "supervise/status.new", bytes)
     }
 
+    /// Puts this line, how the last process ended, in the place of the one before. After a fault that stands there.
+    pub fn replace_exit(&self, line: &[u8]) -> io::Result<()> {
+        self.replace("supervise/exit", "supervise/exit.new", line)
+    }
+
+    /// Puts this line, how many processes began and ended, in the place of the one before. After a fault that stands
+    /// there.
+    pub fn replace_counts(&self, line: &[u8]) -> io::Result<()> {
+        self.replace("supervise/counts", "supervise/counts.new", line)
+    }
+
+    /// Removes the counts of an earlier svscan, where they are there.
+    pub fn remove_counts(&self) -> io::Result<()> {
+        remove(&self.files, self.path("supervise/counts").as_str())
+    }
+
     /// Puts this text in the place of the trace. After a fault the old one stands there.
     pub fn replace_trace(&self, text: &[u8]) -> io::Result<()> {
         self.replace("supervise/trace", "supervise/trace.new", text)

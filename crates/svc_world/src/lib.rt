@@ -1,7 +1,8 @@
 //! The real world of one service: its folder, its children, its signals and its status record.
 //!
 //! `ChildWorld` keeps the rules of a service's world over the small trait `ChildSystem`, and is proved: no second copy
-//! of a service that still runs, no signal to a process that may be another's, each start and each death told once.
+//! of a service that still runs, no signal to a process that may be another's, each start and each death told once, and how a child ended is recorded
+//! once, beside how many began and ended.
 //! Below that trait is the system's own layer, which tells contracts nothing: `ServiceFolder`, `SystemChildren` with
 //! their `ChildReaper`, `SignalShell`.
 #![tactic(auto)]
@@ -14,7 +15,7 @@ mod shell;
 mod system;
 mod world;
 
-pub use begin::{Begin, LastChild};
+pub use begin::{Begin, Death, LastChild};
 pub use child_reaper::ChildReaper;
 pub use child_system::ChildSystem;
 pub use folder::{FolderFault, ServiceFolder};

@@ -2,8 +2,8 @@
 ghost use Rattle.std.specs.Prelude.{◌≡◌, [], ◌∷◌, codes, decimal, IfOk};
 ghost use Rattle.std.specs.Process.{command_args, command_program};
 
-use crate::begin::Begin;
-use crate::child_reaper::{ChildReaper, ChildSlot, Death, WatchedChild};
+use crate::begin::{Begin, Death};
+use crate::child_reaper::{ChildReaper, ChildSlot, DeathSlot, WatchedChild};
 use crate::child_system::ChildSystem;
 use crate::folder::ServiceFolder;
 use crate::shell::SignalShell;
@@ -42,7 +42,7 @@ where
     shell: Arc<SignalShell<R>, Global>,
     clock: SystemClock<R>,
     slot: ChildSlot,
-    death: Option<Death>,
+    death: Option<DeathSlot>,
 }
 
 /// What a shell says and does in the place of a service that still runs.
@@ -168,10 +168,10 @@ where
         }
     }
 
-    fn death(&mut self) -> Option<Label> {
-        let label = self.death.as_ref()?.get().copied()?;
+    fn death(&mut self) -> Option<Death> {
+        let death = self.death.as_ref()?.get().copied()?;
         self.death = None;
-        Some(label)
+        Some(death)
     }
 
     fn signal(&mut self, sig: Sig, pid: u32) {
@@ -180,6 +180,14 @@ where
 
     fn replace_status(&mut self, bytes: &[u8; 20]) -> io::Result<()> {
         self.folder.replace_status(bytes)
+    }
+
+    fn replace_exit(&mut self, line: &[u8]) -> io::Result<()> {
+        self.folder.replace_exit(line)
+    }
+
+    fn replace_counts(&mut self, line: &[u8]) -> io::Result<()> {
+        self.folder.replace_counts(line)
     }
 
     fn is_running(&mut self, pid: u32) -> bool {

@@ -7,19 +7,22 @@ use crate::begin::{Begin, LastChild};
 use crate::child_system::ChildSystem;
 use std::marker::Model;
 use sup_core::Sig;
+use svc_exit::{Counts, Exit, counts_text, exit_text};
 use svc_house::{StartAnswer, World};
 use tai_status::Label;
 
 /// The world of one service. Contracts see it as `Watch` (specs/Watch).
 ///
 /// A service that an earlier svscan left running is not started a second time, and a signal goes to the child that was
-/// made last, while its death is not known. A status record that can't be written is counted, and the service goes on.
+/// made last, while its death is not known. A status record that can't be written is counted, and the service goes on; so
+/// it does where the lines of an exit or of counts can't be, which the next ones replace.
 #[derive(Drop)]
 pub struct ChildWorld<C: ChildSystem + Drop> {
     system: C,
     earlier: Option<u32>,
     answer: Option<StartAnswer>,
     child: LastChild,
+    counts: Counts,
     unwritten: u64,
 }
 
@@ -35,6 +38,7 @@ impl<C: ChildSystem + Drop> Model for ChildWorld<C> {
       earlier = w.earlier;
       answer = w.answer;
       child = w.child;
+      counts = w.counts;
       unwritten = w.unwritten;
     } };
 
@@ -66,7 +70,8 @@ fn child_of(child: Option<u32>) -> LastChild
 impl<C: ChildSystem + Drop> ChildWorld<C> {
     ghost use Rattle.std.specs.Prelude.{◌≡◌, None};
     ghost use Rattle.svc_world.specs.declared.begin.LastChild.TheVariants.{Gone};
-    ghost use Rattle.svc_world.specs.Watch.{Watch, SeeksEarlier};
+    ghost use Rattle.svc_exit.specs.Counts.{no_counts};
+    ghost use Rattle.svc_world.specs.Watch.{Watch, CountsStart, SeeksDeath, SeeksEarlier, TellsDeath};
 
     /// The world over these children. `earlier` is the process that the status record names which was found at the
     /// opening, if it names one.
@@ -76,6 +81,7 @@ impl<C: ChildSystem + Drop> ChildWorld<C> {
           earlier = earlier;
           answer = None;
           child = Gone;
+          counts = no_counts;
           unwritten = 0;
         } }
     {
@@ -84,6 +90,7 @@ impl<C: ChildSystem + Drop> ChildWorld<C> {
             earlier,
             answer: None,
             child: LastChild::Gone,
+            counts: Counts::none(),
             unwritten: 0,
         }
     }
@@ -108,6 +115,43 @@ impl<C: ChildSystem + Drop> ChildWorld<C> {
             }
         }
     }
+
+    // Counts a start that made a child.
+    fn count_start(&mut self, child: Option<u32>)
+        ensures { CountsStart child self.old self.new }
+    {
+        if child.is_some() {
+            self.counts = self.counts.one_started();
+            let _ = self
+                .system
+                .replace_counts(counts_text(&self.counts).as_bytes());
+        }
+    }
+
+    // Records how the child ended whose death is told, and counts it. Answers when it ended.
+    fn tell_death(&mut self, exit: Exit) -> Label
+        ensures label { result ≡ exit.label }
+        ensures tells { TellsDeath exit self.old self.new }
+    {
+        self.child = LastChild::Gone;
+        self.counts = self.counts.one_ended();
+        let _ = self.system.replace_exit(exit_text(&exit).as_slice());
+        let _ = self
+            .system
+            .replace_counts(counts_text(&self.counts).as_bytes());
+        exit.label
+    }
+
+    // Seeks the death of the child of this number, and tells it where there is one.
+    fn seek_death(&mut self, pid: u32) -> Option<Label>
+        ensures { SeeksDeath pid result self.old self.new }
+    {
+        let death = self.system.death();
+        match death {
+            Some(death) => Some(self.tell_death(death.exit_of(pid))),
+            None => None,
+        }
+    }
 }
 
 impl<C: ChildSystem + Drop> World for ChildWorld<C> {
@@ -127,7 +171,7 @@ impl<C: ChildSystem + Drop> World for ChildWorld<C> {
             return;
         }
         match self.system.death() {
-            Some(label) => self.child = LastChild::Dead(label),
+            Some(death) => self.child = LastChild::Dead(death.exit_of(pid)),
             None => self.system.signal(sig, pid),
         }
     }
@@ -142,6 +186,7 @@ impl<C: ChildSystem + Drop> World for ChildWorld<C> {
         let child = self.system.spawn(begin);
         self.answer = Some(answer_of(child, label));
         self.child = child_of(child);
+        self.count_start(child);
     }
 
     /// Replaces the status record.
@@ -162,18 +207,15 @@ impl<C: ChildSystem + Drop> World for ChildWorld<C> {
         self.answer.take()
     }
 
-    /// When the child that was spawned last died, once it has. It is told once.
+    /// When the child that was spawned last died, once it has. It is told once, and how it ended is recorded then.
     fn poll_death(&mut self) -> Option<Label>
         ensures { PollsDeath self.old.child result self.old self.new }
     {
-        let death = match self.child {
-            LastChild::Alive(_) => self.system.death(),
-            LastChild::Gone | LastChild::Dead(_) => self.child.untold(),
-        };
-        if death.is_some() {
-            self.child = LastChild::Gone;
+        match self.child {
+            LastChild::Gone => None,
+            LastChild::Dead(exit) => Some(self.tell_death(exit)),
+            LastChild::Alive(pid) => self.seek_death(pid),
         }
-        death
     }
 
     /// The time.

@@ -1,4 +1,4 @@
-use Rattle.std.proofs.Common.{rules, ◌≡◌, ℕ, List, ◌++◌, Some, subst}
+use Rattle.std.proofs.Common.{rules, ◌≡◌, ℕ, List, ◌++◌, Some, refl, subst}
 use Rattle.std.specs.Prelude.{codes}
 use Rattle.tai_status.specs.Counted.{Tells}
 use Rattle.cmd_svc.specs.Svc.{reason}
@@ -15,4 +15,5 @@ returns-in-Err g c =
       sent = search rules;
       told = subst (λ (text : List ℕ). tells (c.args.folder.now ++ text)) said
           (subst (λ (text : List ℕ). tells (text ++ c.reason.result.now)) folder c.report_parts.ensures.told);
+      missed = refl;
     }

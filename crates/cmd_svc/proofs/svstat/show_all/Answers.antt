@@ -16,7 +16,8 @@ returns-in_err-show-clause-err g c =
     let within : i < length folders = search rules in
     let old = scene (g.S.Services.calls c.args.services.now) (g.C.TimeSource.readings c.args.clock.now) c.args.writer.now in
     let new = scene (g.S.Services.calls c.show.new.services) (g.C.TimeSource.readings c.show.new.clock) c.show.new.writer in
-    let stops : ShowsUpTo (map now folders) c.in_err-show.field-0.0 old new = record {
+    let form = g.F.LineForm.line_of c.args.form.now in
+    let stops : ShowsUpTo form (map now folders) c.in_err-show.field-0.0 old new = record {
       before = map now (take i folders);
       folder = now (get_or folders i nowhere);
       after = map now (drop (i + 1) folders);
@@ -37,6 +38,7 @@ loop-folder-preserved g c =
     let old = scene (g.S.Services.calls c.args.services.now) (g.C.TimeSource.readings c.args.clock.now) c.args.writer.now in
     let middle = scene (g.S.Services.calls c.loop-folder.services) (g.C.TimeSource.readings c.loop-folder.clock) c.loop-folder.writer in
     let new = scene (g.S.Services.calls c.show.new.services) (g.C.TimeSource.readings c.show.new.clock) c.show.new.writer in
-    subst (λ (done : List (List ℕ)). InTurn Shows done old new) (sym (taken-one now folders i nowhere within))
-    (in_turn-then Shows (map now (take i folders)) (now (get_or folders i nowhere)) old middle new c.loop-folder.invariant
+    let shows = Shows (g.F.LineForm.line_of c.args.form.now) in
+    subst (λ (done : List (List ℕ)). InTurn shows done old new) (sym (taken-one now folders i nowhere within))
+    (in_turn-then shows (map now (take i folders)) (now (get_or folders i nowhere)) old middle new c.loop-folder.invariant
     c.in_ok-show.ensures.ok)

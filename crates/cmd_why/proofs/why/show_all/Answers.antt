@@ -10,7 +10,7 @@ nowhere = record { ref_ptr = (0, 0); now = [] }
 pub returns-in_err-unread-clause-err : goal.returns-in_err-unread-clause-err
 unfolding nowhere
 returns-in_err-unread-clause-err g c =
-    let k = knowledge (g.F.ServiceFiles.trace_at c.args.files.now) (g.F.ServiceFiles.fault_at c.args.files.now) (g.T.LocalTimes.text_at c.args.times.now) in
+    let k = knowledge (g.F.ServiceFiles.trace_at c.args.files.now) (g.F.ServiceFiles.exit_at c.args.files.now) (g.F.ServiceFiles.fault_at c.args.files.now) (g.T.LocalTimes.text_at c.args.times.now) in
     let folders = c.args.folders.now in
     let i = c.loop-folder.folder-index in
     let now : Bor (List ℕ) → List ℕ = λ word. word.now in
@@ -31,7 +31,7 @@ returns-in_err-unread-clause-err g c =
 pub loop-folder-preserved : goal.loop-folder-preserved
 unfolding nowhere
 loop-folder-preserved g c =
-    let k = knowledge (g.F.ServiceFiles.trace_at c.args.files.now) (g.F.ServiceFiles.fault_at c.args.files.now) (g.T.LocalTimes.text_at c.args.times.now) in
+    let k = knowledge (g.F.ServiceFiles.trace_at c.args.files.now) (g.F.ServiceFiles.exit_at c.args.files.now) (g.F.ServiceFiles.fault_at c.args.files.now) (g.T.LocalTimes.text_at c.args.times.now) in
     let folders = c.args.folders.now in
     let i = c.loop-folder.folder-index in
     let now : Bor (List ℕ) → List ℕ = λ word. word.now in

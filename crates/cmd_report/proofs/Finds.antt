@@ -1,0 +1,24 @@
+-- What was found of services, one after the other.
+use Rattle.std.proofs.Common.{◌≡◌, ℕ, List, [], ◌∷◌, ◌++◌, map, refl, sym, ap, ◌∙◌, subst}
+use Rattle.std.proofs.lemmas.List.{map-append}
+use Rattle.cmd_svc.specs.Svstat.{Sight}
+use Rattle.cmd_report.specs.declared.found.Found.{Found}
+use Rattle.cmd_report.specs.MetricsEnds.{CountFiles, FindsAll, FindsOne, FindsWords, folders_of}
+
+finds_all-then : (files : CountFiles) (founds : List Found) (found : Found) (old middle new : Sight)
+    → FindsAll files founds old middle → FindsOne files found middle new → FindsAll files (founds ++ found ∷ []) old new
+finds_all-then files [] found old middle new done one =
+    (new, (subst (λ (s : Sight). FindsOne files found s new) done one, refl))
+finds_all-then files (first ∷ founds) found old middle new done one =
+    (done.0, (done.1.0, finds_all-then files founds found done.0 middle new done.1.1 one))
+
+-- One service more
+pub finds_words-then : (files : CountFiles) (words : List (List ℕ)) (founds : List Found) (word : List ℕ) (found : Found)
+    (old middle new : Sight) → FindsWords files words founds old middle → found.folder.now ≡ word
+    → FindsOne files found middle new → FindsWords files (words ++ word ∷ []) (founds ++ found ∷ []) old new
+finds_words-then files words founds word found old middle new done same one = record {
+  words_are = ap (λ (front : List (List ℕ)). front ++ word ∷ []) done.words_are
+      ∙ ap (λ (last : List ℕ). folders_of founds ++ last ∷ []) (sym same)
+      ∙ sym (map-append (λ (f : Found). f.folder.now) founds (found ∷ []));
+  finds = finds_all-then files founds found old middle new done.finds one;
+}

@@ -1,0 +1,103 @@
+-- A look at a service as a JSON object (RFC 8259): the tokens of its text.
+use Rattle.std.specs.Prelude.{◌≡◌, ℕ, Bool, if◌then◌else◌, List, [], ◌∷◌, ◌++◌, codes, decimal}
+use Rattle.json.specs.Token.{Token, begin_object, end_object, key, string, number, boolean, null}
+use Rattle.json.specs.Print.{print}
+use Rattle.json.specs.Written.{Written}
+use Rattle.tai_status.specs.Label.{Tai64n}
+use Rattle.tai_status.specs.Record.{Status}
+use Rattle.tai_status.specs.Loading.{status_in}
+use Rattle.tai_status.specs.Phase.{phase_name}
+use Rattle.tai_status.specs.declared.loading.Loaded.{Loaded}
+use Rattle.tai_status.specs.declared.loading.Loaded.TheVariants.{Old, New}
+use Rattle.tai_status.specs.declared.record.Want.{Want}
+use Rattle.tai_status.specs.declared.record.Want.TheVariants as want
+use Rattle.cmd_svc.specs.Line.{is_running, seconds}
+use Rattle.cmd_svc.specs.Svstat.{fault_name}
+use Rattle.cmd_svc.specs.declared.services.Unreached.{Unreached}
+use Rattle.cmd_svc.specs.declared.services.Unreached.TheVariants as unreached
+use Rattle.cmd_svc.specs.declared.look.Look.{Look}
+use Rattle.cmd_svc.specs.declared.look.Look.TheVariants as look
+
+-- These tokens were written after those that stood there.
+pub record Adds (old new : Written) (more : List Token) : Type 0 where
+  pub before : new.before ≡ old.before
+  pub tokens : new.tokens ≡ old.tokens ++ more
+
+-- Words
+
+abbrev pub side_name : (up : Bool) → List ℕ
+side_name up = if up then codes "up" else codes "down"
+
+abbrev pub want_name : Want → List ℕ
+want_name want.Up = codes "up"
+want_name want.Down = codes "down"
+want_name want.Once = codes "once"
+
+-- why nothing is known of a service
+abbrev pub unreached_text : Unreached → List ℕ
+unreached_text unreached.NotRunning = codes "supervise not running"
+unreached_text unreached.Denied = codes "unable to open supervise/ok: Permission denied"
+unreached_text unreached.Unanswered = codes "unable to open supervise/ok: no answer"
+
+-- Members
+
+unfoldable pub boolean_member : (name : List ℕ) → Bool → List Token
+boolean_member name value = key name ∷ boolean value ∷ []
+
+unfoldable pub string_member : (name text : List ℕ) → List Token
+string_member name text = key name ∷ string text ∷ []
+
+unfoldable pub number_member : (name : List ℕ) → ℕ → List Token
+number_member name value = key name ∷ number (decimal value) ∷ []
+
+unfoldable pub null_member : (name : List ℕ) → List Token
+null_member name = key name ∷ null ∷ []
+
+-- a process number, where there is one
+unfoldable pub pid_member : Status → List Token
+pid_member status = if is_running status then number_member (codes "pid") status.pid else null_member (codes "pid")
+
+-- what a record of 18 bytes does not tell
+unfoldable pub phase_member : Loaded → List Token
+phase_member (Old status) = null_member (codes "phase")
+phase_member (New full) = string_member (codes "phase") (phase_name full.phase)
+
+unfoldable pub exiting_member : Loaded → List Token
+exiting_member (Old status) = null_member (codes "exiting")
+exiting_member (New full) = boolean_member (codes "exiting") full.exiting
+
+unfoldable pub process_members : Status → (now : Tai64n) → List Token
+process_members status now =
+    boolean_member (codes "up") (is_running status)
+    ++ pid_member status
+    ++ number_member (codes "seconds") (seconds status now)
+
+unfoldable pub asked_members : Status → (normally_up : Bool) → List Token
+asked_members status normally_up =
+    string_member (codes "want") (want_name status.want)
+    ++ boolean_member (codes "paused") status.paused
+    ++ string_member (codes "normally") (side_name normally_up)
+
+unfoldable pub standing_members : Loaded → (normally_up : Bool) → (now : Tai64n) → List Token
+standing_members loaded normally_up now =
+    process_members (status_in loaded) now
+    ++ phase_member loaded
+    ++ asked_members (status_in loaded) normally_up
+    ++ exiting_member loaded
+
+-- the members behind the path
+abbrev pub look_members : Look → List Token
+look_members (look.Unreached why) = string_member (codes "error") (unreached_text why)
+look_members look.Unread = string_member (codes "error") (codes "unable to read status")
+look_members (look.Bad cause) = string_member (codes "error") (codes "bad status record: " ++ fault_name cause)
+look_members (look.Standing loaded normally_up now) = standing_members loaded normally_up now
+
+-- Lines
+
+abbrev pub look_tokens : (folder : List ℕ) → Look → List Token
+look_tokens folder look =
+    begin_object ∷ [] ++ string_member (codes "path") folder ++ look_members look ++ end_object ∷ []
+
+-- the line of a look at the service in a folder, without a newline
+abbrev pub json_line : (folder : List ℕ) → Look → List ℕ
+json_line folder look = print (look_tokens folder look)

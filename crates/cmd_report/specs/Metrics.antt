@@ -1,0 +1,142 @@
+-- What is told of services as metrics, in Prometheus' text exposition format
+-- (prometheus.io/docs/instrumenting/exposition_formats): a sample a line, those of one metric together behind its help.
+use Rattle.std.specs.Prelude.{◌≡◌, ℕ, ◌==◌, Bool, true, false, if◌then◌else◌, List, [], ◌∷◌, ◌++◌, codes, decimal}
+use Rattle.std.specs.Prelude.{flat_map, bytes_eq, Option, Some, None}
+use Rattle.tai_status.specs.Label.{Tai64n}
+use Rattle.tai_status.specs.Record.{Status, flag_byte}
+use Rattle.tai_status.specs.Loading.{status_in}
+use Rattle.tai_status.specs.Phase.{phase_name}
+use Rattle.tai_status.specs.declared.phase.Phase.{Phase}
+use Rattle.tai_status.specs.declared.phase.Phase.TheVariants as phase
+use Rattle.tai_status.specs.declared.loading.Loaded.{Loaded}
+use Rattle.tai_status.specs.declared.loading.Loaded.TheVariants.{Old, New}
+use Rattle.cmd_svc.specs.Line.{is_running, seconds, wants_up}
+use Rattle.cmd_svc.specs.declared.look.Look.{Look}
+use Rattle.cmd_svc.specs.declared.look.Look.TheVariants as look
+use Rattle.cmd_report.specs.declared.counts.Counts.{Counts}
+use Rattle.cmd_report.specs.declared.found.Found.{Found}
+use Rattle.cmd_report.specs.declared.samples.Sample.{Sample}
+use Rattle.cmd_report.specs.declared.samples.Sample.TheVariants as sample
+
+-- Values
+
+-- whether a supervisor answered
+abbrev pub is_supervised : Look → Bool
+is_supervised (look.Unreached why) = false
+is_supervised other = true
+
+-- whether it stands in a phase, where a record tells that
+abbrev pub phase_value : Phase → Loaded → Option ℕ
+phase_value phase (Old status) = None
+phase_value phase (New full) = Some (flag_byte (bytes_eq (phase_name full.phase) (phase_name phase)))
+
+abbrev pub standing_value : Sample → Loaded → (now : Tai64n) → Option ℕ
+standing_value sample.Up loaded now = Some (flag_byte (is_running (status_in loaded)))
+standing_value sample.Seconds loaded now = Some (seconds (status_in loaded) now)
+standing_value (sample.InPhase phase) loaded now = phase_value phase loaded
+standing_value sample.WantedUp loaded now = Some (flag_byte (wants_up (status_in loaded).want))
+standing_value sample.Paused loaded now = Some (flag_byte (status_in loaded).paused)
+standing_value other loaded now = None
+
+abbrev pub look_value : Sample → Look → Option ℕ
+look_value sample (look.Standing loaded normally_up now) = standing_value sample loaded now
+look_value sample other = None
+
+abbrev pub starts_in : Option Counts → Option ℕ
+starts_in None = None
+starts_in (Some counts) = Some counts.starts
+
+abbrev pub deaths_in : Option Counts → Option ℕ
+deaths_in None = None
+deaths_in (Some counts) = Some counts.deaths
+
+-- the value of a sample of a service, where there is one
+unfoldable pub value_in : Sample → Found → Option ℕ
+value_in sample.Supervised found = Some (flag_byte (is_supervised found.look))
+value_in sample.Starts found = starts_in found.counts
+value_in sample.Deaths found = deaths_in found.counts
+value_in other found = look_value other found.look
+
+-- Text
+
+-- what stands in the value of a label for a byte
+unfoldable pub label_byte : ℕ → List ℕ
+label_byte byte =
+    if byte == 92 then codes "\\\\"
+    else if byte == 34 then codes "\\\""
+    else if byte == 10 then codes "\\n"
+    else byte ∷ []
+
+abbrev pub label_text : List ℕ → List ℕ
+label_text text = flat_map label_byte text
+
+-- the name of a sample's metric
+abbrev pub metric_name : Sample → List ℕ
+metric_name sample.Supervised = codes "dtools_service_supervised"
+metric_name sample.Up = codes "dtools_service_up"
+metric_name sample.Seconds = codes "dtools_service_seconds"
+metric_name (sample.InPhase phase) = codes "dtools_service_phase"
+metric_name sample.WantedUp = codes "dtools_service_wanted_up"
+metric_name sample.Paused = codes "dtools_service_paused"
+metric_name sample.Starts = codes "dtools_service_starts_total"
+metric_name sample.Deaths = codes "dtools_service_deaths_total"
+
+-- the labels of a sample behind that of its service
+unfoldable pub more_labels : Sample → List ℕ
+more_labels (sample.InPhase phase) = codes ",phase=\"" ++ phase_name phase ++ codes "\""
+more_labels other = []
+
+-- a value, as a line ends
+unfoldable pub value_end : ℕ → List ℕ
+value_end value = codes "} " ++ decimal value ++ 10 ∷ []
+
+-- the line of a sample of this value
+unfoldable pub valued_line : Sample → (folder : List ℕ) → ℕ → List ℕ
+valued_line sample folder value =
+    metric_name sample ++ codes "{service=\"" ++ label_text folder ++ codes "\"" ++ more_labels sample
+    ++ value_end value
+
+abbrev pub line_of_value : Sample → (folder : List ℕ) → Option ℕ → List ℕ
+line_of_value sample folder None = []
+line_of_value sample folder (Some value) = valued_line sample folder value
+
+abbrev pub sample_line : Sample → Found → List ℕ
+sample_line sample found = line_of_value sample found.folder.now (value_in sample found)
+
+-- the help and the type of a metric, which stand before its first sample
+unfoldable pub head_text : Sample → List ℕ
+head_text sample.Supervised =
+    codes "# HELP dtools_service_supervised Whether the supervisor of the service answers." ++ 10 ∷ []
+    ++ codes "# TYPE dtools_service_supervised gauge" ++ 10 ∷ []
+head_text sample.Up = codes "# HELP dtools_service_up Whether the service runs." ++ 10 ∷ []
+    ++ codes "# TYPE dtools_service_up gauge" ++ 10 ∷ []
+head_text sample.Seconds =
+    codes "# HELP dtools_service_seconds Seconds since the last start or end of its process." ++ 10 ∷ []
+    ++ codes "# TYPE dtools_service_seconds gauge" ++ 10 ∷ []
+head_text (sample.InPhase phase.Starting) =
+    codes "# HELP dtools_service_phase Whether supervision of the service is in this phase." ++ 10 ∷ []
+    ++ codes "# TYPE dtools_service_phase gauge" ++ 10 ∷ []
+head_text sample.WantedUp = codes "# HELP dtools_service_wanted_up Whether the service is to be up." ++ 10 ∷ []
+    ++ codes "# TYPE dtools_service_wanted_up gauge" ++ 10 ∷ []
+head_text sample.Paused = codes "# HELP dtools_service_paused Whether the process of the service is paused." ++ 10 ∷ []
+    ++ codes "# TYPE dtools_service_paused gauge" ++ 10 ∷ []
+head_text sample.Starts =
+    codes "# HELP dtools_service_starts_total Starts of its process since svscan began." ++ 10 ∷ []
+    ++ codes "# TYPE dtools_service_starts_total counter" ++ 10 ∷ []
+head_text sample.Deaths = codes "# HELP dtools_service_deaths_total Ends of its process since svscan began." ++ 10 ∷ []
+    ++ codes "# TYPE dtools_service_deaths_total counter" ++ 10 ∷ []
+head_text other = []
+
+-- a sample of each service that has it
+abbrev pub sample_lines : Sample → List Found → List ℕ
+sample_lines sample founds = head_text sample ++ flat_map (sample_line sample) founds
+
+-- all samples, those of one metric together
+abbrev pub all_samples : List Sample
+all_samples =
+    sample.Supervised ∷ sample.Up ∷ sample.Seconds ∷ sample.InPhase phase.Starting ∷ sample.InPhase phase.Settling
+    ∷ sample.InPhase phase.Up ∷ sample.InPhase phase.Down ∷ sample.InPhase phase.Resting ∷ sample.InPhase phase.Gone
+    ∷ sample.WantedUp ∷ sample.Paused ∷ sample.Starts ∷ sample.Deaths ∷ []
+
+unfoldable pub metrics_text : List Found → List ℕ
+metrics_text founds = flat_map (λ sample. sample_lines sample founds) all_samples

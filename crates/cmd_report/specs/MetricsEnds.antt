@@ -1,0 +1,90 @@
+-- How `svstat --metrics` ends: all services are looked at, and then all is written.
+use Rattle.std.specs.Prelude.{◌≡◌, ◌⊎◌, ⊤, ℕ, List, [], ◌∷◌, ◌++◌, map, Option, Some, None}
+use Rattle.tai_status.specs.Counted.{Device, Fails, Tells, Works, Wrote, WroteFront}
+use Rattle.cmd_base.specs.Known.{IsKnown}
+use Rattle.cmd_svc.specs.Svstat.{Scene, Sight, Finds, svstat_told}
+use Rattle.cmd_svc.specs.declared.svstat.SvstatFault.TheVariants as why
+use Rattle.cmd_svc.specs.declared.look.Look.{Look}
+use Rattle.cmd_svc.specs.declared.look.Look.TheVariants as look
+use Rattle.cmd_report.specs.Counts.{counts_in}
+use Rattle.cmd_report.specs.Metrics.{metrics_text}
+use Rattle.cmd_report.specs.declared.counts.Counts.{Counts}
+use Rattle.cmd_report.specs.declared.found.Found.{Found}
+
+-- What the files `counts` hold, where that is known: of the service in a folder the bytes, or that they can't be read
+abbrev pub CountFiles : Type 0
+CountFiles = List ℕ → Option (Option (List ℕ))
+
+-- the counts that a file tells, where there is one
+abbrev pub counts_of : Option (List ℕ) → Option Counts
+counts_of None = None
+counts_of (Some bytes) = counts_in bytes
+
+-- Counts are read where the status was read, and only there.
+abbrev pub AreCounts : (known : Option (Option (List ℕ))) → Look → Option Counts → Type 0
+AreCounts known (look.Standing loaded normally_up now) counts =
+    (read : Option (List ℕ)) × (IsKnown known read × (counts ≡ counts_of read))
+AreCounts known other counts = counts ≡ None
+
+-- The service in a folder was looked at, and this was found.
+pub record FindsOne (files : CountFiles) (found : Found) (old new : Sight) : Type 0 where
+  pub finds : Finds found.folder.now found.look old new
+  pub counts : AreCounts (files found.folder.now) found.look found.counts
+
+-- These were found, one after the other.
+abbrev pub FindsAll : (files : CountFiles) → List Found → (old new : Sight) → Type 0
+FindsAll files [] old new = new ≡ old
+FindsAll files (found ∷ founds) old new =
+    (middle : Sight) × (FindsOne files found old middle × FindsAll files founds middle new)
+
+abbrev pub folders_of : List Found → List (List ℕ)
+folders_of founds = map (λ found. found.folder.now) founds
+
+-- Each word was looked at, in order, and this was found.
+pub record FindsWords (files : CountFiles) (words : List (List ℕ)) (founds : List Found) (old new : Sight)
+    : Type 0 where
+  pub words_are : words ≡ folders_of founds
+  pub finds : FindsAll files founds old new
+
+-- There was no memory: some words in front were looked at.
+pub record FindsFront (files : CountFiles) (words : List (List ℕ)) (old new : Sight) : Type 0 where
+  pub founds : List Found
+  pub rest : List (List ℕ)
+  pub words_are : words ≡ folders_of founds ++ rest
+  pub finds : FindsAll files founds old new
+
+-- Ends
+
+-- Each word was looked at, and all was written.
+pub record WritesAll (files : CountFiles) (words : List (List ℕ)) (status : ℕ) (old new : Scene)
+    (faults tells : Device) : Type 0 where
+  pub founds : List Found
+  pub finds : FindsWords files words founds old.sight new.sight
+  pub wrote : Wrote old.writer new.writer (metrics_text founds)
+  pub works : Works old.writer new.writer
+  pub status_is : status ≡ 0
+  pub untold : tells ≡ faults
+
+-- Each word was looked at, and the writer failed after a front of the text.
+pub record WritesFront (files : CountFiles) (words : List (List ℕ)) (status : ℕ) (old new : Scene)
+    (faults tells : Device) : Type 0 where
+  pub founds : List Found
+  pub finds : FindsWords files words founds old.sight new.sight
+  pub wrote : WroteFront old.writer new.writer (metrics_text founds)
+  pub fails : Fails old.writer new.writer
+  pub status_is : status ≡ 111
+  pub told : Tells faults tells (svstat_told why.Write)
+
+-- There was no memory, and nothing was written.
+pub record WritesNothing (files : CountFiles) (words : List (List ℕ)) (status : ℕ) (old new : Scene)
+    (faults tells : Device) : Type 0 where
+  pub finds : FindsFront files words old.sight new.sight
+  pub unwritten : new.writer ≡ old.writer
+  pub status_is : status ≡ 111
+  pub told : Tells faults tells (svstat_told why.OutOfMemory)
+
+abbrev pub MetricsEnds : (files : CountFiles) (words : List (List ℕ)) (status : ℕ) (old new : Scene)
+    (faults tells : Device) → Type 0
+MetricsEnds files words status old new faults tells =
+    WritesAll files words status old new faults tells
+    ⊎ (WritesFront files words status old new faults tells ⊎ WritesNothing files words status old new faults tells)

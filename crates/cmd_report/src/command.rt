@@ -1,0 +1,43 @@
+//! The command `svstat`, in each of its forms.
+ghost use Rattle.std.specs.Prelude.{map};
+ghost use Rattle.cmd_svc.specs.Svstat.{scene};
+ghost use Rattle.cmd_report.specs.Ends.{ReportEnds};
+
+use crate::objects::run_json;
+use crate::report::run_metrics;
+use crate::sources::CountFiles;
+use cmd_svc::{Services, run_svstat};
+use std::alloc::Allocator;
+use std::io::Write;
+use tai_status::{Output, TimeSource};
+
+/// The command `svstat`: where its first word is `--json` as [`run_json`], and where it is `--metrics` as
+/// [`run_metrics`], over the words behind that one; else as [`run_svstat`], over all.
+pub fn run_report<S, F, A, W, E, C>(
+    alloc: A,
+    services: &mut S,
+    files: &F,
+    words: &[&str],
+    writer: &mut Output<W>,
+    faults: &mut Output<E>,
+    clock: &mut C,
+) -> u8
+where
+    S: Services,
+    F: CountFiles,
+    A: Allocator + Clone,
+    W: Write,
+    E: Write,
+    C: TimeSource,
+    ensures ends { ReportEnds (F.counts_at files.now) (map (λ word. word.now) words.now) result
+        (scene (S.calls services.old) (C.readings clock.old) writer.old)
+        (scene (S.calls services.new) (C.readings clock.new) writer.new) faults.old faults.new }
+{
+    match words {
+        ["--json", folders @ ..] => run_json(alloc, services, folders, writer, faults, clock),
+        ["--metrics", folders @ ..] => {
+            run_metrics(alloc, services, files, folders, writer, faults, clock)
+        }
+        _ => run_svstat(alloc, services, words, writer, faults, clock),
+    }
+}

@@ -1,0 +1,25 @@
+//! What stands of services, for programs: `svstat --json`, a JSON object a line, and `svstat --metrics`, in the text
+//! format of Prometheus.
+#![tactic(auto)]
+
+mod command;
+mod counts;
+mod find;
+mod found;
+mod laws;
+mod metrics;
+mod objects;
+mod report;
+mod samples;
+mod sources;
+mod system;
+
+pub use command::run_report;
+pub use counts::{Counts, counts_in};
+pub use found::Found;
+pub use laws::{labels_read, same_words};
+pub use metrics::metrics_text;
+pub use objects::{JsonLine, json_line, run_json};
+pub use report::run_metrics;
+pub use samples::{Sample, value_in};
+pub use sources::{CountFiles, CountsFront};

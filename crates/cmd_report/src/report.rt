@@ -1,0 +1,51 @@
+//! The command `svstat --metrics`.
+ghost use Rattle.std.specs.Prelude.{map};
+ghost use Rattle.cmd_svc.specs.Svstat.{scene};
+ghost use Rattle.cmd_report.specs.MetricsEnds.{MetricsEnds};
+
+use crate::find::find_all;
+use crate::metrics::metrics_text;
+use crate::sources::CountFiles;
+use cmd_base::{DONE, TROUBLE, report};
+use cmd_svc::{Services, SvstatFault, svstat_told};
+use std::alloc::Allocator;
+use std::io::Write;
+use tai_status::{Output, TimeSource};
+
+/// The command `svstat --metrics`: looks at the service in each folder that its words name, in order, and then writes
+/// what was found as [`metrics_text`]. Answers the status: 0; 111 for want of memory, and then nothing was written; 111
+/// for a fault of the writer.
+pub fn run_metrics<S, F, A, W, E, C>(
+    alloc: A,
+    services: &mut S,
+    files: &F,
+    words: &[&str],
+    writer: &mut Output<W>,
+    faults: &mut Output<E>,
+    clock: &mut C,
+) -> u8
+where
+    S: Services,
+    F: CountFiles,
+    A: Allocator + Clone,
+    W: Write,
+    E: Write,
+    C: TimeSource,
+    ensures ends { MetricsEnds (F.counts_at files.now) (map (λ word. word.now) words.now) result
+        (scene (S.calls services.old) (C.readings clock.old) writer.old)
+        (scene (S.calls services.new) (C.readings clock.new) writer.new) faults.old faults.new }
+{
+    let Ok(own) = alloc.clone() else {
+        return report(faults, svstat_told(SvstatFault::OutOfMemory), TROUBLE);
+    };
+    let Ok(founds) = find_all(own, services, files, clock, words) else {
+        return report(faults, svstat_told(SvstatFault::OutOfMemory), TROUBLE);
+    };
+    let Ok(text) = metrics_text(alloc, &founds) else {
+        return report(faults, svstat_told(SvstatFault::OutOfMemory), TROUBLE);
+    };
+    match writer.write_all(&text) {
+        Ok(()) => DONE,
+        Err(_) => report(faults, svstat_told(SvstatFault::Write), TROUBLE),
+    }
+}

@@ -1,0 +1,201 @@
+//! The samples of metrics, and the value that a service has of each.
+ghost use Rattle.std.specs.Prelude.{◌≡◌};
+ghost use Rattle.tai_status.specs.Record.{flag_byte};
+ghost use Rattle.cmd_svc.specs.Line.{is_running, wants_up};
+ghost use Rattle.cmd_report.specs.Metrics.{deaths_in, head_text, is_supervised, look_value, metric_name, phase_value};
+ghost use Rattle.cmd_report.specs.Metrics.{standing_value, starts_in, value_in};
+
+use crate::counts::Counts;
+use crate::found::Found;
+use cmd_svc::Look;
+use tai_status::{Label, Loaded, Phase, View, Want, phase_name};
+
+/// A sample that a service has of a metric.
+#[derive(Clone, Copy, Debug, PartialEq, Eq)]
+pub enum Sample {
+    /// Whether its supervisor answers.
+    Supervised,
+    /// Whether it runs.
+    Up,
+    /// Whole seconds since its last change of process.
+    Seconds,
+    /// Whether supervise stands in this phase with it.
+    InPhase(Phase),
+    /// Whether it is to be up.
+    WantedUp,
+    /// Whether its process is paused.
+    Paused,
+    /// How often it was started since svscan began.
+    Starts,
+    /// How often it died since svscan began.
+    Deaths,
+}
+
+/// The value of a sample of a service, where there is one: of `Supervised` always; of `Starts` and `Deaths` where its
+/// counts were read; of a phase where its record has 20 bytes; of the others where its status was read.
+#[tactic(auto, unfolding(crate::specs::Metrics::value_in))]
+pub fn value_in(sample: Sample, found: &Found) -> Option<u64>
+    ensures { result ≡ value_in sample found.now }
+{
+    match sample {
+        Sample::Supervised => Some(flag(is_supervised(&found.look))),
+        Sample::Starts => starts_in(found.counts),
+        Sample::Deaths => deaths_in(found.counts),
+        _ => look_value(sample, &found.look),
+    }
+}
+
+/// 1 where it holds, else 0.
+fn flag(holds: bool) -> u64
+    ensures { result ≡ flag_byte holds }
+{
+    if holds { 1 } else { 0 }
+}
+
+/// Whether a supervisor answered.
+fn is_supervised(look: &Look) -> bool
+    ensures { result ≡ is_supervised look.now }
+{
+    match look {
+        Look::Unreached(_) => false,
+        Look::Unread | Look::Bad(_) | Look::Standing { .. } => true,
+    }
+}
+
+/// How many starts are told.
+fn starts_in(counts: Option<Counts>) -> Option<u64>
+    ensures { result ≡ starts_in counts }
+{
+    match counts {
+        Some(counts) => Some(counts.starts),
+        None => None,
+    }
+}
+
+/// How many deaths are told.
+fn deaths_in(counts: Option<Counts>) -> Option<u64>
+    ensures { result ≡ deaths_in counts }
+{
+    match counts {
+        Some(counts) => Some(counts.deaths),
+        None => None,
+    }
+}
+
+/// The value of a sample that a look tells.
+fn look_value(sample: Sample, look: &Look) -> Option<u64>
+    ensures { result ≡ look_value sample look.now }
+{
+    match look {
+        Look::Standing { loaded, now, .. } => standing_value(sample, loaded, now),
+        Look::Unreached(_) | Look::Unread | Look::Bad(_) => None,
+    }
+}
+
+/// The value of a sample that a status tells.
+fn standing_value(sample: Sample, loaded: &Loaded, now: &Label) -> Option<u64>
+    ensures { result ≡ standing_value sample loaded.now now.now }
+{
+    let view = loaded.view();
+    match sample {
+        Sample::Up => Some(flag(is_running(&view))),
+        Sample::Seconds => Some(now.sec.saturating_sub(view.label.sec)),
+        Sample::InPhase(phase) => phase_value(phase, loaded),
+        Sample::WantedUp => Some(flag(wants_up(view.want))),
+        Sample::Paused => Some(flag(view.paused)),
+        Sample::Supervised | Sample::Starts | Sample::Deaths => None,
+    }
+}
+
+/// Whether a service runs.
+fn is_running(view: &View) -> bool
+    ensures { result ≡ is_running view.now }
+{
+    view.pid >= 1
+}
+
+/// Whether a service is to be up.
+fn wants_up(want: Want) -> bool
+    ensures { result ≡ wants_up want }
+{
+    match want {
+        Want::Up => true,
+        Want::Down | Want::Once => false,
+    }
+}
+
+/// Whether supervise stands in a phase, where a record tells that.
+fn phase_value(phase: Phase, loaded: &Loaded) -> Option<u64>
+    ensures { result ≡ phase_value phase loaded.now }
+{
+    match loaded {
+        Loaded::Old(_) => None,
+        Loaded::New(full) => Some(flag(phase_name(full.phase) == phase_name(phase))),
+    }
+}
+
+/// The name of a sample's metric.
+pub(crate) fn metric_name(sample: Sample) -> &'static str
+    ensures { result.now ≡ metric_name sample }
+{
+    match sample {
+        Sample::Supervised => "dtools_service_supervised",
+        Sample::Up => "dtools_service_up",
+        Sample::Seconds => "dtools_service_seconds",
+        Sample::InPhase(_) => "dtools_service_phase",
+        Sample::WantedUp => "dtools_service_wanted_up",
+        Sample::Paused => "dtools_service_paused",
+        Sample::Starts => "dtools_service_starts_total",
+        Sample::Deaths => "dtools_service_deaths_total",
+    }
+}
+
+/// The help and the type of a metric, which stand before its first sample.
+#[tactic(auto, unfolding(crate::specs::Metrics::head_text))]
+pub(crate) fn head_text(sample: Sample) -> &'static str
+    ensures { result.now ≡ head_text sample }
+{
+    match sample {
+        Sample::Supervised => {
+            "# HELP dtools_service_supervised Whether the supervisor of the service answers.
+# TYPE dtools_service_supervised gauge
+"
+        }
+        Sample::Up => {
+            "# HELP dtools_service_up Whether the service runs.
+# TYPE dtools_service_up gauge
+"
+        }
+        Sample::Seconds => {
+            "# HELP dtools_service_seconds Seconds since the last start or end of its process.
+# TYPE dtools_service_seconds gauge
+"
+        }
+        Sample::InPhase(Phase::Starting) => {
+            "# HELP dtools_service_phase Whether supervision of the service is in this phase.
+# TYPE dtools_service_phase gauge
+"
+        }
+        Sample::InPhase(_) => "",
+        Sample::WantedUp => {
+            "# HELP dtools_service_wanted_up Whether the service is to be up.
+# TYPE dtools_service_wanted_up gauge
+"
+        }
+        Sample::Paused => {
+            "# HELP dtools_service_paused Whether the process of the service is paused.
+# TYPE dtools_service_paused gauge
+"
+        }
+        Sample::Starts => {
+            "# HELP dtools_service_starts_total Starts of its process since svscan began.
+# TYPE dtools_service_starts_total counter
+"
+        }
+        Sample::Deaths => {
+            "# HELP dtools_service_deaths_total Ends of its process since svscan began.
+# TYPE dtools_service_deaths_total counter
+"
+        }
+    }
+}

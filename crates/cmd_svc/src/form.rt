@@ -1,0 +1,39 @@
+//! Forms of the line of a look.
+ghost use Rattle.cmd_svc.specs.Svstat.{look_line};
+
+use crate::look::{Look, look_line};
+use std::alloc::{AllocError, Allocator};
+
+/// A form in which `svstat` writes what a look found. Contracts see the line as a function of the folder and of that.
+pub trait LineForm {
+    ghost use Rattle.std.specs.Prelude.{◌≡◌, ℕ, List, IfOk};
+    ghost use Rattle.cmd_svc.specs.declared.look.Look.{Look};
+
+    // the line of a look at the service in a folder, without a newline
+    ghost line_of: { Self → List ℕ → Look → List ℕ };
+
+    /// The line of a look at the service in a folder, without a newline.
+    fn line<A: Allocator>(
+        &self,
+        alloc: A,
+        folder: &str,
+        look: &Look,
+    ) -> Result<Vec<u8, A>, AllocError>
+        ensures { IfOk result (λ line. line.items ≡ line_of self.now folder.now look.now) };
+}
+
+/// The form of svstat itself.
+pub(crate) struct PlainLine;
+
+impl LineForm for PlainLine {
+    ghost line_of = { λ _ folder look. look_line folder look };
+
+    fn line<A: Allocator>(
+        &self,
+        alloc: A,
+        folder: &str,
+        look: &Look,
+    ) -> Result<Vec<u8, A>, AllocError> {
+        Ok(look_line(alloc, folder, look)?.into_bytes())
+    }
+}

@@ -1,0 +1,137 @@
+-- How `wait` ends.
+use Rattle.std.specs.Prelude.{◌≡◌, ◌≢◌, ◌⊎◌, ℕ, List, [], ◌∷◌, ◌++◌, codes}
+use Rattle.tai_status.specs.Counted.{Device, Tells}
+use Rattle.tai_status.specs.Extended.{Extended}
+use Rattle.tai_status.specs.declared.record.RecordFault.{RecordFault}
+use Rattle.cmd_base.specs.Told.{usage_text}
+use Rattle.cmd_svc.specs.Svstat.{fault_name}
+use Rattle.cmd_svc.specs.Turns.{InTurn}
+use Rattle.cmd_wait.specs.Steps.{Read}
+use Rattle.cmd_wait.specs.Words.{Order, Asks, AskNothing}
+use Rattle.cmd_wait.specs.Rounds.{Sight, Look, TakesRound, FailsAt, IsOver, Waits, looks_of, IsAmong, IsFound}
+use Rattle.cmd_wait.specs.declared.finding.Goal.{Goal}
+use Rattle.cmd_wait.specs.declared.finding.Goal.TheVariants as goal
+use Rattle.cmd_wait.specs.declared.finding.WaitFault.{WaitFault}
+use Rattle.cmd_wait.specs.declared.finding.WaitFault.TheVariants as fault
+
+-- What `wait` works with: that, and where it tells faults.
+pub record Scene : Type 0 where
+  pub sight : Sight
+  pub faults : Device
+
+abbrev pub scene : (sight : Sight) (faults : Device) → Scene
+scene sight faults = record { sight = sight; faults = faults }
+
+-- Sayings
+
+-- why a status is no record, as it is told behind the folder
+abbrev pub bad_note : RecordFault → List ℕ
+bad_note cause = codes ": bad status record: " ++ fault_name cause ++ 10 ∷ []
+
+-- why a service can't be waited for, as it is told behind its folder
+abbrev pub fault_note : WaitFault → List ℕ
+fault_note fault.NotSupervised = codes ": supervise not running" ++ 10 ∷ []
+fault_note fault.Denied = codes ": unable to open supervise/ok: Permission denied" ++ 10 ∷ []
+fault_note fault.Unread = codes ": unable to read status" ++ 10 ∷ []
+fault_note (fault.Bad cause) = bad_note cause
+
+-- that the time is over, as it is told behind a service's folder
+abbrev pub over_note : Goal → List ℕ
+over_note goal.Up = codes ": not up in time" ++ 10 ∷ []
+over_note goal.Down = codes ": not down in time" ++ 10 ∷ []
+over_note goal.Unsupervised = codes ": still supervised" ++ 10 ∷ []
+
+-- what is told of a service
+abbrev pub told_of : (folder note : List ℕ) → List ℕ
+told_of folder note = codes "wait: " ++ (folder ++ note)
+
+abbrev pub memory_told : List ℕ
+memory_told = codes "wait: OutOfMemory" ++ 10 ∷ []
+
+-- That the time is over was told of a service.
+abbrev pub TellsOver : Goal → (folder : List ℕ) (old new : Device) → Type 0
+TellsOver goal folder old new = Tells old new (told_of folder (over_note goal))
+
+-- the status of a service that can't be waited for
+abbrev pub fault_status : WaitFault → ℕ
+fault_status fault.NotSupervised = 102
+fault_status fault.Denied = 111
+fault_status fault.Unread = 111
+fault_status (fault.Bad cause) = 111
+
+-- The last round
+
+-- It left no service: 0, and nothing is told. Each service of the order was found as it is waited for, by a look of
+-- this round or of one before it.
+pub record Reaches (order : Order) (before : List Look) (services : List (List ℕ)) (status : ℕ) (old new : Scene)
+    : Type 0 where
+  pub now : ℕ
+  pub takes : TakesRound order now services [] old.sight new.sight
+  pub status_is : status ≡ 0
+  pub untold : new.faults ≡ old.faults
+  pub found : (folder : List ℕ) → IsAmong folder order.services
+      → IsFound order.goal folder (before ++ takes.looked.looks)
+
+-- It left services, and the time was over when it began: 99, and each of these is told.
+pub record RunsOut (order : Order) (begin : ℕ) (services : List (List ℕ)) (status : ℕ) (old new : Scene) : Type 0 where
+  pub now : ℕ
+  pub left : List (List ℕ)
+  pub takes : TakesRound order now services left old.sight new.sight
+  pub some : left ≢ []
+  pub over : IsOver order.limit begin now
+  pub status_is : status ≡ 99
+  pub told : InTurn (TellsOver order.goal) left old.faults new.faults
+
+-- A look found a service that can't be waited for: it is told why, with the status of that, and none after it is looked
+-- at.
+pub record Fails (order : Order) (services : List (List ℕ)) (status : ℕ) (old new : Scene) : Type 0 where
+  pub now : ℕ
+  pub folder : List ℕ
+  pub fault : WaitFault
+  pub read : Extended old.sight.steps new.sight.steps (Read now ∷ [])
+  pub fails : FailsAt order.goal services folder fault old.sight.calls new.sight.calls
+  pub status_is : status ≡ fault_status fault
+  pub told : Tells old.faults new.faults (told_of folder (fault_note fault))
+
+-- By the looks before it, and the services that these left.
+abbrev pub EndsBy : (order : Order) (begin : ℕ) (before : List Look) (services : List (List ℕ)) (status : ℕ)
+    (old new : Scene) → Type 0
+EndsBy order begin before services status old new =
+    Reaches order before services status old new
+    ⊎ (RunsOut order begin services status old new ⊎ Fails order services status old new)
+
+-- The clock is read, then come rounds, and the last one ends it.
+pub record WaitsFor (order : Order) (status : ℕ) (old new : Scene) : Type 0 where
+  pub begin : ℕ
+  pub begun : Sight
+  pub left : List (List ℕ)
+  pub middle : Sight
+  pub read : Extended old.sight.steps begun.steps (Read begin ∷ [])
+  pub unasked : begun.calls ≡ old.sight.calls
+  pub waits : Waits order begin order.services begun left middle
+  pub ends : EndsBy order begin (looks_of waits) left status (scene middle old.faults) new
+
+-- Ends
+
+-- Words that ask for nothing: the usage is told, and nothing is asked.
+pub record RefusesWords (words : List (List ℕ)) (status : ℕ) (old new : Scene) : Type 0 where
+  pub wrong : AskNothing words
+  pub status_is : status ≡ 100
+  pub unasked : new.sight ≡ old.sight
+  pub told : Tells old.faults new.faults usage_text
+
+-- There is no memory to keep which services are left: nothing is asked, and it is told.
+pub record LacksMemory (status : ℕ) (old new : Scene) : Type 0 where
+  pub status_is : status ≡ 111
+  pub unasked : new.sight ≡ old.sight
+  pub told : Tells old.faults new.faults memory_told
+
+-- It waits as its words ask.
+pub record WaitsWords (words : List (List ℕ)) (status : ℕ) (old new : Scene) : Type 0 where
+  pub order : Order
+  pub asks : Asks words order
+  pub waits : LacksMemory status old new ⊎ WaitsFor order status old new
+
+-- `wait`, by its words
+abbrev pub WaitEnds : (words : List (List ℕ)) (status : ℕ) (old new : Scene) → Type 0
+WaitEnds words status old new = RefusesWords words status old new ⊎ WaitsWords words status old new

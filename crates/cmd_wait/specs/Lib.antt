@@ -1,0 +1,5 @@
+pub mod Steps
+pub mod Words
+pub mod Finding
+pub mod Rounds
+pub mod Ends

@@ -1,0 +1,116 @@
+-- How services are waited for, in rounds.
+use Rattle.std.specs.Prelude.{◌≡◌, ◌≢◌, ◌⊎◌, ⊤, ℕ, ◌-◌, ◌*◌, ◌≤◌, List, [], ◌∷◌, ◌++◌, map, flat_map, All, Option}
+use Rattle.std.specs.Prelude.{Some, None}
+use Rattle.tai_status.specs.Extended.{Extended}
+use Rattle.cmd_svc.specs.Calls.{Call}
+use Rattle.cmd_wait.specs.Steps.{Step, Read, Rested}
+use Rattle.cmd_wait.specs.Finding.{Sighting, calls_of_look, finding_of, Finds}
+use Rattle.cmd_wait.specs.Words.{Order}
+use Rattle.cmd_wait.specs.declared.finding.Goal.{Goal}
+use Rattle.cmd_wait.specs.declared.finding.Finding.{Finding}
+use Rattle.cmd_wait.specs.declared.finding.Finding.TheVariants.{Reached, Waiting, Failed}
+use Rattle.cmd_wait.specs.declared.finding.WaitFault.{WaitFault}
+
+-- Looks at services, one after the other
+
+-- A look at the service in a folder.
+pub record Look : Type 0 where
+  pub folder : List ℕ
+  pub sighting : Sighting
+
+-- the services that were looked at
+abbrev pub folders : List Look → List (List ℕ)
+folders looks = map (λ look. look.folder) looks
+
+abbrev pub calls_of : List Look → List Call
+calls_of looks = flat_map (λ look. calls_of_look look.folder look.sighting) looks
+
+-- A service can be waited for.
+abbrev pub GoesOn : Finding → Type 0
+GoesOn Reached = ⊤
+GoesOn Waiting = ⊤
+GoesOn (Failed fault) = ⊥
+
+-- the service, where it was not reached
+abbrev pub left_at : (folder : List ℕ) → Finding → List (List ℕ)
+left_at folder Reached = []
+left_at folder Waiting = folder ∷ []
+left_at folder (Failed fault) = folder ∷ []
+
+-- the services that were not reached, in their order
+abbrev pub left_by : Goal → List Look → List (List ℕ)
+left_by goal looks = flat_map (λ look. left_at look.folder (finding_of goal look.sighting)) looks
+
+-- The first of these services were looked at, each once; they can all be waited for, and these of them are left. The
+-- services `after` were not looked at.
+pub record LooksAt (goal : Goal) (services left after : List (List ℕ)) (old new : Option (List Call)) : Type 0 where
+  pub looks : List Look
+  pub split : services ≡ folders looks ++ after
+  pub goes_on : All (λ look. GoesOn (finding_of goal look.sighting)) looks
+  pub left_is : left ≡ left_by goal looks
+  pub calls : Extended old new (calls_of looks)
+
+-- The look at the service in a folder, after looks at those before it, found that it can't be waited for.
+pub record FailsAt (goal : Goal) (services : List (List ℕ)) (folder : List ℕ) (fault : WaitFault)
+    (old new : Option (List Call)) : Type 0 where
+  pub left : List (List ℕ)
+  pub after : List (List ℕ)
+  pub middle : Option (List Call)
+  pub looked : LooksAt goal services left (folder ∷ after) old middle
+  pub fails : Finds goal folder (Failed fault) middle new
+
+-- Rounds, one after the other
+
+-- What a wait has done: the calls of services, and the steps of its pace.
+pub record Sight : Type 0 where
+  pub calls : Option (List Call)
+  pub steps : Option (List Step)
+
+abbrev pub sight : (calls : Option (List Call)) (steps : Option (List Step)) → Sight
+sight calls steps = record { calls = calls; steps = steps }
+
+-- The time is over, where there is one, between two readings of the clock.
+abbrev pub IsOver : (limit : Option ℕ) (begin now : ℕ) → Type 0
+IsOver None begin now = ⊥
+IsOver (Some seconds) begin now = 1000 * seconds ≤ now - begin
+
+-- A round: the clock is read, and then each of these services is looked at, once; these are left.
+pub record TakesRound (order : Order) (now : ℕ) (services left : List (List ℕ)) (old new : Sight) : Type 0 where
+  pub read : Extended old.steps new.steps (Read now ∷ [])
+  pub looked : LooksAt order.goal services left [] old.calls new.calls
+
+-- A round that is not the last: services are left, the time was not over when it began, and behind it is a rest.
+pub record Repeats (order : Order) (begin : ℕ) (services left : List (List ℕ)) (old new : Sight) : Type 0 where
+  pub now : ℕ
+  pub middle : Sight
+  pub takes : TakesRound order now services left old middle
+  pub some : left ≢ []
+  pub in_time : IsOver order.limit begin now → ⊥
+  pub rested : Extended middle.steps new.steps (Rested ∷ [])
+  pub unasked : new.calls ≡ middle.calls
+
+-- Rounds that are not the last were taken from these services on, each over those that the one before it left.
+pub data Waits (order : Order) (begin : ℕ) (services : List (List ℕ)) (old : Sight)
+    : (left : List (List ℕ)) → (now : Sight) → Type 0 where
+  none : Waits order begin services old services old
+  more : {left after : List (List ℕ)} {now new : Sight} → Waits order begin services old left now
+      → Repeats order begin left after now new → Waits order begin services old after new
+
+-- What they found
+
+-- the looks of these rounds
+abbrev pub looks_of : {order : Order} {begin : ℕ} {services : List (List ℕ)} {old : Sight}
+    {left : List (List ℕ)} {now : Sight} → Waits order begin services old left now → List Look
+looks_of none = []
+looks_of (more waits round) = looks_of waits ++ round.takes.looked.looks
+
+-- The service in a folder is one of these.
+abbrev pub IsAmong : (folder : List ℕ) (services : List (List ℕ)) → Type 0
+IsAmong folder [] = ⊥
+IsAmong folder (service ∷ services) = (service ≡ folder) ⊎ IsAmong folder services
+
+-- One of these looks found it as it is waited for.
+abbrev pub IsFound : (goal : Goal) (folder : List ℕ) (looks : List Look) → Type 0
+IsFound goal folder [] = ⊥
+IsFound goal folder (look ∷ looks) =
+    ((look.folder ≡ folder) × (finding_of goal look.sighting ≡ Reached)) ⊎ IsFound goal folder looks

@@ -1,0 +1,76 @@
+-- What the words of `wait` ask: `wait [-u|-d|-x] [-t SECONDS] SERVICE..`, the options in either order, and perhaps a
+-- `--` behind them. Words are lists of bytes.
+use Rattle.std.specs.Prelude.{◌≡◌, ◌≢◌, ℕ, ◌<◌, ◌^◌, if◌then◌else◌, List, [], ◌∷◌, codes, bytes_eq, decimal, Option}
+use Rattle.std.specs.Prelude.{Some}
+use Rattle.std.specs.Prelude.{None, is_some, unwrap_or, true, false}
+use Rattle.cmd_svc.specs.Words.{is_end, is_option}
+use Rattle.cmd_wait.specs.declared.finding.Goal.{Goal}
+use Rattle.cmd_wait.specs.declared.finding.Goal.TheVariants.{Up, Down, Unsupervised}
+
+-- What is to be waited for, for how many seconds at most, and of which services.
+pub record Order : Type 0 where
+  pub goal : Goal
+  pub limit : Option ℕ
+  pub services : List (List ℕ)
+
+abbrev pub order : (goal : Goal) (limit : Option ℕ) (services : List (List ℕ)) → Order
+order goal limit services = record { goal = goal; limit = limit; services = services }
+
+-- the goal that an option names
+abbrev pub goal_of : List ℕ → Option Goal
+goal_of word =
+    if bytes_eq word (codes "-u") then Some Up
+    else if bytes_eq word (codes "-d") then Some Down
+    else if bytes_eq word (codes "-x") then Some Unsupervised
+    else None
+
+-- the goal that words begin with, and the words behind it
+abbrev pub first_goal : List (List ℕ) → Option Goal
+first_goal [] = None
+first_goal (word ∷ words) = goal_of word
+
+abbrev pub behind_goal : List (List ℕ) → List (List ℕ)
+behind_goal [] = []
+behind_goal (word ∷ words) = if is_some (goal_of word) then words else word ∷ words
+
+-- A word is the decimal text of a number of seconds below 2^32.
+pub record AreSeconds (word : List ℕ) (seconds : ℕ) : Type 0 where
+  pub is : word ≡ decimal seconds
+  pub below : seconds < 2 ^ 32
+
+-- The words begin with this time, `-t SECONDS`, or with none.
+abbrev pub FirstLimit : (words : List (List ℕ)) (limit : Option ℕ) → Type 0
+FirstLimit [] limit = limit ≡ None
+FirstLimit (word ∷ []) limit = limit ≡ None
+FirstLimit (word ∷ next ∷ words) None = bytes_eq word (codes "-t") ≡ false
+FirstLimit (word ∷ next ∷ words) (Some seconds) = (bytes_eq word (codes "-t") ≡ true) × AreSeconds next seconds
+
+-- the words behind that
+abbrev pub behind_limit : List (List ℕ) → List (List ℕ)
+behind_limit [] = []
+behind_limit (word ∷ []) = word ∷ []
+behind_limit (word ∷ next ∷ words) = if bytes_eq word (codes "-t") then words else word ∷ next ∷ words
+
+-- the services that words behind the options name: all, behind a `--`; none, where another option stands there
+abbrev pub services_of : List (List ℕ) → List (List ℕ)
+services_of [] = []
+services_of (word ∷ words) = if is_end word then words else if is_option word then [] else word ∷ words
+
+-- the goal behind the time, where there was none before it
+abbrev pub goal_in : List (List ℕ) → Option Goal
+goal_in words = if is_some (first_goal words) then first_goal words else first_goal (behind_limit words)
+
+abbrev pub behind_options : List (List ℕ) → List (List ℕ)
+behind_options words =
+    if is_some (first_goal words) then behind_limit (behind_goal words) else behind_goal (behind_limit words)
+
+-- The words ask for this. Where they name no goal, it is that services are up; and they name a service.
+pub record Asks (words : List (List ℕ)) (order : Order) : Type 0 where
+  pub goal_is : order.goal ≡ unwrap_or (goal_in words) Up
+  pub limit_is : FirstLimit (behind_goal words) order.limit
+  pub services_are : order.services ≡ services_of (behind_options words)
+  pub some : order.services ≢ []
+
+-- They ask for nothing.
+abbrev pub AskNothing : (words : List (List ℕ)) → Type 0
+AskNothing words = (order : Order) → Asks words order → ⊥

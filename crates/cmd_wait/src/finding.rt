@@ -1,0 +1,127 @@
+//! What a look at a service finds.
+ghost use Rattle.std.specs.Prelude.{◌≡◌};
+ghost use Rattle.cmd_wait.specs.Finding.{absent_finding, is_down, is_up, reached_if, record_finding};
+ghost use Rattle.cmd_wait.specs.Finding.{unread_finding, Finds};
+
+use cmd_svc::{Services, Unreached};
+use tai_status::{Loaded, Phase, RecordFault, decode_front};
+
+/// What is waited for.
+#[derive(Clone, Copy, Debug, PartialEq, Eq)]
+pub enum Goal {
+    /// That it is up and settled: a record of 20 bytes is in the phase `up`, one of 18 bytes has a process.
+    Up,
+    /// That it is down: a record of 20 bytes is in the phase `down` or `gone`, one of 18 bytes has no process.
+    Down,
+    /// That it is no longer supervised.
+    Unsupervised,
+}
+
+/// Why a service can't be waited for.
+#[derive(Clone, Copy, Debug, PartialEq, Eq)]
+pub enum WaitFault {
+    /// It is not supervised.
+    NotSupervised,
+    /// This user may not connect to it.
+    Denied,
+    /// Its status can't be read.
+    Unread,
+    /// Its status is no record.
+    Bad(RecordFault),
+}
+
+/// What a look at a service found.
+#[derive(Clone, Copy, Debug, PartialEq, Eq)]
+pub enum Finding {
+    /// It is as it is waited for.
+    Reached,
+    /// It is not yet so.
+    Waiting,
+    /// It can't be waited for.
+    Failed(WaitFault),
+}
+
+/// What is found of a service that does not answer. One that is there, and takes no more connections, is looked at
+/// again.
+fn absent_finding(goal: Goal, why: Unreached) -> Finding
+    ensures { result ≡ absent_finding goal why }
+{
+    match (why, goal) {
+        (Unreached::NotRunning, Goal::Unsupervised) => Finding::Reached,
+        (Unreached::NotRunning, _) => Finding::Failed(WaitFault::NotSupervised),
+        (Unreached::Denied, _) => Finding::Failed(WaitFault::Denied),
+        (Unreached::Unanswered, _) => Finding::Waiting,
+    }
+}
+
+/// What is found of a service whose status can't be read.
+fn unread_finding(goal: Goal) -> Finding
+    ensures { result ≡ unread_finding goal }
+{
+    match goal {
+        Goal::Unsupervised => Finding::Waiting,
+        Goal::Up | Goal::Down => Finding::Failed(WaitFault::Unread),
+    }
+}
+
+/// Whether a service is up and settled.
+fn is_up(loaded: &Loaded) -> bool
+    ensures { result ≡ is_up loaded.now }
+{
+    match loaded {
+        Loaded::Old(view) => view.pid >= 1,
+        Loaded::New(full) => match full.phase {
+            Phase::Up => true,
+            _ => false,
+        },
+    }
+}
+
+/// Whether a service is down.
+fn is_down(loaded: &Loaded) -> bool
+    ensures { result ≡ is_down loaded.now }
+{
+    match loaded {
+        Loaded::Old(view) => !(view.pid >= 1),
+        Loaded::New(full) => match full.phase {
+            Phase::Down | Phase::Gone => true,
+            _ => false,
+        },
+    }
+}
+
+/// What is found of a service that is waited for, by whether it is reached.
+fn reached_if(reached: bool) -> Finding
+    ensures { result ≡ reached_if reached }
+{
+    if reached {
+        Finding::Reached
+    } else {
+        Finding::Waiting
+    }
+}
+
+/// What is found of a service, by what its status file tells.
+fn record_finding(goal: Goal, read: &Result<Loaded, RecordFault>) -> Finding
+    ensures { result ≡ record_finding goal read.now }
+{
+    match (goal, read) {
+        (Goal::Unsupervised, _) => Finding::Waiting,
+        (_, Err(fault)) => Finding::Failed(WaitFault::Bad(*fault)),
+        (Goal::Up, Ok(loaded)) => reached_if(is_up(loaded)),
+        (Goal::Down, Ok(loaded)) => reached_if(is_down(loaded)),
+    }
+}
+
+/// Looks at the service in a folder: whether it is supervised, and then its status.
+pub(crate) fn look<S: Services>(services: &mut S, goal: Goal, folder: &str) -> Finding
+    ensures { Finds goal folder.now result (S.calls services.old) (S.calls services.new) }
+{
+    if let Err(why) = services.reach(folder) {
+        return absent_finding(goal, why);
+    }
+    match services.read_status(folder) {
+        Ok(front) => record_finding(goal, &decode_front(front.as_slice())),
+        Err(_) => unread_finding(goal),
+    }
+}

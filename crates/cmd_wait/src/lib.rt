@@ -1,0 +1,17 @@
+//! The command `wait`: it returns once services are up, down, or no longer supervised.
+//!
+//! [`read_options`] reads its words, [`Finding`] is what a look finds of a service, and [`run_wait`] is the
+//! command, over a [`Pace`]: the clock that it reads, and how it rests.
+#![tactic(auto)]
+
+mod finding;
+mod options;
+mod pace;
+mod rounds;
+mod sayings;
+mod wait;
+
+pub use finding::{Finding, Goal, WaitFault};
+pub use options::{Options, read_options};
+pub use pace::{Pace, SystemPace};
+pub use wait::run_wait;

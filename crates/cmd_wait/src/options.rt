@@ -1,0 +1,136 @@
+//! The words of `wait`.
+ghost use Rattle.std.specs.Prelude.{◌≡◌, ⊤, ℕ, Option, MatchOption, IfSome, unwrap_or};
+ghost use Rattle.cmd_svc.specs.Words.{texts};
+ghost use Rattle.cmd_wait.specs.Words.{behind_goal, behind_limit, behind_options, first_goal, goal_in, goal_of};
+ghost use Rattle.cmd_wait.specs.Words.{order, services_of};
+ghost use Rattle.cmd_wait.specs.Words.{AreSeconds, AskNothing, Asks, FirstLimit};
+
+use crate::finding::Goal;
+use cmd_svc::is_option;
+use sup_core::read_number;
+
+/// What the words ask for.
+#[derive(Clone, Copy)]
+pub struct Options<'a> {
+    pub goal: Goal,
+    /// For how many seconds at most. None: without an end.
+    pub limit: Option<u32>,
+    pub services: &'a [&'a str],
+}
+
+/// The goal that an option names.
+fn goal_of(word: &str) -> Option<Goal>
+    ensures { result ≡ goal_of word.now }
+{
+    match word {
+        "-u" => Some(Goal::Up),
+        "-d" => Some(Goal::Down),
+        "-x" => Some(Goal::Unsupervised),
+        _ => None,
+    }
+}
+
+/// The goal that words begin with.
+fn first_goal(words: &[&str]) -> Option<Goal>
+    ensures { result ≡ first_goal (texts words.now) }
+{
+    match words {
+        [word, ..] => goal_of(word),
+        [] => None,
+    }
+}
+
+/// The words behind the goal that they begin with.
+fn behind_goal<'a>(words: &'a [&'a str]) -> &'a [&'a str]
+    ensures { texts result.now ≡ behind_goal (texts words.entry.now) }
+{
+    match words {
+        [word, rest @ ..] if goal_of(word).is_some() => rest,
+        _ => words,
+    }
+}
+
+/// The number of seconds that a word tells.
+fn read_seconds(word: &str) -> Option<u32>
+    ensures { MatchOption result
+        ((seconds : ℕ) → AreSeconds word.now seconds → ⊥)
+        (λ seconds. AreSeconds word.now seconds) }
+{
+    u32::try_from(read_number(word.as_bytes())?).ok()
+}
+
+/// The time that words begin with, where there is one. None: what stands behind its `-t` is no number of seconds.
+fn first_limit(words: &[&str]) -> Option<Option<u32>>
+    ensures { MatchOption result
+        ((limit : Option ℕ) → FirstLimit (texts words.now) limit → ⊥)
+        (λ limit. FirstLimit (texts words.now) limit) }
+{
+    match words {
+        [option, seconds, ..] if *option == "-t" => match read_seconds(seconds) {
+            Some(seconds) => Some(Some(seconds)),
+            None => None,
+        },
+        _ => Some(None),
+    }
+}
+
+/// The words behind the time that they begin with.
+fn behind_limit<'a>(words: &'a [&'a str]) -> &'a [&'a str]
+    ensures { texts result.now ≡ behind_limit (texts words.entry.now) }
+{
+    match words {
+        [option, _, rest @ ..] if *option == "-t" => rest,
+        _ => words,
+    }
+}
+
+/// The services that words behind the options name.
+fn services_of<'a>(words: &'a [&'a str]) -> &'a [&'a str]
+    ensures { texts result.now ≡ services_of (texts words.entry.now) }
+{
+    match words {
+        [first, services @ ..] if *first == "--" => services,
+        [first, ..] if is_option(first) => &[],
+        _ => words,
+    }
+}
+
+/// What words ask for: `[-u|-d|-x] [-t SECONDS] SERVICE..`, the options in either order, and perhaps a `--` behind
+/// them. None where they ask for nothing.
+pub fn read_options<'a>(words: &'a [&'a str]) -> Option<Options<'a>>
+    ensures wrong { MatchOption result (AskNothing (texts words.entry.now)) (λ _. ⊤) }
+    ensures asks { IfSome result (λ options.
+        Asks (texts words.entry.now) (order options.goal options.limit (texts options.services.now))) }
+{
+    let limit = first_limit(behind_goal(words))?;
+    let goal = goal_in(words);
+    let services = services_of(behind_options(words));
+    if services.is_empty() {
+        return None;
+    }
+    Some(Options {
+        goal,
+        limit,
+        services,
+    })
+}
+
+/// The goal that words name: that services are up, where they name none.
+fn goal_in(words: &[&str]) -> Goal
+    ensures { result ≡ unwrap_or (goal_in (texts words.now)) Goal.Up }
+{
+    match first_goal(words) {
+        Some(goal) => goal,
+        None => first_goal(behind_limit(words)).unwrap_or(Goal::Up),
+    }
+}
+
+/// The words behind the options.
+fn behind_options<'a>(words: &'a [&'a str]) -> &'a [&'a str]
+    ensures { texts result.now ≡ behind_options (texts words.entry.now) }
+{
+    match first_goal(words) {
+        Some(_) => behind_limit(behind_goal(words)),
+        None => behind_goal(behind_limit(words)),
+    }
+}

@@ -1,0 +1,57 @@
+//! How a wait goes on: the clock that it reads, and how it rests.
+use std::thread;
+use std::time::{Clock, Duration};
+
+/// How long it rests between two rounds, in milliseconds: a change is seen within 50.
+const REST_MILLISECONDS: u64 = 40;
+
+/// A clock, and rests. Contracts see what it gave, where it keeps that.
+pub trait Pace {
+    ghost use Rattle.std.specs.Prelude.{◌∷◌, [], Option, None, List};
+    ghost use Rattle.tai_status.specs.Extended.{Extended};
+    ghost use Rattle.cmd_wait.specs.Steps.{Step, Read, Rested};
+
+    ghost steps: { Self → Option (List Step) } = { λ _. None };
+
+    /// Milliseconds since a moment that stays the same. A clock that is set does not change them.
+    fn now(&mut self) -> u64
+        ensures read { Extended (steps self.old) (steps self.new) (Read result ∷ []) };
+
+    /// Rests for 40 milliseconds.
+    fn rest(&mut self)
+        ensures rested { Extended (steps self.old) (steps self.new) (Rested ∷ []) };
+}
+
+/// The pace by the system's own clock. It tells contracts nothing. Where the clock can't be read it repeats its last
+/// reading, at first 0.
+#[derive(Drop)]
+pub struct SystemPace<R: Clock + Drop> {
+    runtime: R,
+    last: u64,
+}
+
+impl<R: Clock + Drop> SystemPace<R> {
+    /// The pace by the clock of this runtime.
+    pub fn new(runtime: R) -> SystemPace<R> {
+        SystemPace { runtime, last: 0 }
+    }
+}
+
+/// The milliseconds that the clock shows, where it can be read.
+fn read_milliseconds(clock: &impl Clock) -> Option<u64> {
+    let now = clock.monotonic().ok()?;
+    u64::try_from(now.as_millis()).ok()
+}
+
+impl<R: Clock + Drop> Pace for SystemPace<R> {
+    fn now(&mut self) -> u64 {
+        if let Some(now) = read_milliseconds(&self.runtime) {
+            self.last = now;
+        }
+        self.last
+    }
+
+    fn rest(&mut self) {
+        thread::sleep(&self.runtime, Duration::from_millis(REST_MILLISECONDS));
+    }
+}

@@ -1,0 +1,51 @@
+//! A round over the services that are left.
+ghost use Rattle.std.specs.Prelude.{◌≡◌, ◌↔◌, [], IsTrue, OnOk, IfErr};
+ghost use Rattle.cmd_svc.specs.Words.{texts};
+ghost use Rattle.cmd_wait.specs.Rounds.{FailsAt, IsOver, LooksAt};
+
+use crate::finding::{Finding, Goal, WaitFault, look};
+use cmd_svc::Services;
+use std::alloc::Allocator;
+
+/// A service that can't be waited for, and why.
+#[derive(Clone, Copy, Debug)]
+pub(crate) struct Failure<'a> {
+    pub folder: &'a str,
+    pub fault: WaitFault,
+}
+
+/// Looks at each service that is left, once, and leaves those that were not reached. The first that can't be waited for
+/// ends that.
+pub(crate) fn look_at_each<'a, S: Services, A: Allocator>(
+    services: &mut S,
+    goal: Goal,
+    left: &mut Vec<&'a str, A>,
+) -> Result<(), Failure<'a>>
+    ensures ok { OnOk result (LooksAt goal (texts left.old.items) (texts left.new.items) []
+        (S.calls services.old) (S.calls services.new)) }
+    ensures err { IfErr result (λ failure. FailsAt goal (texts left.old.items) failure.folder.now failure.fault
+        (S.calls services.old) (S.calls services.new)) }
+{
+    let mut at = 0;
+    while at < left.len() {
+        let folder = left[at];
+        match look(services, goal, folder) {
+            Finding::Reached => {
+                left.remove(at);
+            }
+            Finding::Waiting => at += 1,
+            Finding::Failed(fault) => return Err(Failure { folder, fault }),
+        }
+    }
+    Ok(())
+}
+
+/// Whether the time is over, where there is one, between two readings of the clock.
+pub(crate) fn is_over(limit: Option<u32>, begin: u64, now: u64) -> bool
+    ensures { IsTrue result ↔ IsOver limit begin now }
+{
+    match limit {
+        None => false,
+        Some(seconds) => 1000 * u64::from(seconds) <= now.saturating_sub(begin),
+    }
+}

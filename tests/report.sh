@@ -1,0 +1,309 @@
+#!/usr/bin/env bash
+# What `svstat --json` and `svstat --metrics` write, over folders that are made here: status records of given bytes, files of
+# counts, names of any bytes, sockets at which python3 listens, and a service that a real svscan keeps. Runs the program that
+# the first word names. python3's own reader reads the lines of JSON, and a small one here the metrics, beside promtool where
+# that is installed; what they must then hold is written down from docs/FORMATS.md.
+command -v python3 >/dev/null || { echo 'report: python3 is missing'; exit 1; }
+. "$(dirname "$0")/checks.sh" "$1"
+listeners=()
+leave() {
+  for pid in "${listeners[@]}"; do kill "$pid" 2>/dev/null; done
+  chmod -R u+rwx "$room"
+  rm -rf "$room"
+}
+trap leave EXIT
+
+# listen FOLDER: somebody accepts at its socket supervise/ok
+listen() {
+  mkdir -p "$1/supervise"
+  (cd "$1" && exec python3 -c '
+import socket
+door = socket.socket(socket.AF_UNIX)
+door.bind("supervise/ok")
+door.listen(16)
+open("supervise/ready", "w").close()
+while True:
+    door.accept()[0].close()
+') &
+  listeners+=($!)
+  for _ in $(seq 500); do [ -e "$1/supervise/ready" ] && return; sleep 0.02; done
+  echo "report: nobody listens in $1"
+  exit 1
+}
+
+# bytes DIGITS: the bytes of these hexadecimal digits
+bytes() { printf "$(printf '%s' "$1" | sed 's/../\\x&/g')"; }
+
+# members FIRST LAST FOLDERS..: of each line that comes the members in their order, where the first is the folder's path. The
+# seconds since the first second of 2001 are S, where the clock stood between these two.
+cat >members.py <<'END'
+import json, sys
+first, last, folders = int(sys.argv[1]), int(sys.argv[2]), sys.argv[3:]
+text = sys.stdin.buffer.read()
+assert text.endswith(b"\n") or not folders, "the last line has no newline"
+lines = text.split(b"\n")[:-1]
+assert len(lines) == len(folders), f"{len(lines)} lines for {len(folders)} folders"
+for line, folder in zip(lines, folders):
+    members = json.loads(line.decode("utf-8"), object_pairs_hook=list)
+    assert members[0] == ("path", folder), members[0]
+    said = []
+    for name, value in members[1:]:
+        if name == "seconds" and type(value) is int and first <= value + 978307200 <= last:
+            value = "S"
+        said.append(f"{name}={json.dumps(value)}")
+    print(" ".join(said))
+END
+
+# object NAME WANTED FOLDERS..: what is said of the folders, a line each, with status 0 and nothing told
+object() {
+  local name=$1 wanted=$2 before status
+  shift 2
+  before=$(date +%s)
+  timeout 20 "$program" svstat --json "$@" >out 2>told </dev/null
+  status=$?
+  is "$name: status" 0 "$status"
+  is "$name: told" '' "$(cat told)"
+  is "$name" "$wanted" "$(python3 members.py "$before" "$(date +%s)" "$@" <out 2>&1)"
+}
+
+# record NAME DIGITS WANTED: what is said of s where its status has these bytes
+label=400000003a4fc88a00000000
+record() {
+  bytes "$2" >s/supervise/status
+  object "$1" "$3" s
+}
+
+listen s
+record 'up' "${label}671200000075" \
+  'up=true pid=4711 seconds="S" phase=null want="up" paused=false normally="up" exiting=null'
+record 'paused, wanted down' "${label}671200000164" \
+  'up=true pid=4711 seconds="S" phase=null want="down" paused=true normally="up" exiting=null'
+record 'down' "${label}000000000064" \
+  'up=false pid=null seconds="S" phase=null want="down" paused=false normally="up" exiting=null'
+record 'down, once' "${label}000000000000" \
+  'up=false pid=null seconds="S" phase=null want="once" paused=false normally="up" exiting=null'
+record 'the greatest process number' "${label}ffffffff0075" \
+  'up=true pid=4294967295 seconds="S" phase=null want="up" paused=false normally="up" exiting=null'
+record 'in the future' 7fffffffffffffff00000000671200000075 \
+  'up=true pid=4711 seconds=0 phase=null want="up" paused=false normally="up" exiting=null'
+record 'starting' "${label}0000000000750000" \
+  'up=false pid=null seconds="S" phase="starting" want="up" paused=false normally="up" exiting=false'
+record 'settling' "${label}6712000000750001" \
+  'up=true pid=4711 seconds="S" phase="settling" want="up" paused=false normally="up" exiting=false'
+record 'resting' "${label}0000000000750002" \
+  'up=false pid=null seconds="S" phase="resting" want="up" paused=false normally="up" exiting=false'
+record 'phase up, exiting' "${label}6712000001640103" \
+  'up=true pid=4711 seconds="S" phase="up" want="down" paused=true normally="up" exiting=true'
+: >s/down
+record 'phase down, a file down' "${label}0000000000640004" \
+  'up=false pid=null seconds="S" phase="down" want="down" paused=false normally="down" exiting=false'
+rm s/down
+record 'gone' "${label}0000000000640105" \
+  'up=false pid=null seconds="S" phase="gone" want="down" paused=false normally="up" exiting=true'
+
+# What can't be looked at: the words of svstat's own line.
+for row in "Length|" "Length|${label}67120000007500" "BadLabel|400000003a4fc88a3b9aca00671200000075" \
+  "PausedFlag|${label}671200000275" "PausedNoProcess|${label}000000000175" "WantByte|${label}671200000078" \
+  "ExitingFlag|${label}6712000000750206" "PhaseNumber|${label}6712000000750006" "NoSuchState|${label}6712000000750004"; do
+  IFS='|' read -r kind digits <<<"$row"
+  record "a bad record: $kind" "$digits" "error=\"bad status record: $kind\""
+  is "a bad record: $kind: svstat" "s: bad status record: $kind" "$("$program" svstat s)"
+done
+rm s/supervise/status
+object 'no status' 'error="unable to read status"' s
+object 'nobody there' 'error="supervise not running"' nosuch
+if [ "$(id -u)" = 0 ] && command -v setpriv >/dev/null; then
+  cp "$program" own
+  chmod 711 "$room" own
+  chmod 700 s/supervise
+  is 'another user' '{"path":"s","error":"unable to open supervise/ok: Permission denied"}' \
+    "$(setpriv --reuid 65534 --regid 65534 --clear-groups "$room/own" svstat --json s)"
+fi
+
+# samples FIRST LAST FOLDERS..: the samples that come, each as its metric, the folder's place and its value, with seconds as
+# above. It reads the text by its own rules: help and type once, before the samples of their metric, which stand together.
+cat >samples.py <<'END'
+import re, sys
+first, last, folders = int(sys.argv[1]), int(sys.argv[2]), sys.argv[3:]
+text = sys.stdin.buffer.read().decode("utf-8")
+assert text.endswith("\n")
+value_of = {"\\\\": "\\", '\\"': '"', "\\n": "\n"}
+label = r'([a-z]+)="((?:[^"\\\n]|\\\\|\\"|\\n)*)"'
+helped, typed, now = [], [], None
+for line in text.split("\n")[:-1]:
+    if line.startswith("# HELP "):
+        now = line.split(" ")[2]
+        assert now not in helped and len(line.split(" ")) > 3, line
+        helped.append(now)
+        continue
+    if line.startswith("# TYPE "):
+        kind = "counter" if now.endswith("_total") else "gauge"
+        assert line == f"# TYPE {now} {kind}" and now not in typed, line
+        typed.append(now)
+        continue
+    parts = re.fullmatch(r"([a-z_]+)\{(" + label + r"(?:," + label + r")*)\} ([0-9]+)", line)
+    assert parts and parts[1] == now and now in typed, line
+    labels = {n: re.sub(r'\\\\|\\"|\\n', lambda m: value_of[m[0]], v) for n, v in re.findall(label, parts[2])}
+    service, value = labels.pop("service"), parts[7]
+    if now == "dtools_service_seconds" and first <= int(value) + 978307200 <= last:
+        value = "S"
+    extra = "".join(f"[{v}]" for v in labels.values())
+    print(f"{now.removeprefix('dtools_service_')}{extra} {folders.index(service)} {value}")
+END
+
+# metrics NAME WANTED FOLDERS..: the samples of these folders, with status 0 and nothing told
+metrics() {
+  local name=$1 wanted=$2 before status
+  shift 2
+  before=$(date +%s)
+  timeout 20 "$program" svstat --metrics "$@" >out 2>told </dev/null
+  status=$?
+  is "$name: status" 0 "$status"
+  is "$name: told" '' "$(cat told)"
+  is "$name" "$wanted" "$(python3 samples.py "$before" "$(date +%s)" "$@" <out 2>&1)"
+  if command -v promtool >/dev/null; then
+    is "$name: promtool" '' "$(promtool check metrics <out 2>&1 || echo "status $?")"
+  fi
+}
+
+# phases NAME: the samples of a service's phase, where it stands in this one
+phases() {
+  local phase
+  for phase in starting settling up down resting gone; do echo "phase[$phase] 0 $([ "$phase" = "$1" ] && echo 1 || echo 0)"; done
+}
+
+# measured NAME DIGITS UP PHASE WANTED PAUSED SECONDS: the samples of s where its status has these bytes
+measured() {
+  bytes "$2" >s/supervise/status
+  metrics "metrics: $1" "supervised 0 1
+up 0 $3
+seconds 0 $7
+${4:+$(phases "$4")
+}wanted_up 0 $5
+paused 0 $6" s
+}
+chmod 755 s/supervise
+measured 'up' "${label}671200000075" 1 '' 1 0 S
+measured 'paused, wanted down' "${label}671200000164" 1 '' 0 1 S
+measured 'once' "${label}000000000000" 0 '' 0 0 S
+measured 'in the future' 7fffffffffffffff00000000671200000075 1 '' 1 0 0
+measured 'starting' "${label}0000000000750000" 0 starting 1 0 S
+measured 'settling' "${label}6712000000750001" 1 settling 1 0 S
+measured 'resting' "${label}0000000000750002" 0 resting 1 0 S
+measured 'phase up' "${label}6712000001640103" 1 up 0 1 S
+measured 'phase down' "${label}0000000000640004" 0 down 0 0 S
+measured 'gone' "${label}0000000000640105" 0 gone 0 0 S
+bytes "${label}671200000078" >s/supervise/status
+metrics 'metrics: a bad record' 'supervised 0 1' s
+rm s/supervise/status
+metrics 'metrics: no status' 'supervised 0 1' s
+metrics 'metrics: nobody there' 'supervised 0 0' nosuch
+metrics 'metrics: two' "supervised 0 1
+supervised 1 0" s nosuch
+
+# Counts.
+bytes "${label}671200000075" >s/supervise/status
+some='supervised 0 1
+up 0 1
+seconds 0 S
+wanted_up 0 1
+paused 0 0'
+for row in '0 0' '7 6' '10 9' '18446744073709551615 18446744073709551615'; do
+  printf '%s\n' "$row" >s/supervise/counts
+  metrics "counts: $row" "$some
+starts_total 0 ${row% *}
+deaths_total 0 ${row#* }" s
+done
+for row in '' '\n' '7 6' '7\n' '7 6 5\n' '7  6\n' ' 7 6\n' '7 6 \n' '07 6\n' '7 06\n' '00 0\n' '+7 6\n' '-7 6\n' '7\t6\n' '7 x\n' \
+  '7 6\n\n' '7 6\n8 7\n' '7 6\r\n' '18446744073709551616 0\n' '0 18446744073709551616\n' '99999999999999999999 0\n' \
+  '000000000000000000000000000000000000000000000001 1\n' '7 6\n\0' '0x7 6\n' '٧ 6\n'; do
+  printf -- "$row" >s/supervise/counts
+  metrics "counts: $row" "$some" s
+done
+rm s/supervise/counts
+mkfifo s/supervise/counts
+metrics 'counts: a pipe' "$some" s
+rm s/supervise/counts
+mkdir s/supervise/counts
+metrics 'counts: a folder' "$some" s
+rmdir s/supervise/counts
+printf '7 6\n' >s/supervise/counts
+bytes "${label}671200000078" >s/supervise/status
+metrics 'counts beside a bad record' 'supervised 0 1' s
+rm s/supervise/status s/supervise/counts
+
+# Names of any bytes: of each what is said where nobody is there, and where its record is read.
+up='up=true pid=4711 seconds="S" phase="up" want="up" paused=false normally="up" exiting=false'
+names=('a b' '"' '\' '\"' "'" '{"path":"x"}' $'a\nb' $'\n' $'\t\r\b\f' $'\x01\x1f\x7f' '\u0041' '--json' '-x' 'grün' '日本' '🦀'
+  $'\xe2\x80\xa8' "$(printf 'n%.0s' $(seq 255))" "$(printf '"%.0s' $(seq 255))" "$(printf '\\%.0s' $(seq 255))"
+  "$(printf 'é%.0s' $(seq 127))")
+errors=() stands=()
+for name in "${names[@]}"; do errors+=('error="supervise not running"'); done
+object 'names: nobody there' "$(printf '%s\n' "${errors[@]}")" "${names[@]}"
+for name in "${names[@]}"; do
+  listen "./$name"
+  bytes "${label}6712000000750003" >"./$name/supervise/status"
+  stands+=("$up")
+done
+for name in "${names[@]}"; do object "name $(printf %q "$name")" "$up" "$name"; done
+object 'all names' "$(printf '%s\n' "${stands[@]}")" "${names[@]}"
+place=0
+for name in "${names[@]}"; do
+  printf '%s %s\n' $((place + 1)) $place >"./$name/supervise/counts"
+  place=$((place + 1))
+done
+# each METRIC [VALUE]: that sample of each name; where no value is given it is one more than the place of the name
+each() { for place in "${!names[@]}"; do echo "$1 $place ${2-$((place + 1))}"; done; }
+metrics 'metrics: all names' "$(
+  each supervised 1
+  each up 1
+  each seconds S
+  for phase in starting settling up down resting gone; do each "phase[$phase]" $([ $phase = up ] && echo 1 || echo 0); done
+  each wanted_up 1
+  each paused 0
+  each starts_total
+  for place in "${!names[@]}"; do echo "deaths_total $place $place"; done
+)" "${names[@]}"
+
+# Words.
+object 'no service' ''
+metrics 'metrics: no service' ''
+object 'a service twice' "$(printf '%s\n' 'error="supervise not running"' 'error="supervise not running"')" nosuch nosuch
+is 'a form is the first word alone' "nosuch: supervise not running
+$room/--json: unable to read status" "$(rm "$room/--json/supervise/status" && "$program" svstat nosuch "$room/--json")"
+timeout 20 "$program" svstat --json nosuch >/dev/full 2>told </dev/null
+is 'a full device: status' 111 "$?"
+is 'a full device: told' 'svstat: write fault' "$(cat told)"
+timeout 20 "$program" svstat --metrics nosuch >/dev/full 2>told </dev/null
+is 'metrics: a full device: status' 111 "$?"
+is 'metrics: a full device: told' 'svstat: write fault' "$(cat told)"
+
+# A service that svscan keeps.
+mkdir -p services/web
+printf '#!/bin/sh\nexec sleep 1000\n' >services/web/run
+chmod 755 services/web/run
+"$program" svscan services >/dev/null 2>&1 </dev/null &
+listeners+=($!)
+kept() {
+  "$program" svstat --json services/web 2>/dev/null | python3 -c '
+import json, sys
+said = json.loads(sys.stdin.readline() or "{}")
+print(said.get("phase"), said.get("pid") or 0, said.get("want"), said.get("exiting"), said.get("error"))'
+}
+for _ in $(seq 1500); do [[ $(kept) == 'up '* ]] && break; sleep 0.02; done
+read -r phase pid want exiting error <<<"$(kept)"
+is 'kept' 'up up False None' "$phase $want $exiting $error"
+is 'kept: its process' sleep "$(cat "/proc/$pid/comm")"
+is 'kept: the process of svstat' "$pid" "$("$program" svstat services/web | sed 's/.*(pid \([0-9]*\)).*/\1/')"
+"$program" svstat --metrics services/web >out
+is 'kept: metrics' "$(phases up | sed 's/ 0 / /')" \
+  "$(sed -n 's/^dtools_service_phase{service="services.web",phase="\([a-z]*\)"} \([01]\)$/phase[\1] \2/p' out)"
+is 'kept: up and supervised' '1 1' \
+  "$(sed -n 's/^dtools_service_\(up\|supervised\){service="services.web"} \([01]\)$/\2/p' out | xargs)"
+"$program" svc -d services/web
+for _ in $(seq 1500); do [[ $(kept) == 'down '* ]] && break; sleep 0.02; done
+is 'brought down' 'down 0 down False None' "$(kept)"
+"$program" svc -x services/web
+for _ in $(seq 1500); do [[ $(kept) == *'supervise not running' ]] && break; sleep 0.02; done
+is 'let go' 'None 0 None None supervise not running' "$(kept)"
+counts report

@@ -1,0 +1,323 @@
+#!/usr/bin/env bash
+# When `dtools wait` returns, and what it says, over services of a real svscan and over folders that are made here: sockets at
+# which python3 listens, and status records of given bytes. Runs the program that the first word names. The wanted lines
+# and statuses are those of docs/FORMATS.md. No check rests on how fast this machine is: each waits for what it needs.
+command -v python3 >/dev/null || { echo 'wait: python3 is missing'; exit 1; }
+. "$(dirname "$0")/checks.sh" "$1"
+export LC_ALL=C
+listeners=()
+leave() {
+  [ -n "${svscan:-}" ] && kill -KILL -- "-$svscan" 2>/dev/null
+  for pid in "${listeners[@]}"; do kill -KILL "$pid" 2>/dev/null; done
+  for _ in 1 2 3 4 5; do rm -rf "$room" 2>/dev/null && break; sleep 0.2; done
+}
+trap leave EXIT
+trap 'exit 1' INT TERM HUP
+
+# until_true COMMAND..: tries the command each 50 ms, for two minutes at most
+until_true() {
+  local tries
+  for tries in $(seq 2400); do
+    "$@" && return
+    sleep 0.05
+  done
+  return 1
+}
+
+# ended NAME STATUS TOLD WORDS..: wait with these words ends by itself, with this status, and says this
+ended() {
+  local name=$1 status=$2 told=$3
+  shift 3
+  timeout -k 1 120 "$program" wait "$@" >out 2>told </dev/null
+  is "$name: status" "$status" "$?"
+  is "$name: told" "$told" "$(cat told)"
+  is "$name: printed" '' "$(cat out)"
+}
+
+# begun NAME WORDS..: starts wait with these words, whose number is left in waiting; it is still there after two looks
+begun() {
+  local name=$1
+  shift
+  timeout -k 1 120 "$program" wait "$@" >out 2>told </dev/null &
+  waiting=$!
+  sleep 0.3
+  is "$name: it waits" yes "$(kill -0 "$waiting" 2>/dev/null && echo yes)"
+}
+
+# over NAME STATUS TOLD: what was begun ends so
+over() {
+  wait "$waiting"
+  is "$1: status" "$2" "$?"
+  is "$1: told" "$3" "$(cat told)"
+  is "$1: printed" '' "$(cat out)"
+}
+
+# listen FOLDER: somebody accepts at its socket supervise/ok, and adds a byte to supervise/looks for each connection; the
+# number of that process is left in listener
+listen() {
+  mkdir -p "$1/supervise"
+  rm -f "$1/supervise/ok" "$1/supervise/ready"
+  (cd "$1" && exec python3 -c '
+import socket
+door = socket.socket(socket.AF_UNIX)
+door.bind("supervise/ok")
+door.listen(64)
+open("supervise/ready", "w").close()
+looks = open("supervise/looks", "ab", 0)
+while True:
+    door.accept()[0].close()
+    looks.write(b".")
+') &
+  listener=$!
+  listeners+=("$listener")
+  until_true test -e "$1/supervise/ready" || { echo "wait: nobody listens in $1"; exit 1; }
+}
+
+# looked NUMBER FOLDER: whether it was looked at so often
+looked() { [ "$(stat -c %s "$2/supervise/looks")" -ge "$1" ]; }
+
+# bytes DIGITS: the bytes of these hexadecimal digits
+bytes() { printf "$(printf '%s' "$1" | sed 's/../\\x&/g')"; }
+
+# status FOLDER DIGITS: its status record, as supervise replaces it
+status() {
+  bytes "$2" >"$1/supervise/status.new"
+  mv "$1/supervise/status.new" "$1/supervise/status"
+}
+# The front of each record: a label, and then the process number.
+label=4000000065000000000000ff
+some=67120000 none=00000000 up=75 down=64 once=00
+starting=00 settling=01 resting=02 phase_up=03 phase_down=04 gone=05
+
+# Records: which of them each goal takes. With -t 0 one look is taken.
+# found NAME DIGITS UP DOWN: whether -u and -d take this record
+found() {
+  status s "$2"
+  local up_told='' down_told=''
+  [ "$3" = 0 ] || up_told='wait: s: not up in time'
+  [ "$4" = 0 ] || down_told='wait: s: not down in time'
+  ended "$1: -u" "$3" "$up_told" -u -t 0 s
+  ended "$1: -d" "$4" "$down_told" -t 0 -d s
+  ended "$1: -x" 99 'wait: s: still supervised' -x -t 0 s
+}
+listen s
+ok=$listener
+found 'starting' "$label$none"00$up"00$starting" 99 99
+found 'settling' "$label$some"00$up"00$settling" 99 99
+found 'resting' "$label$none"00$up"00$resting" 99 99
+found 'up' "$label$some"00$up"00$phase_up" 0 99
+found 'up, once' "$label$some"00$once"00$phase_up" 0 99
+found 'up, paused' "$label$some"01$up"00$phase_up" 0 99
+found 'up, to go down and to end' "$label$some"00$down"01$phase_up" 0 99
+found 'down' "$label$none"00$down"00$phase_down" 99 0
+found 'down after once' "$label$none"00$once"00$phase_down" 99 0
+found 'gone' "$label$none"00$down"01$gone" 99 0
+found 'gone, wanted up' "$label$none"00$up"01$gone" 99 0
+found 'of 18 bytes, with a process' "$label$some"00$up 0 99
+found 'of 18 bytes, process 16777216' "$label"00000001"00$down" 0 99
+found 'of 18 bytes, without one' "$label$none"00$up 99 0
+
+# Statuses that are none. For -x they do not matter.
+# bad NAME DIGITS KIND
+bad() {
+  status s "$2"
+  ended "$1: -u" 111 "wait: s: bad status record: $3" s
+  ended "$1: -d" 111 "wait: s: bad status record: $3" -d s
+  ended "$1: -x" 99 'wait: s: still supervised' -x -t 0 s
+}
+bad 'empty' '' Length
+bad '19 bytes' "$label$some"00$up"00" Length
+bad '21 bytes' "$label$some"00$up"00$phase_up"00 Length
+bad 'no label' "ffffffff65000000000000ff$some"00$up"00$phase_up" BadLabel
+bad 'paused twice' "$label$some"02$up"00$phase_up" PausedFlag
+bad 'paused, no process' "$label$none"01$up"00$phase_up" PausedNoProcess
+bad 'wants what is not' "$label$some"00ff"00$phase_up" WantByte
+bad 'ends twice' "$label$some"00$up"02$phase_up" ExitingFlag
+bad 'a phase beyond' "$label$some"00$up"0006" PhaseNumber
+bad 'up without a process' "$label$none"00$up"00$phase_up" NoSuchState
+rm s/supervise/status
+ended 'no status: -u' 111 'wait: s: unable to read status' s
+ended 'no status: -d' 111 'wait: s: unable to read status' -d s
+ended 'no status: -x' 99 'wait: s: still supervised' -x -t 0 s
+mkfifo s/supervise/status
+ended 'a status that is a pipe' 111 'wait: s: unable to read status' s
+rm s/supervise/status
+
+# Changes.
+status s "$label$none"00$up"00$starting"
+begun 'it comes up' s
+status s "$label$some"00$up"00$settling"
+sleep 0.3
+is 'it settles: it waits' yes "$(kill -0 "$waiting" 2>/dev/null && echo yes)"
+status s "$label$some"00$up"00$phase_up"
+over 'it comes up' 0 ''
+begun 'it goes down' -d -t 100 -- s
+status s "$label$none"00$down"00$phase_down"
+over 'it goes down' 0 ''
+begun 'a record that is none comes' -u s
+status s 00
+over 'a record that is none comes' 111 'wait: s: bad status record: Length'
+
+# The time: it does not end before it, and then it does. Between two looks are 40 ms at least, on any machine: so in two
+# seconds are 52 at most.
+status s "$label$none"00$down"00$phase_down"
+: >s/supervise/looks
+began=${EPOCHREALTIME/[.,]/}
+ended 'the time is over' 99 'wait: s: not up in time' -t 2 s
+took=$(((${EPOCHREALTIME/[.,]/} - began) / 1000))
+is "the time: at least 2 s, and it was $took ms" yes "$([ "$took" -ge 2000 ] && echo yes)"
+looks=$(stat -c %s s/supervise/looks)
+is "the time: 2 to 52 looks, and there were $looks" yes "$([ "$looks" -ge 2 ] && [ "$looks" -le 52 ] && echo yes)"
+
+# Several: each was found once, at whatever moment. One that was found is not looked at again.
+listen t
+status t "$label$some"00$up"00$phase_up"
+: >s/supervise/looks
+begun 'two, one after the other' s t s
+until_true looked 3 s
+status t "$label$none"00$down"00$phase_down"
+status s "$label$some"00$up"00$phase_up"
+over 'two, one after the other' 0 ''
+status s "$label$none"00$down"00$phase_down"
+ended 'those that are left' 99 'wait: t: not up in time
+wait: s: not up in time' -t 0 t s
+status t "$label$some"00$up"00$phase_up"
+ended 'the one that is left' 99 'wait: s: not up in time' -t 0 t s
+ended 'one twice' 99 'wait: s: not up in time
+wait: s: not up in time' -t 0 s t s
+ended 'the first that is not supervised' 102 'wait: nosuch: supervise not running' -t 0 s t nosuch nowhere
+status t 00
+ended 'the first fault' 111 'wait: t: bad status record: Length' s t nosuch
+ended 'the first fault, the other way round' 102 'wait: nosuch: supervise not running' s nosuch t
+status t "$label$some"00$up"00$phase_up"
+
+# Its supervision ends meanwhile.
+begun 'nobody answers any more: -u' -t 100 s
+kill -KILL "$ok"
+over 'nobody answers any more: -u' 102 'wait: s: supervise not running'
+ended 'nobody answers any more: -x' 0 '' -x s
+listen s
+ok=$listener
+begun 'nobody answers any more: -d, of two' -d t s
+kill -KILL "$ok"
+over 'nobody answers any more: -d, of two' 102 'wait: s: supervise not running'
+listen s
+ok=$listener
+begun 'nobody answers any more: -x, of two' -x nosuch s
+kill -KILL "$ok"
+over 'nobody answers any more: -x, of two' 0 ''
+
+# Somebody is there, and takes no more connections: it is looked at again.
+mkdir -p full/supervise
+python3 -c '
+import os, socket, time
+door = socket.socket(socket.AF_UNIX)
+door.bind("full/supervise/ok")
+door.listen(0)
+first = socket.socket(socket.AF_UNIX)
+first.connect("full/supervise/ok")
+open("full/supervise/ready", "w").close()
+while not os.path.exists("full/accept"):
+    time.sleep(0.02)
+while True:
+    door.accept()[0].close()
+' &
+listeners+=($!)
+until_true test -e full/supervise/ready
+status full "$label$some"00$up"00$phase_up"
+ended 'a full queue: -t 0' 99 'wait: full: not up in time' -t 0 full
+ended 'a full queue: -x' 99 'wait: full: still supervised' -x -t 0 full
+begun 'a full queue' full
+: >full/accept
+over 'a full queue' 0 ''
+
+# As another user, where this one may be that.
+if [ "$(id -u)" = 0 ] && command -v setpriv >/dev/null; then
+  chmod 711 . t
+  chmod 700 t/supervise
+  cp "$program" "/tmp/wait.$$" && chmod 755 "/tmp/wait.$$"
+  for goal in -u -d -x; do
+    timeout 120 setpriv --reuid=65534 --regid=65534 --clear-groups "/tmp/wait.$$" wait $goal t >out 2>told
+    is "no permission: $goal: status" 111 "$?"
+    is "no permission: $goal: told" 'wait: t: unable to open supervise/ok: Permission denied' "$(cat told)"
+  done
+  rm -f "/tmp/wait.$$"
+fi
+
+# Names of folders.
+for name in 'a b' '%s%n' '*' "it's" '"quoted"' $'two\nlines' 'ä€' '-x' '$HOME' '{x}' '\\' "$(printf 'n%.0s' $(seq 200))"; do
+  listen "./$name"
+  status "./$name" "$label$some"00$up"00$phase_up"
+  ended "the name $name" 0 '' -t 100 -u -- "$name"
+  ended "the name $name: told" 99 "wait: $name: not down in time" -d -t 0 -- "$name"
+done
+long=$room/$(printf 'n%.0s' $(seq 200))
+ended 'a long path' 0 '' "$long"
+far=$(printf '/%.0s' $(seq 5000))
+ended 'a path beyond all' 102 "wait: $far: supervise not running" "$far"
+ended 'no name' 102 'wait: : supervise not running' ''
+
+# Words.
+usage='dtools: usage'
+ended 'no words' 100 "$usage"
+ended 'no service' 100 "$usage" -u
+ended 'no service behind --' 100 "$usage" -t 1 --
+ended 'no seconds' 100 "$usage" -t
+ended 'words for seconds' 100 "$usage" -t t t
+for number in '' 01 +1 -1 1.5 ' 1' 4294967296 18446744073709551616; do
+  ended "seconds of $number" 100 "$usage" -t "$number" t
+done
+ended 'the most seconds' 0 '' -t 4294967295 t
+ended 'two goals' 100 "$usage" -u -d t
+ended 'one goal twice' 100 "$usage" -u -u t
+ended 'two times' 100 "$usage" -t 1 -u -t 1 t
+ended 'an unknown letter' 100 "$usage" -y t
+ended 'letters together' 100 "$usage" -ud t
+ended 'an option behind a service is one' 102 'wait: -d: supervise not running' t -d
+ended 'words that are no text' 100 "$usage" $'\xff'
+
+# A real svscan, and services that are brought up and down. The folder is renamed once it is whole.
+mkdir -p made/web made/db
+printf '#!/bin/sh\nexec sleep 1000\n' >made/web/run
+printf '#!/bin/sh\nexec sleep 1000\n' >made/db/run
+: >made/db/down
+chmod 755 made/*/run
+mv made services
+set -m
+"$program" svscan services </dev/null >svscan.out 2>&1 &
+svscan=$!
+disown
+set +m
+has_status() { [ -s "$1/supervise/status" ] && timeout 10 "$program" svok "$1"; }
+until_true has_status services/web
+until_true has_status services/db
+ended 'web comes up' 0 '' -t 100 services/web
+is 'web comes up: it is settled' yes "$("$program" svstat services/web | grep -q 'up (pid [0-9]*) [0-9]* seconds$' && echo yes)"
+ended 'db is down' 0 '' -d services/db
+begun 'db comes up' services/web services/db
+"$program" svc -u services/db
+over 'db comes up' 0 ''
+ended 'both are up' 0 '' -t 0 services/web services/db
+begun 'both go down' -d services/web services/db
+"$program" svc -d services/web services/db
+over 'both go down' 0 ''
+is 'both go down: svstat' 'services/web: down services/db: down' "$("$program" svstat services/web services/db | sed 's/ [0-9]* seconds.*//' | xargs)"
+ended 'both are down' 0 '' -t 0 -d services/web services/db
+ended 'both are up: not so' 99 'wait: services/web: not up in time
+wait: services/db: not up in time' -t 0 services/web services/db
+
+# They end, and come again.
+mv services/web services/db .
+begun 'web ends' -x web db
+"$program" svc -dx web db
+over 'web ends' 0 ''
+ended 'web ends: -u' 102 'wait: web: supervise not running' web
+mv web db services
+until_true has_status services/web
+ended 'web comes again' 0 '' -t 100 services/web
+begun 'svscan is killed' -d services/web
+kill -KILL "$svscan"
+over 'svscan is killed' 102 'wait: services/web: supervise not running'
+kill -KILL -- "-$svscan" 2>/dev/null
+kill -KILL "$(od -An -tu4 -j12 -N4 --endian=little services/web/supervise/status | tr -d ' ')" 2>/dev/null
+counts wait
