@@ -884,12 +884,20 @@ no_supervise() {
   so 'a file in its place: it does not start' test ! -e d/file/starts
   is 'a file in its place: not served' 100 "$(is_served d/file; echo $?)"
   [ $mounted = yes ] && so 'read-only: it does not start' test ! -e d/readonly/supervise
+  is 'they are told, and no other' "file$([ $mounted = yes ] && echo ' readonly')" \
+    "$(sed -n 's/^svscan: \(.*\): unable to supervise$/\1/p' told | sort -u | paste -sd ' ')"
+  is 'nothing else is told' '' "$(grep -v ': unable to supervise$' told)"
+  lies 'once a round' 2 3 "$(grep -c '^svscan: file: ' told)"
   rm d/file/supervise
   soon 'a file in its place: gone' 8 is_up d/file
   if [ $mounted = yes ]; then
     umount d/readonly
     soon 'read-only: no more' 8 is_up d/readonly
   fi
+  local told
+  told=$(count told)
+  sleep 6
+  is 'they are told no more' "$told" "$(count told)"
   is 'the other one is as it was' 1 "$(count d/other/starts)"
 }
 
@@ -1182,6 +1190,9 @@ shortage() {
   local up=()
   for each in d/s{1..20}; do is_served "$each" && is_up "$each" && up+=("$each"); done
   lies 'some are up, and some are not' 1 19 ${#up[@]}
+  is 'those that are not served are told' '' "$(for each in d/s{1..20}; do
+    is_served "$each" || holds "^svscan: ${each##*/}: unable to supervise$" told || echo "$each"
+  done)"
   local before after
   before=$(ticks "$svscan")
   sleep 5

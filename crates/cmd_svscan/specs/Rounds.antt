@@ -6,6 +6,7 @@ use Rattle.scan_table.specs.Slots.{Row}
 use Rattle.scan_table.specs.declared.fault.ScanFault.{ScanFault}
 use Rattle.scan_table.specs.declared.fault.ScanFault.TheVariants.{Unsorted, Twice, Exhausted, OutOfMemory}
 use Rattle.cmd_base.specs.Told.{usage_text}
+use Rattle.cmd_svscan.specs.declared.service_set.ListFault.{ListFault}
 use Rattle.cmd_svscan.specs.declared.service_set.ListFault.TheVariants as list
 use Rattle.cmd_svscan.specs.declared.service_set.RoundOut.{RoundOut}
 use Rattle.cmd_svscan.specs.declared.service_set.Untaken.{Untaken}
@@ -21,20 +22,17 @@ pub record Effects : Type 0 where
 abbrev pub effects : (calls : Option (List Call)) (faults : Device) → Effects
 effects calls faults = record { calls = calls; faults = faults }
 
--- A round: the folder could not be listed; there was no memory to list it; its rows were scanned, with what could not
--- be done; or the scan of its rows failed.
+-- A round: the folder was not listed; its rows were scanned, with what could not be done; or the scan of its rows failed.
 pub data Round : Type 0 where
-  Unlisted : Round
-  Starved : Round
+  Unlisted : (fault : ListFault) → Round
   Scan : (rows : List Row) → (out : RoundOut) → Round
   Fails : (rows : List Row) → (fault : ScanFault) → Round
 
--- Whether svscan goes on after a round: where there was memory, and no scan failed.
+-- Whether svscan goes on after a round: but for a scan that failed, and not for want of memory.
 abbrev pub GoesOn : Round → Type 0
-GoesOn Unlisted = ⊤
-GoesOn Starved = ⊥
+GoesOn (Unlisted fault) = ⊤
 GoesOn (Scan rows out) = ⊤
-GoesOn (Fails rows fault) = ⊥
+GoesOn (Fails rows fault) = fault ≡ OutOfMemory
 
 -- Whether it goes on is the answer.
 abbrev pub Answers : (on : Bool) → Round → Type 0
@@ -43,8 +41,7 @@ Answers false round = GoesOn round → ⊥
 
 -- the calls of a round
 abbrev pub calls_of : (folder : List ℕ) → Round → List Call
-calls_of folder Unlisted = Listed folder (Err list.Unlisted) ∷ []
-calls_of folder Starved = Listed folder (Err list.OutOfMemory) ∷ []
+calls_of folder (Unlisted fault) = Listed folder (Err fault) ∷ []
 calls_of folder (Scan rows out) = Listed folder (Ok rows) ∷ Scanned folder rows (Ok out) ∷ []
 calls_of folder (Fails rows fault) = Listed folder (Ok rows) ∷ Scanned folder rows (Err fault) ∷ []
 
@@ -56,6 +53,11 @@ kind_name (Twice place) = codes "Twice"
 kind_name Exhausted = codes "Exhausted"
 kind_name OutOfMemory = codes "OutOfMemory"
 
+-- what is told of a folder that was not listed
+abbrev pub unlisted : ListFault → List ℕ
+unlisted list.Unlisted = codes "svscan: unable to list" ++ 10 ∷ []
+unlisted list.OutOfMemory = codes "svscan: OutOfMemory" ++ 10 ∷ []
+
 -- what is told of a name
 abbrev pub name_told : (what : List ℕ) (name : List ℕ) → List ℕ
 name_told what name = codes "svscan: " ++ (name ++ what)
@@ -65,6 +67,9 @@ too_many = codes ": TooMany" ++ 10 ∷ []
 
 abbrev pub unable_to_lock : List ℕ
 unable_to_lock = codes ": unable to lock" ++ 10 ∷ []
+
+abbrev pub unable_to_supervise : List ℕ
+unable_to_supervise = codes ": unable to supervise" ++ 10 ∷ []
 
 -- so many control bytes were not taken
 abbrev pub not_taken : ℕ → List ℕ
@@ -81,12 +86,12 @@ abbrev pub lines_of_out : RoundOut → List (List ℕ)
 lines_of_out out =
     map untaken_told out.untaken.items
     ++ (map (name_told unable_to_trace) out.untraced
-    ++ (map (name_told too_many) out.refused ++ map (name_told unable_to_lock) out.locked))
+    ++ (map (name_told too_many) out.refused
+    ++ (map (name_told unable_to_lock) out.locked ++ map (name_told unable_to_supervise) out.failed)))
 
 -- the lines that a round tells
 abbrev pub lines_of : Round → List (List ℕ)
-lines_of Unlisted = (codes "svscan: unable to list" ++ 10 ∷ []) ∷ []
-lines_of Starved = (codes "svscan: OutOfMemory" ++ 10 ∷ []) ∷ []
+lines_of (Unlisted fault) = unlisted fault ∷ []
 lines_of (Scan rows out) = lines_of_out out
 lines_of (Fails rows fault) = (codes "svscan: " ++ (kind_name fault ++ 10 ∷ [])) ∷ []
 

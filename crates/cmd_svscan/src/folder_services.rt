@@ -127,6 +127,30 @@ fn take_losses<M: Maker + Drop, R: Threads + Wait + Clock + Copy + Drop + Send +
     Ok((untaken, Names::from_vec(untraced)))
 }
 
+/// The names of parts that could not be made, but for those that are locked: as many as there is memory for, since the
+/// next round makes them or fails again.
+fn failed_names<M: Maker + Drop, R: Threads + Wait + Clock + Copy + Drop + Send + 'static>(
+    alloc: Global,
+    host: &Host<M, R>,
+    failed: &[PartId],
+    locked: &Names,
+) -> Names {
+    let mut names = Vec::new(alloc);
+    for part in failed {
+        let Ok(name) = name_of(alloc, host, *part) else {
+            break;
+        };
+        let is_locked = locked
+            .as_slice()
+            .iter()
+            .any(|other| other.as_str() == name.as_str());
+        if !is_locked && names.push(name).is_err() {
+            break;
+        }
+    }
+    Names::from_vec(names)
+}
+
 /// One scan of the rows of a folder, and what parts lost that ended before.
 fn round<M: FolderHolder + Drop, R: Threads + Wait + Clock + Copy + Drop + Send + 'static>(
     rt: R,
@@ -138,6 +162,7 @@ fn round<M: FolderHolder + Drop, R: Threads + Wait + Clock + Copy + Drop + Send 
     let Some(host) = host else {
         return Err(ScanFault::OutOfMemory);
     };
+    // Before the scan, since that gives the slots of what ended, and with them the names, to other services.
     let Ok((untaken, untraced)) = take_losses(rt, alloc, host) else {
         return Err(ScanFault::OutOfMemory);
     };
@@ -145,15 +170,16 @@ fn round<M: FolderHolder + Drop, R: Threads + Wait + Clock + Copy + Drop + Send 
         return Err(ScanFault::OutOfMemory);
     }
     let label = SystemClock::new(rt).now();
-    match host.scan(rows, label) {
-        Ok(out) => Ok(RoundOut {
-            untaken,
-            untraced,
-            refused: out.scan.refused,
-            locked: host.ask_maker(|maker| maker.take_locked()),
-        }),
-        Err(fault) => Err(fault),
-    }
+    let out = host.scan(rows, label)?;
+    let locked = host.ask_maker(|maker| maker.take_locked());
+    let failed = failed_names(alloc, host, out.failed.as_slice(), &locked);
+    Ok(RoundOut {
+        untaken,
+        untraced,
+        refused: out.scan.refused,
+        locked,
+        failed,
+    })
 }
 
 /// How much is left of a rest that began then. None: nothing, or the clock can't be read.

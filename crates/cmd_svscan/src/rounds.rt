@@ -3,7 +3,7 @@ ghost use Rattle.std.specs.Prelude.{◌≡◌, ◌<◌, ◌++◌, ◌∷◌, [],
 ghost use Rattle.tai_status.specs.Counted.{Tells};
 ghost use Rattle.cmd_svscan.specs.Calls.{Finished};
 ghost use Rattle.tai_status.specs.Extended.{Extended};
-ghost use Rattle.cmd_svscan.specs.Rounds.{effects, kind_name, name_told, not_taken, untaken_told, lines_of_out};
+ghost use Rattle.cmd_svscan.specs.Rounds.{effects, kind_name, name_told, not_taken, unlisted, untaken_told, lines_of_out};
 ghost use Rattle.cmd_svscan.specs.Rounds.{Runs, SvscanEnds, TakesRound, TellsAll};
 
 use crate::service_set::{ListFault, RoundOut, ServiceSet, Untaken};
@@ -70,6 +70,17 @@ fn report_out<E: Write>(out: &RoundOut, faults: &mut Output<E>)
     );
     report_names(out.refused.as_slice(), b": TooMany\n", faults);
     report_names(out.locked.as_slice(), b": unable to lock\n", faults);
+    report_names(out.failed.as_slice(), b": unable to supervise\n", faults);
+}
+
+/// What is told of a folder that was not listed.
+fn unlisted(fault: ListFault) -> &'static [u8]
+    ensures { result.now ≡ unlisted fault }
+{
+    match fault {
+        ListFault::Unlisted => b"svscan: unable to list\n",
+        ListFault::OutOfMemory => b"svscan: OutOfMemory\n",
+    }
 }
 
 /// One round: lists the folder, scans its rows, and tells what could not be done. Answers whether svscan goes on.
@@ -85,13 +96,9 @@ fn take_round<K: ServiceSet, E: Write>(
 {
     let rows = match services.list(folder) {
         Ok(rows) => rows,
-        Err(ListFault::Unlisted) => {
-            print_fault(faults, b"svscan: unable to list\n");
+        Err(fault) => {
+            print_fault(faults, unlisted(fault));
             return true;
-        }
-        Err(ListFault::OutOfMemory) => {
-            print_fault(faults, b"svscan: OutOfMemory\n");
-            return false;
         }
     };
     match services.round(folder, rows) {
@@ -101,7 +108,7 @@ fn take_round<K: ServiceSet, E: Write>(
         }
         Err(fault) => {
             report_parts(faults, b"svscan: ", kind(fault), b"\n", TROUBLE);
-            false
+            fault == ScanFault::OutOfMemory
         }
     }
 }
@@ -142,12 +149,13 @@ fn take_rounds<R: Wait, K: ServiceSet, E: Write>(
 /// between two rounds. With N, which is 1 to 4294967295 without leading zeros, it ends after N rounds; else it doesn't
 /// come back, unless by a fault. In the end it ends all services.
 ///
-/// Told on `faults`: `svscan: unable to list`, where the folder or a name in it can't be read: then the round does
-/// nothing more; `svscan: NAME: N bytes were not taken` of control bytes that came to a service which ended without
-/// them, and `svscan: NAME: unable to write the trace` of one whose last trace is not whole; `svscan: NAME: TooMany` of
-/// each name that gets no service, and `svscan: NAME: unable to lock` of each that another svscan has; `svscan: KIND`
-/// of a fault of the scan, and `svscan: OutOfMemory` of want of memory for the listing: these end it. Answers the
-/// status: 0; 111 after such an end; 100 for wrong words: then nothing is asked of the system.
+/// Told on `faults`: `svscan: unable to list`, where the folder or a name in it can't be read, and `svscan: OutOfMemory`
+/// of want of memory: the round does nothing more, and the next one tries again; `svscan: NAME: N bytes were not taken`
+/// of control bytes that came to a service which ended without them, and `svscan: NAME: unable to write the trace` of one
+/// whose last trace is not whole; `svscan: NAME: TooMany` of each name that gets no service, `svscan: NAME: unable to
+/// lock` of each that another svscan has, and `svscan: NAME: unable to supervise` of each other one that a round could
+/// not begin; `svscan: KIND` of another fault of the scan, which ends it. Answers the status: 0; 111 after such an end;
+/// 100 for wrong words: then nothing is asked of the system.
 pub fn run_svscan<R: Wait, K: ServiceSet, E: Write>(
     rt: &R,
     services: &mut K,

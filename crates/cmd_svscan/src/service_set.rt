@@ -31,6 +31,9 @@ pub struct RoundOut {
     pub refused: Names,
     /// The names whose folder another svscan has locked.
     pub locked: Names,
+    /// The names of the other parts that could not be made: for want of a folder, of a permission, of a descriptor, of
+    /// memory.
+    pub failed: Names,
 }
 
 /// The services of a folder, which it keeps running. Contracts see which calls were made and what came of them, where
