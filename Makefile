@@ -40,7 +40,7 @@ test:
 	.ci/run
 
 check:
-	for script in cases system multilog svc report machines svscan envdir wrappers local why wait service install manual package; do tests/$$script.sh $(PROGRAM) || exit 1; done
+	for script in cases system multilog commands svscan faults install manual package; do tests/$$script.sh $(PROGRAM) || exit 1; done
 
 package tarball:
 	packaging/build $(PROGRAM) packages

@@ -69,6 +69,7 @@ while True:
     looks.write(b".")
 ') &
   listener=$!
+  disown
   listeners+=("$listener")
   until_true test -e "$1/supervise/ready" || { echo "wait: nobody listens in $1"; exit 1; }
 }
@@ -198,6 +199,7 @@ over 'nobody answers any more: -u' 102 'wait: s: supervise not running'
 ended 'nobody answers any more: -x' 0 '' -x s
 listen s
 ok=$listener
+status s "$label$some"00$up"00$phase_up"
 begun 'nobody answers any more: -d, of two' -d t s
 kill -KILL "$ok"
 over 'nobody answers any more: -d, of two' 102 'wait: s: supervise not running'
@@ -223,6 +225,7 @@ while True:
     door.accept()[0].close()
 ' &
 listeners+=($!)
+disown
 until_true test -e full/supervise/ready
 status full "$label$some"00$up"00$phase_up"
 ended 'a full queue: -t 0' 99 'wait: full: not up in time' -t 0 full

@@ -1,0 +1,21 @@
+#!/usr/bin/env bash
+# The scripts of the commands that people have in their fingers, side by side, on the program that the first word names: what
+# daemontools has stands beside Debian's where that is installed, else beside the bytes that it prints, written down. Each
+# script prints its line, and before it what failed; the names of scripts as further words are those that are wanted.
+tests=$(dirname "$(realpath "$0")")
+program=$(realpath "$1")
+shift
+[ "$#" -gt 0 ] || set -- svc report machines envdir wrappers local why wait service
+printed=$(mktemp -d)
+trap 'rm -rf "$printed"' EXIT
+declare -A running
+for script; do
+  "$tests/$script.sh" "$program" >"$printed/$script" 2>&1 </dev/null &
+  running[$script]=$!
+done
+status=0
+for script; do
+  wait "${running[$script]}" || status=1
+  cat "$printed/$script"
+done
+exit "$status"

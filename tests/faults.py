@@ -1,0 +1,234 @@
+"""One growth of memory is refused, or one call of the system fails: each in turn, counted from the first, until a run meets
+none. A command ends as without the fault, or with one line that says what failed and the status 111; never by a signal, and
+never without an end. Of what it prints and writes there is a front then. svscan goes on, and what it could not begin in
+one round it begins in a later one. Works in the folder that it is in, where faults.so stands, on the program that its first word names."""
+import os
+import re
+import shutil
+import signal
+import subprocess
+import sys
+import threading
+import time
+
+program, room = sys.argv[1], os.getcwd()
+checked, failed = 0, 0
+
+
+def check(name, wrong, count):
+    """What was wrong, and how often a fault was met, which is to be some times."""
+    global checked, failed
+    checked += 1
+    if wrong or count == 0:
+        failed += 1
+        print(f"FAILED {name}, {count} times:", *wrong[:10], sep="\n  ", flush=True)
+
+
+def faulted(fault, met, words, given=b""):
+    """Runs the program with a fault, CALL:N:ERROR. Gives the run, or None where it came to no end."""
+    around = dict(os.environ, FAULT=fault, FAULT_MET=met, LD_PRELOAD=room + "/faults.so")
+    try:
+        return subprocess.run([program, *words], input=given, capture_output=True, env=around, timeout=120)
+    except subprocess.TimeoutExpired:
+        return None
+
+
+def plain(text):
+    """Without what differs from run to run: labels, and numbers of seconds."""
+    return re.sub(rb"@[0-9a-f]{24}", b"@", re.sub(rb"\d+( seconds|\.\d+\b)", rb"N\1", text))
+
+
+def seen(ran):
+    return ran.returncode, plain(ran.stdout), plain(ran.stderr)
+
+
+def starves(*words, given=b"a line\n@4000000037c219bf2ef02e94 another\n"):
+    """Each growth of a command refused in turn."""
+    good = subprocess.run([program, *words], input=given, capture_output=True)
+    told = re.compile(rb"(%s|dtools): ((word|line) \d+: )?OutOfMemory\n" % words[0].encode())
+    wrong, number = [], 1
+    while True:
+        ran = faulted(f"malloc:{number}:12", "met", words, given)
+        if not os.path.exists("met"):
+            break
+        os.remove("met")
+        if ran is None:
+            wrong.append(f"growth {number}: no end")
+            break
+        is_told = ran.returncode == 111 and told.fullmatch(ran.stderr) and plain(good.stdout).startswith(plain(ran.stdout))
+        if not is_told and seen(ran) != seen(good):
+            wrong.append(f"growth {number}: status {ran.returncode}, {ran.stdout} {ran.stderr}")
+        number += 1
+    check("each growth refused: " + " ".join(words), wrong, number - 1)
+
+
+def logs(error, call):
+    """multilog with each call of a kind failing in turn: its files hold a front of the lines, and all where it says nothing."""
+    lines = b"".join(b"line %d of the log, which has some more words\n" % number for number in range(1, 301))
+    told = re.compile(rb"multilog: (Read|Store|(word \d+: )?OutOfMemory|unable to open \./log)\n|dtools: OutOfMemory\n")
+    wrong, number = [], 1
+    while True:
+        shutil.rmtree("log", ignore_errors=True)
+        ran = faulted(f"{call}:{number}:{error}", "met", ["multilog", "s4096", "n30", "./log", "=log.status"], lines)
+        if not os.path.exists("met"):
+            break
+        os.remove("met")
+        names = sorted(name for name in os.listdir("log") if name.startswith("@")) if os.path.isdir("log") else []
+        kept = b"".join(open("log/" + name, "rb").read() for name in [*names, "current"] if os.path.exists("log/" + name))
+        if not lines.startswith(kept):
+            wrong.append(f"{number}: no front")
+        if ran is None:
+            wrong.append(f"{number}: no end")
+            break
+        if ran.returncode == 0:
+            if kept != lines or ran.stderr:
+                wrong.append(f"{number}: status 0, and {len(kept)} bytes, {ran.stderr}")
+        elif ran.returncode != 111 or not told.fullmatch(ran.stderr):
+            wrong.append(f"{number}: status {ran.returncode}, {ran.stderr}")
+        number += 1
+    check(f"multilog: {call}, error {error}", wrong, number - 1)
+
+
+# The services of svscan, a pair among them.
+SERVICES = {"web": "exec sleep 1000", "db": "echo said\nexec sleep 1000", "db/log": "exec cat >>lines"}
+TOLD = re.compile(r"svscan: (OutOfMemory|unable to list|\S+: unable to (supervise|lock|write the trace))|dtools: OutOfMemory")
+
+
+def make_services(folder):
+    for name, run in SERVICES.items():
+        os.makedirs(f"{folder}/{name}")
+        with open(f"{folder}/{name}/run", "w") as file:
+            file.write(f"#!/bin/sh\necho $$ >>started\n{run}\n")
+        os.chmod(f"{folder}/{name}/run", 0o755)
+
+
+def read(path):
+    try:
+        return open(path).read()
+    except OSError:
+        return ""
+
+
+def started(folder):
+    return [int(line) for line in read(folder + "/started").split()]
+
+
+def is_alive(pid):
+    return read(f"/proc/{pid}/stat").rpartition(")")[2].split()[:1] not in ([], ["Z"])
+
+
+def until(seconds, is_so):
+    end = time.monotonic() + seconds
+    while not is_so():
+        if time.monotonic() > end:
+            return False
+        time.sleep(0.05)
+    return True
+
+
+def are_all(phase, folders):
+    """Whether the records of all of these services have this phase: 3 is up, 4 down."""
+    for folder in folders:
+        try:
+            record = open(folder + "/supervise/status", "rb").read()
+        except OSError:
+            return False
+        if len(record) != 20 or record[19] != phase:
+            return False
+    return True
+
+
+def run(*words):
+    return subprocess.run([program, *words], capture_output=True, text=True).stdout
+
+
+def supervised(fault, cycles):
+    """svscan with one fault. Gives whether it was met, and what was wrong."""
+    here = f"{room}/{fault}"
+    make_services(here + "/d")
+    folders = [f"{here}/d/{name}" for name in SERVICES]
+    around = dict(os.environ, FAULT=fault, FAULT_MET=here + "/met", LD_PRELOAD=room + "/faults.so")
+    with open(here + "/told", "w") as told:
+        svscan = subprocess.Popen([program, "svscan", here + "/d"], env=around, stdin=subprocess.DEVNULL,
+                                  stdout=subprocess.DEVNULL, stderr=told, start_new_session=True)
+    wrong = []
+
+    def running():
+        return [len([pid for pid in started(folder) if is_alive(pid)]) for folder in folders]
+
+    def lines():
+        return read(here + "/d/db/log/lines").count("said\n") == len(started(here + "/d/db"))
+
+    def becomes(what, is_so):
+        if not until(60, lambda: svscan.poll() is not None or is_so()):
+            wrong.append(f"{what}: {running()} run, {len(started(here + '/d/db'))} starts")
+
+    becomes("up", lambda: running() == [1, 1, 1] and lines())
+    if svscan.poll() is None:
+        # A record that could not be written stays as it was until the next one is. So the services go down and up again
+        # until the fault has come, and once more. Growths are too many for that.
+        for is_last in [False, True] if cycles else []:
+            for words, count, phase in [("-d", 0, 4), ("-u", 1, 3)]:
+                is_met = os.path.exists(here + "/met")
+                run("svc", words, *folders)
+                becomes(words, lambda: running() == [count] * 3 and (not (is_last and is_met) or are_all(phase, folders)))
+        becomes("logged", lines)
+        run("svc", "-d", *folders)
+        becomes("down", lambda: running() == [0, 0, 0])
+    told = read(here + "/told").splitlines()
+    wrong += ["told: " + line for line in told if not TOLD.fullmatch(line)]
+    # It may end only before it has begun anything.
+    if svscan.poll() is not None and (svscan.returncode != 111 or not told or any(started(folder) for folder in folders)):
+        wrong.append(f"it ended with {svscan.returncode}")
+    for pid in [pid for folder in folders for pid in started(folder)]:
+        if is_alive(pid):
+            os.kill(pid, signal.SIGKILL)
+    if svscan.poll() is None:
+        os.killpg(svscan.pid, signal.SIGKILL)
+    svscan.wait()
+    met = os.path.exists(here + "/met")
+    shutil.rmtree(here, ignore_errors=True)
+    return met, [f"{fault}: {what}" for what in wrong]
+
+
+def scans(call, error, workers):
+    """Each call of a kind in turn, so many svscans side by side, until one meets none; and what was wrong."""
+    numbers, lock = iter(range(1, 5000)), threading.Lock()
+    wrong, met, unmet = [], [], []
+
+    def work():
+        while not unmet:
+            with lock:
+                number = next(numbers)
+            was_met, bad = supervised(f"{call}:{number}:{error}", call != "malloc")
+            (met if was_met else unmet).append(number)
+            wrong.extend(bad)
+
+    threads = [threading.Thread(target=work) for _ in range(workers)]
+    for thread in threads:
+        thread.start()
+    return lambda: [thread.join() for thread in threads] and check(f"svscan: {call}, error {error}", wrong, len(met))
+
+
+os.makedirs("env")
+open("env/A", "w").write("x y")
+open("env/B", "w").write("it's")
+make_services("d")
+run("svscan", "d", "1")
+for words in ["tai64n", "tai64nlocal", "readproctitle " + "." * 40, "sim table", "trace d/web/supervise/trace",
+              "trace d/web/supervise/trace --break phase:gone", "svstat d/web d/db nowhere", "svstat --json d/web d/db",
+              "svstat --metrics d/web d/db", "svc -u d/web d/db", "svc -W -u d/web", "svok d/web", "why d/web",
+              "wait -x -t 0 d/web", "envdir env true", "envdir --words env", "help svc"]:
+    starves(*words.split())
+for error, call in [(5, "read"), (5, "write"), (5, "open"), (5, "fsync"), (5, "rename"), (5, "flock"), (5, "getdents"),
+                    (28, "mkdir"), (28, "write"), (28, "open"), (24, "open"), (12, "malloc")]:
+    logs(error, call)
+# svscan takes minutes of a computer that has nothing else to do: it is asked for by a word.
+waiting = [] if sys.argv[2:] != ["svscan"] else [scans(call, error, 16 if call == "malloc" else 2) for call, error in [
+    ("malloc", 12), ("thread", 11), ("spawn", 11), ("accept", 24), ("socket", 24), ("pipe", 24), ("open", 24), ("open", 5),
+    ("write", 28), ("rename", 28), ("mkdir", 28), ("flock", 5), ("bind", 13), ("listen", 12), ("epoll_ctl", 12),
+    ("getdents", 5), ("eventfd", 24)]]
+for wait in waiting:
+    wait()
+print(f"faults: {checked} checks, {failed} failed")
+sys.exit(failed > 0)
