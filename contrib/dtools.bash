@@ -24,6 +24,7 @@ _dtools() {
   case $command:$word:$before in
     svc:-*) mapfile -t COMPREPLY < <(compgen -W '-u -d -o -p -c -h -a -i -t -k -x -1 -2 -q -dx -W' -- "$word") ;;
     svstat:-*) mapfile -t COMPREPLY < <(compgen -W '--json --metrics' -- "$word") ;;
+    why:-*) mapfile -t COMPREPLY < <(compgen -W '--timeline' -- "$word") ;;
     wait:-* | svwait:-*) mapfile -t COMPREPLY < <(compgen -W '-u -d -x -t' -- "$word") ;;
     wait:*:-t | svwait:*:-t) ;;
     svc:* | svstat:* | svok:* | why:* | wait:* | svwait:*) _dtools_services ;;
@@ -33,7 +34,7 @@ _dtools() {
     trace:*:--break)
       mapfile -t COMPREPLY < <(compgen -W 'byte: phase:up phase:down phase:gone signal:TERM signal:KILL' -- "$word")
       ;;
-    trace:*) mapfile -t COMPREPLY < <(compgen -W '--break' -f -- "$word") ;;
+    trace:*) mapfile -t COMPREPLY < <(compgen -W '--break --local' -f -- "$word") ;;
     *) mapfile -t COMPREPLY < <(compgen -f -- "$word") ;;
   esac
 }

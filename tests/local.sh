@@ -1,7 +1,7 @@
 #!/usr/bin/env bash
 # `tai64nlocal`: local times of several zones, hostile lines, lines in pieces, and a million lines. The wanted values
 # were written down from daemontools 0.76 (cr.yp.to/daemontools/tai64nlocal.html); where Debian's daemontools are
-# installed, also what their tai64nlocal makes.
+# installed, also what their tai64nlocal makes. Then the times of `trace --local`.
 top=$(realpath "$(dirname "$0")/..")
 . "$top/tests/checks.sh" "$1"
 leave() { rm -rf "$room"; }
@@ -137,4 +137,34 @@ awk 'BEGIN {
 }' >million
 is 'a million lines' 1000000 "$(localised Europe/Berlin <million | grep -c "^2026-03-29 $clock line [0-9]* of a log$")"
 as_real 'a million lines' Europe/Berlin million
+
+# `trace --local`. The record of the base: 18 bytes, of process 4711, wanted up. 1774746002 is two seconds after the clocks
+# of Berlin changed to summer.
+record=$(label 1774745999 999999999)
+{
+  echo 'dtools-trace 1'
+  echo "base 2 up ${record#@}671200000075 stay -"
+  echo 'byte x'
+  echo 'byte u'
+  echo "death $(label 1774746002 7)"
+  echo 'end 3'
+} >trace
+
+# traced ZONE [WORD..]: what is printed of it
+traced() { TZ=$1 "$program" trace trace "${@:2}"; }
+
+# told BEFORE AFTER: what is to be printed with these times of the process's start and end
+told() {
+  printf '%s\n' "1 byte x: took record (up 4711, wanted up, exiting, since $1) -> up" \
+    "2 byte u: took record (up 4711, wanted up, exiting, since $1) -> up" \
+    "3 death $2: took record (down, wanted up, exiting, since $2) -> gone" \
+    "state gone (down, wanted up, exiting, since $2)"
+}
+is 'trace: UTC' "$(told '2026-03-29 00:59:59.999999999' '2026-03-29 01:00:02.000000007')" "$(traced UTC --local)"
+is 'trace: Berlin' "$(told '2026-03-29 01:59:59.999999999' '2026-03-29 03:00:02.000000007')" \
+  "$(traced Europe/Berlin --local)"
+is 'trace: half an hour' "$(told '2026-03-29 06:29:59.999999999' '2026-03-29 06:30:02.000000007')" \
+  "$(traced Asia/Kolkata --local)"
+is 'trace: a break' 'break 3' "$(traced Asia/Kolkata --local --break phase:gone)"
+is 'trace: without the flag as ever' "$(traced UTC)" "$(traced Asia/Kolkata)"
 counts local

@@ -1,7 +1,8 @@
 #!/usr/bin/env bash
 # What `dtools why` says of services, over folders that are made here: status records and traces of given bytes, and sockets
 # at which python3 listens. Runs the program that the first word names. The wanted sentences are written by hand from the
-# rules in the doc of `why_line` (crates/cmd_why/src/sentences.rt), the records and traces from docs/FORMATS.md.
+# rules in the doc of `why_line` (crates/cmd_why/src/sentences.rt), the pictures from those of `bar_of` (src/timeline.rt), the
+# records and traces from docs/FORMATS.md.
 command -v python3 >/dev/null || { echo 'why: python3 is missing'; exit 1; }
 . "$(dirname "$0")/checks.sh" "$1"
 export TZ=UTC
@@ -279,6 +280,113 @@ trace 0 starting "$begun" - 'started 4711 200' 'clock 201'
 timeout 5 "$program" why s >out
 is 'a start to come' "s is up since $(date -u -d "@$((start + 200))" '+%F %T') (0 s), process 4711." "$(cat out)"
 
+# Timelines. The picture begins at the moment 0, which is 80 hours ago: a column is an hour, and the little that this script
+# takes. What happens does so at half past an hour.
+past() { echo $(($1 * 3600 + 1800 + ${2-0})); }
+# many COUNT SIGN
+many() { printf "%$1s" '' | tr ' ' "$2"; }
+# drawn NAME COUNT SIGN [COUNT SIGN]..: so many columns with that sign, one after the other
+drawn() {
+  local name=$1 bar=
+  shift
+  while [ $# -gt 0 ]; do
+    bar+=$(many "$1" "$2")
+    shift 2
+  done
+  timeout 5 "$program" why --timeline s >out 2>told </dev/null
+  is "$name: status" 0 "$?"
+  is "$name: told" '' "$(cat told)"
+  is "$name: lines" 3 "$(wc -l <out)"
+  is "$name: its line" 's is ' "$(head -c 5 out)"
+  is "$name" "$bar" "$(sed -n 2p out)"
+  is "$name: scale" "$(date -u -d "@$start" '+%F %T')$(many 58 ' ')now" "$(sed -n 3p out)"
+}
+start=$(($(date +%s) - 80 * 3600))
+begun=$(record 0 0 0 $up)
+status "$(past 0)" 4711 0 $up 0 3
+trace 0 starting "$begun" - "started 4711 $(past 0)" "clock $(past 0 1)"
+drawn 'up' 1 + 79 '#'
+status "$(past 40 1)" 4712 0 $up 0 3
+trace 0 starting "$begun" - "started 4711 $(past 0)" "clock $(past 0 1)" 'byte t' "death $(past 40)" "started 4712 $(past 40 1)" \
+  "clock $(past 40 2)"
+drawn 'a restart' 1 + 39 '#' 1 + 39 '#'
+entries=("started 4711 $(past 0)" "clock $(past 0 1)")
+for hour in $(seq 50 79); do
+  entries+=("death $(past "$hour")" "started $((4700 + hour)) $(past "$hour" 1)" "clock $(past "$hour" 2)")
+done
+status "$(past 79 1)" 4779 0 $up 0 3
+trace 0 starting "$begun" - "${entries[@]}"
+drawn 'flapping' 1 + 49 '#' 30 +
+status "$(past 20)" 0 0 $down 0 4
+trace 0 starting "$begun" - "started 4711 $(past 0)" "clock $(past 0 1)" 'byte d' "death $(past 20)" 'byte h'
+drawn 'brought down' 1 + 19 '#' 1 + 59 .
+status "$(past 60)" 4711 0 $up 0 3
+trace 0 down "$(record 0 0 0 $down)" - 'byte u' "started 4711 $(past 60)" "clock $(past 60 1)"
+drawn 'brought up' 60 . 1 + 19 '#'
+# Control bytes have no time: a process that was paused is shown so from one label to the next.
+status "$(past 20 1)" 4712 1 $up 0 3
+trace 0 starting "$begun" - "started 4711 $(past 0)" "clock $(past 0 1)" "death $(past 20)" "started 4712 $(past 20 1)" \
+  "clock $(past 20 2)" 'byte h' 'byte p'
+drawn 'paused' 1 + 19 '#' 1 + 59 =
+status "$(past 20 1)" 4712 0 $up 0 3
+trace 0 starting "$begun" - "started 4711 $(past 0)" "clock $(past 0 1)" 'byte p' "death $(past 20)" "started 4712 $(past 20 1)" \
+  "clock $(past 20 2)" 'byte h'
+drawn 'paused before its death' 1 + 19 = 1 + 59 '#'
+trace 0 starting "$begun" - "started 4711 $(past 0)" "clock $(past 0 1)" "death $(past 20)" "started 4712 $(past 20 1)" \
+  "clock $(past 20 2)" 'byte p' 'byte c'
+drawn 'paused and continued' 1 + 19 '#' 1 + 59 =
+# Attempts, whose second is taken to last until the clock is read.
+status "$(past 40 1)" 4711 0 $up 0 3
+trace 0 starting "$begun" - "failed $(past 10)" "clock $(past 40)" "started 4711 $(past 40 1)" "clock $(past 70)"
+drawn 'attempts' 10 . 1 + 29 '*' 1 + 29 '*' 1 + 9 '#'
+# Of the machine before the entries only its process is told.
+status 0 0 0 $down 0 4
+trace 3 down "$(record 0 0 0 $down)" -
+drawn 'no entries' 80 .
+status 0 4711 1 $up 0 3
+trace 7 up "$(record 0 4711 1 $up)" - 'byte h'
+drawn 'paused before the entries' 80 =
+status 0 4711 0 $up 0 3
+trace 7 settling "$(record 0 4711 0 $up)" 1 "clock $(past 0)"
+drawn 'started before the entries' 80 '#'
+status "$(past 10 1)" 4711 0 $up 0 3
+trace 7 resting "$begun" "$(past 9)" "clock $(past 10)" "started 4711 $(past 10 1)" "clock $(past 10 2)"
+drawn 'failed before the entries' 10 . 1 + 69 '#'
+# Clocks that were set back: what counts is the label in front, and the clock of now.
+status "$(past 11)" 4712 0 $up 0 3
+trace 0 starting "$begun" - "started 4711 $(past 40)" "clock $(past 40 1)" "death $(past 10)" "started 4712 $(past 11)" \
+  "clock $(past 50)"
+drawn 'set back' 40 . 1 + 9 '*' 1 + 29 '#'
+status 300000 0 0 $down 0 4
+trace 0 starting "$begun" - "started 4711 $(past 0)" "clock $(past 0 1)" 'byte d' 'death 300000'
+drawn 'a death to come' 1 + 78 '#' 1 +
+status 300000 4711 0 $up 0 3
+trace 0 starting "$(record 290000 0 0 $up)" - 'started 4711 300000' 'clock 300001'
+before=$(date +%s)
+timeout 5 "$program" why --timeline s >out
+is 'all to come' "$(many 80 '#')" "$(sed -n 2p out)"
+found=no
+for second in $(seq "$before" "$(date +%s)"); do
+  [ "$(sed -n 3p out)" = "$(date -u -d "@$second" '+%F %T')$(many 58 ' ')now" ] && found=yes
+done
+is 'all to come: scale' yes "$found"
+# A trace that does not lead to the record tells nothing of what is behind its last label.
+status "$(past 70)" 4799 0 $up 0 3
+trace 0 starting "$begun" - "started 4711 $(past 0)" "clock $(past 0 1)" "death $(past 60)" "started 4712 $(past 60 1)" \
+  "clock $(past 60 2)" 'byte h'
+drawn 'another process' 1 + 59 '#' 1 + 19 '?'
+status "$(past 79 1)" 4779 0 $up 0 3
+trace 0 starting "$begun" - "${entries[@]:0:86}"
+drawn 'flapping, and a start later' 1 + 49 '#' 28 + 2 '?'
+trace 0 starting "$begun" -
+drawn 'no entries that lead there' 80 '?'
+untold='No timeline: it has no trace that can be read.'
+rm s/supervise/trace
+timeout 5 "$program" why --timeline s >out
+is 'a timeline of no trace' "$untold" "$(sed -n '2,$p' out)"
+again
+begun=$(record 1 0 0 $up)
+
 # Traces that can't be read.
 status 90 4711 0 $up 0 3
 plain='s is up since {90}, process 4711.'
@@ -380,6 +488,24 @@ told 'in order' 111 's is up since @7fffffffffffffff3b9ac9ff (0 s), process 4711
 nosuch is not supervised: there is no such folder.
 -x is up since @7fffffffffffffff3b9ac9ff (0 s), process 4711.
 empty is not supervised: nobody answers at its supervise/ok.' ''
+timeout 5 "$program" why --timeline >out 2>told </dev/null
+status=$?
+told 'a timeline of nothing' 0 '' ''
+timeout 5 "$program" why --timeline s nosuch -x >out 2>told </dev/null
+status=$?
+told 'timelines in order' 111 "s is up since @7fffffffffffffff3b9ac9ff (0 s), process 4711.
+$untold
+nosuch is not supervised: there is no such folder.
+-x is up since @7fffffffffffffff3b9ac9ff (0 s), process 4711.
+$untold" ''
+timeout 5 "$program" why empty --timeline >out 2>told </dev/null
+status=$?
+told 'a service of that name' 111 'empty is not supervised: nobody answers at its supervise/ok.
+--timeline is not supervised: there is no such folder.' ''
+timeout 5 "$program" why --timeline s >/dev/full 2>told </dev/null
+status=$?
+: >out
+told 'a full device for a timeline' 111 '' 'why: write fault'
 timeout 5 "$program" why $'\xff' >out 2>told </dev/null
 status=$?
 told 'words that are no text' 100 '' 'dtools: usage'

@@ -59,8 +59,8 @@ pub record IsPageOf (name page : List ℕ) : Type 0 where
   pub sim : name ≡ codes "sim"
       → page ≡ codes "dtools sim, with a script on standard input, or dtools sim table" ++ 10 ∷ []
   pub trace : name ≡ codes "trace"
-      → page ≡ codes "dtools trace FILE [--break SPEC], where SPEC is byte:C, phase:PHASE or signal:NAME" ++ 10 ∷ []
-  pub why : name ≡ codes "why" → page ≡ codes "dtools why SERVICE.." ++ 10 ∷ []
+      → page ≡ codes "dtools trace FILE [--break SPEC] [--local], where SPEC is byte:C, phase:PHASE or signal:NAME" ++ 10 ∷ []
+  pub why : name ≡ codes "why" → page ≡ codes "dtools why [--timeline] SERVICE.." ++ 10 ∷ []
   pub wait : name ≡ codes "wait"
       → page ≡ codes "dtools wait [-u|-d|-x] [-t SECONDS] SERVICE.., with u up, d down, x no longer supervised" ++ 10 ∷ []
   pub help : name ≡ codes "help" → page ≡ codes "dtools help [COMMAND]" ++ 10 ∷ []

@@ -47,9 +47,9 @@ pub fn page_of(name: &str) -> &'static [u8]
             b"dtools readproctitle WORD.., of which the last is as long as the title\n",
         "sim" => b"dtools sim, with a script on standard input, or dtools sim table\n",
         "trace" => {
-            b"dtools trace FILE [--break SPEC], where SPEC is byte:C, phase:PHASE or signal:NAME\n"
+            b"dtools trace FILE [--break SPEC] [--local], where SPEC is byte:C, phase:PHASE or signal:NAME\n"
         }
-        "why" => b"dtools why SERVICE..\n",
+        "why" => b"dtools why [--timeline] SERVICE..\n",
         "wait" => {
             b"dtools wait [-u|-d|-x] [-t SECONDS] SERVICE.., with u up, d down, x no longer supervised\n"
         }

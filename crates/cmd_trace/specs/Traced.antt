@@ -1,6 +1,6 @@
 -- What `trace` prints of the text of a trace, what its word after `--break` means, and what it tells of its faults.
-use Rattle.std.specs.Prelude.{◌≡◌, ◌≢◌, ◌<◌, ◌^◌, ⊤, ℕ, ◌⊎◌, List, [], ◌∷◌, ◌++◌, codes, decimal, Option, Some, None}
-use Rattle.std.specs.Prelude.{Err}
+use Rattle.std.specs.Prelude.{◌≡◌, ◌≢◌, ◌<◌, ◌^◌, ⊤, ℕ, ℤ, ◌⊎◌, Bool, true, false, List, [], ◌∷◌, ◌++◌, codes, decimal}
+use Rattle.std.specs.Prelude.{Option, Some, None, Err}
 use Rattle.tai_status.specs.Counted.{Device, Fails, Works, Wrote, WroteFront, Tells}
 use Rattle.tai_status.specs.Phase.{phase_name}
 use Rattle.sup_core.specs.State.{State}
@@ -18,6 +18,7 @@ use Rattle.trace_words.specs.Words.{asked_of}
 use Rattle.cmd_base.specs.Printed.{printed}
 use Rattle.cmd_base.specs.Known.{IsKnown}
 use Rattle.cmd_base.specs.Told.{usage_text}
+use Rattle.cmd_trace.specs.Local.{local_explanation}
 use Rattle.cmd_trace.specs.declared.fault.TraceTrouble.{TraceTrouble}
 use Rattle.cmd_trace.specs.declared.fault.TraceTrouble.TheVariants as trouble
 
@@ -36,9 +37,11 @@ NamesBreak (Some word) (Some (break.Byte byte)) = (byte < 2 ^ 8) × (word ≡ br
 NamesBreak (Some word) (Some at) = word ≡ break_text at
 NamesBreak _ _ = ⊥
 
--- Words ask for this file, and for this break where they have one.
-abbrev pub AskFor : (words : List (List ℕ)) (file : List ℕ) (at : Option Break) → Type 0
-AskFor words file at = (word : Option (List ℕ)) × ((asked_of words ≡ Some (file, word)) × NamesBreak word at)
+-- Words ask for this file, for this break where they have one, and for local times or for labels.
+abbrev pub AskFor : (words : List (List ℕ)) (file : List ℕ) (at : Option Break) (local : Bool) → Type 0
+AskFor words file at local =
+    (word : Option (List ℕ))
+    × ((asked_of words ≡ Some (record { file = file; at = word; local = local })) × NamesBreak word at)
 
 -- What is printed
 
@@ -57,28 +60,43 @@ IsBreakLine told at line =
     ((number : ℕ) × (IsFirstBreak told at number × (line ≡ codes "break " ++ decimal number ++ 10 ∷ [])))
     ⊎ (HasNoBreak told at × (line ≡ codes "no break" ++ 10 ∷ []))
 
+-- How times are told: as labels where there is nothing, else as local times, where clocks are ahead of UTC by so many
+-- seconds at each second of Unix time.
+abbrev pub Times : Type 0
+Times = Option (ℤ → ℤ)
+
+-- local times where they are asked for
+abbrev pub times_asked : (ahead : ℤ → ℤ) → (local : Bool) → Times
+times_asked ahead true = Some ahead
+times_asked ahead false = None
+
+-- the explanation of a trace, with times told so
+abbrev pub explanation_with : Times → Told → List ℕ
+explanation_with None told = explanation told
+explanation_with (Some ahead) told = local_explanation ahead told
+
 -- This is printed of a trace: the explanation, or the line on a break.
-abbrev pub IsShown : Told → Option Break → List ℕ → Type 0
-IsShown told None text = text ≡ explanation told
-IsShown told (Some at) text = IsBreakLine told at text
+abbrev pub IsShown : Times → Told → Option Break → List ℕ → Type 0
+IsShown times told None text = text ≡ explanation_with times told
+IsShown times told (Some at) text = IsBreakLine told at text
 
 -- The text is that of a trace, and this is printed of that trace.
-pub record IsShownOf (text : List ℕ) (at : Option Break) (shown : List ℕ) : Type 0 where
+pub record IsShownOf (times : Times) (text : List ℕ) (at : Option Break) (shown : List ℕ) : Type 0 where
   pub trace : Told
   pub is : IsTold trace
   pub text_is : text ≡ trace_text trace
-  pub shown_is : IsShown trace at shown
+  pub shown_is : IsShown times trace at shown
 
 -- The text is that of a trace, and what is printed of that trace was written.
-pub record Shows (text : List ℕ) (at : Option Break) (writer writes : Device) : Type 0 where
+pub record Shows (times : Times) (text : List ℕ) (at : Option Break) (writer writes : Device) : Type 0 where
   pub shown : List ℕ
-  pub shown_is : IsShownOf text at shown
+  pub shown_is : IsShownOf times text at shown
   pub written : Wrote writer writes shown
 
 -- The text is that of a trace, and a front of what is printed of that trace was written.
-pub record ShowsFront (text : List ℕ) (at : Option Break) (writer writes : Device) : Type 0 where
+pub record ShowsFront (times : Times) (text : List ℕ) (at : Option Break) (writer writes : Device) : Type 0 where
   pub shown : List ℕ
-  pub shown_is : IsShownOf text at shown
+  pub shown_is : IsShownOf times text at shown
   pub written : WroteFront writer writes shown
 
 -- Faults
@@ -105,37 +123,38 @@ IsRefusedFor text fault =
 
 -- What trouble comes from. The text is refused; there was no memory for what is printed; or the writer failed, after a
 -- front of that. Only the writer's fault comes after a write.
-abbrev pub TraceCause : TraceTrouble → List ℕ → Option Break → (writer writes : Device) → Type 0
-TraceCause (trouble.Refused fault) text at writer writes = (writes ≡ writer) × IsRefusedFor text fault
-TraceCause trouble.OutOfMemory text at writer writes = writes ≡ writer
-TraceCause trouble.Write text at writer writes = Fails writer writes × ShowsFront text at writer writes
+abbrev pub TraceCause : Times → TraceTrouble → List ℕ → Option Break → (writer writes : Device) → Type 0
+TraceCause times (trouble.Refused fault) text at writer writes = (writes ≡ writer) × IsRefusedFor text fault
+TraceCause times trouble.OutOfMemory text at writer writes = writes ≡ writer
+TraceCause times trouble.Write text at writer writes = Fails writer writes × ShowsFront times text at writer writes
 
 -- How `trace` ends
 
 -- What is printed of the trace was written, the writer did not fail, and nothing is told.
-pub record ShowsText (text : List ℕ) (at : Option Break) (writer writes faults tells : Device) : Type 0 where
-  pub shows : Shows text at writer writes
+pub record ShowsText (times : Times) (text : List ℕ) (at : Option Break) (writer writes faults tells : Device) : Type 0 where
+  pub shows : Shows times text at writer writes
   pub works : Works writer writes
   pub untold : tells ≡ faults
 
 -- There is trouble with a text, and it is told what it comes from.
-pub record TellsTrouble (text : List ℕ) (at : Option Break) (writer writes faults tells : Device) : Type 0 where
+pub record TellsTrouble (times : Times) (text : List ℕ) (at : Option Break) (writer writes faults tells : Device) : Type 0 where
   pub why : TraceTrouble
-  pub cause : TraceCause why text at writer writes
+  pub cause : TraceCause times why text at writer writes
   pub told : Tells faults tells (trouble_text why)
 
 -- A text and this break, by the status.
-abbrev pub TextEnds : (text : List ℕ) (at : Option Break) (status : ℕ) (writer writes faults tells : Device) → Type 0
-TextEnds text at status writer writes faults tells =
-    ((status ≡ 0) × ShowsText text at writer writes faults tells)
-    ⊎ ((status ≡ 111) × TellsTrouble text at writer writes faults tells)
+abbrev pub TextEnds : (times : Times) (text : List ℕ) (at : Option Break) (status : ℕ)
+    (writer writes faults tells : Device) → Type 0
+TextEnds times text at status writer writes faults tells =
+    ((status ≡ 0) × ShowsText times text at writer writes faults tells)
+    ⊎ ((status ≡ 111) × TellsTrouble times text at writer writes faults tells)
 
 -- The file is read, and its text shown.
-pub record EndsWithText (file : Option (List ℕ)) (at : Option Break) (status : ℕ)
+pub record EndsWithText (times : Times) (file : Option (List ℕ)) (at : Option Break) (status : ℕ)
     (writer writes faults tells : Device) : Type 0 where
   pub text : List ℕ
   pub text_is : IsKnown file text
-  pub ends : TextEnds text at status writer writes faults tells
+  pub ends : TextEnds times text at status writer writes faults tells
 
 -- It is told of a file that is not known to be there that it can't be read, and nothing is written.
 pub record TellsUnread (file_at : List ℕ → Option (List ℕ)) (file : List ℕ) (status : ℕ)
@@ -152,31 +171,32 @@ pub record TellsStarved (status : ℕ) (writer writes faults tells : Device) : T
   pub status_is : status ≡ 111
 
 -- `trace` over this file and this break.
-abbrev pub FileEnds : (file_at : List ℕ → Option (List ℕ)) (file : List ℕ) (at : Option Break) (status : ℕ)
+abbrev pub FileEnds : (times : Times) (file_at : List ℕ → Option (List ℕ)) (file : List ℕ) (at : Option Break) (status : ℕ)
     (writer writes faults tells : Device) → Type 0
-FileEnds file_at file at status writer writes faults tells =
-    EndsWithText (file_at file) at status writer writes faults tells
+FileEnds times file_at file at status writer writes faults tells =
+    EndsWithText times (file_at file) at status writer writes faults tells
     ⊎ (TellsUnread file_at file status writer writes faults tells ⊎ TellsStarved status writer writes faults tells)
 
 -- Words ask for nothing; nothing is written, and the usage is told.
 pub record TellsUsage (words : List (List ℕ)) (status : ℕ) (writer writes faults tells : Device) : Type 0 where
-  pub wrong : (file : List ℕ) (at : Option Break) → AskFor words file at → ⊥
+  pub wrong : (file : List ℕ) (at : Option Break) (local : Bool) → AskFor words file at local → ⊥
   pub unwritten : writes ≡ writer
   pub told : Tells faults tells usage_text
   pub status_is : status ≡ 100
 
 -- What words ask for was done, or there was trouble with it.
-pub record DoesAsked (file_at : List ℕ → Option (List ℕ)) (words : List (List ℕ)) (status : ℕ)
+pub record DoesAsked (ahead : ℤ → ℤ) (file_at : List ℕ → Option (List ℕ)) (words : List (List ℕ)) (status : ℕ)
     (writer writes faults tells : Device) : Type 0 where
   pub file : List ℕ
   pub at : Option Break
-  pub asked : AskFor words file at
-  pub ends : FileEnds file_at file at status writer writes faults tells
+  pub local : Bool
+  pub asked : AskFor words file at local
+  pub ends : FileEnds (times_asked ahead local) file_at file at status writer writes faults tells
 
--- `trace`, by what its words ask for. No words ask for nothing.
-abbrev pub TraceEnds : (file_at : List ℕ → Option (List ℕ)) (words : List (List ℕ)) (status : ℕ)
+-- `trace`, by what its words ask for, where clocks are ahead of UTC by so much. No words ask for nothing.
+abbrev pub TraceEnds : (ahead : ℤ → ℤ) (file_at : List ℕ → Option (List ℕ)) (words : List (List ℕ)) (status : ℕ)
     (writer writes faults tells : Device) → Type 0
-TraceEnds file_at [] status writer writes faults tells = TellsUsage [] status writer writes faults tells
-TraceEnds file_at (word ∷ words) status writer writes faults tells =
-    DoesAsked file_at (word ∷ words) status writer writes faults tells
+TraceEnds ahead file_at [] status writer writes faults tells = TellsUsage [] status writer writes faults tells
+TraceEnds ahead file_at (word ∷ words) status writer writes faults tells =
+    DoesAsked ahead file_at (word ∷ words) status writer writes faults tells
     ⊎ (TellsUsage (word ∷ words) status writer writes faults tells ⊎ TellsStarved status writer writes faults tells)

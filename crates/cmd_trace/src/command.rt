@@ -1,29 +1,34 @@
 //! The command `trace`.
-ghost use Rattle.std.specs.Prelude.{◌≡◌, map, OnOk, IfErr};
+ghost use Rattle.std.specs.Prelude.{◌≡◌, map, option_map, None, OnOk, IfErr};
 ghost use Rattle.tai_status.specs.Counted.{Works, Tells};
-ghost use Rattle.cmd_trace.specs.Traced.{FileEnds, Shows, TextEnds, TraceCause, TraceEnds, trouble_text, unread_text};
+ghost use Rattle.cmd_trace.specs.Traced.{FileEnds, Shows, TextEnds, TraceCause, TraceEnds};
+ghost use Rattle.cmd_trace.specs.Traced.{times_asked, trouble_text, unread_text};
 
 use crate::break_word::read_spec;
 use crate::fault::TraceTrouble;
 use crate::shown::shown;
 use arrayvec::ArrayString;
 use cmd_base::{DONE, FileSource, TROUBLE, push_number, report, report_parts, usage};
+use cmd_local::{LocalZone, Zone};
 use std::alloc::{Allocator, Global};
 use std::io::{ErrorKind, Write};
 use sup_trace::{Break, kind_name, read_text};
 use tai_status::Output;
 use trace_words::{WordsFault, parse_words};
 
-/// Writes what is printed of the trace whose text this is.
-fn show_text<A: Allocator + Clone, W: Write>(
+/// Writes what is printed of the trace whose text this is, with the local times of a zone where there is one.
+fn show_text<A: Allocator + Clone, W: Write, Z: Zone>(
     alloc: &A,
+    zone: Option<&Z>,
     text: &[u8],
     at: Option<Break>,
     writer: &mut Output<W>,
 ) -> Result<(), TraceTrouble>
-    ensures ok { OnOk result (Shows text.now at writer.old writer.new) }
+    ensures ok { OnOk result (Shows (option_map (λ zone. Z.ahead_at zone.now) zone.entry) text.now at
+        writer.old writer.new) }
     ensures works { OnOk result (Works writer.old writer.new) }
-    ensures cause { IfErr result (λ trouble. TraceCause trouble text.now at writer.old writer.new) }
+    ensures cause { IfErr result (λ trouble.
+        TraceCause (option_map (λ zone. Z.ahead_at zone.now) zone.entry) trouble text.now at writer.old writer.new) }
 {
     let Ok(own) = alloc.clone() else {
         return Err(TraceTrouble::OutOfMemory);
@@ -35,7 +40,7 @@ fn show_text<A: Allocator + Clone, W: Write>(
     let Ok(own) = alloc.clone() else {
         return Err(TraceTrouble::OutOfMemory);
     };
-    let Ok(shown) = shown(own, &told, at) else {
+    let Ok(shown) = shown(own, zone, &told, at) else {
         return Err(TraceTrouble::OutOfMemory);
     };
     match writer.write_all(&shown) {
@@ -71,7 +76,25 @@ fn report_trouble<E: Write>(trouble: TraceTrouble, faults: &mut Output<E>) -> u8
     report(faults, trouble_text(trouble).as_bytes(), TROUBLE)
 }
 
-/// Prints what this text tells, and answers the status: 0; or 111 for a text that is refused, for want of
+/// Prints what this text tells, with the local times of a zone where there is one, and answers the status.
+fn show_bytes<A: Allocator + Clone, W: Write, E: Write, Z: Zone>(
+    alloc: &A,
+    zone: Option<&Z>,
+    text: &[u8],
+    at: Option<Break>,
+    writer: &mut Output<W>,
+    faults: &mut Output<E>,
+) -> u8
+    ensures ends { TextEnds (option_map (λ zone. Z.ahead_at zone.now) zone.entry) text.now at result
+        writer.old writer.new faults.old faults.new }
+{
+    match show_text(alloc, zone, text, at, writer) {
+        Ok(()) => DONE,
+        Err(trouble) => report_trouble(trouble, faults),
+    }
+}
+
+/// Prints what this text tells, with labels, and answers the status: 0; or 111 for a text that is refused, for want of
 /// memory and for a fault of the writer.
 pub fn trace_bytes<A: Allocator + Clone, W: Write, E: Write>(
     alloc: &A,
@@ -80,28 +103,28 @@ pub fn trace_bytes<A: Allocator + Clone, W: Write, E: Write>(
     writer: &mut Output<W>,
     faults: &mut Output<E>,
 ) -> u8
-    ensures ends { TextEnds text.now at result writer.old writer.new faults.old faults.new }
+    ensures ends { TextEnds None text.now at result writer.old writer.new faults.old faults.new }
 {
-    match show_text(alloc, text, at, writer) {
-        Ok(()) => DONE,
-        Err(trouble) => report_trouble(trouble, faults),
-    }
+    let no_zone: Option<&LocalZone> = None;
+    show_bytes(alloc, no_zone, text, at, writer, faults)
 }
 
-/// Prints what the text in a file tells, and answers the status: that of `trace_bytes`, and 111 for a file
-/// that can't be read.
-fn trace_file<R: FileSource, W: Write, E: Write>(
+/// Prints what the text in a file tells, with the local times of a zone where there is one, and answers the status: that
+/// of `trace_bytes`, and 111 for a file that can't be read.
+fn trace_file<R: FileSource, W: Write, E: Write, Z: Zone>(
     files: &R,
     alloc: Global,
+    zone: Option<&Z>,
     file: &str,
     at: Option<Break>,
     writer: &mut Output<W>,
     faults: &mut Output<E>,
 ) -> u8
-    ensures ends { FileEnds (R.file_at files.now) file.now at result writer.old writer.new faults.old faults.new }
+    ensures ends { FileEnds (option_map (λ zone. Z.ahead_at zone.now) zone.entry) (R.file_at files.now) file.now at
+        result writer.old writer.new faults.old faults.new }
 {
     match files.read_file(alloc, file) {
-        Ok(text) => trace_bytes(&alloc, &text, at, writer, faults),
+        Ok(text) => show_bytes(&alloc, zone, &text, at, writer, faults),
         Err(fault) if fault.kind() == ErrorKind::OutOfMemory => {
             report_trouble(TraceTrouble::OutOfMemory, faults)
         }
@@ -123,19 +146,28 @@ fn report_unread<E: Write>(file: &str, faults: &mut Output<E>) -> u8
     )
 }
 
-/// The command `trace FILE [--break SPEC]`: prints what each entry of the trace in the file did, and the
-/// machine after them; or with `--break` the number of the first entry that is what SPEC names, as
-/// `read_break` reads it. Answers the status: 0; 100 for wrong words; 111 for a file that can't be read, a
-/// text that is refused, want of memory, and a fault of the writer. Words are looked at before SPEC, SPEC
-/// before the file, and the file before its text.
-pub fn run_trace<R: FileSource, W: Write, E: Write>(
+/// The zone, where local times are asked for.
+fn zone_asked<Z: Zone>(zone: &Z, local: bool) -> Option<&Z>
+    ensures { option_map (λ zone. Z.ahead_at zone.now) result ≡ times_asked (Z.ahead_at zone.now) local }
+{
+    if local { Some(zone) } else { None }
+}
+
+/// The command `trace FILE [--break SPEC] [--local]`: prints what each entry of the trace in the file did, and the
+/// machine after them; with `--local` with the local times of a zone in place of labels, and words in place of the
+/// digits of records; or with `--break` the number of the first entry that is what SPEC names, as `read_break` reads
+/// it, with `--local` or without. Answers the status: 0; 100 for wrong words; 111 for a file that can't be read, a text
+/// that is refused, want of memory, and a fault of the writer. Words are looked at before SPEC, SPEC before the file,
+/// and the file before its text.
+pub fn run_trace<R: FileSource, W: Write, E: Write, Z: Zone>(
     files: &R,
     alloc: Global,
+    zone: &Z,
     words: &[&str],
     writer: &mut Output<W>,
     faults: &mut Output<E>,
 ) -> u8
-    ensures ends { TraceEnds (R.file_at files.now) (map (λ word. word.now) words.now) result
+    ensures ends { TraceEnds (Z.ahead_at zone.now) (R.file_at files.now) (map (λ word. word.now) words.now) result
         writer.old writer.new faults.old faults.new }
 {
     if words.is_empty() {
@@ -147,7 +179,15 @@ pub fn run_trace<R: FileSource, W: Write, E: Write>(
         Err(WordsFault::OutOfMemory) => return report_trouble(TraceTrouble::OutOfMemory, faults),
     };
     match read_spec(asked.at) {
-        Ok(at) => trace_file(files, alloc, asked.file, at, writer, faults),
+        Ok(at) => trace_file(
+            files,
+            alloc,
+            zone_asked(zone, asked.local),
+            asked.file,
+            at,
+            writer,
+            faults,
+        ),
         Err(_) => usage(faults),
     }
 }

@@ -1,9 +1,10 @@
-//! The command `trace`: what each entry of a trace did.
+//! The command `trace`: what each entry of a trace did; with `--local` at which local time, and in words.
 #![tactic(auto)]
 
 mod break_word;
 mod command;
 mod fault;
+mod local;
 mod shown;
 
 pub use break_word::{read_break, read_spec};

@@ -1,25 +1,31 @@
 //! What `trace` prints of a trace.
-ghost use Rattle.std.specs.Prelude.{◌≡◌, ◌++◌, OnOk, IfOk};
+ghost use Rattle.std.specs.Prelude.{◌≡◌, ◌++◌, OnOk, IfOk, option_map};
 ghost use Rattle.cmd_base.specs.Printed.{printed};
 ghost use Rattle.cmd_trace.specs.Traced.{explanation, state_text, IsBreakLine, IsShown};
 
+use crate::local::local_explanation;
+use cmd_local::Zone;
 use itoa::Buffer;
 use std::alloc::{AllocError, Allocator};
 use sup_core::{Machine, phase_name};
 use sup_trace::{Break, TraceText, explain, first_break, record_digits, replay};
 use tai_status::Lines;
 
-/// What is printed of a trace: the line on a break, or where none is asked for the explanation.
-pub fn shown<A: Allocator + Clone, B: Allocator>(
+/// What is printed of a trace: the line on a break, or where none is asked for the explanation, with the local times of
+/// a zone where there is one.
+pub fn shown<A: Allocator + Clone, B: Allocator, Z: Zone>(
     alloc: A,
+    zone: Option<&Z>,
     told: &TraceText<B>,
     at: Option<Break>,
 ) -> Result<Vec<u8, A>, AllocError>
-    ensures { IfOk result (λ text. IsShown told.now at text.items) }
+    ensures { IfOk result (λ text.
+        IsShown (option_map (λ zone. Z.ahead_at zone.now) zone.entry) told.now at text.items) }
 {
-    match at {
-        None => explanation(alloc, told),
-        Some(at) => break_line(alloc, told, at),
+    match (at, zone) {
+        (Some(at), _) => break_line(alloc, told, at),
+        (None, Some(zone)) => local_explanation(alloc, zone, told),
+        (None, None) => explanation(alloc, told),
     }
 }
 

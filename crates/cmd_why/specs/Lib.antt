@@ -1,4 +1,5 @@
 pub mod Entries
 pub mod Facts
 pub mod Sentences
+pub mod Timeline
 pub mod Why

@@ -1,12 +1,13 @@
 -- What `why` finds and writes, and how it ends.
 use Rattle.std.specs.Prelude.{◌≡◌, ◌⊎◌, ℕ, Bool, true, false, not, ◌||◌, if◌then◌else◌, List, [], ◌∷◌, ◌++◌, codes}
-use Rattle.std.specs.Prelude.{Option, Some, None, option_map, Ok, Err, is_some}
+use Rattle.std.specs.Prelude.{◌≢◌, Option, Some, None, option_map, Ok, Err, is_some}
 use Rattle.std.specs.declared.io.ErrorKind.{ErrorKind}
 use Rattle.std.specs.declared.io.ErrorKind.TheVariants as io
 use Rattle.tai_status.specs.Label.{Tai64n}
 use Rattle.tai_status.specs.Extended.{Extended}
 use Rattle.tai_status.specs.Counted.{Device, Fails, Tells, Works, Wrote, WroteFront}
 use Rattle.tai_status.specs.Loading.{loaded_from, status_in}
+use Rattle.tai_status.specs.Record.{Status}
 use Rattle.tai_status.specs.declared.loading.Loaded.{Loaded}
 use Rattle.tai_status.specs.declared.record.RecordFault.{RecordFault}
 use Rattle.sup_trace.specs.Told.{Told, IsTold}
@@ -21,13 +22,17 @@ use Rattle.cmd_svc.specs.Svstat.{fault_name}
 use Rattle.cmd_svc.specs.Turns.{InTurn}
 use Rattle.svc_exit.specs.Exits.{IsEnding, Says}
 use Rattle.svc_exit.specs.declared.ending.Ending.{Ending}
-use Rattle.cmd_why.specs.Facts.{ended_in, facts_of}
+use Rattle.cmd_why.specs.Facts.{ended_in, facts_of, leads_to}
 use Rattle.cmd_why.specs.Sentences.{why_line}
+use Rattle.cmd_why.specs.Timeline.{bar_of, drawing_lines, left_end}
 use Rattle.cmd_why.specs.declared.facts.Ended.{Ended}
 use Rattle.cmd_why.specs.declared.lines.Absence.{Absence}
 use Rattle.cmd_why.specs.declared.lines.Absence.TheVariants as absence
+use Rattle.cmd_why.specs.declared.lines.Drawing.{Drawing}
+use Rattle.cmd_why.specs.declared.lines.Drawing.TheVariants as drawing
 use Rattle.cmd_why.specs.declared.lines.Found.{Found}
 use Rattle.cmd_why.specs.declared.lines.Found.TheVariants as found
+use Rattle.cmd_why.specs.declared.lines.Picture.{Picture}
 use Rattle.cmd_why.specs.declared.lines.Standing.{Standing}
 use Rattle.cmd_why.specs.declared.why.Reach.{Reach}
 use Rattle.cmd_why.specs.declared.why.Reach.TheVariants as reach
@@ -77,6 +82,15 @@ found_line folder found.Unread = folder ++ codes " is supervised, but its status
 found_line folder (found.Bad cause) =
     folder ++ codes " is supervised, but its status is no record: " ++ fault_name cause ++ codes "."
 found_line folder (found.Standing s) = why_line folder s.loaded s.normally_up s.facts s.ending s.time.bytes s.now
+
+-- what is drawn of it
+abbrev pub drawing_in : Found → Drawing
+drawing_in (found.Standing s) = s.drawing
+drawing_in other = drawing.Unasked
+
+-- that line, and what is drawn behind it
+abbrev pub found_text : (folder : List ℕ) → Found → List ℕ
+found_text folder found = found_line folder found ++ (10 ∷ []) ++ drawing_lines (drawing_in found)
 
 -- Whether a service could not be read. That nobody answers is an answer.
 abbrev pub is_unread : Found → Bool
@@ -135,6 +149,23 @@ IsEndingOf exit None ending = ending ≡ None
 IsEndingOf exit (Some ended) (Some ending) = SaysOf exit ended ending
 IsEndingOf exit (Some ended) None = (exit ≡ None) ⊎ SaysNothingOf exit ended
 
+-- This is the picture of a trace beside a record, at a clock reading, and the local time of its left end.
+pub record IsPicture (times : Tai64n → Option (List ℕ)) (told : Told) (status : Status) (now : Tai64n) (picture : Picture)
+    : Type 0 where
+  pub bar : picture.bar.bytes ≡ bar_of told (leads_to told status) now
+  pub from : IsKnown (times (left_end told now)) picture.from.bytes
+
+abbrev pub IsPictureIn : (times : Tai64n → Option (List ℕ)) → Told → Status → (now : Tai64n) → Drawing → Type 0
+IsPictureIn times told status now (drawing.Of picture) = IsPicture times told status now picture
+IsPictureIn times told status now other = ⊥
+
+-- what is drawn where a timeline is asked for: the picture of the trace, where there is one
+abbrev pub IsDrawing : (times : Tai64n → Option (List ℕ)) → (asked : Bool) → Option Told → Status → (now : Tai64n)
+    → Drawing → Type 0
+IsDrawing times false told status now drawn = drawn ≡ drawing.Unasked
+IsDrawing times true None status now drawn = drawn ≡ drawing.Untold
+IsDrawing times true (Some told) status now drawn = IsPictureIn times told status now drawn
+
 -- The bytes that were read are a record of this, and the service is normally up where no file `down` was found.
 pub record ReachesStanding (folder : List ℕ) (loaded : Loaded) (normally_up : Bool) (past now : Option (List Call))
     : Type 0 where
@@ -167,9 +198,10 @@ Reaches k folder (reach.Bad cause) past now = ReachesBad folder cause past now
 Reaches k folder (reach.Standing loaded normally_up) past now = ReachesStanding folder loaded normally_up past now
 
 -- The trace of a service was read and then the clock, once; how it stands is told by its record, that trace and this
--- reading; and how the process ended of which the trace tells last, by the line of that.
-pub record FindsStanding (k : Knowledge) (folder : List ℕ) (loaded : Loaded) (normally_up : Bool) (s : Standing)
-    (past now : Option (List Tai64n)) : Type 0 where
+-- reading; and how the process ended of which the trace tells last, by the line of that. A timeline is drawn where it is
+-- asked for.
+pub record FindsStanding (k : Knowledge) (timeline : Bool) (folder : List ℕ) (loaded : Loaded) (normally_up : Bool)
+    (s : Standing) (past now : Option (List Tai64n)) : Type 0 where
   pub told : Option Told
   pub trace : IsTraceOf (k.traces folder) told
   pub read : Extended past now (s.now ∷ [])
@@ -178,15 +210,17 @@ pub record FindsStanding (k : Knowledge) (folder : List ℕ) (loaded : Loaded) (
   pub facts : s.facts ≡ option_map (λ told. facts_of told (status_in loaded) s.now) told
   pub ending : IsEndingOf (k.exits folder) (ended_in s.facts) s.ending
   pub time : IsKnown (k.times (status_in loaded).label) s.time.bytes
+  pub drawing : IsDrawing k.times timeline told (status_in loaded) s.now s.drawing
 
 -- What a look found, by what came of the calls.
-abbrev pub Finds : Knowledge → (folder : List ℕ) → Reach → Found → (past now : Option (List Tai64n)) → Type 0
-Finds k folder (reach.Absent absence) (found.Absent told) past now = (told ≡ absence) × (now ≡ past)
-Finds k folder reach.Unread found.Unread past now = now ≡ past
-Finds k folder (reach.Bad cause) (found.Bad told) past now = (told ≡ cause) × (now ≡ past)
-Finds k folder (reach.Standing loaded normally_up) (found.Standing s) past now =
-    FindsStanding k folder loaded normally_up s past now
-Finds k folder other found past now = ⊥
+abbrev pub Finds : Knowledge → (timeline : Bool) → (folder : List ℕ) → Reach → Found → (past now : Option (List Tai64n))
+    → Type 0
+Finds k timeline folder (reach.Absent absence) (found.Absent told) past now = (told ≡ absence) × (now ≡ past)
+Finds k timeline folder reach.Unread found.Unread past now = now ≡ past
+Finds k timeline folder (reach.Bad cause) (found.Bad told) past now = (told ≡ cause) × (now ≡ past)
+Finds k timeline folder (reach.Standing loaded normally_up) (found.Standing s) past now =
+    FindsStanding k timeline folder loaded normally_up s past now
+Finds k timeline folder other found past now = ⊥
 
 -- Services in turn
 
@@ -202,49 +236,50 @@ abbrev pub scene : (calls : Option (List Call)) (readings : Option (List Tai64n)
 scene calls readings writer unread =
     record { calls = calls; readings = readings; writer = writer; unread = unread }
 
--- The service in a folder was looked at, and then the line of that was written.
-pub record Shows (k : Knowledge) (folder : List ℕ) (old new : Scene) : Type 0 where
+-- The service in a folder was looked at, and then the text of that was written.
+pub record Shows (k : Knowledge) (timeline : Bool) (folder : List ℕ) (old new : Scene) : Type 0 where
   pub reach : Reach
   pub reaches : Reaches k folder reach old.calls new.calls
   pub found : Found
-  pub finds : Finds k folder reach found old.readings new.readings
-  pub wrote : Wrote old.writer new.writer (found_line folder found ++ 10 ∷ [])
+  pub finds : Finds k timeline folder reach found old.readings new.readings
+  pub wrote : Wrote old.writer new.writer (found_text folder found)
   pub works : Works old.writer new.writer
   pub unread : new.unread ≡ (old.unread || is_unread found)
 
--- A line was not written: there was no memory for it, or the writer failed after a front of it.
-abbrev pub WritesNot : WhyFault → (line : List ℕ) → (old new : Device) → Type 0
-WritesNot fault.OutOfMemory line old new = new ≡ old
-WritesNot fault.Write line old new = WroteFront old new line × Fails old new
+-- A text was not written: there was no memory for it, or the writer failed after a front of it.
+abbrev pub WritesNot : WhyFault → (text : List ℕ) → (old new : Device) → Type 0
+WritesNot fault.OutOfMemory text old new = new ≡ old
+WritesNot fault.Write text old new = WroteFront old new text × Fails old new
 
--- There was no memory for the trace of the service in a folder, or for its line; nothing was written.
+-- There was no memory for the trace of the service in a folder, or for its text; nothing was written.
 pub record LacksMemory (k : Knowledge) (folder : List ℕ) (old new : Scene) : Type 0 where
   pub reach : Reach
   pub reaches : Reaches k folder reach old.calls new.calls
   pub unwritten : new.writer ≡ old.writer
 
--- The service in a folder was looked at, and the writer failed after a front of the line of that.
-pub record FailsToWrite (k : Knowledge) (folder : List ℕ) (old new : Scene) : Type 0 where
+-- The service in a folder was looked at, and the writer failed after a front of the text of that.
+pub record FailsToWrite (k : Knowledge) (timeline : Bool) (folder : List ℕ) (old new : Scene) : Type 0 where
   pub reach : Reach
   pub reaches : Reaches k folder reach old.calls new.calls
   pub found : Found
-  pub finds : Finds k folder reach found old.readings new.readings
-  pub front : WroteFront old.writer new.writer (found_line folder found ++ 10 ∷ [])
+  pub finds : Finds k timeline folder reach found old.readings new.readings
+  pub front : WroteFront old.writer new.writer (found_text folder found)
   pub fails : Fails old.writer new.writer
 
-abbrev pub ShowsNot : Knowledge → (folder : List ℕ) → WhyFault → (old new : Scene) → Type 0
-ShowsNot k folder fault.OutOfMemory old new = LacksMemory k folder old new
-ShowsNot k folder fault.Write old new = FailsToWrite k folder old new
+abbrev pub ShowsNot : Knowledge → (timeline : Bool) → (folder : List ℕ) → WhyFault → (old new : Scene) → Type 0
+ShowsNot k timeline folder fault.OutOfMemory old new = LacksMemory k folder old new
+ShowsNot k timeline folder fault.Write old new = FailsToWrite k timeline folder old new
 
 -- The words before one have their lines, and that one has not. The words after it are not looked at.
-pub record ShowsUpTo (k : Knowledge) (words : List (List ℕ)) (cause : WhyFault) (old new : Scene) : Type 0 where
+pub record ShowsUpTo (k : Knowledge) (timeline : Bool) (words : List (List ℕ)) (cause : WhyFault) (old new : Scene)
+    : Type 0 where
   pub before : List (List ℕ)
   pub folder : List ℕ
   pub after : List (List ℕ)
   pub words_are : words ≡ before ++ folder ∷ after
   pub middle : Scene
-  pub shown : InTurn (Shows k) before old middle
-  pub fails : ShowsNot k folder cause middle new
+  pub shown : InTurn (Shows k timeline) before old middle
+  pub fails : ShowsNot k timeline folder cause middle new
 
 -- what is told of a fault
 abbrev pub why_told : WhyFault → List ℕ
@@ -253,24 +288,36 @@ why_told fault.Write = codes "why: write fault" ++ 10 ∷ []
 
 -- Ends. The scenes at the beginning and at the end are told by whether some service could not be read so far.
 
--- Each word has its line, and nothing is told. The status is 0 where each service could be read.
-pub record ShowsAll (k : Knowledge) (words : List (List ℕ)) (status : ℕ) (old new : Bool → Scene)
+-- Each word has its text, and nothing is told. The status is 0 where each service could be read.
+pub record ShowsAll (k : Knowledge) (timeline : Bool) (words : List (List ℕ)) (status : ℕ) (old new : Bool → Scene)
     (faults tells : Device) : Type 0 where
   pub unread : Bool
-  pub shown : InTurn (Shows k) words (old false) (new unread)
+  pub shown : InTurn (Shows k timeline) words (old false) (new unread)
   pub status_is : status ≡ (if unread then 111 else 0)
   pub untold : tells ≡ faults
 
--- A line could not be written, and it is told why.
-pub record Stops (k : Knowledge) (words : List (List ℕ)) (status : ℕ) (old new : Bool → Scene) (faults tells : Device)
-    : Type 0 where
+-- A text could not be written, and it is told why.
+pub record Stops (k : Knowledge) (timeline : Bool) (words : List (List ℕ)) (status : ℕ) (old new : Bool → Scene)
+    (faults tells : Device) : Type 0 where
   pub cause : WhyFault
-  pub stops : ShowsUpTo k words cause (old false) (new false)
+  pub stops : ShowsUpTo k timeline words cause (old false) (new false)
   pub status_is : status ≡ 111
   pub told : Tells faults tells (why_told cause)
+
+-- `why` over services, with timelines or without
+abbrev pub ServicesEnd : Knowledge → (timeline : Bool) → (words : List (List ℕ)) → (status : ℕ) → (old new : Bool → Scene)
+    → (faults tells : Device) → Type 0
+ServicesEnd k timeline words status old new faults tells =
+    ShowsAll k timeline words status old new faults tells ⊎ Stops k timeline words status old new faults tells
+
+-- The first word asks for timelines of the services behind it; or it is a service.
+pub record FormEnds (k : Knowledge) (word : List ℕ) (services : List (List ℕ)) (status : ℕ) (old new : Bool → Scene)
+    (faults tells : Device) : Type 0 where
+  pub timeline : word ≡ codes "--timeline" → ServicesEnd k true services status old new faults tells
+  pub plain : word ≢ codes "--timeline" → ServicesEnd k false (word ∷ services) status old new faults tells
 
 -- `why`, by its words
 abbrev pub WhyEnds : Knowledge → (words : List (List ℕ)) → (status : ℕ) → (old new : Bool → Scene)
     → (faults tells : Device) → Type 0
-WhyEnds k words status old new faults tells =
-    ShowsAll k words status old new faults tells ⊎ Stops k words status old new faults tells
+WhyEnds k [] status old new faults tells = ServicesEnd k false [] status old new faults tells
+WhyEnds k (word ∷ services) status old new faults tells = FormEnds k word services status old new faults tells

@@ -58,7 +58,7 @@ pub struct Facts {
 }
 
 /// Nanoseconds since the beginning of labels.
-fn nanos(label: &Label) -> u128
+pub(crate) fn nanos(label: &Label) -> u128
     ensures value { result ≡ nanos label.now }
     ensures bound { result < 2 ^ 100 }
 {
@@ -213,7 +213,7 @@ fn is_failure(attempt: Option<Event>) -> bool
 }
 
 /// Whether a trace leads to the process that a record tells of.
-fn leads_to<A: Allocator>(told: &TraceText<A>, status: &View) -> bool
+pub(crate) fn leads_to<A: Allocator>(told: &TraceText<A>, status: &View) -> bool
     ensures { result ≡ leads_to told.now status.now }
 {
     let view = replay(told).view();

@@ -1,10 +1,12 @@
 //! What a look at a service found, and the line of that.
-ghost use Rattle.std.specs.Prelude.{◌≡◌, ◌++◌, string_bytes, IfOk};
-ghost use Rattle.cmd_why.specs.Why.{absence_of, absence_words, found_line, is_denied, is_missing};
+ghost use Rattle.std.specs.Prelude.{◌≡◌, ◌++◌, replicate, string_bytes, IfOk, OnOk};
+ghost use Rattle.cmd_why.specs.Timeline.{drawing_lines, scale};
+ghost use Rattle.cmd_why.specs.Why.{absence_of, absence_words, drawing_in, found_line, found_text, is_denied, is_missing};
 
 use crate::facts::Facts;
 use crate::sentences::why_line;
 use crate::sources::LocalTime;
+use crate::timeline::{Bar, COLUMNS};
 use cmd_svc::{Unreached, fault_name};
 use std::alloc::{AllocError, Allocator};
 use std::io::ErrorKind;
@@ -37,6 +39,26 @@ pub enum Found {
     Standing(Standing),
 }
 
+/// A picture of what stood over time.
+#[derive(Debug, Drop)]
+pub struct Picture {
+    /// The signs of its columns.
+    pub bar: Bar,
+    /// The local time of its left end.
+    pub from: LocalTime,
+}
+
+/// What is drawn of a service.
+#[derive(Debug, Drop)]
+pub enum Drawing {
+    /// No timeline is asked for.
+    Unasked,
+    /// It has no trace that can be read.
+    Untold,
+    /// This picture.
+    Of(Picture),
+}
+
 /// How a service stands.
 #[derive(Debug, Drop)]
 pub struct Standing {
@@ -52,6 +74,8 @@ pub struct Standing {
     pub time: LocalTime,
     /// When it was looked at.
     pub now: Label,
+    /// What is drawn of it.
+    pub drawing: Drawing,
 }
 
 /// Why nobody answers, by why the service was not reached, and why its folder can't be looked at, where it can't. The
@@ -150,4 +174,64 @@ pub fn found_line<A: Allocator>(
             &standing.now,
         ),
     }
+}
+
+/// Writes spaces.
+fn push_spaces<A: Allocator>(out: &mut String<A>, count: usize) -> Result<(), AllocError>
+    ensures { OnOk result (string_bytes out.new ≡ string_bytes out.old ++ replicate count 32) }
+{
+    for _ in 0..count {
+        out.push_str(" ")?;
+    }
+    Ok(())
+}
+
+/// Writes when a picture begins, and that it ends now.
+#[tactic(auto, unfolding(crate::specs::Timeline::scale))]
+fn push_scale<A: Allocator>(out: &mut String<A>, from: &str) -> Result<(), AllocError>
+    ensures { OnOk result (string_bytes out.new ≡ string_bytes out.old ++ scale from.now) }
+{
+    out.push_str(from)?;
+    push_spaces(out, (COLUMNS - 3).saturating_sub(from.len()))?;
+    out.push_str("now")
+}
+
+/// Writes what is drawn.
+fn push_drawing<A: Allocator>(out: &mut String<A>, drawing: &Drawing) -> Result<(), AllocError>
+    ensures { OnOk result (string_bytes out.new ≡ string_bytes out.old ++ drawing_lines drawing.now) }
+{
+    match drawing {
+        Drawing::Unasked => Ok(()),
+        Drawing::Untold => { out.push_str("No timeline: it has no trace that can be read.\n") }
+        Drawing::Of(picture) => {
+            out.push_str(picture.bar.as_str())?;
+            out.push_str("\n")?;
+            push_scale(out, picture.from.as_str())?;
+            out.push_str("\n")
+        }
+    }
+}
+
+/// Writes what is drawn of what a look found.
+fn push_drawing_in<A: Allocator>(out: &mut String<A>, found: &Found) -> Result<(), AllocError>
+    ensures { OnOk result (string_bytes out.new ≡ string_bytes out.old ++ drawing_lines (drawing_in found.now)) }
+{
+    match found {
+        Found::Standing(standing) => push_drawing(out, &standing.drawing),
+        Found::Absent(_) | Found::Unread | Found::Bad(_) => Ok(()),
+    }
+}
+
+/// The line of what a look at the service in a folder found, and what is drawn behind it, each line with its newline.
+pub fn found_text<A: Allocator>(
+    alloc: A,
+    folder: &str,
+    found: &Found,
+) -> Result<String<A>, AllocError>
+    ensures { IfOk result (λ text. string_bytes text ≡ found_text folder.now found.now) }
+{
+    let mut text = found_line(alloc, folder, found)?;
+    text.push_str("\n")?;
+    push_drawing_in(&mut text, found)?;
+    Ok(text)
 }

@@ -75,7 +75,7 @@ pub fn why_line<A: Allocator>(
 }
 
 /// Whether a service runs.
-fn is_running(view: &View) -> bool
+pub(crate) fn is_running(view: &View) -> bool
     ensures { result ≡ is_running view.now }
 {
     view.pid >= 1

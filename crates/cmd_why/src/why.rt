@@ -1,16 +1,18 @@
 //! The command `why`.
-ghost use Rattle.std.specs.Prelude.{◌≡◌, ◌∷◌, [], ◌++◌, false, map, string_bytes, OnOk, IfOk, IfErr};
+ghost use Rattle.std.specs.Prelude.{◌≡◌, false, map, OnOk, IfOk, IfErr};
 ghost use Rattle.std.specs.Option.{option_copied};
 ghost use Rattle.std.specs.Prelude.{option_map};
 ghost use Rattle.tai_status.specs.Counted.{Wrote, Works};
 ghost use Rattle.cmd_svc.specs.Turns.{InTurn};
 ghost use Rattle.cmd_why.specs.Facts.{ended_in, facts_of};
-ghost use Rattle.cmd_why.specs.Why.{found_line, is_unread, knowledge, scene, why_told, Finds, FindsStanding, IsEndingOf};
-ghost use Rattle.cmd_why.specs.Why.{IsTraceOf, Reaches, Shows, ShowsNot, ShowsUpTo, WhyEnds, WritesNot};
+ghost use Rattle.cmd_why.specs.Why.{found_text, is_unread, knowledge, scene, why_told, Finds, FindsStanding, IsDrawing};
+ghost use Rattle.cmd_why.specs.Why.{IsEndingOf, IsPicture, IsTraceOf, Reaches, ServicesEnd, Shows, ShowsNot, ShowsUpTo};
+ghost use Rattle.cmd_why.specs.Why.{WhyEnds, WritesNot};
 
-use crate::facts::{Facts, facts_of};
-use crate::lines::{Absence, Found, Standing, absence_of, found_line};
+use crate::facts::{Facts, facts_of, leads_to};
+use crate::lines::{Absence, Drawing, Found, Picture, Standing, absence_of, found_text};
 use crate::sources::{LocalTimes, ServiceFiles};
+use crate::timeline::{bar_of, left_end};
 use cmd_base::{DONE, TROUBLE, report};
 use cmd_svc::Services;
 use std::alloc::{AllocError, Allocator};
@@ -19,7 +21,7 @@ use sup_trace::{TraceFaultKind, TraceText, read_text};
 use svc_exit::{Ending, read_ending};
 use tai_status::{Label, Loaded, Output, RecordFault, TimeSource, View, decode_front};
 
-/// Why the line of a service is not written.
+/// Why the text of a service is not written.
 #[derive(Clone, Copy, Debug, PartialEq, Eq)]
 pub enum WhyFault {
     /// There is no memory for it, or for the trace.
@@ -104,9 +106,48 @@ fn read_how<F: ServiceFiles>(files: &F, folder: &str, facts: Option<&Facts>) -> 
     }
 }
 
+/// The picture of a trace beside a record, and the local time of its left end.
+fn picture<A: Allocator + Clone, T: LocalTimes>(
+    alloc: &A,
+    times: &T,
+    told: &TraceText<A>,
+    status: &View,
+    now: &Label,
+) -> Result<Picture, AllocError>
+    ensures { IfOk result (λ picture. IsPicture (T.text_at times.now) told.now status.now now.now picture) }
+{
+    let leads = leads_to(told, status);
+    Ok(Picture {
+        bar: bar_of(alloc.clone()?, told, leads, now)?,
+        from: times.local_time(&left_end(told, now)),
+    })
+}
+
+/// What is drawn of a trace, where a timeline is asked for.
+fn draw<A: Allocator + Clone, T: LocalTimes>(
+    alloc: &A,
+    times: &T,
+    timeline: bool,
+    told: Option<&TraceText<A>>,
+    status: &View,
+    now: &Label,
+) -> Result<Drawing, AllocError>
+    ensures { IfOk result (λ drawing.
+        IsDrawing (T.text_at times.now) timeline (option_copied told.entry) status.now now.now drawing) }
+{
+    if !timeline {
+        return Ok(Drawing::Unasked);
+    }
+    let Some(told) = told else {
+        return Ok(Drawing::Untold);
+    };
+    Ok(Drawing::Of(picture(alloc, times, told, status, now)?))
+}
+
 /// How the service in a folder stands, whose record tells this.
 fn stand<A: Allocator + Clone, F: ServiceFiles, T: LocalTimes, C: TimeSource>(
     alloc: &A,
+    timeline: bool,
     files: &F,
     times: &T,
     clock: &mut C,
@@ -115,14 +156,15 @@ fn stand<A: Allocator + Clone, F: ServiceFiles, T: LocalTimes, C: TimeSource>(
     normally_up: bool,
 ) -> Result<Standing, AllocError>
     ensures ok { IfOk result (λ standing.
-        FindsStanding (knowledge (F.trace_at files.now) (F.exit_at files.now) (F.fault_at files.now) (T.text_at times.now)) folder.now
-        loaded normally_up standing (C.readings clock.old) (C.readings clock.new)) }
+        FindsStanding (knowledge (F.trace_at files.now) (F.exit_at files.now) (F.fault_at files.now) (T.text_at times.now)) timeline
+        folder.now loaded normally_up standing (C.readings clock.old) (C.readings clock.new)) }
 {
     let told = read_told(alloc, files, folder)?;
     let now = clock.now();
     let status = loaded.view();
     let facts = facts_in(told.as_ref(), &status, &now);
     let ending = read_how(files, folder, facts.as_ref());
+    let drawing = draw(alloc, times, timeline, told.as_ref(), &status, &now)?;
     Ok(Standing {
         loaded,
         normally_up,
@@ -130,12 +172,14 @@ fn stand<A: Allocator + Clone, F: ServiceFiles, T: LocalTimes, C: TimeSource>(
         ending,
         time: times.local_time(&status.label),
         now,
+        drawing,
     })
 }
 
 /// What a look at the service in a folder found, by what came of its calls.
 fn find<A: Allocator + Clone, F: ServiceFiles, T: LocalTimes, C: TimeSource>(
     alloc: &A,
+    timeline: bool,
     files: &F,
     times: &T,
     clock: &mut C,
@@ -143,8 +187,8 @@ fn find<A: Allocator + Clone, F: ServiceFiles, T: LocalTimes, C: TimeSource>(
     reach: Reach,
 ) -> Result<Found, AllocError>
     ensures { IfOk result (λ found.
-        Finds (knowledge (F.trace_at files.now) (F.exit_at files.now) (F.fault_at files.now) (T.text_at times.now)) folder.now
-        reach found (C.readings clock.old) (C.readings clock.new)) }
+        Finds (knowledge (F.trace_at files.now) (F.exit_at files.now) (F.fault_at files.now) (T.text_at times.now)) timeline
+        folder.now reach found (C.readings clock.old) (C.readings clock.new)) }
 {
     match reach {
         Reach::Absent(absence) => Ok(Found::Absent(absence)),
@@ -152,6 +196,7 @@ fn find<A: Allocator + Clone, F: ServiceFiles, T: LocalTimes, C: TimeSource>(
         Reach::Bad(fault) => Ok(Found::Bad(fault)),
         Reach::Standing(loaded, normally_up) => Ok(Found::Standing(stand(
             alloc,
+            timeline,
             files,
             times,
             clock,
@@ -173,44 +218,35 @@ fn is_unread(found: &Found) -> bool
     }
 }
 
-/// The line of what a look at the service in a folder found, with its newline.
-fn whole_line<A: Allocator + Clone>(
-    alloc: &A,
-    folder: &str,
-    found: &Found,
-) -> Result<String<A>, AllocError>
-    ensures { IfOk result (λ line. string_bytes line ≡ found_line folder.now found.now ++ 10 ∷ []) }
-{
-    let mut line = found_line(alloc.clone()?, folder, found)?;
-    line.push_str("\n")?;
-    Ok(line)
-}
-
-/// Writes the line of what a look at the service in a folder found.
-fn write_line<A: Allocator + Clone, W: Write>(
+/// Writes the text of what a look at the service in a folder found.
+fn write_text<A: Allocator + Clone, W: Write>(
     alloc: &A,
     folder: &str,
     found: &Found,
     writer: &mut Output<W>,
 ) -> Result<(), WhyFault>
-    ensures ok { OnOk result (Wrote writer.old writer.new (found_line folder.now found.now ++ 10 ∷ [])) }
+    ensures ok { OnOk result (Wrote writer.old writer.new (found_text folder.now found.now)) }
     ensures works { OnOk result (Works writer.old writer.new) }
     ensures err { IfErr result (λ cause.
-        WritesNot cause (found_line folder.now found.now ++ 10 ∷ []) writer.old writer.new) }
+        WritesNot cause (found_text folder.now found.now) writer.old writer.new) }
 {
-    let Ok(line) = whole_line(alloc, folder, found) else {
+    let Ok(alloc) = alloc.clone() else {
         return Err(WhyFault::OutOfMemory);
     };
-    match writer.write_all(line.as_bytes()) {
+    let Ok(text) = found_text(alloc, folder, found) else {
+        return Err(WhyFault::OutOfMemory);
+    };
+    match writer.write_all(text.as_bytes()) {
         Ok(()) => Ok(()),
         Err(_) => Err(WhyFault::Write),
     }
 }
 
-/// Looks at the service in a folder, and writes the line of that. Whether some service could not be read, this one or
+/// Looks at the service in a folder, and writes the text of that. Whether some service could not be read, this one or
 /// one before it.
 fn show<S, F, T, A, W, C>(
     alloc: &A,
+    timeline: bool,
     services: &mut S,
     files: &F,
     times: &T,
@@ -227,26 +263,27 @@ where
     W: Write,
     C: TimeSource,
     ensures ok { IfOk result (λ unread_now.
-        Shows (knowledge (F.trace_at files.now) (F.exit_at files.now) (F.fault_at files.now) (T.text_at times.now)) folder.now
-        (scene (S.calls services.old) (C.readings clock.old) writer.old unread)
+        Shows (knowledge (F.trace_at files.now) (F.exit_at files.now) (F.fault_at files.now) (T.text_at times.now)) timeline
+        folder.now (scene (S.calls services.old) (C.readings clock.old) writer.old unread)
         (scene (S.calls services.new) (C.readings clock.new) writer.new unread_now)) }
     ensures err { IfErr result (λ cause.
-        ShowsNot (knowledge (F.trace_at files.now) (F.exit_at files.now) (F.fault_at files.now) (T.text_at times.now)) folder.now cause
-        (scene (S.calls services.old) (C.readings clock.old) writer.old unread)
+        ShowsNot (knowledge (F.trace_at files.now) (F.exit_at files.now) (F.fault_at files.now) (T.text_at times.now)) timeline
+        folder.now cause (scene (S.calls services.old) (C.readings clock.old) writer.old unread)
         (scene (S.calls services.new) (C.readings clock.new) writer.new false)) }
 {
     let reached = reach_service(services, files, times, folder);
-    let Ok(found) = find(alloc, files, times, clock, folder, reached) else {
+    let Ok(found) = find(alloc, timeline, files, times, clock, folder, reached) else {
         return Err(WhyFault::OutOfMemory);
     };
-    write_line(alloc, folder, &found, writer)?;
+    write_text(alloc, folder, &found, writer)?;
     Ok(unread || is_unread(&found))
 }
 
-/// Shows the services in folders, one after the other, up to the first whose line can't be written. Whether some
+/// Shows the services in folders, one after the other, up to the first whose text can't be written. Whether some
 /// service could not be read.
 fn show_all<S, F, T, A, W, C>(
     alloc: &A,
+    timeline: bool,
     services: &mut S,
     files: &F,
     times: &T,
@@ -262,19 +299,21 @@ where
     W: Write,
     C: TimeSource,
     ensures ok { IfOk result (λ unread.
-        InTurn (Shows (knowledge (F.trace_at files.now) (F.exit_at files.now) (F.fault_at files.now) (T.text_at times.now)))
+        InTurn (Shows (knowledge (F.trace_at files.now) (F.exit_at files.now) (F.fault_at files.now) (T.text_at times.now)) timeline)
         (map (λ word. word.now) folders.now)
         (scene (S.calls services.old) (C.readings clock.old) writer.old false)
         (scene (S.calls services.new) (C.readings clock.new) writer.new unread)) }
     ensures err { IfErr result (λ cause.
-        ShowsUpTo (knowledge (F.trace_at files.now) (F.exit_at files.now) (F.fault_at files.now) (T.text_at times.now))
+        ShowsUpTo (knowledge (F.trace_at files.now) (F.exit_at files.now) (F.fault_at files.now) (T.text_at times.now)) timeline
         (map (λ word. word.now) folders.now) cause
         (scene (S.calls services.old) (C.readings clock.old) writer.old false)
         (scene (S.calls services.new) (C.readings clock.new) writer.new false)) }
 {
     let mut unread = false;
     for folder in folders {
-        unread = show(alloc, services, files, times, folder, unread, writer, clock)?;
+        unread = show(
+            alloc, timeline, services, files, times, folder, unread, writer, clock,
+        )?;
     }
     Ok(unread)
 }
@@ -289,11 +328,50 @@ fn fault_text(fault: WhyFault) -> &'static [u8]
     }
 }
 
+/// `why` over services, with timelines or without.
+fn tell_services<S, F, T, A, W, E, C>(
+    alloc: A,
+    timeline: bool,
+    services: &mut S,
+    files: &F,
+    times: &T,
+    folders: &[&str],
+    writer: &mut Output<W>,
+    faults: &mut Output<E>,
+    clock: &mut C,
+) -> u8
+where
+    S: Services,
+    F: ServiceFiles,
+    T: LocalTimes,
+    A: Allocator + Clone,
+    W: Write,
+    E: Write,
+    C: TimeSource,
+    ensures ends { ServicesEnd (knowledge (F.trace_at files.now) (F.exit_at files.now) (F.fault_at files.now) (T.text_at times.now))
+        timeline (map (λ word. word.now) folders.now) result
+        (scene (S.calls services.old) (C.readings clock.old) writer.old)
+        (scene (S.calls services.new) (C.readings clock.new) writer.new) faults.old faults.new }
+{
+    match show_all(
+        &alloc, timeline, services, files, times, folders, writer, clock,
+    ) {
+        Ok(true) => TROUBLE,
+        Ok(false) => DONE,
+        Err(fault) => report(faults, fault_text(fault), TROUBLE),
+    }
+}
+
 /// The command `why`: writes a line for the service in each folder that its words name, in order: in plain words how it
 /// stands and why, as [`why_line`](crate::why_line) says it; or that nobody answers for it, or that it can't be read.
-/// It is looked at when its line comes: first its status is read, then its trace, and then the clock, once. Answers the
-/// status: 0; 111 where a service could not be read, which its line tells; and 111 for a fault of the writer and for
-/// want of memory, and then the services after that one are not looked at.
+/// It is looked at when its line comes: first its status is read, then its trace, and then the clock, once.
+///
+/// Where the first word is `--timeline`, two lines more stand behind the line of each service behind it that could be
+/// read: the picture of its trace, as [`bar_of`] draws it, and the local time at which that begins, with `now` at its
+/// end; or one line that there is no trace that can be read.
+///
+/// Answers the status: 0; 111 where a service could not be read, which its line tells; and 111 for a fault of the writer
+/// and for want of memory, and then the services after that one are not looked at.
 pub fn run_why<S, F, T, A, W, E, C>(
     alloc: A,
     services: &mut S,
@@ -317,9 +395,12 @@ where
         (scene (S.calls services.old) (C.readings clock.old) writer.old)
         (scene (S.calls services.new) (C.readings clock.new) writer.new) faults.old faults.new }
 {
-    match show_all(&alloc, services, files, times, words, writer, clock) {
-        Ok(true) => TROUBLE,
-        Ok(false) => DONE,
-        Err(fault) => report(faults, fault_text(fault), TROUBLE),
+    match words {
+        ["--timeline", folders @ ..] => tell_services(
+            alloc, true, services, files, times, folders, writer, faults, clock,
+        ),
+        _ => tell_services(
+            alloc, false, services, files, times, words, writer, faults, clock,
+        ),
     }
 }

@@ -125,7 +125,8 @@ pub record CommandEnds (name : List ℕ) (words : List (List ℕ)) (status : ℕ
       → EnvdirEnds system.state words status (envdir_scene before.launches old) (envdir_scene after.launches new)
   pub envdir_unread : name ≡ codes "envdir" → new.console.reader ≡ old.console.reader
   pub trace : name ≡ codes "trace"
-      → TraceEnds system.files words status old.console.writer new.console.writer old.console.faults new.console.faults
+      → TraceEnds system.ahead system.files words status old.console.writer new.console.writer old.console.faults
+      new.console.faults
   pub trace_unread : name ≡ codes "trace" → new.console.reader ≡ old.console.reader
   pub multilog : name ≡ codes "multilog"
       → MultilogEnds words status (stage_of before.shelf old) (stage_of after.shelf new)

@@ -85,7 +85,7 @@ where
         "wait" => return run_wait(waiting, rt.alloc(), services, pace, words, faults),
         "svscan" => return run_svscan(waiting, service_set, words, faults),
         "envdir" => return run_envdir(rt, launcher, rt.alloc(), words, writer, faults),
-        "trace" => return run_trace(rt, rt.alloc(), words, writer, faults),
+        "trace" => return run_trace(rt, rt.alloc(), zone, words, writer, faults),
         "help" | "--help" => return run_help(words, writer, faults),
         "version" | "--version" => return run_version(words, writer, faults),
         _ => return usage(faults),

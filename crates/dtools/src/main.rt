@@ -80,10 +80,11 @@ fn run_arguments<V: Wait, P: ServiceSet, D: Read, W: Write, E: Write, C: TimeSou
     }
 }
 
-/// The zone of this computer, where the command tells local times. The others need none.
+/// The zone of this computer, where the command tells local times, `trace` only with its flag. The others need none.
 fn zone_for(rt: &HostRuntime, words: &[&str]) -> LocalZone {
     match words {
         ["tai64nlocal" | "why", ..] => system_zone(rt),
+        ["trace", words @ ..] if words.iter().any(|word| *word == "--local") => system_zone(rt),
         _ => LocalZone::Utc,
     }
 }

@@ -1,19 +1,21 @@
 -- What words ask for, from what a parse of them gave.
-use Rattle.std.proofs.Common.{◌≡◌, ◌∙◌, List, ℕ, [], ◌∷◌, Option, Some, None, codes, refl}
+use Rattle.std.proofs.Common.{◌≡◌, ◌∙◌, List, ℕ, Bool, [], ◌∷◌, Option, Some, None, codes, refl}
 use Rattle.clap.specs.Words.{IsAmong, Row, fault_of, first_of, matches_of}
 use Rattle.clap.specs.Kinds.{Kinds}
 use Rattle.clap.specs.declared.error.kind.ErrorKind.{ErrorKind}
-use Rattle.trace_words.specs.Words.{asked_of, given_by, trace_line}
+use Rattle.trace_words.specs.Words.{asked_of, given_by, is_set, trace_line}
 
 -- where no step of the parse fails, words ask for what its rows give
 asked-given : (words : List (List ℕ)) → fault_of trace_line words ≡ [] → asked_of words ≡ given_by words
 unfolding asked_of
 asked-given words none = rw none refl
 
-pub asked-found : (words : List (List ℕ)) (rows : List Row) (file : List ℕ) (at : Option (List ℕ)) → fault_of trace_line words ≡ []
-    → rows ≡ matches_of trace_line words → Some file ≡ first_of (codes "FILE") rows → at ≡ first_of (codes "break") rows
-    → asked_of words ≡ Some (file, at)
-asked-found words rows file at none is found broken = asked-given words none ∙ rw (← is, ← found, ← broken) refl
+pub asked-found : (words : List (List ℕ)) (rows : List Row) (file : List ℕ) (at : Option (List ℕ)) (local : Bool)
+    → fault_of trace_line words ≡ [] → rows ≡ matches_of trace_line words → Some file ≡ first_of (codes "FILE") rows
+    → at ≡ first_of (codes "break") rows → local ≡ is_set (first_of (codes "local") rows)
+    → asked_of words ≡ Some (record { file = file; at = at; local = local })
+asked-found words rows file at local none is found broken flagged =
+    asked-given words none ∙ rw (← is, ← found, broken, flagged) refl
 
 pub asked-without_file : (words : List (List ℕ)) (rows : List Row) → fault_of trace_line words ≡ []
     → rows ≡ matches_of trace_line words → None ≡ first_of (codes "FILE") rows → asked_of words ≡ None

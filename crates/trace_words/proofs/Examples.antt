@@ -1,23 +1,36 @@
 -- What some command lines ask for.
-use Rattle.std.proofs.Common.{◌≡◌, [], ◌∷◌, Some, None, codes, refl}
+use Rattle.std.proofs.Common.{◌≡◌, [], ◌∷◌, true, false, Some, None, codes, refl}
 use Rattle.clap.proofs.OnLiterals.{clap_on_literals}
 use Rattle.trace_words.specs.Words.{asked_of}
+use Rattle.trace_words.specs.Examples.{asking}
 
-pub file_alone : asked_of (codes "t" ∷ []) ≡ Some (codes "t", None)
+pub file_alone : asked_of (codes "t" ∷ []) ≡ asking (codes "t") None false
 unfolding clap_on_literals asked_of
 file_alone = refl
 
-pub break_behind_file : asked_of (codes "t" ∷ codes "--break" ∷ codes "byte:d" ∷ []) ≡ Some (codes "t", Some (codes "byte:d"))
+pub break_behind_file : asked_of (codes "t" ∷ codes "--break" ∷ codes "byte:d" ∷ []) ≡ asking (codes "t") (Some (codes "byte:d")) false
 unfolding clap_on_literals asked_of
 break_behind_file = refl
 
-pub break_before_file : asked_of (codes "--break=byte:d" ∷ codes "t" ∷ []) ≡ Some (codes "t", Some (codes "byte:d"))
+pub break_before_file : asked_of (codes "--break=byte:d" ∷ codes "t" ∷ []) ≡ asking (codes "t") (Some (codes "byte:d")) false
 unfolding clap_on_literals asked_of
 break_before_file = refl
 
-pub file_behind_dashes : asked_of (codes "--" ∷ codes "--break" ∷ []) ≡ Some (codes "--break", None)
+pub file_behind_dashes : asked_of (codes "--" ∷ codes "--break" ∷ []) ≡ asking (codes "--break") None false
 unfolding clap_on_literals asked_of
 file_behind_dashes = refl
+
+pub local_before_file : asked_of (codes "--local" ∷ codes "t" ∷ []) ≡ asking (codes "t") None true
+unfolding clap_on_literals asked_of
+local_before_file = refl
+
+pub local_behind_break : asked_of (codes "t" ∷ codes "--break" ∷ codes "byte:d" ∷ codes "--local" ∷ []) ≡ asking (codes "t") (Some (codes "byte:d")) true
+unfolding clap_on_literals asked_of
+local_behind_break = refl
+
+pub local_behind_dashes : asked_of (codes "--" ∷ codes "--local" ∷ []) ≡ asking (codes "--local") None false
+unfolding clap_on_literals asked_of
+local_behind_dashes = refl
 
 pub no_word : asked_of [] ≡ None
 unfolding clap_on_literals asked_of
@@ -42,3 +55,15 @@ unknown_option = refl
 pub help_flag : asked_of (codes "--help" ∷ []) ≡ None
 unfolding clap_on_literals asked_of
 help_flag = refl
+
+pub local_alone : asked_of (codes "--local" ∷ []) ≡ None
+unfolding clap_on_literals asked_of
+local_alone = refl
+
+pub local_twice : asked_of (codes "--local" ∷ codes "t" ∷ codes "--local" ∷ []) ≡ None
+unfolding clap_on_literals asked_of
+local_twice = refl
+
+pub local_with_value : asked_of (codes "--local=yes" ∷ codes "t" ∷ []) ≡ None
+unfolding clap_on_literals asked_of
+local_with_value = refl

@@ -1,9 +1,15 @@
 -- What the words of `trace` ask for. The words of a command line are clap's own (https://docs.rs/clap): its
 -- specification says which words a command line takes, and what each argument gets.
-use Rattle.std.specs.Prelude.{List, ℕ, [], ◌∷◌, true, codes, Option, Some, None, option_map}
+use Rattle.std.specs.Prelude.{List, ℕ, [], ◌∷◌, Bool, true, false, bytes_eq, codes, Option, Some, None, option_map}
 use Rattle.clap.specs.Kinds.{Kinds}
-use Rattle.clap.specs.Words.{App, Rule, fault_of, first_of, matches_of, new_app, new_rule, with_rule}
-use Rattle.clap.specs.declared.builder.action.ArgAction.TheVariants.{Set}
+use Rattle.clap.specs.Words.{App, Row, Rule, fault_of, first_of, matches_of, new_app, new_rule, with_rule}
+use Rattle.clap.specs.declared.builder.action.ArgAction.TheVariants.{Set, SetTrue}
+
+-- What words ask for: a file; what to break at, where that is asked; and whether local times are.
+pub record Asked : Type 0 where
+  pub file : List ℕ
+  pub at : Option (List ℕ)
+  pub local : Bool
 
 -- the word FILE, which must be there
 abbrev pub file_rule : Rule
@@ -13,26 +19,41 @@ file_rule = record (new_rule (codes "FILE")) { required = true; action = Some Se
 abbrev pub break_rule : Rule
 break_rule = record (new_rule (codes "break")) { long = Some (codes "break"); action = Some Set }
 
+-- the flag `--local`
+abbrev pub local_rule : Rule
+local_rule = record (new_rule (codes "local")) { long = Some (codes "local"); action = Some SetTrue }
+
 -- a command line without the program's name, and without the flags for help and version
 abbrev pub without_extras : App → App
 without_extras line = record line {
   top = record line.top { no_binary_name = true; disable_help_flag = true; disable_version_flag = true };
 }
 
--- the command line `FILE [--break SPEC]`
+-- the command line `FILE [--break SPEC] [--local]`
 abbrev pub trace_line : App
-trace_line = with_rule (with_rule (without_extras (new_app (codes "trace"))) file_rule) break_rule
+trace_line =
+    with_rule (with_rule (with_rule (without_extras (new_app (codes "trace"))) file_rule) break_rule) local_rule
 
--- the file that words name, and what they break at
-abbrev pub given_by : List (List ℕ) → Option (List ℕ × Option (List ℕ))
-given_by words = option_map (λ file. (file, first_of (codes "break") (matches_of trace_line words)))
-    (first_of (codes "FILE") (matches_of trace_line words))
+-- whether a flag is there, by its value
+abbrev pub is_set : Option (List ℕ) → Bool
+is_set (Some text) = bytes_eq text (codes "true")
+is_set None = false
+
+-- what words ask for that name this file, by what their arguments got
+abbrev pub asked_with : List Row → (file : List ℕ) → Asked
+asked_with rows file =
+    record { file = file; at = first_of (codes "break") rows; local = is_set (first_of (codes "local") rows) }
+
+-- the file that words name, what they break at, and whether they want local times
+abbrev pub given_by : List (List ℕ) → Option Asked
+given_by words =
+    option_map (asked_with (matches_of trace_line words)) (first_of (codes "FILE") (matches_of trace_line words))
 
 -- The same where a parse of the words has no fault, and nothing where it has one.
-abbrev pub where_faultless : Kinds → List (List ℕ) → Option (List ℕ × Option (List ℕ))
+abbrev pub where_faultless : Kinds → List (List ℕ) → Option Asked
 where_faultless [] words = given_by words
 where_faultless (fault ∷ faults) words = None
 
 -- what words ask for
-unfoldable pub asked_of : List (List ℕ) → Option (List ℕ × Option (List ℕ))
+unfoldable pub asked_of : List (List ℕ) → Option Asked
 asked_of words = where_faultless (fault_of trace_line words) words

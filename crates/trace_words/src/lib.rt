@@ -1,12 +1,12 @@
-//! The words of the command `trace`: a file, and what to break at.
+//! The words of the command `trace`: a file, what to break at, and whether to tell local times.
 //!
-//! [`parse_words`] reads them with `clap`, as the command line `FILE [--break SPEC]`. It is a crate of its own, so that
-//! no crate above it is checked with the code of a parser of command lines.
+//! [`parse_words`] reads them with `clap`, as the command line `FILE [--break SPEC] [--local]`. It is a crate of its own, so
+//! that no crate above it is checked with the code of a parser of command lines.
 #![tactic(auto)]
 
 ghost use Rattle.std.specs.Prelude.{◌≡◌, map, IfOk, IfErr, Some, None, option_map};
 ghost use Rattle.clap.specs.Words.{FailsBy, fault_of, found_of, matches_of, rows_of};
-ghost use Rattle.trace_words.specs.Words.{asked_of, trace_line};
+ghost use Rattle.trace_words.specs.Words.{asked_of, is_set, trace_line};
 
 mod laws;
 
@@ -15,11 +15,12 @@ use clap::{Arg, ArgAction, ArgMatches, Command, Error};
 pub use laws::worked_lines;
 use std::alloc::Global;
 
-/// What the words of `trace` ask for: a file, and what to break at.
+/// What the words of `trace` ask for: a file, what to break at, and whether to tell local times.
 #[derive(Clone, Copy, Debug, PartialEq, Eq)]
 pub struct TraceWords<'a> {
     pub file: &'a str,
     pub at: Option<&'a str>,
+    pub local: bool,
 }
 
 /// Why words ask for nothing.
@@ -29,11 +30,11 @@ pub enum WordsFault {
     OutOfMemory,
 }
 
-/// What words ask for, read as `FILE [--break SPEC]`, the option before the file or after it, its
-/// value in the next word or behind `=`. What the command line does not take is `Wrong`.
+/// What words ask for, read as `FILE [--break SPEC] [--local]`, the options before the file or after it, the
+/// value of `--break` in the next word or behind `=`. What the command line does not take is `Wrong`.
 pub fn parse_words<'a>(alloc: Global, words: &'a [&'a str]) -> Result<TraceWords<'a>, WordsFault>
     ensures asked { IfOk result (λ asked. asked_of (map (λ word. word.now) words.entry.now)
-        ≡ Some (asked.file.now, option_map (λ at. at.now) asked.at)) }
+        ≡ Some (record { file = asked.file.now; at = option_map (λ at. at.now) asked.at; local = asked.local })) }
     ensures wrong { IfErr result (λ fault. fault ≡ WordsFault.Wrong
         → asked_of (map (λ word. word.now) words.entry.now) ≡ None) }
 {
@@ -46,8 +47,19 @@ pub fn parse_words<'a>(alloc: Global, words: &'a [&'a str]) -> Result<TraceWords
         Some(file) => Ok(TraceWords {
             file,
             at: matches.get_str("break"),
+            local: is_set(matches.get_str("local")),
         }),
         None => Err(WordsFault::Wrong),
+    }
+}
+
+/// Whether a flag is there, by its value.
+fn is_set(value: Option<&str>) -> bool
+    ensures { result ≡ is_set (option_map (λ text. text.now) value.entry) }
+{
+    match value {
+        Some(text) => text == "true",
+        None => false,
     }
 }
 
@@ -63,11 +75,15 @@ fn match_words<'a>(alloc: Global, words: &'a [&'a str]) -> Result<ArgMatches<'a>
     let at = Arg::new(alloc, "break")
         .long("break")
         .action(ArgAction::Set);
+    let local = Arg::new(alloc, "local")
+        .long("local")
+        .action(ArgAction::SetTrue);
     Command::new(alloc, "trace")
         .no_binary_name(true)
         .disable_help_flag(true)
         .disable_version_flag(true)
         .arg(file)?
         .arg(at)?
+        .arg(local)?
         .try_get_matches_from(words)
 }

@@ -1,6 +1,7 @@
-use Rattle.std.proofs.Common.{◌∙◌, rules, codes, inl, inr}
+use Rattle.std.proofs.Common.{◌∙◌, ap, rules, codes, inl, inr}
 use Rattle.clap.specs.Words.{found_of, rows_of}
 use Rattle.clap.proofs.WalkLemmas.{first_value-rows}
+use Rattle.trace_words.specs.Words.{is_set}
 use Rattle.trace_words.proofs.Asked.{asked-found, asked-refused, asked-without_file}
 use Rattle.trace_words.proofs.parse_words.Goals as goal
 
@@ -15,9 +16,12 @@ returns-in-Err-2-clause-wrong c _ =
 -- src/lib.rt:34:1
 pub returns-in-Some-clause-asked : goal.returns-in-Some-clause-asked
 returns-in-Some-clause-asked c =
-    asked-found _ (rows_of (found_of c.in-Ok.matches)) _ _ c.in-Ok.ensures.kinds c.in-Ok.ensures.matches
+    let rows = rows_of (found_of c.in-Ok.matches) in
+    let flag = c.get_str-in-Some-2.ensures ∙ first_value-rows (found_of c.in-Ok.matches) (codes "local") in
+    asked-found _ rows _ _ _ c.in-Ok.ensures.kinds c.in-Ok.ensures.matches
     (c.in-Some.ensures ∙ first_value-rows (found_of c.in-Ok.matches) (codes "FILE"))
     (c.get_str-in-Some.ensures ∙ first_value-rows (found_of c.in-Ok.matches) (codes "break"))
+    (c.is_set.ensures ∙ ap is_set flag)
 
 -- src/lib.rt:31:1
 pub returns-clause-wrong : goal.returns-clause-wrong

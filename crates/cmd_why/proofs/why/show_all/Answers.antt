@@ -17,7 +17,7 @@ returns-in_err-unread-clause-err g c =
     let within : i < length folders = search rules in
     let old = scene (g.S.Services.calls c.args.services.now) (g.C.TimeSource.readings c.args.clock.now) c.args.writer.now false in
     let new = scene (g.S.Services.calls c.show.new.services) (g.C.TimeSource.readings c.show.new.clock) c.show.new.writer false in
-    let stops : ShowsUpTo k (map now folders) c.in_err-unread.field-0.0 old new = record {
+    let stops : ShowsUpTo k c.args.timeline (map now folders) c.in_err-unread.field-0.0 old new = record {
       before = map now (take i folders);
       folder = now (get_or folders i nowhere);
       after = map now (drop (i + 1) folders);
@@ -39,6 +39,6 @@ loop-folder-preserved g c =
     let old = scene (g.S.Services.calls c.args.services.now) (g.C.TimeSource.readings c.args.clock.now) c.args.writer.now false in
     let middle = scene (g.S.Services.calls c.loop-folder.services) (g.C.TimeSource.readings c.loop-folder.clock) c.loop-folder.writer c.loop-folder.unread in
     let new = scene (g.S.Services.calls c.show.new.services) (g.C.TimeSource.readings c.show.new.clock) c.show.new.writer c.in_ok-unread.unread in
-    subst (λ (done : List (List ℕ)). InTurn (Shows k) done old new) (sym (taken-one now folders i nowhere within))
-    (in_turn-then (Shows k) (map now (take i folders)) (now (get_or folders i nowhere)) old middle new c.loop-folder.invariant
+    subst (λ (done : List (List ℕ)). InTurn (Shows k c.args.timeline) done old new) (sym (taken-one now folders i nowhere within))
+    (in_turn-then (Shows k c.args.timeline) (map now (take i folders)) (now (get_or folders i nowhere)) old middle new c.loop-folder.invariant
     c.in_ok-unread.ensures.ok)

@@ -1,0 +1,322 @@
+//! What `trace --local` prints of a trace: local times in place of labels, and words in place of the digits of records.
+ghost use Rattle.std.specs.Prelude.{◌≡◌, ◌<◌, ◌++◌, ◌∷◌, [], decimal, IfOk, OnOk};
+ghost use Rattle.cmd_base.specs.Printed.{printed};
+ghost use Rattle.cmd_local.specs.Digits.{digit, nine_digits};
+ghost use Rattle.sup_core.specs.History.{History, state_of};
+ghost use Rattle.sup_core.specs.Rules.{IsEvent, next};
+ghost use Rattle.cmd_trace.specs.Local.{answer_words, ask_words, asks_words, event_words, exiting_words, line_words};
+ghost use Rattle.cmd_trace.specs.Local.{local_explanation, local_line, local_lines, local_state, paused_words};
+ghost use Rattle.cmd_trace.specs.Local.{process_words, record_words, reply_words, time_words, want_words};
+
+use cmd_local::{Zone, local_time};
+use itoa::Buffer;
+use std::alloc::{AllocError, Allocator};
+use sup_core::{Ask, Event, Machine, Reply, event_text, phase_name, sig_name};
+use sup_trace::{TraceText, replay};
+use tai_status::{Label, Want, text};
+
+/// A line for each entry, and one on the machine after them, with local times: as `1 byte d: took TERM:4711 CONT:4711
+/// record (up 4711, wanted down, since 2026-11-25 01:33:02.123456789) -> up` and `state up (up 4711, wanted down, since
+/// 2026-11-25 01:33:02.123456789)`.
+///
+/// A record is told by the words `up PID` or `down`; `paused`, where its process is; `wanted up`, `wanted down` or
+/// `wanted once`; `exiting`, where supervise is to end; and `since` the last change of process. A label outside of the
+/// years 1900 to 9999 is told as its own text.
+pub fn local_explanation<A: Allocator, B: Allocator, Z: Zone>(
+    alloc: A,
+    zone: &Z,
+    told: &TraceText<B>,
+) -> Result<Vec<u8, A>, AllocError>
+    ensures { IfOk result (λ text. text.items ≡ local_explanation (Z.ahead_at zone.now) told.now) }
+{
+    let mut out = Vec::new(alloc);
+    push_entries(&mut out, zone, told)?;
+    push_state(&mut out, zone, &replay(told))?;
+    Ok(out)
+}
+
+/// Writes a line for each entry at the end of a text.
+fn push_entries<A: Allocator, B: Allocator, Z: Zone>(
+    out: &mut Vec<u8, A>,
+    zone: &Z,
+    told: &TraceText<B>,
+) -> Result<(), AllocError>
+    ensures { OnOk result (out.new.items
+        ≡ out.old.items ++ printed (local_lines (Z.ahead_at zone.now) told.now)) }
+{
+    let mut machine = told.base();
+    for (place, event) in told.entries().iter().enumerate() {
+        push_entry(out, zone, place as u64 + 1, &mut machine, event)?;
+    }
+    Ok(())
+}
+
+/// Writes the line of an entry, whose event the machine takes.
+fn push_entry<A: Allocator, Z: Zone>(
+    out: &mut Vec<u8, A>,
+    zone: &Z,
+    number: u64,
+    machine: &mut Machine,
+    event: &Event,
+) -> Result<(), AllocError>
+    requires { IsEvent event.now }
+    ensures line { (past : History) → state_of past ≡ machine.old → OnOk result (out.new.items
+        ≡ out.old.items ++ local_line (Z.ahead_at zone.now) number past event.now ++ 10 ∷ []) }
+    ensures state { (past : History) → state_of past ≡ machine.old → machine.new ≡ state_of (next past event.now) }
+{
+    let reply = machine.step(*event);
+    push_line(out, zone, number, event, machine, &reply)
+}
+
+/// Writes the line of an entry: what happened, what was answered, and the phase after it.
+#[tactic(auto, unfolding(crate::specs::Local::line_words))]
+fn push_line<A: Allocator, Z: Zone>(
+    out: &mut Vec<u8, A>,
+    zone: &Z,
+    number: u64,
+    event: &Event,
+    after: &Machine,
+    reply: &Reply,
+) -> Result<(), AllocError>
+    ensures { OnOk result (out.new.items
+        ≡ out.old.items ++ line_words (Z.ahead_at zone.now) number event.now after.now reply.now ++ 10 ∷ []) }
+{
+    push_number(out, number)?;
+    out.extend_from_slice(b" ")?;
+    push_event(out, zone, event)?;
+    out.extend_from_slice(b": ")?;
+    push_answer(out, zone, after, reply)?;
+    out.push(b'\n')?;
+    Ok(())
+}
+
+/// Writes a number at the end of a text.
+fn push_number<A: Allocator>(out: &mut Vec<u8, A>, number: u64) -> Result<(), AllocError>
+    ensures { OnOk result (out.new.items ≡ out.old.items ++ decimal number) }
+{
+    let mut digits = Buffer::new();
+    out.extend_from_slice(digits.format(number).as_bytes())
+}
+
+/// Writes what happened.
+fn push_event<A: Allocator, Z: Zone>(
+    out: &mut Vec<u8, A>,
+    zone: &Z,
+    event: &Event,
+) -> Result<(), AllocError>
+    ensures { OnOk result (out.new.items ≡ out.old.items ++ event_words (Z.ahead_at zone.now) event.now) }
+{
+    match event {
+        Event::Byte(_) => out.extend_from_slice(event_text(event).as_bytes()),
+        Event::Started { pid, label } => {
+            out.extend_from_slice(b"started ")?;
+            push_number(out, u64::from(*pid))?;
+            out.extend_from_slice(b" ")?;
+            push_time(out, zone, label)
+        }
+        Event::StartFailed { label } => {
+            out.extend_from_slice(b"failed ")?;
+            push_time(out, zone, label)
+        }
+        Event::Death { label } => {
+            out.extend_from_slice(b"death ")?;
+            push_time(out, zone, label)
+        }
+        Event::Clock { label } => {
+            out.extend_from_slice(b"clock ")?;
+            push_time(out, zone, label)
+        }
+    }
+}
+
+/// Writes the answer to an event, and the phase after it.
+fn push_answer<A: Allocator, Z: Zone>(
+    out: &mut Vec<u8, A>,
+    zone: &Z,
+    after: &Machine,
+    reply: &Reply,
+) -> Result<(), AllocError>
+    ensures { OnOk result (out.new.items
+        ≡ out.old.items ++ answer_words (Z.ahead_at zone.now) after.now reply.now) }
+{
+    push_reply(out, zone, after, reply)?;
+    out.extend_from_slice(b" -> ")?;
+    out.extend_from_slice(phase_name(after.phase()).as_bytes())
+}
+
+/// Writes what was answered.
+fn push_reply<A: Allocator, Z: Zone>(
+    out: &mut Vec<u8, A>,
+    zone: &Z,
+    after: &Machine,
+    reply: &Reply,
+) -> Result<(), AllocError>
+    ensures { OnOk result (out.new.items
+        ≡ out.old.items ++ reply_words (Z.ahead_at zone.now) after.now reply.now) }
+{
+    match reply {
+        Reply::Held => out.extend_from_slice(b"held"),
+        Reply::Took(asks) => {
+            out.extend_from_slice(b"took")?;
+            push_asks(out, zone, after, asks.as_slice())
+        }
+    }
+}
+
+/// Writes what was asked, each after a space.
+fn push_asks<A: Allocator, Z: Zone>(
+    out: &mut Vec<u8, A>,
+    zone: &Z,
+    after: &Machine,
+    asks: &[Ask],
+) -> Result<(), AllocError>
+    ensures { OnOk result (out.new.items
+        ≡ out.old.items ++ asks_words (Z.ahead_at zone.now) after.now asks.now) }
+{
+    for ask in asks {
+        out.push(b' ')?;
+        push_ask(out, zone, after, ask)?;
+    }
+    Ok(())
+}
+
+/// Writes an ask. A record is that of the machine after it.
+fn push_ask<A: Allocator, Z: Zone>(
+    out: &mut Vec<u8, A>,
+    zone: &Z,
+    after: &Machine,
+    ask: &Ask,
+) -> Result<(), AllocError>
+    ensures { OnOk result (out.new.items
+        ≡ out.old.items ++ ask_words (Z.ahead_at zone.now) after.now ask.now) }
+{
+    match ask {
+        Ask::Signal(sig, pid) => {
+            out.extend_from_slice(sig_name(*sig).as_bytes())?;
+            out.extend_from_slice(b":")?;
+            push_number(out, u64::from(*pid))
+        }
+        Ask::Start => out.extend_from_slice(b"start"),
+        Ask::Write(_) => {
+            out.extend_from_slice(b"record (")?;
+            push_record(out, zone, after)?;
+            out.extend_from_slice(b")")
+        }
+    }
+}
+
+/// Writes what the record of a machine tells.
+#[tactic(auto, unfolding(crate::specs::Local::record_words))]
+fn push_record<A: Allocator, Z: Zone>(
+    out: &mut Vec<u8, A>,
+    zone: &Z,
+    machine: &Machine,
+) -> Result<(), AllocError>
+    ensures { OnOk result (out.new.items
+        ≡ out.old.items ++ record_words (Z.ahead_at zone.now) machine.now) }
+{
+    let view = machine.view();
+    push_process(out, view.pid)?;
+    out.extend_from_slice(paused_words(view.paused).as_bytes())?;
+    out.extend_from_slice(want_words(view.want).as_bytes())?;
+    out.extend_from_slice(exiting_words(machine.exiting()).as_bytes())?;
+    out.extend_from_slice(b", since ")?;
+    push_time(out, zone, &view.label)
+}
+
+/// Writes whether there is a process, and which.
+#[tactic(auto, unfolding(crate::specs::Local::process_words))]
+fn push_process<A: Allocator>(out: &mut Vec<u8, A>, pid: u32) -> Result<(), AllocError>
+    ensures { OnOk result (out.new.items ≡ out.old.items ++ process_words pid) }
+{
+    if pid == 0 {
+        return out.extend_from_slice(b"down");
+    }
+    out.extend_from_slice(b"up ")?;
+    push_number(out, u64::from(pid))
+}
+
+/// That a process is paused.
+fn paused_words(paused: bool) -> &'static str
+    ensures { result.now ≡ paused_words paused }
+{
+    if paused { ", paused" } else { "" }
+}
+
+/// What is wanted.
+fn want_words(want: Want) -> &'static str
+    ensures { result.now ≡ want_words want }
+{
+    match want {
+        Want::Up => ", wanted up",
+        Want::Down => ", wanted down",
+        Want::Once => ", wanted once",
+    }
+}
+
+/// That supervise is to end.
+fn exiting_words(exiting: bool) -> &'static str
+    ensures { result.now ≡ exiting_words exiting }
+{
+    if exiting { ", exiting" } else { "" }
+}
+
+/// Writes the local time of a label, or the label where there is none.
+#[tactic(auto, unfolding(crate::specs::Local::time_words))]
+fn push_time<A: Allocator, Z: Zone>(
+    out: &mut Vec<u8, A>,
+    zone: &Z,
+    label: &Label,
+) -> Result<(), AllocError>
+    ensures { OnOk result (out.new.items ≡ out.old.items ++ time_words (Z.ahead_at zone.now) label.now) }
+{
+    match local_time(zone, label) {
+        Some(second) => {
+            out.extend_from_slice(&second)?;
+            out.extend_from_slice(b".")?;
+            out.extend_from_slice(&nine_digits(label.nano))
+        }
+        None => out.extend_from_slice(&text(label)),
+    }
+}
+
+/// Nanoseconds as nine digits.
+fn nine_digits(number: u32) -> [u8; 9]
+    ensures { result ≡ nine_digits number }
+{
+    [
+        digit(100_000_000, number),
+        digit(10_000_000, number),
+        digit(1_000_000, number),
+        digit(100_000, number),
+        digit(10_000, number),
+        digit(1_000, number),
+        digit(100, number),
+        digit(10, number),
+        digit(1, number),
+    ]
+}
+
+/// The digit of a number at the place of a unit.
+fn digit(unit: u32, number: u32) -> u8
+    requires { 0 < unit }
+    ensures { result ≡ digit unit number }
+{
+    b'0' + (number / unit % 10) as u8
+}
+
+/// Writes the line on a machine.
+fn push_state<A: Allocator, Z: Zone>(
+    out: &mut Vec<u8, A>,
+    zone: &Z,
+    machine: &Machine,
+) -> Result<(), AllocError>
+    ensures { OnOk result (out.new.items
+        ≡ out.old.items ++ local_state (Z.ahead_at zone.now) machine.now) }
+{
+    out.extend_from_slice(b"state ")?;
+    out.extend_from_slice(phase_name(machine.phase()).as_bytes())?;
+    out.extend_from_slice(b" (")?;
+    push_record(out, zone, machine)?;
+    out.extend_from_slice(b")\n")
+}

@@ -1,0 +1,6 @@
+use Rattle.std.proofs.Common.{◌≡◌, ◌++◌, replicate, string_bytes}
+use Rattle.cmd_why.proofs.lines.push_spaces.Given as goal
+
+-- the spaces so far
+abbrev pub invariant-loop : goal.invariant-loop
+invariant-loop g l = string_bytes l.out ≡ string_bytes l.fn.out ++ replicate l.counter 32

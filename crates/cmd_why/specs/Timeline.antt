@@ -1,0 +1,173 @@
+-- The picture of a trace: what stood over time, in 80 columns. Moments are nanoseconds since the beginning of labels.
+use Rattle.std.specs.Prelude.{ℕ, ◌+◌, ◌-◌, ◌*◌, ◌/◌, nat_lt, ◌&&◌, max, min, Bool, true, false, if◌then◌else◌, List}
+use Rattle.std.specs.Prelude.{[], ◌∷◌, ◌++◌, length, replicate, codes, Option, Some, None}
+use Rattle.std.specs.List.{flat_map, list_any, range_with_len}
+use Rattle.tai_status.specs.Label.{Tai64n}
+use Rattle.tai_status.specs.Record.{Status}
+use Rattle.tai_status.specs.declared.phase.Phase.{Phase}
+use Rattle.tai_status.specs.declared.phase.Phase.TheVariants as phase
+use Rattle.sup_core.specs.State.{State}
+use Rattle.sup_core.specs.History.{Opened, state_of}
+use Rattle.sup_core.specs.Rules.{next}
+use Rattle.sup_core.specs.declared.event.Event.{Event}
+use Rattle.sup_core.specs.declared.event.Event.TheVariants.{Byte, Started, StartFailed, Death, Clock}
+use Rattle.sup_trace.specs.Told.{Told}
+use Rattle.cmd_svc.specs.Line.{is_running}
+use Rattle.cmd_why.specs.Facts.{nanos}
+use Rattle.cmd_why.specs.declared.lines.Drawing.{Drawing}
+use Rattle.cmd_why.specs.declared.lines.Drawing.TheVariants as drawing
+use Rattle.cmd_why.specs.declared.timeline.Shown.{Shown}
+use Rattle.cmd_why.specs.declared.timeline.Shown.TheVariants as shown
+use Rattle.cmd_why.specs.declared.timeline.Stretch.{Stretch}
+
+-- Stretches: from one entry that has a label to the next
+
+abbrev pub stretch : (from to : ℕ) → Shown → Stretch
+stretch from to what = record { from = from; to = to; shown = what }
+
+-- how a machine is shown: paused; up; an attempt, where it settles after a start or rests after one that failed; else down
+abbrev pub shown_in : Phase → Shown
+shown_in phase.Up = shown.Up
+shown_in phase.Settling = shown.Attempt
+shown_in phase.Resting = shown.Attempt
+shown_in other = shown.Down
+
+abbrev pub shown_of : State → Shown
+shown_of state = if state.status.paused then shown.Paused else shown_in state.phase
+
+-- How the machine before the entries is shown, from its label to the first one of an entry: over all of that time there was
+-- a process, or none, and no more is known.
+abbrev pub shown_before : Status → Shown
+shown_before status =
+    if status.paused then shown.Paused else if is_running status then shown.Up else shown.Down
+
+-- the machine after an entry
+abbrev pub stepped : State → Event → State
+stepped state event = state_of (next (Opened state) event)
+
+-- the label of an entry: a control byte has none
+abbrev pub label_in : Event → Option Tai64n
+label_in (Byte byte) = None
+label_in (Started pid label) = Some label
+label_in (StartFailed label) = Some label
+label_in (Death label) = Some label
+label_in (Clock label) = Some label
+
+-- When an entry of this label counts, behind the last stretch so far: not before that one, since a clock may be set back, and
+-- not after the clock.
+abbrev pub moment : (now : ℕ) → Stretch → Tai64n → ℕ
+moment now last label = min now (max last.from (nanos label))
+
+-- the stretch that ends with an entry, where that has a label
+abbrev pub ended_with : (now : ℕ) → Stretch → Option Tai64n → List Stretch
+ended_with now last None = []
+ended_with now last (Some label) = stretch last.from (moment now last label) last.shown ∷ []
+
+-- The stretch behind an entry, after which the machine stands so. A control byte came at some time in the stretch in which
+-- it stands: where it pauses the process, all of that stretch is shown as paused.
+abbrev pub behind : (now : ℕ) → Stretch → Option Tai64n → State → Stretch
+behind now last None state = stretch last.from last.to (if state.status.paused then shown.Paused else last.shown)
+behind now last (Some label) state = stretch (moment now last label) last.to (shown_of state)
+
+-- The last stretch of all, up to now: what stands there is known only where the trace leads to the record.
+abbrev pub tail : (leads : Bool) → Stretch → Stretch
+tail leads last = stretch last.from last.to (if leads then last.shown else shown.Unknown)
+
+-- the last stretch so far, which is to end with the picture, and those of these entries behind it
+abbrev pub stretches : (now : ℕ) → (leads : Bool) → State → (last : Stretch) → List Event → List Stretch
+stretches now leads state last [] = tail leads last ∷ []
+stretches now leads state last (event ∷ events) =
+    ended_with now last (label_in event)
+    ++ stretches now leads (stepped state event) (behind now last (label_in event) (stepped state event)) events
+
+-- Columns
+
+abbrev pub columns : ℕ
+columns = 80
+
+-- how many moments the picture has: from its left end up to now, and with that; one a column at least
+abbrev pub width : (from now : ℕ) → ℕ
+width from now = max columns (now + 1 - from)
+
+-- where a column begins, and the one before it ends
+abbrev pub edge : (from width column : ℕ) → ℕ
+edge from width column = from + column * width / columns
+
+-- whether a stretch has a part in the time from one moment up to another
+abbrev pub has_part : (from to : ℕ) → Stretch → Bool
+has_part from to s = nat_lt s.from to && nat_lt from s.to
+
+abbrev pub same : Shown → Shown → Bool
+same shown.Up shown.Up = true
+same shown.Paused shown.Paused = true
+same shown.Attempt shown.Attempt = true
+same shown.Down shown.Down = true
+same shown.Unknown shown.Unknown = true
+same other more = false
+
+-- whether a stretch that is shown so has a part in that time
+abbrev pub stands : (from to : ℕ) → Shown → List Stretch → Bool
+stands from to what drawn = list_any (λ s. has_part from to s && same s.shown what) drawn
+
+-- the one of these that holds, where it is one alone
+abbrev pub alone : (up paused attempt down unknown : Bool) → Option Shown
+alone true false false false false = Some shown.Up
+alone false true false false false = Some shown.Paused
+alone false false true false false = Some shown.Attempt
+alone false false false true false = Some shown.Down
+alone false false false false true = Some shown.Unknown
+alone up paused attempt down unknown = None
+
+-- what stands throughout a time; none where more than one does
+abbrev pub throughout : (from to : ℕ) → List Stretch → Option Shown
+throughout from to drawn =
+    alone (stands from to shown.Up drawn) (stands from to shown.Paused drawn) (stands from to shown.Attempt drawn)
+    (stands from to shown.Down drawn) (stands from to shown.Unknown drawn)
+
+abbrev pub sign : Option Shown → List ℕ
+sign (Some shown.Up) = codes "#"
+sign (Some shown.Paused) = codes "="
+sign (Some shown.Attempt) = codes "*"
+sign (Some shown.Down) = codes "."
+sign (Some shown.Unknown) = codes "?"
+sign None = codes "+"
+
+-- a column: the sign of what stands throughout its time
+abbrev pub column_sign : (from width : ℕ) → List Stretch → (column : ℕ) → List ℕ
+column_sign from width drawn column =
+    sign (throughout (edge from width column) (edge from width (column + 1)) drawn)
+
+-- the signs of all columns
+unfoldable pub bar : (from width : ℕ) → List Stretch → List ℕ
+bar from width drawn = flat_map (column_sign from width drawn) (range_with_len 0 columns)
+
+-- Traces
+
+-- where the picture begins: at the label of the machine before the entries, or at the clock where that is earlier
+abbrev pub left_end : Told → (now : Tai64n) → Tai64n
+left_end told now = if nat_lt (nanos now) (nanos told.base.status.label) then now else told.base.status.label
+
+-- the whole picture as one stretch, as if there were no entries
+abbrev pub before_entries : Told → (from now : ℕ) → Stretch
+before_entries told from now = stretch from (from + width from now) (shown_before told.base.status)
+
+abbrev pub stretches_of : Told → (leads : Bool) → (from now : ℕ) → List Stretch
+stretches_of told leads from now = stretches now leads told.base (before_entries told from now) told.entries
+
+-- the picture of a trace at a clock reading
+abbrev pub bar_of : Told → (leads : Bool) → (now : Tai64n) → List ℕ
+bar_of told leads now =
+    bar (nanos (left_end told now)) (width (nanos (left_end told now)) (nanos now))
+    (stretches_of told leads (nanos (left_end told now)) (nanos now))
+
+-- Lines
+
+-- the line below the columns: when the picture begins, and that it ends now
+unfoldable pub scale : (from : List ℕ) → List ℕ
+scale from = from ++ replicate (columns - 3 - length from) 32 ++ codes "now"
+
+-- the lines behind the one on how a service stands
+abbrev pub drawing_lines : Drawing → List ℕ
+drawing_lines drawing.Unasked = []
+drawing_lines drawing.Untold = codes "No timeline: it has no trace that can be read." ++ 10 ∷ []
+drawing_lines (drawing.Of picture) = picture.bar.bytes ++ (10 ∷ []) ++ scale picture.from.bytes ++ (10 ∷ [])
