@@ -285,6 +285,98 @@ is 'the status is that of the logger' '100 multilog: word 1: SizeRange' "$? $(ca
 DTOOLS=$room/none "$wrapper" ./halves <in 2>told
 is 'no program: status' 111 "$?"
 
+# ALRM: what is in current becomes an old file, at once where its last line is whole, or else behind that line's
+# newline.
+# olds_hold FOLDER: the old files in the order of their names, as words
+olds_hold() { cat "$1/"@* 2>/dev/null | xargs; }
+mkfifo turn
+exec 7<>turn
+started ./turned turn
+kill -ALRM "$shell"
+sleep 0.2
+is 'ALRM, all is empty: no old file' '0 0' "$(olds turned) $(size turned/current)"
+printf 'one\ntwo\n' >&7
+becomes two tail -n 1 turned/current
+kill -ALRM "$shell"
+becomes 1 olds turned
+is 'ALRM, idle: old file' 'one two' "$(olds_hold turned)"
+becomes 0 size turned/current
+is 'ALRM, idle: current' 0 "$(size turned/current)"
+is 'ALRM, idle: name' 1 "$(ls turned | grep -c -E '^@[0-9a-f]{24}\.s$')"
+kill -ALRM "$shell"
+sleep 0.2
+is 'ALRM, current is empty: it is left alone' '1 0' "$(olds turned) $(size turned/current)"
+printf 'three\nfo' >&7
+becomes three head -n 1 turned/current
+kill -ALRM "$shell"
+sleep 0.2
+is 'ALRM in a line: it waits for the newline' 1 "$(olds turned)"
+printf 'ur\nfive\n' >&7
+becomes 2 olds turned
+becomes five cat turned/current
+is 'ALRM in a line: old files' 'one two three four' "$(olds_hold turned)"
+is 'ALRM in a line: current' five "$(cat turned/current)"
+printf 'six\nsev' >&7
+becomes six grep -x six turned/current
+kill -ALRM "$shell"
+sleep 0.1
+kill -TERM "$shell"
+sleep 0.1
+printf 'en\neight\n' >&7
+wait "$shell"
+is 'ALRM and TERM in a line: status' 0 "$?"
+is 'ALRM and TERM in a line: old files' 'one two three four five six seven' "$(olds_hold turned)"
+is 'ALRM and TERM in a line: current' 0 "$(size turned/current)"
+is 'ALRM and TERM in a line: what is behind stays in the pipe' eight "$(left turn)"
+exec 7>&-
+
+# Three ALRMs in a flow of lines: each line is there once and in order, and each file ends with a line.
+mkfifo many
+(for number in $(seq 1500); do echo "$number"; sleep 0.001; done >many) &
+started ./turns many
+for _ in 1 2 3; do
+  becomes true bash -c '[ -s turns/current ] && echo true'
+  kill -ALRM "$shell"
+  sleep 0.2
+done
+wait "$shell"
+is 'three ALRMs in a flow: status' 0 "$?"
+is 'three ALRMs in a flow: old files' 3 "$(olds turns)"
+cat turns/@* turns/current | cmp -s - <(seq 1500)
+is 'three ALRMs in a flow: each line once, in order' 0 "$?"
+is 'three ALRMs in a flow: files that end within a line' 0 \
+  "$(for f in turns/@*; do tail -c 1 "$f" | tr -d '\n'; done | wc -c)"
+
+# By the channel alone: a byte `a` is a rotation, the end is a stop. Each log by itself: an empty one is left alone, the
+# number of old files is kept, and the label is past the greatest one, where there is one.
+# heard WORDS SCRIPT..: multilog over no input and a channel in which these bytes stand, and then its end
+heard() {
+  local words=$1
+  shift
+  exec 9< <(printf %s "$words")
+  sleep 0.2
+  DTOOLS_STOP_FD=3 timeout 20 "$program" multilog "$@" 3<&9 9<&- </dev/null
+}
+mkdir -p by/one by/two by/three by/four
+printf 'first\n' >by/one/current
+printf 'half' >by/three/current
+: >by/three/@400000000000000000000000.s
+: >by/three/@7fffffffffffffff3b9ac9fe.s
+heard a ./by/one ./by/two n2 ./by/three
+is 'a rotation by the channel: status' 0 "$?"
+is 'a rotation by the channel' '1 0' "$(olds by/one) $(size by/one/current)"
+is 'a rotation by the channel: an empty log' '0 0' "$(olds by/two) $(size by/two/current)"
+is 'a rotation by the channel: the label is past the greatest' half "$(cat by/three/@7fffffffffffffff3b9ac9ff.s)"
+is 'a rotation by the channel: current' 0 "$(size by/three/current)"
+is 'a rotation by the channel: the smallest goes' '@7fffffffffffffff3b9ac9fe.s @7fffffffffffffff3b9ac9ff.s current lock' \
+  "$(ls by/three | xargs)"
+printf 'last\n' >by/three/current
+heard a ./by/three 2>told
+is 'a rotation with no label left' '111 multilog: LabelsSpent last' "$? $(cat told) $(cat by/three/current)"
+printf 'x\n' >by/four/current
+heard aaa ./by/four
+is 'three rotations, one line' '0 1' "$? $(olds by/four)"
+
 # 40 TERMs in a flow of lines: each is in the log once, and in order, and each logger ends with 0.
 # told_40_times NAME COUNT PAUSE: lines with numbers up to COUNT, each after a pause of so many seconds
 told_40_times() {

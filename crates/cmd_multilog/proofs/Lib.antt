@@ -2,6 +2,5 @@ pub mod Naming
 pub mod Folders
 pub mod Shelves
 pub mod Openings
-pub mod Running
 pub mod Ordered
 pub mod Stopping

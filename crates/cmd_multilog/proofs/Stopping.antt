@@ -1,9 +1,13 @@
--- What a logger is given, read by read.
+-- What a logger is given, read by read, and what is behind it.
 use Rattle.std.proofs.Common.{◌≡◌, ℕ, suc, zero, ◌-◌, ◌<◌, ◌≤◌, Bool, true, false, nat_eq, List, [], ◌∷◌, ◌++◌, length, take, Option, Some, None, refl, sym, ap, ◌∙◌, arith, subst, inl, inr, append_assoc, append-nil}
-use Rattle.std.specs.Prelude.{◌==◌, not, if◌then◌else◌, ◌⊎◌, Result, Ok, Err, IfOk, OnErr, slice_index_or, unwrap_or}
+use Rattle.std.specs.Prelude.{◌==◌, not, if◌then◌else◌, ◌⊎◌, Result, Ok, Err, IfOk, OnErr, slice_index_or}
+use Rattle.std.specs.List.{flat_map}
 use Rattle.std.specs.Io.KnownBytes.{Keeps, Consumes, IsAtEnd, ReadConsumes}
-use Rattle.tai_status.proofs.Known.{Keeps-same, Keeps-then, Keeps-Consumes}
-use Rattle.cmd_multilog.specs.Stop.{Coming, Listening, Changes, Reads, IsOver, is_in_line, to_newline, rest_of_line, given, left_in, IsLinesOf, StopsAtALine}
+use Rattle.tai_status.proofs.Known.{Keeps-same}
+use Rattle.tai_status.specs.Counted.{IsRead}
+use Rattle.mlog_core.specs.Feed.{IsNext, OpensNext}
+use Rattle.cmd_multilog.specs.declared.stop.Heard.TheVariants as heard
+use Rattle.cmd_multilog.specs.Stop.{Word, Coming, Listening, Changes, Hears, HearsWord, Reads, IsOver, is_in_line, to_newline, behind_newline, rest_of_line, next_line, rest_behind, given, part_of, parts_behind, unread, all_behind, left_in, behind_in, feed_of, IsLinesOf, before_second, StopsAtALine, LosesNothing}
 
 -- The line in hand
 
@@ -26,20 +30,17 @@ in_line_append was (x ∷ xs) ys = in_line_append (not (x == 10)) xs ys
 
 -- What is given
 
-abbrev rest_behind : Bool → Option (List ℕ) → List ℕ
-rest_behind in_line behind = elim behind [ None ↦ [] | Some bytes ↦ rest_of_line in_line bytes ]
-
-given_behind : (was : Bool) (xs ys : List ℕ) (behind : Option (List ℕ))
-    → (xs ++ ys) ++ rest_behind (is_in_line was (xs ++ ys)) behind ≡ xs ++ (ys ++ rest_behind (is_in_line (is_in_line was xs) ys) behind)
-given_behind was xs ys behind =
-    ap (λ (l : Bool). (xs ++ ys) ++ rest_behind l behind) (in_line_append was xs ys)
-    ∙ append_assoc xs ys (rest_behind (is_in_line (is_in_line was xs) ys) behind)
+given_behind : (was : Bool) (xs ys : List ℕ) (words : List Word)
+    → (xs ++ ys) ++ rest_behind (is_in_line was (xs ++ ys)) words ≡ xs ++ (ys ++ rest_behind (is_in_line (is_in_line was xs) ys) words)
+given_behind was xs ys words =
+    ap (λ (l : Bool). (xs ++ ys) ++ rest_behind l words) (in_line_append was xs ys)
+    ∙ append_assoc xs ys (rest_behind (is_in_line (is_in_line was xs) ys) words)
 
 reads_given : (was : Bool) (old new : Coming) (bs : List ℕ) → Reads bs old new → given was old ≡ bs ++ given (is_in_line was bs) new
 reads_given was old new bs reads =
-    ap (λ (t : List ℕ). t ++ rest_behind (is_in_line was t) old.behind) reads.0
-    ∙ given_behind was bs new.before old.behind
-    ∙ ap (λ (h : Option (List ℕ)). bs ++ (new.before ++ rest_behind (is_in_line (is_in_line was bs) new.before) h)) (sym reads.1)
+    ap (λ (t : List ℕ). t ++ rest_behind (is_in_line was t) old.words) reads.0
+    ∙ given_behind was bs new.before old.words
+    ∙ ap (λ (w : List Word). bs ++ (new.before ++ rest_behind (is_in_line (is_in_line was bs) new.before) w)) (sym reads.1)
 
 -- one byte of the line in hand
 line_one : (b : ℕ) (ys : List ℕ) (newline : Bool)
@@ -52,6 +53,50 @@ line_goes [] ys one = refl
 line_goes (b ∷ []) ys one = line_one b ys (b == 10)
 line_goes (b ∷ c ∷ bs) ys one = absurd (omega (arith, one))
 
+next_one : (ys : List ℕ) (newline : Bool) → (if newline then ys else behind_newline ys) ≡ next_line (not newline) ys
+next_one ys true = refl
+next_one ys false = refl
+
+next_goes : (bs ys : List ℕ) → length bs ≤ 1 → next_line true (bs ++ ys) ≡ next_line (is_in_line true bs) ys
+next_goes [] ys one = refl
+next_goes (b ∷ []) ys one = next_one ys (b == 10)
+next_goes (b ∷ c ∷ bs) ys one = absurd (omega (arith, one))
+
+-- Words
+
+-- the parts behind a word, from the beginning of the next
+abbrev heard_from : Bool → List ℕ → List Word → List (List ℕ)
+heard_from rotates bytes words = if rotates then part_of bytes words ∷ parts_behind (is_in_line false bytes) words else []
+
+-- what is left of what comes, and what is behind it
+abbrev left_of : Bool → Bool → Option Coming → Option (List ℕ)
+left_of stopped in_line coming =
+    left_in (record { coming = coming; stopped = stopped; rotates = false; in_line = in_line; reads = 0; faults = 0 })
+
+abbrev behind_of : Bool → Bool → Bool → Option Coming → Option (List (List ℕ))
+behind_of stopped rotates in_line coming =
+    behind_in (record { coming = coming; stopped = stopped; rotates = rotates; in_line = in_line; reads = 0; faults = 0 })
+
+pub word_left : (rotates in_line : Bool) (old new : Option Coming) → Changes old new (HearsWord rotates) → left_of true in_line new ≡ left_of false in_line old
+word_left rotates in_line None None hears = refl
+word_left rotates in_line None (Some new) hears = absurd hears
+word_left rotates in_line (Some old) None hears = absurd hears
+word_left rotates in_line (Some old) (Some new) hears = ap (λ (c : Coming). Some (given in_line c)) (sym hears)
+
+pub word_behind : (rotates in_line : Bool) (old new : Option Coming) → Changes old new (HearsWord rotates)
+    → behind_of true rotates in_line new ≡ behind_of false false in_line old
+word_behind rotates in_line None None hears = refl
+word_behind rotates in_line None (Some new) hears = absurd hears
+word_behind rotates in_line (Some old) None hears = absurd hears
+word_behind rotates in_line (Some old) (Some new) hears =
+    ap (λ (c : Coming). Some (parts_behind (is_in_line in_line c.before) c.words)) (sym hears)
+
+pub no_word : (old new : Option Coming) → Changes old new (Hears heard.Input) → new ≡ old
+no_word None None hears = refl
+no_word None (Some new) hears = absurd hears
+no_word (Some old) None hears = absurd hears
+no_word (Some old) (Some new) hears = ap (λ (c : Coming). Some c) hears
+
 -- Reads
 
 short : (count : ℕ) (bs : List ℕ) → length bs ≤ 1 → length (take count bs) ≤ 1
@@ -60,10 +105,6 @@ short (suc count) [] one = omega arith
 short (suc zero) (b ∷ []) one = omega arith
 short (suc (suc count)) (b ∷ []) one = omega arith
 short (suc count) (b ∷ c ∷ bs) one = absurd (omega (arith, one))
-
--- what is left of what comes
-abbrev left_of : Bool → Bool → Option Coming → Option (List ℕ)
-left_of stopped in_line coming = left_in (record { coming = coming; stopped = stopped; in_line = in_line })
 
 goes_on : (was : Bool) (old new : Option Coming) (bs : List ℕ) → Changes old new (Reads bs)
     → Consumes (left_of false was old) (left_of false (is_in_line was bs) new) bs
@@ -77,6 +118,25 @@ goes_to_line None new bs one reads = tt
 goes_to_line (Some old) None bs one reads = absurd reads
 goes_to_line (Some old) (Some new) bs one reads = ap (rest_of_line true) reads.0 ∙ line_goes bs new.before one
 
+behind_goes_on : (was : Bool) (old new : Option Coming) (bs : List ℕ) → Changes old new (Reads bs)
+    → behind_of false false (is_in_line was bs) new ≡ behind_of false false was old
+behind_goes_on was None None bs reads = refl
+behind_goes_on was None (Some new) bs reads = absurd reads
+behind_goes_on was (Some old) None bs reads = absurd reads
+behind_goes_on was (Some old) (Some new) bs reads =
+    ap (λ (w : List Word). Some (parts_behind (is_in_line (is_in_line was bs) new.before) w)) reads.1
+    ∙ ap (λ (l : Bool). Some (parts_behind l old.words)) (sym (in_line_append was bs new.before) ∙ ap (is_in_line was) (sym reads.0))
+
+behind_goes_to_line : (rotates : Bool) (old new : Option Coming) (bs : List ℕ) → length bs ≤ 1 → Changes old new (Reads bs)
+    → behind_of true rotates (is_in_line true bs) new ≡ behind_of true rotates true old
+behind_goes_to_line rotates None None bs one reads = refl
+behind_goes_to_line rotates None (Some new) bs one reads = absurd reads
+behind_goes_to_line rotates (Some old) None bs one reads = absurd reads
+behind_goes_to_line rotates (Some old) (Some new) bs one reads =
+    let next : next_line (is_in_line true bs) new.before ≡ next_line true old.before = sym (next_goes bs new.before one) ∙ ap (next_line true) (sym reads.0) in
+    ap (λ (w : List Word). Some (heard_from rotates (next_line (is_in_line true bs) new.before) w)) reads.1
+    ∙ ap (λ (t : List ℕ). Some (heard_from rotates t old.words)) next
+
 rest_of_none : (in_line : Bool) → rest_of_line in_line [] ≡ []
 rest_of_none true = refl
 rest_of_none false = refl
@@ -86,15 +146,15 @@ is_over stopped in_line None over = tt
 is_over true in_line (Some coming) over = ap (λ (c : Coming). rest_of_line in_line c.before) over ∙ rest_of_none in_line
 is_over false in_line (Some coming) over = ap (given in_line) over
 
--- what a read comes to before a stop
-pub reads_on : {E : Type 0} (was old new : Listening) (r : Result ℕ E) (into : List ℕ)
-    → Keeps (left_in was) (left_in old) → old.stopped ≡ false → new.stopped ≡ old.stopped
+-- what a read comes to where no word was heard
+pub reads_on : {E : Type 0} (left : Option (List ℕ)) (old new : Listening) (r : Result ℕ E) (into : List ℕ)
+    → left_in old ≡ left → old.stopped ≡ false → new.stopped ≡ old.stopped
     → IfOk r (λ count. Changes old.coming new.coming (Reads (take count into)))
     → IfOk r (λ count. new.in_line ≡ is_in_line old.in_line (take count into))
     → IfOk r (λ count. count ≡ 0 → 0 < length into → IsOver new.coming)
     → OnErr r (new ≡ old)
-    → ReadConsumes (left_in was) (left_in new) r into
-reads_on was old new (Ok count) into kept going same reads line over err =
+    → ReadConsumes left (left_in new) r into
+reads_on left old new (Ok count) into kept going same reads line over err =
     let bs = take count into in
     let gone : Consumes (left_of false old.in_line old.coming) (left_of false new.in_line new.coming) bs =
     subst (λ (l : Bool). Consumes (left_of false old.in_line old.coming) (left_of false l new.coming) bs) (sym line)
@@ -102,23 +162,23 @@ reads_on was old new (Ok count) into kept going same reads line over err =
     let there : Consumes (left_in old) (left_in new) bs =
     subst (λ (s : Bool). Consumes (left_of s old.in_line old.coming) (left_in new) bs) (sym going)
     (subst (λ (s : Bool). Consumes (left_of false old.in_line old.coming) (left_of s new.in_line new.coming) bs) (sym (same ∙ going)) gone) in (
-      Keeps-Consumes (left_in was) (left_in old) (left_in new) bs kept there,
+      subst (λ (l : Option (List ℕ)). Consumes l (left_in new) bs) kept there,
       λ none room. is_over new.stopped new.in_line new.coming (over none room),
     )
-reads_on was old new (Err e) into kept going same reads line over err =
-    Keeps-then (left_in was) (left_in old) (left_in new) kept
+reads_on left old new (Err e) into kept going same reads line over err =
+    subst (λ (l : Option (List ℕ)). Keeps l (left_in new)) kept
     (subst (λ (l : Listening). Keeps (left_in old) (left_in l)) (sym err) (Keeps-same (left_in old)))
 
--- what a read of at most one byte comes to behind a stop, where a line is in hand
-pub reads_line : {E : Type 0} (was old new : Listening) (r : Result ℕ E) (into : List ℕ)
-    → Keeps (left_in was) (left_in old) → old.stopped ≡ true → old.in_line ≡ true → new.stopped ≡ old.stopped
+-- what a read of at most one byte comes to behind a word, where a line is in hand
+pub reads_line : {E : Type 0} (left : Option (List ℕ)) (old new : Listening) (r : Result ℕ E) (into : List ℕ)
+    → left_in old ≡ left → old.stopped ≡ true → old.in_line ≡ true → new.stopped ≡ old.stopped
     → length into ≤ 1
     → IfOk r (λ count. Changes old.coming new.coming (Reads (take count into)))
     → IfOk r (λ count. new.in_line ≡ is_in_line old.in_line (take count into))
     → IfOk r (λ count. count ≡ 0 → 0 < length into → IsOver new.coming)
     → OnErr r (new ≡ old)
-    → ReadConsumes (left_in was) (left_in new) r into
-reads_line was old new (Ok count) into kept stopped begun same one reads line over err =
+    → ReadConsumes left (left_in new) r into
+reads_line left old new (Ok count) into kept stopped begun same one reads line over err =
     let bs = take count into in
     let gone : Consumes (left_of true true old.coming) (left_of true new.in_line new.coming) bs =
     subst (λ (l : Bool). Consumes (left_of true true old.coming) (left_of true l new.coming) bs)
@@ -128,12 +188,70 @@ reads_line was old new (Ok count) into kept stopped begun same one reads line ov
     subst (λ (s : Bool). Consumes (left_of s old.in_line old.coming) (left_in new) bs) (sym stopped)
     (subst (λ (l : Bool). Consumes (left_of true l old.coming) (left_in new) bs) (sym begun)
     (subst (λ (s : Bool). Consumes (left_of true true old.coming) (left_of s new.in_line new.coming) bs) (sym (same ∙ stopped)) gone)) in (
-      Keeps-Consumes (left_in was) (left_in old) (left_in new) bs kept there,
+      subst (λ (l : Option (List ℕ)). Consumes l (left_in new) bs) kept there,
       λ none room. is_over new.stopped new.in_line new.coming (over none room),
     )
-reads_line was old new (Err e) into kept stopped begun same one reads line over err =
-    Keeps-then (left_in was) (left_in old) (left_in new) kept
+reads_line left old new (Err e) into kept stopped begun same one reads line over err =
+    subst (λ (l : Option (List ℕ)). Keeps l (left_in new)) kept
     (subst (λ (l : Listening). Keeps (left_in old) (left_in l)) (sym err) (Keeps-same (left_in old)))
+
+-- the parts behind stay
+pub behind_on : {E : Type 0} (behind : Option (List (List ℕ))) (old new : Listening) (r : Result ℕ E) (into : List ℕ)
+    → behind_in old ≡ behind → old.stopped ≡ false → new.stopped ≡ old.stopped
+    → IfOk r (λ count. Changes old.coming new.coming (Reads (take count into)))
+    → IfOk r (λ count. new.in_line ≡ is_in_line old.in_line (take count into))
+    → OnErr r (new ≡ old)
+    → behind_in new ≡ behind
+behind_on behind old new (Ok count) into kept going same reads line err =
+    let bs = take count into in
+    ap (λ (s : Bool). behind_of s new.rotates new.in_line new.coming) (same ∙ going)
+    ∙ ap (λ (l : Bool). behind_of false false l new.coming) line
+    ∙ behind_goes_on old.in_line old.coming new.coming bs reads
+    ∙ ap (λ (s : Bool). behind_of s old.rotates old.in_line old.coming) (sym going) ∙ kept
+behind_on behind old new (Err e) into kept going same reads line err = ap behind_in err ∙ kept
+
+pub behind_to_line : {E : Type 0} (behind : Option (List (List ℕ))) (old new : Listening) (r : Result ℕ E) (into : List ℕ)
+    → behind_in old ≡ behind → old.stopped ≡ true → old.in_line ≡ true → new.stopped ≡ old.stopped → new.rotates ≡ old.rotates
+    → length into ≤ 1
+    → IfOk r (λ count. Changes old.coming new.coming (Reads (take count into)))
+    → IfOk r (λ count. new.in_line ≡ is_in_line old.in_line (take count into))
+    → OnErr r (new ≡ old)
+    → behind_in new ≡ behind
+behind_to_line behind old new (Ok count) into kept stopped begun same word one reads line err =
+    let bs = take count into in
+    ap (λ (s : Bool). behind_of s new.rotates new.in_line new.coming) (same ∙ stopped)
+    ∙ ap (λ (r : Bool). behind_of true r new.in_line new.coming) word
+    ∙ ap (λ (l : Bool). behind_of true old.rotates l new.coming) (line ∙ ap (λ (l : Bool). is_in_line l bs) begun)
+    ∙ behind_goes_to_line old.rotates old.coming new.coming bs (short count into one) reads
+    ∙ ap (λ (l : Bool). behind_of true old.rotates l old.coming) (sym begun)
+    ∙ ap (λ (s : Bool). behind_of s old.rotates old.in_line old.coming) (sym stopped) ∙ kept
+behind_to_line behind old new (Err e) into kept stopped begun same word one reads line err = ap behind_in err ∙ kept
+
+-- The next part
+
+at_line : (in_line : Bool) (bytes : List ℕ) → rest_of_line in_line bytes ≡ [] → next_line in_line bytes ≡ bytes
+at_line true [] end = refl
+at_line true (b ∷ bytes) end = cc
+at_line false bytes end = refl
+
+pub next_begins : (rotates in_line : Bool) (coming : Option Coming) → rotates ≡ true → IsAtEnd (left_of true in_line coming)
+    → IsNext (behind_of true rotates in_line coming) (left_of false false coming) (behind_of false false false coming)
+next_begins true in_line None is end = tt
+next_begins true in_line (Some coming) is end =
+    let same = at_line in_line coming.before end in (
+      ap (λ (t : List ℕ). part_of t coming.words) (sym same),
+      ap (λ (t : List ℕ). parts_behind (is_in_line false t) coming.words) (sym same),
+    )
+next_begins false in_line coming is end = cc
+
+pub opens_next : (old : Listening) → old.rotates ≡ true → old.stopped ≡ true → IsRead (feed_of old).device
+    → OpensNext (feed_of old) (feed_of (record { coming = old.coming; stopped = false; rotates = false; in_line = false; reads = old.reads; faults = old.faults }))
+opens_next old rotates stopped end = record {
+  next = subst (λ (s : Bool). IsNext (behind_of s old.rotates old.in_line old.coming) (left_of false false old.coming) (behind_of false false false old.coming)) (sym stopped)
+      (next_begins old.rotates old.in_line old.coming rotates (subst (λ (s : Bool). IsAtEnd (left_of s old.in_line old.coming)) stopped end));
+  reads = refl;
+  faults = refl;
+}
 
 -- Lines
 
@@ -179,14 +297,60 @@ either_line : (b : ℕ) (bs bytes : List ℕ) (in_line : Bool) → is_in_line tr
 either_line b bs bytes true is = behind_line (b ∷ bs) bytes is
 either_line b bs bytes false is = between_lines (b ∷ bs) bytes (inr is)
 
-lines_given : (before : List ℕ) (behind : Option (List ℕ))
-    → IsLinesOf (before ++ rest_behind (is_in_line false before) behind) (before ++ unwrap_or behind [])
-lines_given before None = record { rest = []; front = sym (append-nil (before ++ [])); ends = inr (inr refl) }
-lines_given [] (Some bytes) = between_lines [] bytes (inl refl)
-lines_given (b ∷ bs) (Some bytes) = either_line b bs bytes (is_in_line false (b ∷ bs)) refl
+lines_given : (before : List ℕ) (words : List Word)
+    → IsLinesOf (given false (record { before = before; words = words })) (before_second (record { before = before; words = words }))
+lines_given before [] = record { rest = []; front = sym (append-nil (before ++ [])); ends = inr (inr refl) }
+lines_given [] (word ∷ words) = between_lines [] word.bytes (inl refl)
+lines_given (b ∷ bs) (word ∷ words) = either_line b bs word.bytes (is_in_line false (b ∷ bs)) refl
 
 pub stops_at_a_line : StopsAtALine
-stops_at_a_line coming = lines_given coming.before coming.behind
+stops_at_a_line coming = lines_given coming.before coming.words
+
+-- Nothing is lost
+
+line_step : (b : ℕ) (bytes : List ℕ) (newline : Bool) → bytes ≡ to_newline bytes ++ behind_newline bytes
+    → b ∷ bytes ≡ (b ∷ (if newline then [] else to_newline bytes)) ++ (if newline then bytes else behind_newline bytes)
+line_step b bytes true whole = refl
+line_step b bytes false whole = ap (λ (t : List ℕ). b ∷ t) whole
+
+line_whole : (in_line : Bool) (bytes : List ℕ) → bytes ≡ rest_of_line in_line bytes ++ next_line in_line bytes
+line_whole false bytes = refl
+line_whole true [] = refl
+line_whole true (b ∷ bytes) = line_step b bytes (b == 10) (line_whole true bytes)
+
+abbrev joined : List (List ℕ) → List ℕ
+joined parts = flat_map (λ part. part) parts
+
+-- what is behind the first word, in one piece and in parts
+abbrev Behind : Bool → List Word → Type 0
+Behind in_line words = all_behind words ≡ rest_behind in_line words ++ (joined (parts_behind in_line words) ++ unread in_line words)
+
+behind_word : (in_line : Bool) (word : Word) (words : List Word) (rotates : Bool) → Behind (is_in_line false (next_line in_line word.bytes)) words
+    → word.bytes ++ all_behind words ≡ rest_of_line in_line word.bytes
+    ++ (joined (if rotates then part_of (next_line in_line word.bytes) words ∷ parts_behind (is_in_line false (next_line in_line word.bytes)) words else [])
+    ++ (if rotates then unread (is_in_line false (next_line in_line word.bytes)) words else next_line in_line word.bytes ++ all_behind words))
+behind_word in_line word words false further =
+    let next = next_line in_line word.bytes in
+    ap (λ (t : List ℕ). t ++ all_behind words) (line_whole in_line word.bytes) ∙ append_assoc (rest_of_line in_line word.bytes) next (all_behind words)
+behind_word in_line word words true further =
+    let next = next_line in_line word.bytes in
+    let rest = rest_of_line in_line word.bytes in
+    let inner = is_in_line false next in
+    let parts = joined (parts_behind inner words) in
+    ap (λ (t : List ℕ). t ++ all_behind words) (line_whole in_line word.bytes) ∙ append_assoc rest next (all_behind words)
+    ∙ ap (λ (t : List ℕ). rest ++ (next ++ t)) further
+    ∙ ap (λ (t : List ℕ). rest ++ t) (sym (append_assoc next (rest_behind inner words) (parts ++ unread inner words))
+    ∙ sym (append_assoc (next ++ rest_behind inner words) parts (unread inner words)))
+
+all_parted : (in_line : Bool) (words : List Word) → Behind in_line words
+all_parted in_line [] = refl
+all_parted in_line (word ∷ words) = behind_word in_line word words word.rotates (all_parted (is_in_line false (next_line in_line word.bytes)) words)
+
+pub loses_nothing : LosesNothing
+loses_nothing coming =
+    let in_line = is_in_line false coming.before in
+    ap (λ (t : List ℕ). coming.before ++ t) (all_parted in_line coming.words)
+    ∙ sym (append_assoc coming.before (rest_behind in_line coming.words) (joined (parts_behind in_line coming.words) ++ unread in_line coming.words))
 
 gave_all : (new : Option (List ℕ)) (all bytes : List ℕ) → Consumes (Some all) new bytes → IsAtEnd new → bytes ≡ all
 gave_all None all bytes gave end = absurd gave

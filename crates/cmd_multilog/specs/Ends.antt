@@ -1,13 +1,12 @@
 -- How `multilog` ends.
 use Rattle.std.specs.Prelude.{◌≡◌, ◌⊎◌, ⊤, ℕ, List, [], map, slice_get, unwrap_or, Option, Some, None, MatchOption, Ok}
 use Rattle.tai_status.specs.Label.{Tai64n}
-use Rattle.tai_status.specs.Counted.{Device, Fails, IsRead, Rose, Tells, Works}
+use Rattle.tai_status.specs.Counted.{Device, Tells}
 use Rattle.mlog_script.specs.Script.{Act, said, first_fault, file_paths}
 use Rattle.mlog_script.specs.declared.fault.ScriptFaultKind.TheVariants as kind
-use Rattle.mlog_core.specs.Run.{World, world, RunsAll, RunsLines, RunsUpTo}
-use Rattle.mlog_core.specs.declared.stream.Counts.{Counts}
+use Rattle.mlog_core.specs.Feed.{Feed}
+use Rattle.mlog_core.specs.Parts.{Play, play, RunsParts}
 use Rattle.mlog_core.specs.declared.stream.RunFault.{RunFault}
-use Rattle.mlog_core.specs.declared.stream.RunFault.TheVariants as fault
 use Rattle.cmd_multilog.specs.Shelf.{Shelf, state_of}
 use Rattle.cmd_multilog.specs.Opening.{Opens, OpensUpTo, folders_of}
 use Rattle.cmd_multilog.specs.Sayings.{script_told, script_status, run_told, memory_told, unopened_told}
@@ -19,13 +18,13 @@ use Rattle.cmd_multilog.specs.declared.fault.NoScript.TheVariants as no
 -- What `multilog` works with: its store, its input, what the clock gave, and where it tells faults.
 pub record Stage : Type 0 where
   pub store : Shelf
-  pub reader : Device
+  pub feed : Feed
   pub readings : Option (List Tai64n)
   pub faults : Device
 
-abbrev pub stage : Shelf → Device → Option (List Tai64n) → Device → Stage
-stage store reader readings faults =
-    record { store = store; reader = reader; readings = readings; faults = faults }
+abbrev pub stage : Shelf → Feed → Option (List Tai64n) → Device → Stage
+stage store feed readings faults =
+    record { store = store; feed = feed; readings = readings; faults = faults }
 
 -- The script
 
@@ -50,7 +49,7 @@ refusal_status no.OutOfMemory = 111
 -- Nothing is made, opened or read.
 pub record DoesNothing (old new : Stage) : Type 0 where
   pub store : new.store ≡ old.store
-  pub reader : new.reader ≡ old.reader
+  pub feed : new.feed ≡ old.feed
   pub readings : new.readings ≡ old.readings
 
 -- The words are no script: nothing is done, and it is told why.
@@ -71,26 +70,16 @@ open_told script why.OutOfMemory = memory_told
 pub record OpensNotAll (script : List Act) (status : ℕ) (old new : Stage) : Type 0 where
   pub cause : OpenFault
   pub opens : OpensUpTo old.store new.store script cause
-  pub unread : new.reader ≡ old.reader
+  pub unread : new.feed ≡ old.feed
   pub unasked : new.readings ≡ old.readings
   pub status_is : status ≡ 111
   pub told : Tells old.faults new.faults (open_told script cause)
 
 -- The run
 
-abbrev pub world_of : Stage → World
-world_of s = world s.reader (state_of s.store) s.readings
-
--- what a run did, by its fault
-abbrev pub RunsBy : Option RunFault → List Act → Stage → Stage → Type 0
-RunsBy None script old new =
-    ((counts : Counts) × RunsAll script (world_of old) (world_of new) counts)
-    × IsRead new.reader × Works old.reader new.reader
-RunsBy (Some fault.Read) script old new = RunsLines script (world_of old) (world_of new) × Fails old.reader new.reader
-RunsBy (Some fault.Store) script old new =
-    RunsUpTo script (world_of old) (world_of new) fault.Store × Rose old.store.failures new.store.failures
-RunsBy (Some fault.LabelsSpent) script old new = RunsUpTo script (world_of old) (world_of new) fault.LabelsSpent
-RunsBy (Some fault.OutOfMemory) script old new = world_of new ≡ world_of old
+-- what a run has to do with
+abbrev pub play_of : Stage → Play
+play_of s = play s.feed (state_of s.store) s.readings
 
 abbrev pub run_status : Option RunFault → ℕ
 run_status None = 0
@@ -100,10 +89,10 @@ abbrev pub TellsRun : Option RunFault → Device → Device → Type 0
 TellsRun None old new = new ≡ old
 TellsRun (Some fault) old new = Tells old new (run_told fault)
 
--- The script was run over opened logs, and its fault is told.
+-- The script was run over opened logs, part by part of the input, and its fault is told.
 pub record RunsOpened (script : List Act) (status : ℕ) (old new : Stage) : Type 0 where
   pub ran : Option RunFault
-  pub runs : RunsBy ran script old new
+  pub runs : RunsParts ran script (play_of old) (play_of new)
   pub status_is : status ≡ run_status ran
   pub told : TellsRun ran old.faults new.faults
 
@@ -111,7 +100,7 @@ pub record RunsOpened (script : List Act) (status : ℕ) (old new : Stage) : Typ
 pub record RunsScript (script : List Act) (status : ℕ) (old new : Stage) : Type 0 where
   pub opened : Shelf
   pub opens : Opens old.store opened (folders_of script) (file_paths script) (folders_of script)
-  pub runs : RunsOpened script status (stage opened old.reader old.readings old.faults) new
+  pub runs : RunsOpened script status (stage opened old.feed old.readings old.faults) new
 
 abbrev pub ScriptEnds : List Act → ℕ → Stage → Stage → Type 0
 ScriptEnds script status old new = OpensNotAll script status old new ⊎ RunsScript script status old new
@@ -122,7 +111,7 @@ MultilogEnds words status old new =
     Refuses words status old new ⊎ ((script : List Act) × IsSaidBy script words × ScriptEnds script status old new)
 
 -- The same, with what it works with one by one, each before and after.
-abbrev pub MultilogEndsBy : List (List ℕ) → ℕ → (store store_now : Shelf) → (reader reader_now : Device)
+abbrev pub MultilogEndsBy : List (List ℕ) → ℕ → (store store_now : Shelf) → (feed feed_now : Feed)
     → (readings readings_now : Option (List Tai64n)) → (faults faults_now : Device) → Type 0
-MultilogEndsBy words status store store_now reader reader_now readings readings_now faults faults_now =
-    MultilogEnds words status (stage store reader readings faults) (stage store_now reader_now readings_now faults_now)
+MultilogEndsBy words status store store_now feed feed_now readings readings_now faults faults_now =
+    MultilogEnds words status (stage store feed readings faults) (stage store_now feed_now readings_now faults_now)

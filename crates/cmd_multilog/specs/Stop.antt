@@ -1,43 +1,61 @@
--- What a logger reads that may be told to stop.
+-- What a logger reads that may be told to rotate its logs, and to stop.
 use Rattle.std.specs.Prelude.{◌≡◌, ℕ, ◌==◌, ◌⊎◌, ⊤, Bool, true, false, not, if◌then◌else◌, List, [], ◌∷◌, ◌++◌}
-use Rattle.std.specs.Prelude.{Option, Some, None, unwrap_or}
+use Rattle.std.specs.Prelude.{Option, Some, None}
+use Rattle.std.specs.List.{flat_map}
 use Rattle.std.specs.Option.{option_map}
 use Rattle.tai_status.specs.Counted.{IsRead}
 use Rattle.mlog_script.specs.Script.{Act}
+use Rattle.mlog_core.specs.Feed.{Feed}
 use Rattle.mlog_core.specs.Run.{World, RunsAll}
 use Rattle.mlog_core.specs.declared.stream.Counts.{Counts}
 use Rattle.cmd_multilog.specs.declared.stop.Heard.{Heard}
 use Rattle.cmd_multilog.specs.declared.stop.Heard.TheVariants as heard
 
--- What comes to a logger: the bytes before it hears a stop, which are all where it hears none; and where it hears one,
--- those behind it.
+-- A word that a logger hears, for a rotation or else a stop; and the bytes that come between it and the next word.
+pub record Word : Type 0 where
+  pub rotates : Bool
+  pub bytes : List ℕ
+
+-- What comes to a logger: the bytes before it hears a word, which are all where it hears none; and the words.
 pub record Coming : Type 0 where
   pub before : List ℕ
-  pub behind : Option (List ℕ)
+  pub words : List Word
+
+-- all bytes behind the first word
+abbrev pub all_behind : List Word → List ℕ
+all_behind [] = []
+all_behind (word ∷ words) = word.bytes ++ all_behind words
 
 -- all bytes that come
 abbrev pub all_of : Coming → List ℕ
-all_of coming = coming.before ++ unwrap_or coming.behind []
+all_of coming = coming.before ++ all_behind coming.words
 
 -- What comes changes so, where it is told. It goes on being told.
 abbrev pub Changes : Option Coming → Option Coming → (Coming → Coming → Type 0) → Type 0
-Changes None new change = ⊤
+Changes None None change = ⊤
+Changes None (Some new) change = ⊥
 Changes (Some old) None change = ⊥
 Changes (Some old) (Some new) change = change old new
 
--- What is heard: a stop, with no byte before it, and then no other; or that there is input.
+-- A word is heard, with no byte before it.
+abbrev pub HearsWord : Bool → Coming → Coming → Type 0
+HearsWord rotates old new =
+    old ≡ record { before = []; words = record { rotates = rotates; bytes = new.before } ∷ new.words }
+
+-- What is heard: a word; or that there is input.
 abbrev pub Hears : Heard → Coming → Coming → Type 0
-Hears heard.Stop old new = (old ≡ record { before = []; behind = Some new.before }) × (new.behind ≡ None)
+Hears heard.Stop old new = HearsWord false old new
+Hears heard.Rotate old new = HearsWord true old new
 Hears heard.Input old new = new ≡ old
 
--- These bytes are read, of those before a stop.
+-- These bytes are read, of those before the next word.
 abbrev pub Reads : List ℕ → Coming → Coming → Type 0
-Reads bytes old new = (old.before ≡ bytes ++ new.before) × (new.behind ≡ old.behind)
+Reads bytes old new = (old.before ≡ bytes ++ new.before) × (new.words ≡ old.words)
 
 -- Nothing comes any more.
 abbrev pub IsOver : Option Coming → Type 0
 IsOver None = ⊤
-IsOver (Some coming) = coming ≡ record { before = []; behind = None }
+IsOver (Some coming) = coming ≡ record { before = []; words = [] }
 
 -- whether a line is in hand behind these bytes: the last of them is no newline; or there are none, and it was before
 abbrev pub is_in_line : Bool → List ℕ → Bool
@@ -49,40 +67,118 @@ abbrev pub to_newline : List ℕ → List ℕ
 to_newline [] = []
 to_newline (byte ∷ bytes) = byte ∷ (if byte == 10 then [] else to_newline bytes)
 
+-- the bytes behind the first newline
+abbrev pub behind_newline : List ℕ → List ℕ
+behind_newline [] = []
+behind_newline (byte ∷ bytes) = if byte == 10 then bytes else behind_newline bytes
+
 -- the rest of the line in hand, where one is
 abbrev pub rest_of_line : Bool → List ℕ → List ℕ
 rest_of_line in_line bytes = if in_line then to_newline bytes else []
 
--- What a logger is given: what comes before the stop, and then the rest of the line in hand.
-abbrev pub given : Bool → Coming → List ℕ
-given in_line coming =
-    coming.before ++ elim coming.behind [ None ↦ [] | Some bytes ↦ rest_of_line (is_in_line in_line coming.before) bytes ]
+-- what comes behind it
+abbrev pub next_line : Bool → List ℕ → List ℕ
+next_line in_line bytes = if in_line then behind_newline bytes else bytes
 
--- A reader that listens: what comes to it, whether it was stopped, and whether a line is in hand.
+-- the rest of the line in hand behind the first of these words
+abbrev pub rest_behind : Bool → List Word → List ℕ
+rest_behind in_line [] = []
+rest_behind in_line (word ∷ words) = rest_of_line in_line word.bytes
+
+-- What a logger is given as one part: what comes before a word, and then the rest of the line in hand.
+abbrev pub given : Bool → Coming → List ℕ
+given in_line coming = coming.before ++ rest_behind (is_in_line in_line coming.before) coming.words
+
+-- the part that begins with these bytes, before these words
+abbrev pub part_of : List ℕ → List Word → List ℕ
+part_of bytes words = given false (record { before = bytes; words = words })
+
+-- the parts behind one: there are some where the first word is for a rotation, and each begins behind the line in hand
+abbrev pub parts_behind : Bool → List Word → List (List ℕ)
+parts_behind in_line [] = []
+parts_behind in_line (word ∷ words) =
+    if word.rotates then part_of (next_line in_line word.bytes) words
+    ∷ parts_behind (is_in_line false (next_line in_line word.bytes)) words else []
+
+-- the bytes that are not read: those behind a stop and the line in hand there
+abbrev pub unread : Bool → List Word → List ℕ
+unread in_line [] = []
+unread in_line (word ∷ words) =
+    if word.rotates then unread (is_in_line false (next_line in_line word.bytes)) words
+    else next_line in_line word.bytes ++ all_behind words
+
+-- A reader that listens: what comes to it; whether it has heard a word in the part that is read, and whether that was
+-- for a rotation; whether a line is in hand; and how often it was read, and failed.
 pub record Listening : Type 0 where
   pub coming : Option Coming
   pub stopped : Bool
+  pub rotates : Bool
   pub in_line : Bool
+  pub reads : ℕ
+  pub faults : ℕ
 
--- what it will give
+-- It was read and has failed as often as before.
+pub record SameCounts (old new : Listening) : Type 0 where
+  pub reads : new.reads ≡ old.reads
+  pub faults : new.faults ≡ old.faults
+
+-- It has heard what it had heard before.
+pub record SameWord (old new : Listening) : Type 0 where
+  pub stopped : new.stopped ≡ old.stopped
+  pub rotates : new.rotates ≡ old.rotates
+
+-- what it will give of the part
 abbrev pub left_in : Listening → Option (List ℕ)
 left_in listening = option_map (λ coming.
     if listening.stopped then rest_of_line listening.in_line coming.before else given listening.in_line coming)
     listening.coming
 
+-- the parts behind that one, once a word was heard that comes with these bytes
+abbrev pub parts_heard : Bool → Bool → Coming → List (List ℕ)
+parts_heard rotates in_line coming =
+    if rotates then part_of (next_line in_line coming.before) coming.words
+    ∷ parts_behind (is_in_line false (next_line in_line coming.before)) coming.words else []
+
+-- the parts behind the one that is read
+abbrev pub behind_in : Listening → Option (List (List ℕ))
+behind_in listening = option_map (λ coming.
+    if listening.stopped then parts_heard listening.rotates listening.in_line coming
+    else parts_behind (is_in_line listening.in_line coming.before) coming.words)
+    listening.coming
+
+-- the input in parts that it is
+abbrev pub feed_of : Listening → Feed
+feed_of listening = record {
+  device = record { bytes = left_in listening; reads = listening.reads; faults = listening.faults };
+  behind = behind_in listening;
+  rotates = listening.rotates;
+}
+
 -- Laws
 
--- These bytes are a front of all that come, which is empty, or ends in a newline, or is all of them.
+-- These bytes are a front of all, which is empty, or ends in a newline, or is all of them.
 pub record IsLinesOf (bytes all : List ℕ) : Type 0 where
   pub rest : List ℕ
   pub front : all ≡ bytes ++ rest
   pub ends : (bytes ≡ []) ⊎ (is_in_line true bytes ≡ false) ⊎ (rest ≡ [])
 
--- What a logger is given are whole lines, or all that comes.
-abbrev pub StopsAtALine : Type 0
-StopsAtALine = (coming : Coming) → IsLinesOf (given false coming) (all_of coming)
+-- the bytes up to the second word
+abbrev pub before_second : Coming → List ℕ
+before_second coming = coming.before ++ elim coming.words [ [] ↦ [] | word ∷ words ↦ word.bytes ]
 
--- A run that read all of what it is given by such a reader handed out just that.
+-- A part, as each is that begins at a line's beginning, is whole lines, or all that comes before a second word.
+abbrev pub StopsAtALine : Type 0
+StopsAtALine = (coming : Coming) → IsLinesOf (given false coming) (before_second coming)
+
+-- The parts, and what is not read, are all that comes: at a rotation and at a stop no byte is lost, and none comes
+-- twice.
+abbrev pub LosesNothing : Type 0
+LosesNothing = (coming : Coming) → all_of coming
+    ≡ given false coming
+    ++ (flat_map (λ part. part) (parts_behind (is_in_line false coming.before) coming.words)
+    ++ unread (is_in_line false coming.before) coming.words)
+
+-- A run that read all of a part handed out just that.
 abbrev pub RunsToALine : Type 0
 RunsToALine = (script : List Act) (coming : Coming) (old new : World) (counts : Counts) (ran : RunsAll script old new counts)
     → old.reader.bytes ≡ Some (given false coming) → IsRead new.reader → ran.bytes ≡ given false coming

@@ -10,11 +10,11 @@ use crate::log_system::LogSystem;
 use crate::opening::open_all;
 use crate::store::FolderStore;
 use cmd_base::{DONE, TROUBLE, report, report_parts};
-use mlog_core::run;
+use mlog_core::{PartedInput, run_parts};
 use mlog_script::Script;
 use std::alloc::{AllocError, Allocator};
-use std::io::{Read, Write};
-use tai_status::{Input, Output, TimeSource};
+use std::io::Write;
+use tai_status::{Output, TimeSource};
 
 /// What is told of want of memory.
 const NO_MEMORY: &[u8] = b"multilog: OutOfMemory\n";
@@ -105,26 +105,27 @@ fn report_unopened<B: Allocator + Clone, E: Write>(
 }
 
 /// The command `multilog`: reads lines, and hands them out to the logs, alerts and status files that its words ask for
-/// (<https://cr.yp.to/daemontools/multilog.html>). No words are a lawful script. Answers the status: 0; 100 for words
-/// that are no script, where nothing is made or read; 111 where a log can't be opened, for a fault of the reader or the
-/// store, where a log has no greater label, and for want of memory.
-pub fn run_multilog<D, A, R, E, C>(
+/// (<https://cr.yp.to/daemontools/multilog.html>). No words are a lawful script. Behind each part of the input but the
+/// last the current files that aren't empty become old files. Answers the status: 0; 100 for words that are no script,
+/// where nothing is made or read; 111 where a log can't be opened, for a fault of the input or the store, where a log
+/// has no greater label, and for want of memory.
+pub fn run_multilog<D, A, I, E, C>(
     alloc: A,
     store: &mut FolderStore<D, A>,
     words: &[&str],
-    reader: &mut Input<R>,
+    input: &mut I,
     faults: &mut Output<E>,
     clock: &mut C,
 ) -> u8
 where
     D: LogSystem + Drop,
     A: Allocator + Clone,
-    R: Read,
+    I: PartedInput,
     E: Write,
     C: TimeSource,
     requires no_logs { store.old.logs ≡ [] }
     requires no_files { store.old.statuses ≡ [] }
-    ensures ends { MultilogEndsBy (texts words.now) result store.old store.new reader.old reader.new
+    ensures ends { MultilogEndsBy (texts words.now) result store.old store.new (I.feed input.old) (I.feed input.new)
         (C.readings clock.old) (C.readings clock.new) faults.old faults.new }
 {
     let script = match read_script(&alloc, words) {
@@ -135,8 +136,8 @@ where
         Ok(()) => {}
         Err(why) => return report_unopened(why, &script, faults),
     }
-    match run(alloc, &script, reader, store, clock) {
-        Ok(_) => DONE,
+    match run_parts(alloc, &script, input, store, clock) {
+        Ok(()) => DONE,
         Err(fault) => report(faults, run_text(fault), TROUBLE),
     }
 }

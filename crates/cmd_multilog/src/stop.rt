@@ -1,9 +1,14 @@
-//! The input of a logger that can be told to stop: it stops at a line's end, so that no line is lost or parted.
-ghost use Rattle.std.specs.Prelude.{◌≡◌, ◌<◌, ◌≤◌, IfOk, OnOk, OnErr, length, take};
+//! The input of a logger that can be told to rotate its logs, and to stop: both come at a line's end, so that no line
+//! is lost or parted.
+ghost use Rattle.std.specs.Prelude.{◌≡◌, ◌<◌, ◌≤◌, ◌^◌, true, false, IfOk, OnOk, OnErr, length, take};
 
+use mlog_core::PartedInput;
 use std::io;
-use std::io::Read;
 use std::marker::Model;
+use tai_status::DeviceFault;
+
+/// How often a logger's input is read at most.
+const MOST_READS: u64 = 1 << 48;
 
 /// What a wait found.
 #[derive(Clone, Copy, Debug, PartialEq, Eq)]
@@ -12,9 +17,12 @@ pub enum Heard {
     Input,
     /// The logger is told to stop.
     Stop,
+    /// The logger is told to rotate its logs.
+    Rotate,
 }
 
-/// The input of a logger, with the channel by which it is told to stop. Contracts see what comes, where it is told.
+/// The input of a logger, with the channel by which it is told to stop or to rotate. Contracts see what comes, where
+/// it is told.
 pub trait LoggerInput {
     ghost use Rattle.std.specs.Prelude.{◌≡◌, ◌<◌, Option, None, IfOk, OnErr, length, take};
     ghost use Rattle.std.specs.Io.{ReadsAtMost};
@@ -22,12 +30,13 @@ pub trait LoggerInput {
 
     ghost coming: { Self → Option Coming } = { λ _. None };
 
-    /// Waits until there is input, or its end, or a stop is heard, which goes before.
+    /// Waits until there is input, or its end, or a word is heard, which goes before.
     fn wait(&mut self) -> io::Result<Heard>
         ensures ok { IfOk result (λ heard. Changes (coming self.old) (coming self.new) (Hears heard)) }
         ensures err { OnErr result (coming self.new ≡ coming self.old) };
 
-    /// Reads once. It gives no byte only at the end of the input, or into an empty buffer.
+    /// Reads once, and again where that is interrupted. It gives no byte only at the end of the input, or into an empty
+    /// buffer.
     fn read_once(&mut self, into: &mut [u8]) -> io::Result<usize>
         ensures bound { ReadsAtMost result into.new }
         ensures ok { IfOk result (λ count.
@@ -36,44 +45,69 @@ pub trait LoggerInput {
         ensures err { OnErr result (coming self.new ≡ coming self.old) };
 }
 
-/// A reader of the lines that begin before a stop. Once it hears one it reads the line in hand to its newline, byte by
-/// byte, and is at its end then: what comes behind that line is not read.
+/// A reader of whole lines. Once it hears a word it reads the line in hand to its newline, byte by byte, and its part is
+/// at its end then. Behind a rotation the next part begins there; what comes behind a stop and that line is not read.
 #[derive(Drop)]
 pub struct Stoppable<S: LoggerInput + Drop> {
     input: S,
     stopped: bool,
+    rotates: bool,
     in_line: bool,
+    reads: u64,
+    faults: u64,
 }
 
 impl<S: LoggerInput + Drop> Model for Stoppable<S> {
+    ghost use Rattle.std.specs.Prelude.{◌≡◌, true};
     ghost use Rattle.cmd_multilog.specs.Stop.{Listening};
 
     ghost Value = { Listening };
 
-    ghost view = { λ s. record { coming = S.coming s.input; stopped = s.stopped; in_line = s.in_line } };
+    ghost view = { λ s. record {
+      coming = S.coming s.input;
+      stopped = s.stopped;
+      rotates = s.rotates;
+      in_line = s.in_line;
+      reads = s.reads;
+      faults = s.faults;
+    } };
+
+    ghost invariant = { λ s. s.rotates ≡ true → s.stopped ≡ true };
 }
 
 impl<S: LoggerInput + Drop> Stoppable<S> {
     ghost use Rattle.std.specs.Prelude.{◌≡◌, ◌<◌, false, IfOk, OnErr, length, take};
     ghost use Rattle.std.specs.Io.{ReadsAtMost};
-    ghost use Rattle.std.specs.Io.KnownBytes.{Keeps};
-    ghost use Rattle.cmd_multilog.specs.Stop.{Changes, Reads, IsOver, is_in_line, left_in};
+    ghost use Rattle.std.specs.Io.KnownBytes.{ReadConsumes};
+    ghost use Rattle.cmd_multilog.specs.Stop.{Changes, Reads, IsOver, is_in_line, left_in, behind_in};
+    ghost use Rattle.cmd_multilog.specs.Stop.{SameCounts, SameWord};
 
-    /// A reader that no stop has reached yet, at the beginning of a line.
+    /// A reader that has heard no word yet, at the beginning of a line.
     pub fn new(input: S) -> Stoppable<S>
-        ensures { result ≡ record { coming = S.coming input; stopped = false; in_line = false } }
+        ensures { result ≡ record {
+          coming = S.coming input;
+          stopped = false;
+          rotates = false;
+          in_line = false;
+          reads = 0;
+          faults = 0;
+        } }
     {
         Stoppable {
             input,
             stopped: false,
+            rotates: false,
             in_line: false,
+            reads: 0,
+            faults: 0,
         }
     }
 
-    // Waits for input or a stop, unless it is stopped.
+    // Waits for input or a word, unless one was heard in this part.
     fn listen(&mut self) -> io::Result<()>
-        ensures keeps { Keeps (left_in self.old) (left_in self.new) }
-        ensures line { self.new.in_line ≡ self.old.in_line }
+        ensures left { left_in self.new ≡ left_in self.old }
+        ensures behind { behind_in self.new ≡ behind_in self.old }
+        ensures counts { SameCounts self.old self.new }
     {
         if self.stopped {
             return Ok(());
@@ -81,6 +115,10 @@ impl<S: LoggerInput + Drop> Stoppable<S> {
         match self.input.wait()? {
             Heard::Input => {}
             Heard::Stop => self.stopped = true,
+            Heard::Rotate => {
+                self.stopped = true;
+                self.rotates = true;
+            }
         }
         Ok(())
     }
@@ -91,7 +129,8 @@ impl<S: LoggerInput + Drop> Stoppable<S> {
         ensures ok { IfOk result (λ count. Changes self.old.coming self.new.coming (Reads (take count into.new))) }
         ensures line { IfOk result (λ count. self.new.in_line ≡ is_in_line self.old.in_line (take count into.new)) }
         ensures end { IfOk result (λ count. count ≡ 0 → 0 < length into.new → IsOver self.new.coming) }
-        ensures stopped { self.new.stopped ≡ self.old.stopped }
+        ensures word { SameWord self.old self.new }
+        ensures counts { SameCounts self.old self.new }
         ensures err { OnErr result (self.new ≡ self.old) }
     {
         let count = self.input.read_once(into)?;
@@ -100,14 +139,14 @@ impl<S: LoggerInput + Drop> Stoppable<S> {
         }
         Ok(count)
     }
-}
 
-impl<S: LoggerInput + Drop> Read for Stoppable<S> {
-    ghost use Rattle.cmd_multilog.specs.Stop.{left_in};
-
-    ghost remaining = { left_in };
-
-    fn read(&mut self, into: &mut [u8]) -> io::Result<usize> {
+    // Listens, and reads: of a part in which a word was heard a byte of the line in hand.
+    fn read_lines(&mut self, into: &mut [u8]) -> io::Result<usize>
+        ensures bound { ReadsAtMost result into.new }
+        ensures bytes { ReadConsumes (left_in self.old) (left_in self.new) result into.new }
+        ensures behind { behind_in self.new ≡ behind_in self.old }
+        ensures counts { SameCounts self.old self.new }
+    {
         self.listen()?;
         if !self.stopped {
             return self.take(into);
@@ -116,5 +155,32 @@ impl<S: LoggerInput + Drop> Read for Stoppable<S> {
             return Ok(0);
         }
         self.take(&mut into[..1])
+    }
+}
+
+impl<S: LoggerInput + Drop> PartedInput for Stoppable<S> {
+    ghost use Rattle.cmd_multilog.specs.Stop.{feed_of};
+
+    ghost feed = { feed_of };
+
+    fn read_part(&mut self, into: &mut [u8]) -> Result<usize, DeviceFault> {
+        if self.reads < MOST_READS {
+            self.reads += 1;
+            if let Ok(count) = self.read_lines(into) {
+                return Ok(count);
+            }
+        }
+        self.faults = self.faults.saturating_add(1);
+        Err(DeviceFault)
+    }
+
+    fn next_part(&mut self) -> bool {
+        if !self.rotates {
+            return false;
+        }
+        self.stopped = false;
+        self.rotates = false;
+        self.in_line = false;
+        true
     }
 }

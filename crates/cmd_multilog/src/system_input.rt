@@ -1,4 +1,4 @@
-//! The system's own input, and the pipe by which a logger is told to stop.
+//! The system's own input, and the pipe by which a logger is told to stop or to rotate its logs.
 use crate::stop::{Heard, LoggerInput};
 use libc::net::{POLLIN, POLLNVAL, poll};
 use libc::types::pollfd;
@@ -9,10 +9,10 @@ use std::{env, fs, io};
 /// The environment's variable that has the number of the channel's descriptor.
 const CHANNEL: &str = "DTOOLS_STOP_FD";
 
-/// The byte of the channel that stops nothing.
+/// The byte of the channel that asks for a rotation.
 const ROTATE: u8 = b'a';
 
-/// How often a wait is begun again that found nothing.
+/// How often a wait or a read is begun again that was interrupted.
 const TRIES: u64 = 1 << 48;
 
 /// What the system's wait for both descriptors found. Of the two the channel goes first.
@@ -113,7 +113,8 @@ impl<R: Read + Drop> LoggerInput for SystemInput<R> {
                 Ready::Channel => {
                     match read_word(channel) {
                         Word::Stop => return Ok(Heard::Stop),
-                        Word::Rotate | Word::Nothing => {}
+                        Word::Rotate => return Ok(Heard::Rotate),
+                        Word::Nothing => {}
                     }
                 }
                 Ready::NoChannel => self.channel = None,
@@ -124,6 +125,16 @@ impl<R: Read + Drop> LoggerInput for SystemInput<R> {
     }
 
     fn read_once(&mut self, into: &mut [u8]) -> io::Result<usize> {
-        self.input.read(into)
+        for _ in 0..TRIES {
+            match self.input.read(into) {
+                Ok(count) => return Ok(count),
+                Err(fault) => {
+                    if fault.kind() != ErrorKind::Interrupted {
+                        return Err(fault);
+                    }
+                }
+            }
+        }
+        Err(Error::from(ErrorKind::Interrupted))
     }
 }

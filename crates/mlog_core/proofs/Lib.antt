@@ -5,3 +5,5 @@ mod Alike
 mod Coming
 mod Counted
 mod Telling
+mod Rotating
+mod Partly

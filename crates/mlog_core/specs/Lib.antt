@@ -2,3 +2,6 @@ pub mod Scene
 pub mod Run
 pub mod Story
 pub mod Laws
+pub mod Feed
+pub mod Rotate
+pub mod Parts

@@ -1,6 +1,7 @@
 //! How bytes are fed to a router, line by line.
 ghost use Rattle.std.specs.Prelude.{◌≡◌, ◌≤◌, ◌<◌, Option, None, length, take, OnOk, IfOk};
 ghost use Rattle.mlog_script.specs.Selection.{Fits};
+ghost use Rattle.mlog_files.specs.Store.{Stays};
 ghost use Rattle.mlog_line.specs.LineRouter.{IsBare, IsWritten, Serves};
 ghost use Rattle.mlog_core.specs.Scene.{left_of, AreAlike, FeedsLine, Feeds, EndsInput};
 
@@ -250,6 +251,7 @@ pub fn feed_end<A: Allocator + Clone, B: Allocator + Clone, S: LogStore>(
     requires serves { Serves script.now router.old (S.state store.old) }
     ensures ends { EndsInput result script.now inside router.old router.new (S.state store.old) (S.state store.new) }
     ensures written { OnOk result (IsWritten router.new.tails) }
+    ensures stays { Stays (S.state store.old) (S.state store.new) }
 {
     match inside {
         Some(label) => {

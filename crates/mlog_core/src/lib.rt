@@ -8,7 +8,12 @@
 mod feed;
 mod front;
 mod laws;
+mod parted;
+mod rotate;
 mod stream;
+mod turns;
 
 pub use laws::counts_of_a_run;
+pub use parted::PartedInput;
 pub use stream::{Counts, RunFault, run};
+pub use turns::run_parts;

@@ -1,13 +1,15 @@
 //! The run of a script.
 ghost use Rattle.std.specs.Prelude.{◌≡◌, ◌≤◌, count_by, OnOk, IsErrOf};
-ghost use Rattle.tai_status.specs.Counted.{Fails, IsRead, Rose, Works};
+ghost use Rattle.tai_status.specs.Counted.{CountsRead, Fails, IsRead, Rose, Works};
 ghost use Rattle.mlog_script.specs.Script.{is_log, is_file};
 ghost use Rattle.mlog_line.specs.LineRouter.{IsWritten, Serves};
 ghost use Rattle.mlog_core.specs.Run.{world, RunEnds};
 ghost use Rattle.mlog_core.specs.Story.{Runs};
+ghost use Rattle.mlog_files.specs.Store.{Stays};
 ghost use Rattle.mlog_files.specs.declared.tail.LogFault.TheVariants as log_fault;
 
 use crate::feed::{feed_block, feed_end};
+use crate::parted::PartedInput;
 use mlog_files::{LogFault, LogStore};
 use mlog_line::LineRouter;
 use mlog_script::Script;
@@ -70,10 +72,41 @@ pub fn run<A: Allocator + Clone, B: Allocator + Clone, D: Read, S: LogStore, C: 
     ensures unwritten { IsErrOf result RunFault.Store
         → Rose (S.state store.old).failures (S.state store.new).failures }
 {
+    run_part(alloc, script, reader, store, clock)
+}
+
+/// The same over the part of an input that is read; what is behind that part stays there.
+pub(crate) fn run_part<A, B, I, S, C>(
+    alloc: A,
+    script: &Script<B>,
+    input: &mut I,
+    store: &mut S,
+    clock: &mut C,
+) -> Result<Counts, RunFault>
+where
+    A: Allocator + Clone,
+    B: Allocator + Clone,
+    I: PartedInput,
+    S: LogStore,
+    C: TimeSource,
+    requires logs { count_by is_log script.now ≤ (S.state store.old).logs }
+    requires files { count_by is_file script.now ≤ (S.state store.old).status_files }
+    ensures runs { RunEnds result script.now
+        (world (I.feed input.old).device (S.state store.old) (C.readings clock.old))
+        (world (I.feed input.new).device (S.state store.new) (C.readings clock.new)) }
+    ensures end { OnOk result (IsRead (I.feed input.new).device) }
+    ensures works { OnOk result (Works (I.feed input.old).device (I.feed input.new).device) }
+    ensures reads { OnOk result (CountsRead (I.feed input.old).device (I.feed input.new).device) }
+    ensures stays { OnOk result (Stays (S.state store.old) (S.state store.new)) }
+    ensures behind { (I.feed input.new).behind ≡ (I.feed input.old).behind }
+    ensures unread { IsErrOf result RunFault.Read → Fails (I.feed input.old).device (I.feed input.new).device }
+    ensures unwritten { IsErrOf result RunFault.Store
+        → Rose (S.state store.old).failures (S.state store.new).failures }
+{
     let Ok(mut router) = LineRouter::open(alloc, script, store) else {
         return Err(RunFault::OutOfMemory);
     };
-    match run_lines(&mut router, script, reader, store, clock) {
+    match run_lines(&mut router, script, input, store, clock) {
         Ok(lines) => Ok(Counts {
             lines,
             finished: router.finished(),
@@ -84,7 +117,7 @@ pub fn run<A: Allocator + Clone, B: Allocator + Clone, D: Read, S: LogStore, C: 
 }
 
 /// The fault of a run whose log goes no further.
-fn fault_of(why: LogFault) -> RunFault
+pub(crate) fn fault_of(why: LogFault) -> RunFault
     ensures store { why ≡ log_fault.Store → result ≡ RunFault.Store }
     ensures spent { why ≡ log_fault.LabelsSpent → result ≡ RunFault.LabelsSpent }
     ensures only_store { result ≡ RunFault.Store → why ≡ log_fault.Store }
@@ -98,28 +131,37 @@ fn fault_of(why: LogFault) -> RunFault
 }
 
 /// Reads all lines, and hands them out. It tells how many there were.
-fn run_lines<A: Allocator + Clone, B: Allocator + Clone, D: Read, S: LogStore, C: TimeSource>(
+fn run_lines<A, B, I, S, C>(
     router: &mut LineRouter<A>,
     script: &Script<B>,
-    input: &mut Input<D>,
+    input: &mut I,
     store: &mut S,
     clock: &mut C,
 ) -> Result<u64, RunFault>
+where
+    A: Allocator + Clone,
+    B: Allocator + Clone,
+    I: PartedInput,
+    S: LogStore,
+    C: TimeSource,
     requires serves { Serves script.now router.old (S.state store.old) }
     requires written { IsWritten router.old.tails }
     ensures runs { Runs result script.now router.old router.new (S.state store.old) (S.state store.new)
-        (C.readings clock.old) (C.readings clock.new) input.old input.new }
+        (C.readings clock.old) (C.readings clock.new) (I.feed input.old).device (I.feed input.new).device }
     ensures written { OnOk result (IsWritten router.new.tails) }
-    ensures end { OnOk result (IsRead input.new) }
-    ensures works { OnOk result (Works input.old input.new) }
-    ensures unread { IsErrOf result RunFault.Read → Fails input.old input.new }
+    ensures end { OnOk result (IsRead (I.feed input.new).device) }
+    ensures works { OnOk result (Works (I.feed input.old).device (I.feed input.new).device) }
+    ensures reads { OnOk result (CountsRead (I.feed input.old).device (I.feed input.new).device) }
+    ensures stays { OnOk result (Stays (S.state store.old) (S.state store.new)) }
+    ensures behind { (I.feed input.new).behind ≡ (I.feed input.old).behind }
+    ensures unread { IsErrOf result RunFault.Read → Fails (I.feed input.old).device (I.feed input.new).device }
     ensures memory { ¬ (IsErrOf result RunFault.OutOfMemory) }
 {
     let mut bytes = [0; BLOCK];
     let mut inside = None;
     let mut lines = 0;
     'reads: loop {
-        let count = match input.read(&mut bytes) {
+        let count = match input.read_part(&mut bytes) {
             Ok(count) => count,
             Err(_) => return Err(RunFault::Read),
         };

@@ -31,6 +31,15 @@ finish_at keep marks reading = finish_under keep marks (label_given marks.last r
 abbrev pub finished_at : ℕ → Marks → Tai64n → Option Standing
 finished_at keep marks reading = stands_under keep marks (label_given marks.last reading)
 
+-- The steps of a rotation: the current file is finished under the label that a reading gives. An empty one is left
+-- alone.
+abbrev pub rotate_steps : ℕ → Standing → Tai64n → List Step
+rotate_steps keep log reading = if log.count == 0 then [] else finish_at keep log.marks reading
+
+-- where the log stands after it
+abbrev pub rotated : ℕ → Standing → Tai64n → Option Standing
+rotated keep log reading = if log.count == 0 then Some log else finished_at keep log.marks reading
+
 -- A byte is appended, and finishes a file that is full with it.
 abbrev pub byte_steps : ℕ → ℕ → Option Standing → Sent → List Step
 byte_steps size keep None s = []

@@ -5,7 +5,7 @@ use Rattle.tai_status.specs.Label.{Tai64n}
 use Rattle.tai_status.specs.Lines.{sent}
 use Rattle.mlog_files.specs.Files.{Files, Step, append_steps}
 use Rattle.mlog_files.specs.Steps.{Marks}
-use Rattle.mlog_files.specs.Going.{Standing, finish_at, finished_at, steps_on, standing_on}
+use Rattle.mlog_files.specs.Going.{Standing, finish_at, finished_at, rotate_steps, rotated, steps_on, standing_on}
 use Rattle.mlog_files.specs.Named.{greatest_label}
 use Rattle.mlog_files.specs.Store.{StoreState, Does, DoesFront, Goes}
 use Rattle.mlog_files.specs.declared.tail.Tail.{Tail}
@@ -88,6 +88,11 @@ steps_to_finish tail reading = append_steps (waiting_in tail) ++ finish_at (keep
 abbrev pub FinishesUpTo : (old new : StoreState) → ℕ → Tail → Tai64n → LogFault → Type 0
 FinishesUpTo old new log tail reading why = StopsOn old new log (steps_to_finish tail reading)
     (finished_at (keep_of tail) (marks_at tail) reading) why
+
+-- The current file was not finished on request.
+abbrev pub RotatesUpTo : (old new : StoreState) → ℕ → Tail → Tai64n → LogFault → Type 0
+RotatesUpTo old new log tail reading why = StopsOn old new log (rotate_steps (keep_of tail) (standing tail) reading)
+    (rotated (keep_of tail) (standing tail) reading) why
 
 -- Bytes of a line were not all put, after what waited.
 abbrev pub PutsUpTo : (old new : StoreState) → ℕ → Tail → Tai64n → List ℕ → LogFault → Type 0

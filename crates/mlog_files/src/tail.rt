@@ -100,11 +100,11 @@ impl Tail {
     ghost use Rattle.std.specs.Prelude.{◌≡◌, ◌<◌, ◌≤◌, ◌++◌, [], length, take, Some, IfOk, IfErr, IfSome, OnOk, OnErr};
     ghost use Rattle.mlog_files.specs.Files.{append_steps};
     ghost use Rattle.mlog_files.specs.Steps.{finish_steps};
-    ghost use Rattle.mlog_files.specs.Going.{begun, finished_at};
+    ghost use Rattle.mlog_files.specs.Going.{begun, finished_at, rotate_steps, rotated};
     ghost use Rattle.mlog_files.specs.Store.{Does, Fails, Goes};
     ghost use Rattle.mlog_files.specs.Tails.{size_of, keep_of, waiting_in, marks_at, standing, found};
     ghost use Rattle.mlog_files.specs.Tails.{room_in, longer, SameLimits, steps_to_finish, FinishesUpTo, Puts};
-    ghost use Rattle.mlog_files.specs.Tails.{PutsUpTo};
+    ghost use Rattle.mlog_files.specs.Tails.{PutsUpTo, RotatesUpTo};
     ghost use Rattle.mlog_files.specs.declared.tail.LogFault.TheVariants as fault;
 
     /// The end of a log as the store holds it.
@@ -199,6 +199,31 @@ impl Tail {
             Ok(()) => Ok(()),
             Err(_) => Err(LogFault::Store),
         }
+    }
+
+    /// Finishes the current file on request, under the label that a reading gives or the next one past the greatest.
+    /// An empty one is left alone. Nothing may wait in memory. After a fault the log goes no further.
+    pub fn rotate<S: LogStore>(
+        &mut self,
+        store: &mut S,
+        log: usize,
+        reading: &Label,
+    ) -> Result<(), LogFault>
+        requires log { log < (S.state store.old).logs }
+        requires written { waiting_in self.old ≡ [] }
+        ensures done { OnOk result (Does (S.state store.old) (S.state store.new) log
+            (rotate_steps (keep_of self.old) (standing self.old) reading.now)) }
+        ensures stands { OnOk result
+            (rotated (keep_of self.old) (standing self.old) reading.now ≡ Some (standing self.new)) }
+        ensures written { OnOk result (waiting_in self.new ≡ []) }
+        ensures same { SameLimits self.old self.new }
+        ensures stopped { IfErr result (λ why.
+            RotatesUpTo (S.state store.old) (S.state store.new) log self.old reading.now why) }
+    {
+        if self.count == 0 {
+            return Ok(());
+        }
+        self.finish(store, log, reading)
     }
 
     // Puts a front of a line's bytes into a current file that has room, and tells how long it is.

@@ -1,7 +1,7 @@
 use Rattle.std.proofs.Common.{refl}
 use Rattle.mlog_core.proofs.Coming.{fault_moved}
 use Rattle.mlog_core.proofs.Telling.{runs_all, runs_up_to, runs_lines}
-use Rattle.mlog_core.proofs.stream.run.Goals as goal
+use Rattle.mlog_core.proofs.stream.run_part.Goals as goal
 
 pub returns-in-Ok-run_lines-clause-runs : goal.returns-in-Ok-run_lines-clause-runs
 returns-in-Ok-run_lines-clause-runs g c = record {

@@ -1,0 +1,52 @@
+-- What a rotation of logs does.
+use Rattle.std.specs.Prelude.{◌≡◌, ℕ, List, [], ◌∷◌, slice_get, Option, Some, None}
+use Rattle.tai_status.specs.Label.{Tai64n}
+use Rattle.tai_status.specs.Extended.{Extended}
+use Rattle.tai_status.specs.Counted.{Rose}
+use Rattle.mlog_script.specs.Script.{Act, Plan, log_plans}
+use Rattle.mlog_files.specs.Files.{Files, Step}
+use Rattle.mlog_files.specs.Going.{Standing, rotate_steps, rotated}
+use Rattle.mlog_files.specs.Store.{StoreState, Stays, Reaches}
+use Rattle.mlog_files.specs.Tails.{found}
+use Rattle.mlog_files.specs.declared.tail.LogFault.{LogFault}
+use Rattle.mlog_files.specs.declared.tail.LogFault.TheVariants as log_fault
+use Rattle.mlog_core.specs.Run.{ReachesFront}
+
+-- The steps of a rotation of the log that a plan asks for, by its files, where they are told: a current file that
+-- isn't empty is finished under the label that the reading gives, or the next one past the greatest in the names of old
+-- files.
+abbrev pub rotation : Option Plan → Tai64n → Option Files → List Step
+rotation None reading files = []
+rotation (Some plan) reading None = []
+rotation (Some plan) reading (Some files) = rotate_steps plan.keep (found files) reading
+
+-- where the log stands then: nowhere where there is no label
+abbrev pub stands_rotated : Option Plan → Tai64n → Option Files → Option Standing
+stands_rotated None reading files = None
+stands_rotated (Some plan) reading None = None
+stands_rotated (Some plan) reading (Some files) = rotated plan.keep (found files) reading
+
+-- All logs of a script were rotated under a reading of the clock, and nothing else was done.
+pub record Rotates (script : List Act) (old new : StoreState) (read reads : Option (List Tai64n)) : Type 0 where
+  pub reading : Tai64n
+  pub gave : Extended read reads (reading ∷ [])
+  pub logs : (log : ℕ) → Reaches (old.told.files log) (new.told.files log)
+      (rotation (slice_get (log_plans script) log) reading (old.told.files log))
+  pub statuses : new.told.statuses ≡ old.told.statuses
+  pub alerts : new.told.alerts ≡ old.told.alerts
+  pub stays : Stays old new
+
+-- Not all were: a front of the steps of each log is done. The store failed, which is counted; or a log has no label
+-- for an old file.
+pub record RotatesUpTo (script : List Act) (old new : StoreState) (read reads : Option (List Tai64n)) (why : LogFault)
+    : Type 0 where
+  pub reading : Tai64n
+  pub gave : Extended read reads (reading ∷ [])
+  pub logs : (log : ℕ) → ReachesFront (old.told.files log) (new.told.files log) 0
+      (rotation (slice_get (log_plans script) log) reading (old.told.files log))
+  pub statuses : new.told.statuses ≡ old.told.statuses
+  pub alerts : new.told.alerts ≡ old.told.alerts
+  pub stays : Stays old new
+  pub store : why ≡ log_fault.Store → Rose old.failures new.failures
+  pub spent : why ≡ log_fault.LabelsSpent
+      → (log : ℕ) × (stands_rotated (slice_get (log_plans script) log) reading (old.told.files log) ≡ None)

@@ -1,0 +1,47 @@
+//! An input that comes in parts.
+ghost use Rattle.std.specs.Prelude.{◌≡◌, ◌≤◌, true, false, IfOk, OnOk, OnErr, length};
+
+use std::io::Read;
+use tai_status::{DeviceFault, Input};
+
+/// The input of a logger. It comes in parts: behind each but the last the logs are to be rotated. Contracts see the
+/// part that is read, and what is behind it where that is told.
+pub trait PartedInput {
+    ghost use Rattle.std.specs.Prelude.{◌≡◌, ◌≤◌, true, false, IfOk, OnOk, OnErr, length};
+    ghost use Rattle.std.specs.Io.KnownBytes.{ReadConsumes};
+    ghost use Rattle.tai_status.specs.Counted.{CountsRead, Fails, IsRead, Works};
+    ghost use Rattle.mlog_core.specs.Feed.{Feed, OpensNext};
+
+    ghost feed: { Self → Feed };
+
+    /// Reads once of the part, as [`Input::read`] does: it gives no byte only at the part's end, or into an empty
+    /// buffer.
+    fn read_part(&mut self, into: &mut [u8]) -> Result<usize, DeviceFault>
+        ensures bound { IfOk result (λ count. count ≤ length into.new) }
+        ensures bytes { ReadConsumes (feed self.old).device.bytes (feed self.new).device.bytes result into.new }
+        ensures reads { OnOk result (CountsRead (feed self.old).device (feed self.new).device) }
+        ensures faults { OnOk result (Works (feed self.old).device (feed self.new).device) }
+        ensures fault { OnErr result (Fails (feed self.old).device (feed self.new).device) }
+        ensures behind { (feed self.new).behind ≡ (feed self.old).behind };
+
+    /// Whether the logs are to be rotated behind the part, which is at its end. If so the next part is begun.
+    fn next_part(&mut self) -> bool
+        requires end { IsRead (feed self.old).device }
+        ensures told { result ≡ (feed self.old).rotates }
+        ensures next { result ≡ true → OpensNext (feed self.old) (feed self.new) }
+        ensures last { result ≡ false → feed self.new ≡ feed self.old };
+}
+
+impl<D: Read> PartedInput for Input<D> {
+    ghost use Rattle.mlog_core.specs.Feed.{in_one};
+
+    ghost feed = { in_one };
+
+    fn read_part(&mut self, into: &mut [u8]) -> Result<usize, DeviceFault> {
+        self.read(into)
+    }
+
+    fn next_part(&mut self) -> bool {
+        false
+    }
+}
