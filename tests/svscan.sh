@@ -87,6 +87,17 @@ start() {
   echo "$svscan" >>"$room/$scenario.groups"
 }
 
+# start_session TOLD WORDS..: the same in a session of its own, as a service manager does. Where svscan is a job of a shell,
+# and is killed while a service is paused, the kernel sends HUP to all of its group.
+start_session() {
+  local told=$1
+  shift
+  setsid "$program" svscan "$@" </dev/null >>"$told.out" 2>>"$told" &
+  svscan=$!
+  disown
+  echo "$svscan" >>"$room/$scenario.groups"
+}
+
 # service FOLDER: makes a service, whose run is a script of sh from standard input. The folder appears with all it has:
 # svscan passes over names that begin with a dot.
 service() {
@@ -344,8 +355,8 @@ no_run() {
   sleeper d/sound
   start told d
   soon 'another one is up' 5 is_up d/sound
-  soon 'told of missing' 5 holds 'run: not found' told
-  soon 'told of closed' 5 holds 'run: Permission denied' told
+  soon 'told of missing' 5 holds '^svscan: missing: unable to run ./run: No such file or directory$' told
+  soon 'told of closed' 5 holds '^svscan: closed: unable to run ./run: Permission denied$' told
   local name
   for name in missing closed garbage; do
     is "$name is served" 0 "$(is_served d/$name; echo $?)"
@@ -423,6 +434,8 @@ END
   is 'k: down' 'd/web: down N seconds, normally up' "$(stat_line d/web)"
   sleep 2
   is 'k: it stays down' 1 "$(count d/web/starts)"
+  svc -u d/web
+  soon 'u' 3 is_up d/web
   kill -KILL -- "-$svscan"
   soon 'svscan is dead' 3 is_gone "$svscan"
   # The end of svscan waits for it.
@@ -533,52 +546,267 @@ else:
     print("in order")
 END
 
-# svscan itself is killed: what it started runs on, and the next svscan makes no second copy of that.
+# keep_processes SERVICE..: the process of each, whether it is stopped, and since when the record has it
+keep_processes() {
+  local name
+  for name in "$@"; do
+    echo "$name $(process "d/$name") $(is_stopped "$(process "d/$name")" && echo stopped) $(stamp "d/$name")"
+  done
+}
+# the label of a status record: when the service came up or went down
+stamp() { od -An -tx1 -N12 "$1/supervise/status" | tr -d ' \n'; }
+
+# svscan itself is killed: what it started runs on, and the next svscan takes each service up as it was.
 killed_svscan() {
   sleeper d/web
+  sleeper d/paused
+  sleeper d/put
+  sleeper d/once
+  sleeper d/dies
+  # It gave its streams away, and a child of it holds them.
+  service d/quiet <<'END'
+echo $$ >>starts
+sleep 900 &
+exec sleep 1000 </dev/null >/dev/null 2>&1
+END
+  logger d/quiet/log
+  # It writes a line at each HUP.
   service d/pair <<'END'
 echo $$ >>starts
-echo "life $(wc -l <starts)"
-exec sleep 1000
+n=0
+trap 'n=$((n + 1)); echo "line $n"' HUP
+trap 'echo "last line"; exit' TERM
+echo "line 0"
+while :; do sleep 0.05; done
 END
   logger d/pair/log
-  start told1 d
-  soon 'up' 5 is_settled d/web
-  soon 'the pair is up' 5 is_settled d/pair/log
+  start_session told1 d
+  soon 'up' 10 all_are is_settled d/web d/paused d/put d/once d/dies d/quiet d/pair d/pair/log
   soon 'its line is logged' 5 has_lines 1 d/pair/log/main/current
-  local web pair
-  web=$(process d/web)
+  svc -p d/paused
+  svc -d d/put
+  svc -o d/once
+  soon 'p' 5 ends ', paused' d/paused
+  soon 'd' 5 is_put_down d/put
+  soon 'o' 5 wants o d/once
+  local kept pair
+  keep_processes web paused put once quiet pair >kept
   pair=$(process d/pair)
   kill -KILL "$svscan"
   soon 'svscan is dead' 3 is_gone "$svscan"
-  so 'the service runs on' live "$web" "$pair"
   is 'no longer served' 'd/web: supervise not running' "$(stat_line d/web)"
-  start told2 d
-  soon 'the second tells it' 8 holds "^svscan: web: process $web still runs$" told2
-  soon 'the second tells it of the pair' 8 holds "^svscan: pair: process $pair still runs$" told2
-  local before after
-  before=$(grep -c "^svscan: web: " told2)
-  sleep 4
-  after=$(grep -c "^svscan: web: " told2)
-  lies 'told in 4 s' 2 6 $((after - before))
-  svc -d d/web
-  soon 'd is heard' 3 is_put_down d/web
-  so 'd does not reach the old process' lives "$web"
-  svc -u d/web
+  kill -KILL "$(process d/dies)"
+  kill -HUP "$pair"
+  sleep 0.5
+  so 'a service that writes meanwhile runs on' lives "$pair"
+  start_session told2 d
+  soon 'all are served' 10 all_are is_served d/web d/paused d/put d/once d/dies d/quiet d/pair d/pair/log
+  soon 'what died is started again' 10 has_lines 2 d/dies/starts
+  keep_processes web paused put once quiet pair >now
+  is 'each is as it was' '' "$(diff kept now)"
+  is 'each has its line' "d/web: up (pid $(process d/web)) N seconds" "$(stat_line d/web)"
+  is 'paused' "d/paused: up (pid $(process d/paused)) N seconds, paused" "$(stat_line d/paused)"
+  is 'put down' 'd/put: down N seconds, normally up' "$(stat_line d/put)"
+  soon 'what was written meanwhile is logged' 10 has_lines 2 d/pair/log/main/current
+  kill -HUP "$pair"
+  soon 'and what is written now' 5 has_lines 3 d/pair/log/main/current
+  is 'each line once' 'line 0 line 1 line 2' "$(paste -sd ' ' d/pair/log/main/current)"
+  # Each is served like any other.
+  kept=$(process d/web)
+  svc -t d/web
+  soon 't ends it, and it starts again' 6 is_another d/web "$kept"
+  so 'how it ended is not known' holds "^$kept unknown @" d/web/supervise/exit
+  svc -c d/paused
+  soon 'c' 5 not is_stopped "$(process d/paused)"
+  svc -d d/paused d/pair
+  soon 'd' 6 is_put_down d/paused
+  soon 'd' 6 is_put_down d/pair
+  soon 'the last words are logged' 5 ends_with 'last line' d/pair/log/main/current
+  svc -k d/once
+  soon 'once: it is not started again' 6 is_down d/once
+  svc -u d/put
+  soon 'u' 6 is_settled d/put
   # A third one, after TERM: that is no other end.
+  kept=$(process d/web)
   kill -TERM "$svscan"
   soon 'TERM ends svscan' 3 is_gone "$svscan"
-  start told3 d
-  soon 'the third tells it too' 8 holds "^svscan: web: process $web still runs$" told3
-  is 'no second copy' '1 1' "$(count d/web/starts) $(count d/pair/starts)"
-  so 'the old ones run' live "$web" "$pair"
-  kill -KILL "$web" "$pair"
-  soon 'then it starts' 4 has_lines 2 d/web/starts
-  soon 'then the pair starts' 4 has_lines 2 d/pair/starts
-  soon 'then it is up' 4 is_settled d/web
-  is 'by its own number' "$(tail -n 1 d/web/starts)" "$(process d/web)"
-  soon 'the logger has both lives' 4 has_lines 2 d/pair/log/main/current
-  is 'the logger has both lives' 'life 1 life 2' "$(paste -sd ' ' d/pair/log/main/current)"
+  start_session told3 d
+  soon 'served again' 10 all_are is_served d/web d/once d/paused
+  is 'the same process' "$kept" "$(process d/web)"
+  is 'down is down' '0 0' "$(process d/paused) $(process d/once)"
+  is 'no second copies' '2 1 1 1 1' "$(for name in web once paused quiet pair; do count d/$name/starts; done | paste -sd ' ')"
+  is 'nothing was told' '' "$(cat told1 told2 told3)"
+}
+
+# A status record that can't be written is told, and the service goes on; the next one that can be is.
+unwritten() {
+  sleeper d/web
+  start told d
+  soon 'up' 5 is_settled d/web
+  local web
+  web=$(process d/web)
+  mkdir d/web/supervise/status.new
+  svc -d d/web
+  soon 'd ends it' 5 not lives "$web"
+  soon 'it is told' 5 holds '^svscan: web: unable to write status$' told
+  is 'the record stands' "$web" "$(process d/web)"
+  rmdir d/web/supervise/status.new
+  svc -u d/web
+  soon 'u' 5 is_another d/web "$web"
+  soon 'up again' 5 is_settled d/web
+  is 'nothing else was told' 'svscan: web: unable to write status' "$(sort -u told)"
+}
+
+# svscan is killed soon after it starts, 30 times. There is never a second copy of a service. A process of which a kill kept the
+# record from being written is not adopted: that it still runs is told.
+killed_early() {
+  sleeper d/web
+  sleeper d/pair
+  logger d/pair/log
+  local copies=
+  for _ in $(seq 30); do
+    start told d
+    sleep "0.0$((RANDOM % 60 + 10))"
+    kill -KILL "$svscan"
+    until_true 3 is_gone "$svscan"
+    copies+=$(copies_of web pair)
+  done
+  is 'second copies' '' "$copies"
+  start told2 d
+  soon 'the logger is up' 10 is_settled d/pair/log
+  local name
+  for name in web pair; do
+    soon "$name is up, or said to run" 10 is_found "$name"
+    is "one $name" 1 "$(living "d/$name" | wc -l)"
+  done
+}
+# Whether the one process of a service is the one that svscan has, or is told to run still.
+is_found() {
+  local number
+  number=$(living "d/$1")
+  { [ "$(process "d/$1")" = "$number" ] && is_settled "d/$1"; } || holds "^svscan: $1: process $number still runs$" told2
+}
+# the processes of the starts of a service that live
+living() { while read -r number; do lives "$number" && echo "$number"; done <"$1/starts"; }
+# those of these services of which two live
+copies_of() { for name; do [ "$(living "d/$name" 2>/dev/null | wc -l)" -lt 2 ] || echo "$name "; done; }
+
+# A record counts in its own boot: in another one each service begins by its row, and a process of that number is no longer
+# the service's.
+new_boot() {
+  sleeper d/put
+  sleeper d/web
+  sleeper d/same
+  start told d
+  soon 'up' 5 all_are is_settled d/put d/web d/same
+  svc -d d/put d/same
+  soon 'put down' 5 is_put_down d/put
+  soon 'put down' 5 is_put_down d/same
+  kill -KILL "$svscan"
+  soon 'svscan is dead' 3 is_gone "$svscan"
+  local web
+  web=$(process d/web)
+  # Another boot, and a process that began at another time.
+  sed -i 's/ [^ ]*$/ 00000000-0000-0000-0000-000000000000/' d/put/supervise/process
+  sed -i 's/ [0-9]* / 1 /' d/web/supervise/process
+  kill -KILL "$web"
+  (cd / && exec sleep 1000) &
+  local other=$!
+  sed -i "s/^[0-9]*/$other/" d/web/supervise/process
+  start told2 d
+  soon 'by its row' 8 is_settled d/put
+  soon 'not another process' 8 has_lines 2 d/web/starts
+  soon 'web is up' 5 is_settled d/web
+  is 'the same boot' '1 0' "$(count d/same/starts) $(process d/same)"
+  svc -d d/web
+  soon 'd' 5 is_put_down d/web
+  so 'the other process runs' lives "$other"
+  kill -KILL "$other"
+}
+
+# Where the folder of a process can't be looked into, it is adopted all the same.
+other_user() {
+  setpriv --bounding-set -sys_ptrace --inh-caps -sys_ptrace true 2>/dev/null || return
+  service d/web <<'END'
+echo $$ >>starts
+exec setpriv --reuid 65534 --regid 65534 --clear-groups sleep 1000
+END
+  under=(setpriv --bounding-set -sys_ptrace --inh-caps -sys_ptrace)
+  start told d
+  soon 'up' 5 is_settled d/web
+  local web
+  web=$(process d/web)
+  kill -KILL "$svscan"
+  soon 'svscan is dead' 3 is_gone "$svscan"
+  start told2 d
+  under=()
+  soon 'served' 5 is_served d/web
+  sleep 1.5
+  is 'the same process' "$web 1" "$(process d/web) $(count d/web/starts)"
+  svc -d d/web
+  soon 'd' 5 is_put_down d/web
+  is 'nothing was told' '' "$(cat told told2)"
+}
+
+# Ten pairs in full flow, and svscan is killed five times. No service is restarted, no line is doubled, and each log lacks at
+# most what svscan had in its memory.
+cat >flow.py <<'END'
+import re, sys
+kills, last = int(sys.argv[2]), int(sys.argv[3])
+numbers, torn, size = [], 0, 0
+for line in open(sys.argv[1], "rb").read().split(b"\n")[:-1]:
+    found = re.fullmatch(rb"line 1(\d{8})", line)
+    size += len(line) + 1
+    if found:
+        numbers.append(int(found[1]))
+    else:
+        torn += 1
+if any(a >= b for a, b in zip(numbers, numbers[1:])):
+    print("not in order")
+elif torn > 2 * kills:
+    print("torn:", torn)
+elif last * 14 - size > kills * 131072:
+    print("missing:", last * 14 - size)
+else:
+    print("in order")
+END
+
+killed_in_flow() {
+  local name kept
+  for name in 0 1 2 3 4 5 6 7 8 9; do
+    service d/p$name <<'END'
+echo $$ >>starts
+i=0
+until [ -e ../../stop ]; do
+  i=$((i + 1))
+  echo "line $((100000000 + i))"
+  [ $((i % 50)) -ne 0 ] || sleep 0.02
+done
+echo $i >last
+exec sleep 1000
+END
+    logger d/p$name/log
+  done
+  start told d
+  soon 'up' 20 all_are is_settled d/p0 d/p9 d/p0/log d/p9/log
+  kept=$(for name in 0 1 2 3 4 5 6 7 8 9; do process d/p$name; done | paste -sd ' ')
+  for _ in 1 2 3 4 5; do
+    sleep "1.$((RANDOM % 10))"
+    kill -KILL "$svscan"
+    soon 'svscan is dead' 3 is_gone "$svscan"
+    sleep "0.$((RANDOM % 5))"
+    start told d
+    soon 'served' 10 all_are is_served d/p0 d/p9 d/p0/log d/p9/log
+  done
+  sleep 2
+  : >stop
+  soon 'the last line' 20 test -s d/p9/last
+  sleep 3
+  is 'the same processes' "$kept" "$(for name in 0 1 2 3 4 5 6 7 8 9; do process d/p$name; done | paste -sd ' ')"
+  for name in 0 1 2 3 4 5 6 7 8 9; do
+    is "lines of p$name" 'in order' "$(python3 ../flow.py d/p$name/log/main/current 5 "$(cat d/p$name/last)")"
+  done
+  is 'nothing was told' '' "$(cat told)"
 }
 
 # A record of 18 bytes, as an earlier dtools left it, names a process that still runs.
@@ -754,6 +982,7 @@ END
   soon 'up again' 4 is_settled "$folder/${all[4]}"
   kill -KILL "$svscan"
   soon 'svscan is dead' 3 is_gone "$svscan"
+  rm "$folder/${all[4]}/supervise/process"
   start told2 "$folder"
   soon 'told by its name' 8 grep -q -F "svscan: ${all[4]}: process " told2
 }
@@ -1089,6 +1318,8 @@ END
   is 'no process is left' '' "$(for number in $processes; do lives "$number" && echo "$number"; done)"
   is 'no service is served' 100 "$(is_served d/web; echo $?)"
   is 'told' '' "$(cat told)"
+  start told2 d
+  soon 'the next svscan begins each' 10 all_are is_settled d/web d/web/log 'd/two words'
   is 'a bad folder: status' 0 "$(DTOOLS=$program "$contrib/svscan-run" none/at/all 2>none & sleep 1; kill -TERM $!; wait $!; echo $?)"
 }
 
@@ -1168,7 +1399,7 @@ END
   is 'its environment' "A=1 B=two words PATH=$PATH PWD=$PWD" "$(sort d/s1/environment | paste -sd ' ')"
   is 'its signals: none is blocked, none is passed over' '0 0' "$(paste -sd ' ' d/s1/masks)"
   is 'its streams' "/dev/null $PWD/told.out $PWD/told" "$(paste -sd ' ' d/s1/streams)"
-  is 'its streams: a pair' "/dev/null pipe $PWD/told" "$(sed 's/:.*//' d/pair/streams | paste -sd ' ')"
+  is 'its streams: a pair' "/dev/null $PWD/d/pair/supervise/out $PWD/told" "$(sed 's/:.*//' d/pair/streams | paste -sd ' ')"
   is 'its streams: a logger' "pipe $PWD/told.out $PWD/told" "$(sed 's/:.*//' d/pair/log/streams | paste -sd ' ')"
   is 'nothing was told' '' "$(cat told told.out)"
 }
@@ -1180,11 +1411,13 @@ are_ready() {
 # Few descriptors: svscan goes on with what it has.
 shortage() {
   local each
-  for each in $(seq 20); do sleeper "d/s$each"; done
+  sleeper d/s1
   under=(bash -c 'ulimit -n 60; exec "$@"' bash)
   start told d
   under=()
-  soon 'some are up' 10 some_is_up
+  soon 'the first is up' 10 is_settled d/s1
+  for each in $(seq 2 20); do sleeper "d/s$each"; done
+  soon 'some are told' 15 holds ': unable to supervise$' told
   sleep 5
   so 'svscan lives' lives "$svscan"
   local up=()
@@ -1200,12 +1433,6 @@ shortage() {
   lies 'svscan does not spin: ticks in 5 s' 0 50 $((after - before))
   so 'svscan lives on' lives "$svscan"
   so 'the service too' lives "$(process "${up[0]:-none}")"
-}
-
-some_is_up() {
-  local each
-  for each in d/s{1..20}; do is_served "$each" && is_up "$each" && return; done
-  return 1
 }
 
 # What stands in the folder when a service begins anew counts, though rounds passed in which it was not looked at.
@@ -1301,10 +1528,10 @@ play_all() {
   done
 }
 
-scenarios=(life modes_kept exits endings no_run links stubborn killed_service killed_svscan earlier_record changes twice names silent
+scenarios=(life modes_kept exits endings no_run links stubborn killed_service killed_svscan killed_early unwritten new_boot other_user earlier_record changes twice names silent
   connections no_supervise rounds untaken ordered first_process two_services child begins_anew shortage)
 # These keep every processor busy, and have the machine for themselves.
-crowds=(killed_logger late_logger last_entries given_back many)
+crowds=(killed_logger killed_in_flow late_logger last_entries given_back many)
 shift
 if [ $# -gt 0 ]; then
   play_all "$@"

@@ -17,7 +17,9 @@ use Rattle.suite_core.specs.Suite.{SuiteState, beginning, down_where, scan_out, 
 use Rattle.suite_core.specs.Run.{is_taken_away}
 use Rattle.svc_host.specs.declared.host.HostOut.{HostOut}
 use Rattle.svc_host.specs.Parts.{HostPart, stays}
-use Rattle.svc_host.specs.Begun.{BeginsByRow, IsBegun, is_down, row_at}
+use Rattle.svc_host.specs.Begun.{Begins, IsBegun, is_down, row_at}
+use Rattle.svc_left.specs.declared.opening.Opening.{Opening}
+use Rattle.svc_left.specs.Opening.{beginning as begins_so}
 use Rattle.svc_host.specs.Rounds.{HostState, IsParted, IsScan, IsScanned, staying}
 use Rattle.host_law.specs.Alike.{BeginsAlike, IsScanAlike, ScansAreAlike, part_of}
 
@@ -56,11 +58,12 @@ down rows Main (Some slot) row found = rw found refl
 down rows Log (Some slot) row found = rw found refl
 
 begins : (suite : SuiteState) (rows : List Row) (label : Tai64n) (part : HostPart)
-    → BeginsByRow (scanned suite.table rows).slots rows label part → BeginsAlike suite rows label part
-begins suite rows label part is =
+    → Begins (scanned suite.table rows).slots rows label part → BeginsAlike suite rows label part
+begins suite rows label part is by_row =
     let slots = (scanned suite.table rows).slots in
     subst (λ (b : Bool). IsBegun part.id (Begin b label) part)
-    (sym (down rows part.id.role (slot_at slots part.id.slot) is.row is.found)) is.begun
+    (sym (down rows part.id.role (slot_at slots part.id.slot) is.row is.found))
+    (subst (λ (o : Opening). IsBegun part.id (begins_so o (is_down part.id.role is.row) label) part) by_row is.begun)
 
 -- All parts that begin
 
@@ -89,7 +92,7 @@ scans-same suite rows label old out new is =
       table = is.table;
       begun = is.begun.begun;
       parts = is.begun.parts ∙ ap (λ (parts : List HostPart). parts ++ is.begun.begun) stay;
-      each = All-weaker (BeginsByRow (scanned table rows).slots rows label) (BeginsAlike suite rows label) (begins suite rows label)
+      each = All-weaker (Begins (scanned table rows).slots rows label) (BeginsAlike suite rows label) (begins suite rows label)
           is.begun.begun is.begun.each;
       all = subst (λ (parts : List PartId). IsParted parts (map (λ (part : HostPart). part.id) is.begun.begun) out.failed)
           (sym all) is.begun.parted;

@@ -20,6 +20,7 @@ use Rattle.suite_core.specs.Parts.{trace_of}
 use Rattle.suite_core.specs.Suite.{SuiteState, Beginning, beginning, opening, scan_out, scan_starts, scan_restarts}
 use Rattle.suite_core.specs.Suite.{suite_scanned}
 use Rattle.suite_core.specs.Run.{is_taken_away, outs_along, suite_along}
+use Rattle.svc_left.specs.declared.opening.Opening.TheVariants.{ByRow}
 use Rattle.svc_host.specs.declared.host.HostOut.{HostOut}
 use Rattle.svc_host.specs.Parts.{HostPart}
 use Rattle.svc_host.specs.Begun.{IsBegun}
@@ -31,11 +32,12 @@ use Rattle.svc_host.specs.Rounds.{HostState, IsParted, IsScanned, after_ends}
 abbrev pub part_of : Beginning → PartId
 part_of begun = begun.part
 
--- A part of a host begins as a scan of the suite begins the part of that name: with the same machine, and nothing after
--- it.
+-- A part of a host that begins by its row begins as a scan of the suite begins the part of that name: with the same
+-- machine, and nothing after it. Where an earlier svscan left something, which no suite does, it may begin otherwise.
 abbrev pub BeginsAlike : SuiteState → List Row → Tai64n → HostPart → Type 0
 BeginsAlike suite rows label part =
-    IsBegun part.id (opening label (beginning (scanned suite.table rows).slots rows part.id)) part
+    part.opening ≡ ByRow
+    → IsBegun part.id (opening label (beginning (scanned suite.table rows).slots rows part.id)) part
 
 -- A scan of a host beside a scan of a suite, at the same rows and label.
 pub record IsScanAlike (suite : SuiteState) (rows : List Row) (label : Tai64n)

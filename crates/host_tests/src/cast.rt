@@ -6,6 +6,7 @@ use std::alloc::{AllocError, Global};
 use std::sync::Arc;
 use svc_host::{Maker, PartResources};
 use svc_house::{ControlSender, Notifier};
+use svc_left::Opening;
 use tai_status::Label;
 
 /// Makes actors. The parts of the first slot get one gate, those of every other slot another.
@@ -106,10 +107,16 @@ impl Maker for Cast {
             world,
             gate: gate.ok()?,
             reaper: Nobody,
+            opening: Opening::ByRow,
         })
     }
 
-    fn pair(&mut self, slot: u64, _notifier: Arc<Notifier, Global>) -> Option<(Said, Lives)> {
+    fn pair(
+        &mut self,
+        _name: &str,
+        slot: u64,
+        _notifier: Arc<Notifier, Global>,
+    ) -> Option<(Said, Lives)> {
         let (bytes, taken) = if slot == 0 {
             (*b"abcdef", Arc::try_clone(&self.taken[0]).ok()?)
         } else {

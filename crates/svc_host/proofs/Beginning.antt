@@ -7,7 +7,7 @@ use Rattle.tai_status.specs.Label.{Tai64n}
 use Rattle.scan_table.specs.declared.part.PartId.{PartId}
 use Rattle.scan_table.specs.Slots.{Row, SlotState}
 use Rattle.svc_host.specs.Parts.{HostPart}
-use Rattle.svc_host.specs.Begun.{BeginsByRow}
+use Rattle.svc_host.specs.Begun.{Begins}
 use Rattle.svc_host.specs.Rounds.{AreBegun, IsBegunOne, IsParted, chosen}
 
 module _ {A : Type 0} where
@@ -72,19 +72,19 @@ begun_none slots rows label parts =
 
 module _ (slots : List SlotState) (rows : List Row) (label : Tai64n) (done : List PartId) (id : PartId) (old mid : List HostPart)
     (failed : List PartId) (before : AreBegun slots rows label done old mid failed) where
-  pub begun_more : (part : HostPart) → BeginsByRow slots rows label part → part.id ≡ id
+  pub begun_more : (part : HostPart) → Begins slots rows label part → part.id ≡ id
       → AreBegun slots rows label (done ++ id ∷ []) old (mid ++ part ∷ []) failed
   begun_more part begins is =
       record {
         begun = before.begun ++ part ∷ [];
         parts = ap (λ l. l ++ part ∷ []) before.parts ∙ append_assoc old before.begun (part ∷ []);
-        each = All-append (BeginsByRow slots rows label) before.begun (part ∷ []) before.each one;
+        each = All-append (Begins slots rows label) before.begun (part ∷ []) before.each one;
         parted = subst (λ l. IsParted (done ++ id ∷ []) l failed)
             (ap (λ p. map id_of before.begun ++ p ∷ []) (sym is) ∙ sym (map-append id_of before.begun (part ∷ [])))
             (one_is_set done (map id_of before.begun) failed id before.parted);
       }
     where
-      one : (k : ℕ) (d : HostPart) → k < length (part ∷ []) → BeginsByRow slots rows label (slice_index_or (part ∷ []) k d)
+      one : (k : ℕ) (d : HostPart) → k < length (part ∷ []) → Begins slots rows label (slice_index_or (part ∷ []) k d)
       one zero d less = begins
       one (suc k) d less = absurd (omega (arith, less))
 

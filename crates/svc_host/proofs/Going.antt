@@ -8,12 +8,13 @@ use Rattle.scan_table.specs.declared.part.PartId.{PartId}
 use Rattle.svc_host.specs.Parts.{HostPart, PartGoesOn, HasPosted, GoOn, IsNowhere, IsPlace, IsPost, IsReading, IsStep, history_of}
 
 pub stays_same : (part : HostPart) → PartGoesOn part part
-stays_same part = record { id = refl; station = refl; known = prefix_self part.known; posted = refl }
+stays_same part = record { id = refl; opening = refl; station = refl; known = prefix_self part.known; posted = refl }
 
 pub goes_on_then : (a b c : HostPart) → PartGoesOn a b → PartGoesOn b c → PartGoesOn a c
 goes_on_then a b c p q =
     record {
       id = q.id ∙ p.id;
+      opening = q.opening ∙ p.opening;
       station = q.station ∙ p.station;
       known = prefix_trans a.known b.known c.known p.known q.known;
       posted = q.posted ∙ p.posted;

@@ -1,6 +1,7 @@
 -- How a part that a round begins stands at first.
 use Rattle.std.specs.Prelude.{◌≡◌, Bool, false, List, [], Option, Some, None}
-use Rattle.sup_core.specs.History.{History, Begin, state_of}
+use Rattle.sup_core.specs.History.{History, state_of}
+use Rattle.svc_left.specs.Opening.{beginning}
 use Rattle.tai_status.specs.Label.{Tai64n}
 use Rattle.scan_table.specs.declared.part.Role.{Role}
 use Rattle.scan_table.specs.declared.part.Role.TheVariants.{Main, Log}
@@ -21,16 +22,17 @@ row_at rows None = None
 row_at rows (Some slot) = row_of rows slot.name
 
 -- A part that was just begun: its station was opened with the machine of this beginning, and nothing was posted to it.
-pub record IsBegun (id : PartId) (beginning : History) (part : HostPart) : Type 0 where
+pub record IsBegun (id : PartId) (begin : History) (part : HostPart) : Type 0 where
   pub is : part.id ≡ id
-  pub opening : part.station.opening ≡ state_of beginning
+  pub opening : part.station.opening ≡ state_of begin
   pub known : part.known ≡ []
   pub posted : part.posted ≡ []
   pub has_ended : part.has_ended ≡ false
   pub loss : part.loss ≡ no_loss
 
--- It begins with or without its `down` file, as the row of its slot says, at the label of the round.
-pub record BeginsByRow (slots : List SlotState) (rows : List Row) (label : Tai64n) (part : HostPart) : Type 0 where
+-- It begins as its maker says of it: by its row, which is with or without its `down` file, as the row of its slot says,
+-- at the label of the round; or otherwise, since an earlier svscan left something of it.
+pub record Begins (slots : List SlotState) (rows : List Row) (label : Tai64n) (part : HostPart) : Type 0 where
   pub row : Row
   pub found : row_at rows (slot_at slots part.id.slot) ≡ Some row
-  pub begun : IsBegun part.id (Begin (is_down part.id.role row) label) part
+  pub begun : IsBegun part.id (beginning part.opening (is_down part.id.role row) label) part

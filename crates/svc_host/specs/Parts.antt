@@ -15,12 +15,14 @@ use Rattle.svc_mail.specs.declared.sender.Sender.{Sender}
 use Rattle.svc_mail.specs.Ends.{posted}
 use Rattle.svc_station.specs.declared.reader.Reader.{Reader}
 use Rattle.svc_station.specs.Ends.{known_to, reader_station}
+use Rattle.svc_left.specs.declared.opening.Opening.{Opening}
 use Rattle.svc_host.specs.declared.part.Loss.{Loss}
 
--- A part that is there: the station to which its thread publishes, which of its events the host has read of, the
--- control bytes that the host posted to it, and whether its thread was joined.
+-- A part that is there: how it began, the station to which its thread publishes, which of its events the host has read
+-- of, the control bytes that the host posted to it, and whether its thread was joined.
 pub record HostPart : Type 0 where
   pub id : PartId
+  pub opening : Opening
   pub station : Origin
   pub known : List Event
   pub posted : List ℕ
@@ -31,10 +33,11 @@ pub record HostPart : Type 0 where
 abbrev pub no_loss : Loss
 no_loss = record { untaken = 0; lacks_trace = false }
 
--- a part that runs, with this reader of its station and this sender of its mailbox
-abbrev pub new_part : {A : Type 0} → PartId → Reader → Sender ℕ A → HostPart
-new_part id reader sender = record {
+-- a part that runs and began so, with this reader of its station and this sender of its mailbox
+abbrev pub new_part : {A : Type 0} → PartId → Opening → Reader → Sender ℕ A → HostPart
+new_part id opening reader sender = record {
   id = id;
+  opening = opening;
   station = reader_station reader;
   known = known_to reader;
   posted = posted sender;
@@ -53,6 +56,7 @@ IsGoneIfEnded part = part.has_ended ≡ true → phase_of (history_of part) ≡ 
 -- It is the same part, whose events go on from those that the host had read of. The host posted nothing to it.
 pub record PartGoesOn (old new : HostPart) : Type 0 where
   pub id : new.id ≡ old.id
+  pub opening : new.opening ≡ old.opening
   pub station : new.station ≡ old.station
   pub known : IsPrefix old.known new.known
   pub posted : new.posted ≡ old.posted
@@ -60,6 +64,7 @@ pub record PartGoesOn (old new : HostPart) : Type 0 where
 -- The host posted this byte to it, and nothing else of it changed.
 pub record HasPosted (old : HostPart) (byte : ℕ) (new : HostPart) : Type 0 where
   pub id : new.id ≡ old.id
+  pub opening : new.opening ≡ old.opening
   pub station : new.station ≡ old.station
   pub known : new.known ≡ old.known
   pub posted : new.posted ≡ old.posted ++ byte ∷ []

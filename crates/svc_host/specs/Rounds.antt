@@ -12,7 +12,7 @@ use Rattle.scan_table.specs.Scan.{starts, restarts, drops, refused}
 use Rattle.scan_table.specs.Table.{TableState, after_end, scanned}
 use Rattle.svc_host.specs.declared.host.HostOut.{HostOut}
 use Rattle.svc_host.specs.Parts.{HostPart, GoOn, IsPart, stays}
-use Rattle.svc_host.specs.Begun.{BeginsByRow}
+use Rattle.svc_host.specs.Begun.{Begins}
 
 -- the table of slots, and the parts that are there
 pub record HostState : Type 0 where
@@ -66,24 +66,24 @@ pub record IsParted {A : Type 0} (all ones others : List A) : Type 0 where
   pub set : ones ≡ chosen flags all
   pub not_set : others ≡ chosen (map not flags) all
 
--- Of the parts that a scan began each is there now, begun by its row, or failed.
+-- Of the parts that a scan began each is there now, or failed.
 pub record AreBegun (slots : List SlotState) (rows : List Row) (label : Tai64n) (ids : List PartId)
     (old new : List HostPart) (failed : List PartId) : Type 0 where
   pub begun : List HostPart
   pub parts : new ≡ old ++ begun
-  pub each : All (BeginsByRow slots rows label) begun
+  pub each : All (Begins slots rows label) begun
   pub parted : IsParted ids (map (λ (part : HostPart). part.id) begun) failed
 
--- One part is there now, begun by its row, or it failed.
+-- One part is there now, or it failed.
 abbrev pub IsBegunOne : List SlotState → List Row → Tai64n → PartId
     → List HostPart → List PartId → List HostPart → List PartId → Type 0
 IsBegunOne slots rows label id olds old news new =
-    ((part : HostPart) × (part.id ≡ id) × BeginsByRow slots rows label part
+    ((part : HostPart) × (part.id ≡ id) × Begins slots rows label part
     × (news ≡ olds ++ part ∷ []) × (new ≡ old))
     ⊎ ((news ≡ olds) × (new ≡ old ++ id ∷ []))
 
--- A scan: the rows are scanned, and each part that starts or restarts is there now, begun by its row, or failed, and
--- then it has ended. Of the other parts those are there that stay.
+-- A scan: the rows are scanned, and each part that starts or restarts is there now, begun by its row or as it was left,
+-- or failed, and then it has ended. Of the other parts those are there that stay.
 pub record IsScanned (old : HostState) (rows : List Row) (label : Tai64n) (out : HostOut) (new : HostState)
     : Type 0 where
   pub scan : IsScan old.table rows out.scan

@@ -1,9 +1,9 @@
 //! The factory of parts.
 ghost use Rattle.std.specs.Prelude.{◌≡◌, ◌≤◌, ◌<◌, IfSome};
-ghost use Rattle.sup_core.specs.History.{Begin, History};
+ghost use Rattle.svc_left.specs.Opening.{beginning};
 ghost use Rattle.scan_table.specs.Scan.{AreRising};
 ghost use Rattle.svc_host.specs.Parts.{PartGoesOn};
-ghost use Rattle.svc_host.specs.Begun.{BeginsByRow, IsBegun, is_down};
+ghost use Rattle.svc_host.specs.Begun.{Begins, IsBegun, is_down};
 
 use crate::ends::{open_mailbox, open_station};
 use crate::growth::Growth;
@@ -11,7 +11,7 @@ use crate::maker::{Maker, PartResources, Reaper};
 use crate::pair::Pair;
 use crate::part::Part;
 use crate::running::{Running, end};
-use crate::service::Task;
+use crate::service::{Beginning, Task};
 use crate::shared::PartShared;
 use scan_table::{DirRow, PartId, Role, ScanTable, find_row};
 use std::alloc::Global;
@@ -19,7 +19,6 @@ use std::io;
 use std::sync::{Arc, Wait};
 use std::thread::{Builder, Threads};
 use std::time::Clock;
-use sup_core::Machine;
 use svc_house::{ControlSender, Notifier};
 use svc_station::parked::Parked;
 use tai_status::Label;
@@ -34,13 +33,6 @@ pub(crate) struct Rooms {
     ghost some_mail: { 0 < mail },
     ghost some_trace: { 0 < trace },
     ghost within_trace: { trace ≤ 65536 },
-}
-
-/// How a machine begins: whether there is a `down` file, and when.
-#[derive(Clone, Copy)]
-pub(crate) struct Beginning {
-    pub(crate) down: bool,
-    pub(crate) label: Label,
 }
 
 /// Whether a row has the `down` file of the part of a role.
@@ -81,10 +73,9 @@ pub(crate) struct PartFactory<
 
 impl<M: Maker + Drop, R: Threads + Wait + Clock + Copy + Drop + Send + 'static> PartFactory<M, R> {
     /// Makes a part of the service of this name and starts its thread, or makes nothing.
-    fn make(&mut self, name: &str, id: PartId, beginning: Beginning) -> Option<Part<R>>
-        ensures { IfSome result (λ part. IsBegun id (Begin beginning.down beginning.label) part) }
+    fn make(&mut self, name: &str, id: PartId, down: bool, label: Label) -> Option<Part<R>>
+        ensures { IfSome result (λ part. IsBegun id (beginning part.opening down label) part) }
     {
-        let (machine, _asks) = Machine::begin(beginning.down, beginning.label);
         let shared = Arc::new(
             self.alloc,
             PartShared::new(self.alloc, &self.notifier).ok()?,
@@ -95,21 +86,21 @@ impl<M: Maker + Drop, R: Threads + Wait + Clock + Copy + Drop + Send + 'static> 
         let inside = ControlSender::new(inside, Arc::try_clone(&shared.notifier).ok()?);
         let notifier = Arc::try_clone(&shared.notifier).ok()?;
         let own = Arc::try_clone(&shared).ok()?;
-        let (writer, status_reader) = open_station(
-            &self.rt,
-            self.alloc,
-            machine,
-            self.rooms.trace,
-        )?;
-        let Some(resources) = self.maker.part(name, id, outside, notifier) else {
-            end(&self.rt, writer, status_reader);
-            return None;
-        };
         let PartResources {
             world,
             gate,
             reaper,
-        } = resources;
+            opening,
+        } = self.maker.part(name, id, outside, notifier)?;
+        let Some((writer, status_reader)) = open_station(
+            &self.rt,
+            self.alloc,
+            opening.machine(down, label),
+            self.rooms.trace,
+        ) else {
+            self.maker.ended(id);
+            return None;
+        };
         if start_reaper(self.rt, reaper).is_err() {
             self.maker.ended(id);
             end(&self.rt, writer, status_reader);
@@ -120,18 +111,22 @@ impl<M: Maker + Drop, R: Threads + Wait + Clock + Copy + Drop + Send + 'static> 
             world,
             gate,
             receiver,
-            down: beginning.down,
-            label: beginning.label,
+            begins: Beginning {
+                opening,
+                down,
+                label,
+            },
             shared: own,
         };
         let Some(running) = Running::start(self.rt, task, status_reader, shared) else {
             self.maker.ended(id);
             return None;
         };
-        Some(Part::new(id, inside, running))
+        Some(Part::new(id, opening, inside, running))
     }
 
-    /// Makes a part of the table, by the row of its slot, and starts its thread, or makes nothing.
+    /// Makes a part of the table, which begins by the row of its slot or as it was left, and starts its thread, or makes
+    /// nothing.
     pub(crate) fn begin(
         &mut self,
         table: &ScanTable,
@@ -141,28 +136,35 @@ impl<M: Maker + Drop, R: Threads + Wait + Clock + Copy + Drop + Send + 'static> 
     ) -> Option<Part<R>>
         requires { AreRising rows.now }
         ensures id { IfSome result (λ part. part.id ≡ id) }
-        ensures begun { IfSome result (λ part. BeginsByRow table.now.slots rows.now label part) }
+        ensures begun { IfSome result (λ part. Begins table.now.slots rows.now label part) }
     {
-        if table.is_pair(id.slot) {
-            self.start_pair(id.slot)?;
-        }
         let Some(name) = table.name(id.slot) else {
             return None;
         };
+        if table.is_pair(id.slot) {
+            self.start_pair(name.as_str(), id.slot)?;
+        }
         let Some(row) = find_row(rows, name.as_str()) else {
             return None;
         };
         let down = is_down(row, id.role);
-        self.make(name.as_str(), id, Beginning { down, label })
+        self.make(name.as_str(), id, down, label)
     }
 
     // The threads of a pair run now, or can't be made.
-    fn start_pair(&mut self, slot: u64) -> Option<()> {
+    fn start_pair(&mut self, name: &str, slot: u64) -> Option<()> {
         if self.pairs.iter().any(|pair| pair.slot == slot) {
             return Some(());
         }
         self.pairs.reserve(1).ok()?;
-        let pair = Pair::start(self.rt, self.alloc, &mut self.maker, slot, self.rooms.mail)?;
+        let pair = Pair::start(
+            self.rt,
+            self.alloc,
+            &mut self.maker,
+            name,
+            slot,
+            self.rooms.mail,
+        )?;
         self.pairs.push_reserved(pair);
         Some(())
     }

@@ -5,6 +5,7 @@ use std::io::Read;
 use std::sync::{Arc, Wait};
 use std::time::Clock;
 use svc_house::{ControlSender, Gate, Notifier, World};
+use svc_left::Opening;
 use svc_relay::outlet::Outlet;
 
 /// What waits beside a part for the deaths of its processes.
@@ -13,13 +14,14 @@ pub trait Reaper {
     fn run<R: Wait + Clock + Copy + Drop>(self, rt: R);
 }
 
-/// The resources of one part: its processes, status file and clock; when a start may be looked at; and what waits
-/// beside it.
+/// The resources of one part: its processes, status file and clock; when a start may be looked at; what waits beside
+/// it; and how it begins.
 #[derive(Drop)]
 pub struct PartResources<W: World + Drop, G: Gate + Drop, A: Reaper + Drop> {
     pub world: W,
     pub gate: G,
     pub reaper: A,
+    pub opening: Opening,
 }
 
 /// Where a pair's output goes, from one life of its logger to the next.
@@ -61,11 +63,12 @@ pub trait Maker {
     ) -> Option<PartResources<Self::World, Self::Gate, Self::Reaper>>
         ensures fresh { IfSome result (λ resources. answered (Self.World.calls resources.world) ≡ []) };
 
-    /// The output of a pair's service, which runs on from life to life, and where it goes, or none where they can't be
-    /// made. It may be asked again for a slot, where no thread could be made. What carries the output waits for
-    /// `notifier`.
+    /// The output of a pair's service of this name, which runs on from life to life, and where it goes, or none where
+    /// they can't be made. It may be asked again for a slot, where no thread could be made. What carries the output waits
+    /// for `notifier`.
     fn pair(
         &mut self,
+        name: &str,
         slot: u64,
         notifier: Arc<Notifier, Global>,
     ) -> Option<(Self::Output, Self::Outlets)>;

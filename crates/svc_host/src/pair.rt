@@ -9,6 +9,7 @@ use std::alloc::{AllocError, Global};
 use std::io::{BufReader, Read};
 use std::sync::{Arc, Wait};
 use std::thread::{Builder, Threads};
+use std::time::Duration;
 use svc_mail::receiver::Receiver;
 use svc_mail::sender::Sender;
 use svc_relay::intake::Intake;
@@ -23,6 +24,9 @@ const STACK: usize = 256 * 1024;
 
 /// How many bytes of a service's output are read at once.
 const BLOCK: usize = 32_768;
+
+/// How long a thread rests before it tries a call again that failed.
+const AGAIN_MILLIS: u64 = 100;
 
 /// What the thread of an intake is given: a sender that posted nothing.
 #[derive(Drop)]
@@ -42,7 +46,7 @@ struct Putting<S: Drop> {
     ghost untaken: { taken_by receiver ≡ [] },
 }
 
-/// Reads a pair's output until it ends.
+/// Reads a pair's output until it ends. A read that fails is tried again.
 fn take_in<D: Read + Drop, R: Wait>(rt: &R, task: Taking<D>) {
     let Taking {
         output,
@@ -59,7 +63,15 @@ fn take_in<D: Read + Drop, R: Wait>(rt: &R, task: Taking<D>) {
                 }
                 shared.emptied.wait(rt, None);
             }
-            Ok(IntakeTurn::Ended) | Err(_) => return,
+            Ok(IntakeTurn::Ended) => return,
+            Err(_) => {
+                if shared.leaves() {
+                    return;
+                }
+                shared
+                    .emptied
+                    .wait(rt, Some(Duration::from_millis(AGAIN_MILLIS)));
+            }
         }
     }
 }
@@ -84,7 +96,8 @@ fn next_outlet<O: Outlet + Drop, S: Outlets<O>, R: Wait>(
     unreachable!()
 }
 
-/// Puts a pair's output into its logger, from life to life, until the pair leaves.
+/// Puts a pair's output into its logger, from life to life, until the pair leaves. A write that fails is tried again,
+/// where the logger has no next input yet.
 fn put_out<O: Outlet + Drop, S: Outlets<O> + Drop, R: Wait>(rt: &R, task: Putting<S>) {
     let Putting {
         receiver,
@@ -104,9 +117,16 @@ fn put_out<O: Outlet + Drop, S: Outlets<O> + Drop, R: Wait>(rt: &R, task: Puttin
                 }
                 shared.filled.wait(rt, None);
             }
-            RelayTurn::Broken => match next_outlet::<O, S, R>(rt, &mut outlets, &shared) {
+            RelayTurn::Broken => match outlets.next() {
                 Some(outlet) => drop(relay.replace(outlet)),
-                None => return,
+                None => {
+                    if shared.leaves() {
+                        return;
+                    }
+                    shared
+                        .filled
+                        .wait(rt, Some(Duration::from_millis(AGAIN_MILLIS)));
+                }
             },
         }
     }
@@ -125,6 +145,7 @@ impl Pair {
         rt: R,
         alloc: Global,
         maker: &mut M,
+        name: &str,
         slot: u64,
         capacity: usize,
     ) -> Option<Pair>
@@ -132,7 +153,7 @@ impl Pair {
     {
         let shared = Arc::new(alloc, PairShared::new(alloc).ok()?).ok()?;
         let (sender, receiver) = open_box(alloc, capacity)?;
-        let (output, outlets) = maker.pair(slot, Arc::try_clone(&shared.filled).ok()?)?;
+        let (output, outlets) = maker.pair(name, slot, Arc::try_clone(&shared.filled).ok()?)?;
         let taking = Taking {
             output: BufReader::with_capacity(alloc, BLOCK, output).ok()?,
             sender,

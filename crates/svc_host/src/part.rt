@@ -10,6 +10,7 @@ use std::thread::Threads;
 use std::time::Clock;
 use sup_core::Machine;
 use svc_house::ControlSender;
+use svc_left::Opening;
 use svc_mail::letter::Full;
 
 /// What was lost as a part ended.
@@ -33,6 +34,7 @@ impl Loss {
 #[derive(Drop)]
 pub(crate) struct Part<R: Wait + Drop> {
     id: PartId,
+    opening: Opening,
     sender: ControlSender,
     thread: PartThread<R>,
     // How many events the trace counted that was kept last.
@@ -55,6 +57,7 @@ impl<R: Wait + Drop> Model for Part<R> {
 
     ghost view = { λ part. record {
       id = part.id;
+      opening = part.opening;
       station = reader_station (reader_at part.thread);
       known = known_to (reader_at part.thread);
       posted = posted (sender_in part.sender);
@@ -70,12 +73,18 @@ impl<R: Threads + Wait + Clock + Copy + Drop + Send + 'static> Part<R> {
     ghost use Rattle.svc_house.specs.Mail.{sender_in};
     ghost use Rattle.svc_host.specs.Parts.{PartGoesOn, history_of, HasPosted, new_part, no_loss};
 
-    /// A part whose service runs. By `sender` the host posts to it.
-    pub(crate) fn new(id: PartId, sender: ControlSender, running: Running<R>) -> Part<R>
-        ensures { result ≡ new_part id running.status_reader.reader (sender_in sender) }
+    /// A part whose service runs, and began so. By `sender` the host posts to it.
+    pub(crate) fn new(
+        id: PartId,
+        opening: Opening,
+        sender: ControlSender,
+        running: Running<R>,
+    ) -> Part<R>
+        ensures { result ≡ new_part id opening running.status_reader.reader (sender_in sender) }
     {
         Part {
             id,
+            opening,
             sender,
             thread: PartThread::Runs(running),
             kept: None,

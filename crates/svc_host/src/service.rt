@@ -2,7 +2,8 @@
 ghost use Rattle.std.specs.Prelude.{◌≡◌, []};
 ghost use mathlib.Core.List.{IsPrefix};
 ghost use Rattle.tai_status.specs.declared.phase.Phase.{Phase};
-ghost use Rattle.sup_core.specs.History.{Begin, state_of};
+ghost use Rattle.sup_core.specs.History.{state_of};
+ghost use Rattle.svc_left.specs.Opening.{beginning};
 ghost use Rattle.svc_house.specs.Calls.{ExtendedWhileKept, told};
 ghost use Rattle.sup_core.specs.Rules.{asks_of_begin};
 ghost use Rattle.svc_station.specs.Ends.{opening_of, published, station};
@@ -20,25 +21,33 @@ use std::snapshot::Snapshot;
 use std::sync::{Arc, Wait};
 use std::thread::Promise;
 use std::time::{Clock, Duration};
-use sup_core::Machine;
 use svc_house::{Gate, House, HouseFault, Inbox, MailInbox, Notifier, Turned, World};
+use svc_left::Opening;
 use svc_mail::receiver::Receiver;
 use svc_station::parked::Parked;
 use svc_station::writer::Writer;
 use tai_status::{Label, TimeSource};
 
+/// How a part begins: what its maker says, whether its row has the `down` file, and when.
+#[derive(Clone, Copy)]
+pub(crate) struct Beginning {
+    pub(crate) opening: Opening,
+    pub(crate) down: bool,
+    pub(crate) label: Label,
+}
+
 /// What the thread of a service is given: a station to which nothing was published, a mailbox of which nothing was
-/// taken, a world that answered nothing, and how the machine begins.
+/// taken, a world that answered nothing, and how the part begins.
 #[derive(Drop)]
 pub(crate) struct Task<W: World + Drop, G: Gate + Drop, R: Wait + Drop> {
     pub(crate) parked: Parked<R>,
     pub(crate) world: W,
     pub(crate) gate: G,
     pub(crate) receiver: Receiver<u8>,
-    pub(crate) down: bool,
-    pub(crate) label: Label,
+    pub(crate) begins: Beginning,
     pub(crate) shared: Arc<PartShared, Global>,
-    ghost begun: { opening_of (writer_in parked) ≡ state_of (Begin down label) },
+    ghost begun: { opening_of (writer_in parked)
+        ≡ state_of (beginning begins.opening begins.down begins.label) },
     ghost unpublished: { published (writer_in parked) ≡ [] },
     ghost untaken: { taken_by receiver ≡ [] },
     ghost unanswered: { answered (W.calls world) ≡ [] },
@@ -136,17 +145,17 @@ fn open<W: World + Drop, G: Gate + Drop>(
     receiver: Receiver<u8>,
     gate: G,
     writer: Writer,
-    down: bool,
-    label: Label,
+    begins: Beginning,
 ) -> House<W, MailInbox<Global>, G>
-    requires begun { opening_of writer ≡ state_of (Begin down label) }
+    requires begun { opening_of writer ≡ state_of (beginning begins.opening begins.down begins.label) }
     requires unpublished { published writer ≡ [] }
     requires untaken { taken_by receiver ≡ [] }
     requires unanswered { answered (W.calls world) ≡ [] }
-    ensures asks { ExtendedWhileKept (W.calls world) result.calls (told (asks_of_begin (Begin down label))) }
+    ensures asks { ExtendedWhileKept (W.calls world) result.calls
+        (told (asks_of_begin (beginning begins.opening begins.down begins.label))) }
     ensures station { (result.station ≡ station writer) × (result.events ≡ []) }
 {
-    let (_machine, first) = Machine::begin(down, label);
+    let first = begins.opening.asks(begins.down, begins.label);
     House::open(world, MailInbox::new(receiver), gate, writer, first)
 }
 
@@ -164,14 +173,13 @@ pub(crate) fn serve<W: World + Drop, G: Gate + Drop, R: Wait + Clock + Copy + Dr
         world,
         gate,
         receiver,
-        down,
-        label,
+        begins,
         shared,
     } = task;
     if shared.stays_out() {
         return Served::NotBegun(parked);
     }
-    let mut house = open(world, receiver, gate, parked.into_writer(), down, label);
+    let mut house = open(world, receiver, gate, parked.into_writer(), begins);
     run(rt, &mut house, &shared.notifier);
     let (writer, receiver) = house.leave();
     shared.end();

@@ -1,15 +1,20 @@
 -- The parts of services over folders, and what each call of their maker does.
 use Rattle.std.specs.Prelude.{◌≡◌, ◌≢◌, ◌<◌, ◌⊎◌, ⊤, ℕ, Bool, true, false, List, [], ◌∷◌, ◌++◌, codes, length}
-use Rattle.std.specs.Prelude.{remove, slice_index_or, Option, Some, None, is_none, MatchOption}
+use Rattle.std.specs.Prelude.{remove, slice_index_or, Option, Some, None, MatchOption}
 use Rattle.std.specs.List.{All}
 use Rattle.std.specs.declared.io.PipeReader.{PipeReader}
 use Rattle.std.specs.declared.io.PipeWriter.{PipeWriter}
+use Rattle.std.specs.declared.fs.File.{File}
 use Rattle.scan_table.specs.declared.part.PartId.{PartId}
 use Rattle.scan_table.specs.declared.part.Role.{Role}
 use Rattle.scan_table.specs.declared.part.Role.TheVariants.{Main, Log}
 use Rattle.svc_house.specs.Calls.{ExtendedWhileKept}
 use Rattle.svc_world.specs.declared.folder.FolderFault.TheVariants.{Locked}
-use Rattle.svc_maker.specs.Calls.{Call, MadePipe, Opened, MadeWorld, Admitted, Dismissed, KeptTrace}
+use Rattle.svc_left.specs.declared.opening.Left.{Left}
+use Rattle.svc_left.specs.declared.opening.Opening.{Opening}
+use Rattle.svc_left.specs.Opening.{opening_left}
+use Rattle.svc_world.specs.declared.output.OutputEnds.{OutputEnds}
+use Rattle.svc_maker.specs.Calls.{Call, MadePipe, OpenedOutput, Opened, FoundLeft, MadeWorld, Admitted, Dismissed, KeptTrace}
 use Rattle.svc_maker.specs.Pipes.{pipes_of, pipes_without, input_of, output_of}
 use Rattle.svc_maker.specs.declared.pipes.PairOutlets.{PairOutlets}
 use Rattle.svc_maker.specs.declared.pipes.PairPipes.{PairPipes}
@@ -53,7 +58,7 @@ pub record Plan : Type 0 where
   pub name : List ℕ
   pub number : ℕ
   pub input : Option PipeReader
-  pub output : Option PipeWriter
+  pub output : Option File
 
 -- a part is admitted under the number of its life, and its children have the pipes of its slot
 abbrev pub plan_at : (path name : List ℕ) → PartId → List PairPipes → Plan
@@ -70,20 +75,28 @@ abbrev pub plan_of : Making → (name : List ℕ) → PartId → Plan
 plan_of making name part =
     plan_at (part_path making.folder name part.role) (part_name name part.role) part making.pipes
 
--- How a part is set up: its folder is opened, its world is made, and it is admitted to the door. Where one of these
--- fails, the next is not tried; one that was not admitted is dismissed, with its sockets; and for want of memory none
--- is tried at all.
-abbrev pub calls_of : Option MakeFault → Plan → List Call
-calls_of None plan =
-    Opened plan.path None ∷ MadeWorld plan.path plan.name plan.input plan.output true
-    ∷ Admitted plan.number plan.path true ∷ []
-calls_of (Some why.NoRoom) plan = []
-calls_of (Some (why.Unopened fault)) plan = Opened plan.path (Some fault) ∷ []
-calls_of (Some why.NoWorld) plan =
-    Opened plan.path None ∷ MadeWorld plan.path plan.name plan.input plan.output false ∷ []
-calls_of (Some why.NotAdmitted) plan =
-    Opened plan.path None ∷ MadeWorld plan.path plan.name plan.input plan.output true
-    ∷ Admitted plan.number plan.path false ∷ Dismissed plan.number plan.path ∷ []
+-- the calls by which the world of a part was to be made, in whose own folder this was left
+abbrev pub world_made : Plan → Left → (made : Bool) → List Call
+world_made plan left made =
+    Opened plan.path None ∷ FoundLeft plan.path left
+    ∷ MadeWorld plan.path plan.name left plan.input plan.output made ∷ []
+
+-- How a part is set up by a plan: its folder is opened, what an earlier svscan left there is found, its world is made with
+-- that, and it is admitted to the door. It begins as what was found says. Where one of these fails, the next is not
+-- tried; one that was not admitted is dismissed, with its sockets; and for want of memory none is tried at all.
+abbrev pub IsSetUp : Option MakeFault → Option Opening → Plan → (old new : Option (List Call)) → Type 0
+IsSetUp None opening plan old new =
+    (left : Left) × (opening ≡ Some (opening_left left))
+    × ExtendedWhileKept old new (world_made plan left true ++ Admitted plan.number plan.path true ∷ [])
+IsSetUp (Some why.NoRoom) opening plan old new = (opening ≡ None) × ExtendedWhileKept old new []
+IsSetUp (Some (why.Unopened fault)) opening plan old new =
+    (opening ≡ None) × ExtendedWhileKept old new (Opened plan.path (Some fault) ∷ [])
+IsSetUp (Some why.NoWorld) opening plan old new =
+    (opening ≡ None) × ((left : Left) × ExtendedWhileKept old new (world_made plan left false))
+IsSetUp (Some why.NotAdmitted) opening plan old new =
+    (opening ≡ None)
+    × ((left : Left) × ExtendedWhileKept old new
+    (world_made plan left true ++ Admitted plan.number plan.path false ∷ Dismissed plan.number plan.path ∷ []))
 
 -- the parts that stand, after this one was set up or failed
 abbrev pub kept_after : Option MakeFault → KeptPart → List KeptPart → List KeptPart
@@ -95,56 +108,59 @@ abbrev pub locked_after : Option MakeFault → (name : List ℕ) → List (List 
 locked_after (Some (why.Unopened Locked)) name locked = locked ++ name ∷ []
 locked_after fault name locked = locked
 
--- A part of the service of this name was set up or failed, in the folder of its role. It stands where it was set up; a
--- name that was found locked is noted; nothing else changed.
-pub record SetsUp (name : List ℕ) (part : PartId) (fault : Option MakeFault) (old new : Making) : Type 0 where
-  pub calls : ExtendedWhileKept old.calls new.calls (calls_of fault (plan_of old name part))
+-- A part of the service of this name was set up or failed, in the folder of its role. It stands where it was set up,
+-- and begins as what was found there says; a name that was found locked is noted; nothing else changed.
+pub record SetsUp (name : List ℕ) (part : PartId) (fault : Option MakeFault) (opening : Option Opening)
+    (old new : Making) : Type 0 where
+  pub is_set_up : IsSetUp fault opening (plan_of old name part) old.calls new.calls
   pub stands : new ≡ record old {
     calls = new.calls;
     kept = kept_after fault (record { part = part; path = part_path old.folder name part.role }) old.kept;
     locked = locked_after fault (part_name name part.role) old.locked;
   }
 
--- A part was to be made. It stands exactly where it was set up.
-pub record MakesPart (name : List ℕ) (part : PartId) (stands : Bool) (old new : Making) : Type 0 where
+-- A part was to be made. It stands exactly where it was set up, and begins so.
+pub record MakesPart (name : List ℕ) (part : PartId) (opening : Option Opening) (old new : Making) : Type 0 where
   pub fault : Option MakeFault
-  pub answer : stands ≡ is_none fault
-  pub sets_up : SetsUp name part fault old new
+  pub sets_up : SetsUp name part fault opening old new
 
 -- Pairs
 
--- The pipes of a pair were made: what the service writes is read at this end, and what this outlet takes the logger
--- reads. They stand in the place of those that the slot had.
-pub record JoinsPair (slot : ℕ) (read : PipeReader) (outlets : PairOutlets) (old new : Making) : Type 0 where
-  pub output : PipeWriter
+-- The output of a pair's service was opened, in the service's own folder, and the pipe of its logger made: what the
+-- service writes is read at this end, and what this outlet takes the logger reads. They stand in the place of those that
+-- the slot had.
+pub record JoinsPair (name : List ℕ) (slot : ℕ) (read : File) (outlets : PairOutlets) (old new : Making) : Type 0 where
+  pub output : File
   pub input : PipeReader
   pub written : PipeWriter
   pub outlet : outlets.outlet ≡ Some written
   pub calls : ExtendedWhileKept old.calls new.calls
-      (MadePipe (Some (read, output)) ∷ MadePipe (Some (input, written)) ∷ [])
+      (OpenedOutput (part_path old.folder name Main) (Some (record { read = read; write = output }))
+      ∷ MadePipe (Some (input, written)) ∷ [])
   pub stands : new ≡ record old {
     calls = new.calls;
     pipes = pipes_without slot old.pipes ++ record { slot = slot; output = output; input = input } ∷ [];
   }
 
--- Two pipes were not made: for want of memory none was tried, or the first or the second one was refused.
-abbrev pub HaveFailed : List Call → Type 0
-HaveFailed [] = ⊤
-HaveFailed (MadePipe None ∷ []) = ⊤
-HaveFailed (MadePipe (Some ends) ∷ MadePipe None ∷ []) = ⊤
-HaveFailed calls = ⊥
+-- An output at this path and a pipe were not made: for want of memory none was tried, or the first or the second one
+-- was refused.
+abbrev pub HaveFailed : (path : List ℕ) → List Call → Type 0
+HaveFailed path [] = ⊤
+HaveFailed path (OpenedOutput there None ∷ []) = there ≡ path
+HaveFailed path (OpenedOutput there (Some ends) ∷ MadePipe None ∷ []) = there ≡ path
+HaveFailed path calls = ⊥
 
--- The pipes of a pair were not made, and nothing else came of it: a pipe that was made is let go.
-pub record LacksPair (old new : Making) : Type 0 where
+-- The pipes of a pair were not made, and nothing else came of it: an output that was opened is let go.
+pub record LacksPair (name : List ℕ) (old new : Making) : Type 0 where
   pub tried : List Call
-  pub failed : HaveFailed tried
+  pub failed : HaveFailed (part_path old.folder name Main) tried
   pub calls : ExtendedWhileKept old.calls new.calls tried
   pub stands : new ≡ record old { calls = new.calls }
 
 -- The pipes of a pair were to be made.
-abbrev pub MakesPair : (slot : ℕ) → Option (PipeReader × PairOutlets) → (old new : Making) → Type 0
-MakesPair slot made old new =
-    MatchOption made (LacksPair old new) (λ ends. JoinsPair slot ends.0 ends.1 old new)
+abbrev pub MakesPair : (name : List ℕ) (slot : ℕ) → Option (File × PairOutlets) → (old new : Making) → Type 0
+MakesPair name slot made old new =
+    MatchOption made (LacksPair name old new) (λ ends. JoinsPair name slot ends.0 ends.1 old new)
 
 -- Traces and ends
 

@@ -1,8 +1,8 @@
--- The pipes of a pair: what its service writes comes out of the first, and what goes into the second its logger reads.
+-- The output of a pair's service and the pipe of its logger: what goes into that pipe the logger reads.
 use Rattle.std.specs.Prelude.{ℕ, ◌==◌, not, if◌then◌else◌, List, [], ◌∷◌, Option, Some, None}
 use Rattle.std.specs.List.{filter}
 use Rattle.std.specs.declared.io.PipeReader.{PipeReader}
-use Rattle.std.specs.declared.io.PipeWriter.{PipeWriter}
+use Rattle.std.specs.declared.fs.File.{File}
 use Rattle.scan_table.specs.declared.part.Role.{Role}
 use Rattle.scan_table.specs.declared.part.Role.TheVariants.{Main, Log}
 use Rattle.svc_maker.specs.declared.pipes.PairPipes.{PairPipes}
@@ -16,14 +16,14 @@ pipes_of slot (pair ∷ pairs) = if pair.slot == slot then Some pair else pipes_
 abbrev pub pipes_without : (slot : ℕ) → List PairPipes → List PairPipes
 pipes_without slot pairs = filter (λ (pair : PairPipes). not (pair.slot == slot)) pairs
 
--- what the children of a part have as standard input: those of a pair's logger the end of the second pipe
+-- what the children of a part have as standard input: those of a pair's logger the end of its pipe
 abbrev pub input_of : Role → Option PairPipes → Option PipeReader
 input_of Log (Some pair) = Some pair.input
 input_of Log None = None
 input_of Main pair = None
 
--- what they have as standard output: those of a pair's service the end of the first pipe
-abbrev pub output_of : Role → Option PairPipes → Option PipeWriter
+-- what they have as standard output: those of a pair's service its end of the output
+abbrev pub output_of : Role → Option PairPipes → Option File
 output_of Main (Some pair) = Some pair.output
 output_of Main None = None
 output_of Log pair = None

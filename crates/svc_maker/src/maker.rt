@@ -1,6 +1,6 @@
 //! The maker of parts over folders.
-ghost use Rattle.std.specs.Prelude.{◌≡◌, ◌++◌, [], is_some, IfOk, OnOk, OnErr};
-ghost use Rattle.std.specs.Result.{result_err};
+ghost use Rattle.std.specs.Prelude.{◌≡◌, ◌++◌, [], option_map, IfOk, OnOk, OnErr};
+ghost use Rattle.std.specs.Result.{result_err, result_ok};
 ghost use Rattle.svc_host.specs.Answers.{answered};
 ghost use Rattle.svc_house.specs.Calls.{ExtendedWhileKept};
 ghost use Rattle.svc_maker.specs.Making.{EndsPart, KeepsTrace, MakesPair, MakesPart, Making, SetsUp};
@@ -12,12 +12,13 @@ use crate::pipes::{PairOutlets, PairPipes, leave_pipes};
 use crate::set_up::{MakeFault, PartSetup, part_name, part_path, set_up};
 use scan_table::PartId;
 use std::alloc::{AllocError, Global};
-use std::io::{PipeReader, PipeWriter};
+use std::fs::File;
+use std::io::PipeWriter;
 use std::marker::Model;
 use std::sync::Arc;
 use svc_host::{Maker, PartResources};
 use svc_house::{ControlSender, Notifier, OpenGate};
-use svc_world::FolderFault;
+use svc_world::{FolderFault, OutputEnds};
 use tai_status::{Name, Names, Output};
 
 /// Makes the resources of the parts of services, over the folders of a folder. Contracts see it as `Making`
@@ -72,7 +73,8 @@ impl<S: PartSystem + Drop> FolderMaker<S> {
         sender: ControlSender,
         notifier: Arc<Notifier, Global>,
     ) -> Result<PartResources<S::World, OpenGate, S::Reaper>, MakeFault>
-        ensures sets_up { SetsUp name.now part (result_err result) self.old self.new }
+        ensures sets_up { SetsUp name.now part (result_err result)
+            (option_map (λ resources. resources.opening) (result_ok result)) self.old self.new }
         ensures fresh { IfOk result (λ resources. answered (S.World.calls resources.world) ≡ []) }
     {
         let Ok(shown) = part_name(self.alloc, name, part.role) else {
@@ -98,6 +100,7 @@ impl<S: PartSystem + Drop> FolderMaker<S> {
                     folder,
                     world,
                     reaper,
+                    opening,
                 },
             ) => {
                 self.kept.push_reserved(KeptFolder { part, folder });
@@ -105,6 +108,7 @@ impl<S: PartSystem + Drop> FolderMaker<S> {
                     world,
                     gate: OpenGate,
                     reaper,
+                    opening,
                 })
             }
             Err(MakeFault::Unopened(FolderFault::Locked)) => {
@@ -121,7 +125,7 @@ where
     S::World: Send + 'static,
     S::Reaper: Send + 'static,
 {
-    ghost use Rattle.std.specs.Prelude.{◌≡◌, ◌∷◌, [], is_some, IfSome};
+    ghost use Rattle.std.specs.Prelude.{◌≡◌, ◌∷◌, [], option_map, IfSome};
     ghost use Rattle.svc_host.specs.Answers.{answered};
     ghost use Rattle.svc_house.specs.Calls.{ExtendedWhileKept};
     ghost use Rattle.svc_maker.specs.Making.{EndsPart, KeepsTrace, MakesPair, MakesPart, Making};
@@ -133,13 +137,14 @@ where
 
     type Reaper = S::Reaper;
 
-    type Output = PipeReader;
+    type Output = File;
 
     type Outlet = Output<PipeWriter>;
 
     type Outlets = PairOutlets;
 
-    /// A part stands exactly where its folder was opened and locked, its world made, and it was admitted to the door.
+    /// A part stands exactly where its folder was opened and locked, its world made, and it was admitted to the door. It
+    /// begins as what an earlier svscan left in that folder says.
     /// The children of a pair have its pipes, once `pair` made them for the slot.
     fn part(
         &mut self,
@@ -148,7 +153,7 @@ where
         sender: ControlSender,
         notifier: Arc<Notifier, Global>,
     ) -> Option<PartResources<S::World, OpenGate, S::Reaper>>
-        ensures made { MakesPart name.now part (is_some result) self.old self.new }
+        ensures made { MakesPart name.now part (option_map (λ resources. resources.opening) result) self.old self.new }
         ensures fresh { IfSome result (λ resources. answered (S.World.calls resources.world) ≡ []) }
     {
         match self.try_part(name, part, sender, notifier) {
@@ -157,18 +162,29 @@ where
         }
     }
 
-    /// The two pipes of a pair. Once both are made, those of an earlier time are let go.
+    /// The output of a pair's service and the pipe of its logger. Once both are made, those of an earlier time are let
+    /// go.
     fn pair(
         &mut self,
+        name: &str,
         slot: u64,
         _notifier: Arc<Notifier, Global>,
-    ) -> Option<(PipeReader, PairOutlets)>
-        ensures { MakesPair slot result self.old self.new }
+    ) -> Option<(File, PairOutlets)>
+        ensures { MakesPair name.now slot result self.old self.new }
     {
         if self.pipes.reserve(1).is_err() {
             return None;
         }
-        let Some((from_service, output)) = self.system.pipe() else {
+        let Ok(path) = part_path(self.alloc, self.folder.as_str(), name) else {
+            return None;
+        };
+        let Some(
+            OutputEnds {
+                read: from_service,
+                write: output,
+            },
+        ) = self.system.output(path.as_str())
+        else {
             return None;
         };
         let Some((input, to_logger)) = self.system.pipe() else {

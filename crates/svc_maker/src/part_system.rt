@@ -1,11 +1,13 @@
 //! What the operating system does for the parts of services.
 use crate::kept_folder::LockedFolder;
 use std::alloc::Global;
+use std::fs::File;
 use std::io::{PipeReader, PipeWriter};
 use std::sync::Arc;
 use svc_host::Reaper;
 use svc_house::{ControlSender, Notifier, World};
-use svc_world::FolderFault;
+use svc_left::Left;
+use svc_world::{FolderFault, OutputEnds};
 
 /// What the operating system does for the parts of services. Contracts see the calls with their answers, in order
 /// (`calls`), where they are kept. They may stop to be kept, as where there is no memory for more, and are not kept
@@ -15,7 +17,8 @@ pub trait PartSystem {
     ghost use Rattle.std.specs.Prelude.{string_bytes, IfOk, IfErr, IfSome, OnOk};
     ghost use Rattle.svc_host.specs.Answers.{answered};
     ghost use Rattle.svc_house.specs.Calls.{ExtendedWhileKept};
-    ghost use Rattle.svc_maker.specs.Calls.{Call, MadePipe, Opened, Admitted, Dismissed};
+    ghost use Rattle.svc_left.specs.Process.{IsLiving};
+    ghost use Rattle.svc_maker.specs.Calls.{Call, MadePipe, OpenedOutput, Opened, FoundLeft, Admitted, Dismissed};
     ghost use Rattle.svc_maker.specs.Calls.{KeptTrace, MakesWorld};
 
     ghost calls: { Self → Option (List Call) } = { λ _. None };
@@ -30,6 +33,10 @@ pub trait PartSystem {
     fn pipe(&mut self) -> Option<(PipeReader, PipeWriter)>
         ensures calls { ExtendedWhileKept (calls self.old) (calls self.new) (MadePipe result ∷ []) };
 
+    /// Opens the output of the service in the folder at a path, or none.
+    fn output(&mut self, path: &str) -> Option<OutputEnds>
+        ensures calls { ExtendedWhileKept (calls self.old) (calls self.new) (OpenedOutput path.now result ∷ []) };
+
     /// Opens the folder at a path and takes its lock. Both are kept until the folder is let go.
     fn open(&mut self, path: String) -> Result<Self::Folder, FolderFault>
         ensures opened { OnOk result (ExtendedWhileKept (calls self.old) (calls self.new)
@@ -38,18 +45,26 @@ pub trait PartSystem {
         ensures fault { IfErr result (λ fault.
             ExtendedWhileKept (calls self.old) (calls self.new) (Opened (string_bytes path) (Some fault) ∷ [])) };
 
-    /// The world of the service in a folder, and what waits for its children, or none where it can't be made. Each
-    /// child has copies of these ends of pipes as standard input and output, and svscan's own where there is none. The
-    /// notifier is notified where there is news. By this name the service is told.
+    /// What an earlier svscan left of the service in a folder.
+    fn left(&mut self, folder: &Self::Folder) -> Left
+        ensures calls { ExtendedWhileKept (calls self.old) (calls self.new)
+            (FoundLeft (Self.Folder.path folder.now) result ∷ []) }
+        ensures process { IsLiving result.process };
+
+    /// The world of the service in a folder of which this was left, and what waits for its processes, or none where it
+    /// can't be made. A process that lives on is adopted. Each child has copies of these ends of pipes as standard input
+    /// and output, and svscan's own where there is none. The notifier is notified where there is news. By this name the
+    /// service is told.
     fn world(
         &mut self,
         folder: &Self::Folder,
         name: &str,
+        left: &Left,
         input: Option<&PipeReader>,
-        output: Option<&PipeWriter>,
+        output: Option<&File>,
         notifier: Arc<Notifier, Global>,
     ) -> Option<(Self::World, Self::Reaper)>
-        ensures calls { MakesWorld (calls self.old) (calls self.new) (Self.Folder.path folder.now) name.now
+        ensures calls { MakesWorld (calls self.old) (calls self.new) (Self.Folder.path folder.now) name.now left.now
             input.entry output.entry (is_some result) }
         ensures fresh { IfSome result (λ made. answered (Self.World.calls made.0) ≡ []) };
 

@@ -1,22 +1,23 @@
-//! The pipes between a service and its logger.
+//! What stands between a service and its logger.
 //!
-//! A pair has two, and both live as long as its slot. What the service writes, in all its lives, is read from the
-//! first; what all lives of the logger read is written to the second. So what a logger that died had not read waits for
-//! the next one.
+//! A pair has an output and a pipe, and both live as long as its slot. What the service writes, in all its lives, is read
+//! from the output; what all lives of the logger read is written to the pipe. So what a logger that died had not read
+//! waits for the next one. The output itself outlives svscan, as long as a process of the service has it.
 ghost use Rattle.std.specs.Prelude.{◌≡◌, ◌≤◌, option_copied, vec_capacity, vec_len};
 ghost use Rattle.svc_maker.specs.Pipes.{input_of, output_of, pipes_of, pipes_without};
 
 use scan_table::Role;
+use std::fs::File;
 use std::io::{PipeReader, PipeWriter};
 use svc_host::Outlets;
 use tai_status::{Counted, Output};
 
-/// The ends of a pair's pipes that its children get.
+/// The ends of a pair's output and pipe that its children get.
 #[derive(Drop)]
 pub(crate) struct PairPipes {
     pub(crate) slot: u64,
     /// Standard output of the service.
-    pub(crate) output: PipeWriter,
+    pub(crate) output: File,
     /// Standard input of its logger.
     pub(crate) input: PipeReader,
 }
@@ -74,7 +75,7 @@ pub(crate) fn input_of(pair: Option<&PairPipes>, role: Role) -> Option<&PipeRead
 }
 
 /// What the children of a part have as standard output. None: svscan's own.
-pub(crate) fn output_of(pair: Option<&PairPipes>, role: Role) -> Option<&PipeWriter>
+pub(crate) fn output_of(pair: Option<&PairPipes>, role: Role) -> Option<&File>
     ensures { option_copied result ≡ output_of role (option_copied pair.entry) }
 {
     match (role, pair) {

@@ -1,10 +1,9 @@
 //! How a part is set up.
-ghost use Rattle.std.specs.Prelude.{◌≡◌, ◌≢◌, ◌++◌, ◌∷◌, [], Some, string_bytes, IfOk};
-ghost use Rattle.std.specs.Result.{result_err};
+ghost use Rattle.std.specs.Prelude.{◌≡◌, ◌≢◌, ◌++◌, ◌∷◌, [], Some, option_map, string_bytes, IfOk};
+ghost use Rattle.std.specs.Result.{result_err, result_ok};
 ghost use Rattle.svc_maker.specs.declared.set_up.MakeFault.{MakeFault};
 ghost use Rattle.svc_host.specs.Answers.{answered};
-ghost use Rattle.svc_house.specs.Calls.{ExtendedWhileKept};
-ghost use Rattle.svc_maker.specs.Making.{behind, calls_of, part_name, plan_at};
+ghost use Rattle.svc_maker.specs.Making.{IsSetUp, behind, part_name, plan_at};
 
 use crate::kept_folder::LockedFolder;
 use crate::part_system::PartSystem;
@@ -13,6 +12,7 @@ use scan_table::{PartId, Role};
 use std::alloc::{AllocError, Global};
 use std::sync::Arc;
 use svc_house::{ControlSender, Notifier};
+use svc_left::Opening;
 use svc_world::FolderFault;
 
 /// Why a part was not made.
@@ -34,6 +34,7 @@ pub(crate) struct PartSetup<S: PartSystem> {
     pub(crate) folder: S::Folder,
     pub(crate) world: S::World,
     pub(crate) reaper: S::Reaper,
+    pub(crate) opening: Opening,
 }
 
 /// What stands behind the name of a service in the path of a part.
@@ -65,7 +66,8 @@ pub(crate) fn part_path(alloc: Global, folder: &str, name: &str) -> Result<Strin
     Ok(text)
 }
 
-/// Sets a part up: its folder is opened, its world is made, and it is admitted to the door.
+/// Sets a part up: its folder is opened, what an earlier svscan left there is found, its world is made, and it is
+/// admitted to the door.
 pub(crate) fn set_up<S: PartSystem>(
     system: &mut S,
     path: String,
@@ -75,8 +77,9 @@ pub(crate) fn set_up<S: PartSystem>(
     sender: ControlSender,
     notifier: Arc<Notifier, Global>,
 ) -> Result<PartSetup<S>, MakeFault>
-    ensures calls { ExtendedWhileKept (S.calls system.old) (S.calls system.new)
-        (calls_of (result_err result) (plan_at (string_bytes path) name.now part pipes.now)) }
+    ensures sets_up { IsSetUp (result_err result)
+        (option_map (λ setup. setup.opening) (result_ok result))
+        (plan_at (string_bytes path) name.now part pipes.now) (S.calls system.old) (S.calls system.new) }
     ensures path { IfOk result (λ setup. S.Folder.path setup.folder ≡ string_bytes path) }
     ensures fresh { IfOk result (λ setup. answered (S.World.calls setup.world) ≡ []) }
     ensures asked { result_err result ≢ Some MakeFault.NoRoom }
@@ -85,10 +88,11 @@ pub(crate) fn set_up<S: PartSystem>(
         Ok(folder) => folder,
         Err(fault) => return Err(MakeFault::Unopened(fault)),
     };
+    let left = system.left(&folder);
     let pair = pipes_of(pipes, part.slot);
     let input = input_of(pair, part.role);
     let output = output_of(pair, part.role);
-    let Some((world, reaper)) = system.world(&folder, name, input, output, notifier) else {
+    let Some((world, reaper)) = system.world(&folder, name, &left, input, output, notifier) else {
         return Err(MakeFault::NoWorld);
     };
     if !system.admit(part.life, &folder, sender) {
@@ -99,5 +103,6 @@ pub(crate) fn set_up<S: PartSystem>(
         folder,
         world,
         reaper,
+        opening: left.opening(),
     })
 }

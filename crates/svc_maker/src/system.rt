@@ -2,8 +2,9 @@
 use crate::kept_folder::LockedFolder;
 use crate::part_system::PartSystem;
 use crate::reaper::PartReaper;
+use cmd_base::SystemClock;
 use std::alloc::{AllocError, Global};
-use std::fs::Files;
+use std::fs::{File, Files};
 use std::io;
 use std::io::{PipeReader, PipeWriter};
 use std::net::Net;
@@ -13,9 +14,12 @@ use std::sync::{Arc, Wait};
 use std::time::Clock;
 use svc_door::Door;
 use svc_house::{ControlSender, Notifier};
+use svc_left::{BootId, Found, Left};
 use svc_world::{
-    ChildReaper, ChildWorld, FolderFault, ServiceFolder, SignalShell, Streams, SystemChildren,
+    ChildReaper, ChildWorld, FolderFault, OutputEnds, ServiceFolder, SignalShell, Streams,
+    SystemChildren, boot_id, open_output,
 };
+use tai_status::TimeSource;
 
 /// The folder of a service on this system, with its lock.
 #[derive(Drop)]
@@ -40,6 +44,8 @@ where
     runtime: R,
     files: HostRuntime,
     alloc: Global,
+    boot: Option<BootId>,
+    clock: SystemClock<R>,
     shell: Arc<SignalShell<R>, Global>,
     door: Door<ControlSender>,
 }
@@ -59,6 +65,8 @@ where
             runtime,
             files,
             alloc,
+            boot: boot_id(&files),
+            clock: SystemClock::new(runtime),
             shell: Arc::new(alloc, SignalShell::new(runtime, alloc))?,
             door,
         })
@@ -76,6 +84,7 @@ where
         let own = Arc::try_clone(&folder.folder)?;
         SystemChildren::new(
             self.runtime,
+            self.files,
             self.alloc,
             own,
             name,
@@ -99,7 +108,7 @@ where
 }
 
 /// Copies of ends of pipes, as the standard streams of children.
-fn copies(input: Option<&PipeReader>, output: Option<&PipeWriter>) -> io::Result<Streams> {
+fn copies(input: Option<&PipeReader>, output: Option<&File>) -> io::Result<Streams> {
     let input = match input {
         Some(end) => Some(end.try_clone()?),
         None => None,
@@ -125,6 +134,10 @@ where
         io::pipe(&self.runtime).ok()
     }
 
+    fn output(&mut self, path: &str) -> Option<OutputEnds> {
+        open_output(&self.runtime, &self.files, self.alloc, path).ok()
+    }
+
     fn open(&mut self, path: String) -> Result<OpenFolder, FolderFault> {
         let folder = ServiceFolder::open(self.files, path.as_str())?;
         let Ok(folder) = Arc::new(self.alloc, folder) else {
@@ -136,23 +149,36 @@ where
         })
     }
 
+    fn left(&mut self, folder: &OpenFolder) -> Left {
+        folder.folder.left(self.boot.as_ref(), self.clock.now())
+    }
+
     fn world(
         &mut self,
         folder: &OpenFolder,
         name: &str,
+        left: &Left,
         input: Option<&PipeReader>,
-        output: Option<&PipeWriter>,
+        output: Option<&File>,
         notifier: Arc<Notifier, Global>,
     ) -> Option<(ChildWorld<SystemChildren<R>>, PartReaper)> {
         let Ok(streams) = copies(input, output) else {
             return None;
         };
-        let earlier = folder.folder.earlier();
         let _ = folder.folder.remove_counts();
-        let Ok((children, reaper)) = self.children(folder, name, streams, notifier) else {
+        let Ok((mut children, reaper)) = self.children(folder, name, streams, notifier) else {
             return None;
         };
-        Some((ChildWorld::new(children, earlier), PartReaper { reaper }))
+        let adopted = match &left.process {
+            Found::Lives(process) => {
+                children.adopt(process);
+                Some(process.pid)
+            }
+            Found::Gone | Found::Unknown => None,
+        };
+        let earlier = folder.folder.earlier(self.alloc, adopted);
+        let world = ChildWorld::new(children, self.boot, earlier, adopted);
+        Some((world, PartReaper { reaper }))
     }
 
     fn admit(&mut self, number: u64, folder: &OpenFolder, sender: ControlSender) -> bool {

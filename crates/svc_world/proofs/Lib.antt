@@ -1,1 +1,2 @@
 pub mod Deaths
+pub mod Starts

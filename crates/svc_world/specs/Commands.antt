@@ -5,9 +5,9 @@ use Rattle.tai_status.specs.Loading.{loaded_from, status_in}
 use Rattle.tai_status.specs.declared.loading.Loaded.{Loaded}
 use Rattle.tai_status.specs.declared.record.RecordFault.{RecordFault}
 
--- the folder that a process is in
-abbrev pub path_of_process : (pid : ℕ) → List ℕ
-path_of_process pid = codes "/proc/" ++ decimal pid ++ codes "/cwd"
+-- what the kernel has of a process under this name
+abbrev pub path_of_process : (pid : ℕ) (name : List ℕ) → List ℕ
+path_of_process pid name = codes "/proc/" ++ decimal pid ++ codes "/" ++ name
 
 -- the line by which the shell of signals is told one
 abbrev pub signal_line : (name : List ℕ) (pid : ℕ) → List ℕ

@@ -16,16 +16,19 @@ use Rattle.svc_world.specs.declared.begin.Death.{Death}
 use Rattle.svc_world.specs.declared.begin.LastChild.{LastChild}
 use Rattle.svc_world.specs.declared.begin.LastChild.TheVariants.{Gone, Alive, Dead}
 use Rattle.svc_world.specs.Calls.{Call, Spawned, SoughtDeath, Signalled, Recorded, SoughtProcess, ReadClock}
-use Rattle.svc_world.specs.Calls.{RecordedExit, RecordedCounts}
+use Rattle.svc_world.specs.Calls.{RecordedExit, RecordedCounts, RecordedProcess, SoughtTick}
+use Rattle.svc_left.specs.Process.{process_line}
 
 pub record Watch : Type 0 where
   -- what the system was asked, where that is kept
   pub calls : Option (List Call)
-  -- the process of an earlier svscan, until it was found gone
+  -- the boot, where it is known
+  pub boot : Option (List ℕ)
+  -- the process of an earlier svscan that is not adopted, until it was found gone
   pub earlier : Option ℕ
   -- how the last start ended, until that is told
   pub answer : Option StartAnswer
-  -- the child that was spawned last
+  -- the child that was spawned last, or the process that was adopted
   pub child : LastChild
   -- how many children began and ended
   pub counts : Counts
@@ -68,6 +71,21 @@ abbrev pub child_of : (child : Option ℕ) → LastChild
 child_of None = Gone
 child_of (Some pid) = Alive pid
 
+-- what is recorded of the process of a start that made this child, or none, in this boot, which began at this tick
+abbrev pub process_recorded : (child : Option ℕ) (boot : Option (List ℕ)) (tick : Option ℕ) (written : Bool) → List Call
+process_recorded (Some pid) (Some boot) (Some tick) written =
+    SoughtTick pid (Some tick)
+    ∷ RecordedProcess (process_line (record { pid = pid; tick = tick; boot = boot })) written ∷ []
+process_recorded (Some pid) (Some boot) None written = SoughtTick pid None ∷ []
+process_recorded child boot tick written = []
+
+-- The process was recorded where a start made this child, or none: once, and before anything else is asked.
+pub record RecordsProcess (child : Option ℕ) (old new : Watch) : Type 0 where
+  pub tick : Option ℕ
+  pub written : Bool
+  pub calls : ExtendedWhileKept old.calls new.calls (process_recorded child old.boot tick written)
+  pub stands : new ≡ record old { calls = new.calls }
+
 -- the counts after a start that made this child, or none
 abbrev pub counts_after : (child : Option ℕ) → Counts → Counts
 counts_after None counts = counts
@@ -84,15 +102,27 @@ pub record CountsStart (child : Option ℕ) (old new : Watch) : Type 0 where
   pub calls : ExtendedWhileKept old.calls new.calls (counts_recorded child old.counts written)
   pub stands : new ≡ record old { calls = new.calls; counts = counts_after child old.counts }
 
--- A start: where an earlier svscan left a process, that is sought; the clock is read, and then one child is spawned. It
--- is counted, and the counts are recorded once.
+-- A start that made this child, or none, was recorded: its process, and then the counts.
+pub record RecordsStart (child : Option ℕ) (old new : Watch) : Type 0 where
+  pub tick : Option ℕ
+  pub recorded : Bool
+  pub written : Bool
+  pub calls : ExtendedWhileKept old.calls new.calls
+      (process_recorded child old.boot tick recorded ++ counts_recorded child old.counts written)
+  pub stands : new ≡ record old { calls = new.calls; counts = counts_after child old.counts }
+
+-- A start: where an earlier svscan left a process, that is sought; the clock is read, and then one child is spawned. Its
+-- process is recorded, once; it is counted, and the counts are recorded, once.
 pub record Starts (old new : Watch) : Type 0 where
   pub runs : Bool
   pub child : Option ℕ
   pub label : Tai64n
+  pub tick : Option ℕ
+  pub recorded : Bool
   pub written : Bool
   pub calls : ExtendedWhileKept old.calls new.calls (search_for old.earlier runs
-      ++ (ReadClock label ∷ Spawned (begin_beside old.earlier runs) child ∷ counts_recorded child old.counts written))
+      ++ (ReadClock label ∷ Spawned (begin_beside old.earlier runs) child
+      ∷ process_recorded child old.boot tick recorded ++ counts_recorded child old.counts written))
   pub stands : new ≡ record old {
     calls = new.calls;
     earlier = left_of old.earlier runs;

@@ -11,7 +11,7 @@ pub trait ChildSystem {
     ghost use Rattle.std.specs.Prelude.{◌<◌, Option, None, List, [], ◌∷◌, IfSome, is_ok};
     ghost use Rattle.svc_house.specs.Calls.{ExtendedWhileKept};
     ghost use Rattle.svc_world.specs.Calls.{Call, Spawned, SoughtDeath, Signalled, Recorded, SoughtProcess, ReadClock};
-    ghost use Rattle.svc_world.specs.Calls.{RecordedExit, RecordedCounts};
+    ghost use Rattle.svc_world.specs.Calls.{RecordedExit, RecordedCounts, RecordedProcess, SoughtTick};
 
     ghost calls: { Self → Option (List Call) } = { λ _. None };
 
@@ -20,7 +20,7 @@ pub trait ChildSystem {
         ensures calls { ExtendedWhileKept (calls self.old) (calls self.new) (Spawned begin result ∷ []) }
         ensures number { IfSome result (λ pid. 0 < pid) };
 
-    /// How and when the child that was made last died, once it has. It is told once.
+    /// How and when the child that was made last died, or the process that was adopted, once it has. It is told once.
     fn death(&mut self) -> Option<Death>
         ensures calls { ExtendedWhileKept (calls self.old) (calls self.new) (SoughtDeath result ∷ []) };
 
@@ -41,6 +41,15 @@ pub trait ChildSystem {
     /// there.
     fn replace_counts(&mut self, line: &[u8]) -> io::Result<()>
         ensures calls { ExtendedWhileKept (calls self.old) (calls self.new) (RecordedCounts line.now (is_ok result) ∷ []) };
+
+    /// Puts this line, which process the service has, in the place of the one before. After a fault that stands there.
+    fn replace_process(&mut self, line: &[u8]) -> io::Result<()>
+        ensures calls { ExtendedWhileKept (calls self.old) (calls self.new)
+            (RecordedProcess line.now (is_ok result) ∷ []) };
+
+    /// The tick of the kernel's clock at which the process of this number began. None where there is no such process.
+    fn tick(&mut self, pid: u32) -> Option<u64>
+        ensures calls { ExtendedWhileKept (calls self.old) (calls self.new) (SoughtTick pid result ∷ []) };
 
     /// Whether the process of this number runs in the folder of the service.
     fn is_running(&mut self, pid: u32) -> bool

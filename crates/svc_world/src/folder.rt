@@ -1,17 +1,21 @@
 //! The folder of a service on this system.
-ghost use Rattle.std.specs.Prelude.{◌≡◌, ◌≤◌, length};
-ghost use Rattle.svc_world.specs.Commands.{path_of_process, process_in};
+ghost use Rattle.std.specs.Prelude.{◌≡◌, ◌<◌, ◌≤◌, length, IfSome};
+ghost use Rattle.svc_world.specs.Commands.{process_in};
+ghost use Rattle.svc_left.specs.Process.{IsLiving};
 
+use crate::processes::{find_orphan, path_of_process, read_front, tick_of};
 use arrayvec::ArrayString;
-use cmd_base::{StatusFront, path_by_descriptor, push_number, read_status_front};
+use cmd_base::{StatusFront, path_by_descriptor, read_status_front};
 use mio::net::UnixListener;
+use std::alloc::Global;
 use std::fs::{DirBuilder, File, Files, OpenOptions, Permissions, TryLockError};
 use std::io::{Error, ErrorKind, Write};
 use std::net::Net;
 use std::os::fd::AsRawFd;
 use std::os::unix::fs::{DirBuilderExt, MetadataExt, OpenOptionsExt, PermissionsExt};
 use std::{fs, io};
-use tai_status::decode_front;
+use svc_left::{BootId, Found, Left, ProcessId, find, read_process};
+use tai_status::{Label, Loaded, Phase, View, decode_front, encode};
 use thiserror::Error;
 
 /// The modes of what is made, whatever the umask.
@@ -54,17 +58,6 @@ fn path_in(folder: &File, name: &str) -> ShortPath
     path_by_descriptor(folder.as_raw_fd().unsigned_abs(), name)
 }
 
-/// The path that leads to the folder that a process is in.
-fn path_of_process(pid: u32) -> ShortPath
-    ensures { result.bytes ≡ path_of_process pid }
-{
-    let mut path = ArrayString::new();
-    path.push_str("/proc/");
-    push_number(&mut path, u64::from(pid));
-    path.push_str("/cwd");
-    path
-}
-
 /// Opens a folder.
 fn open_folder<R: Files<File = File>>(runtime: &R, path: &str) -> io::Result<File> {
     if !fs::metadata(runtime, path)?.is_dir() {
@@ -74,7 +67,7 @@ fn open_folder<R: Files<File = File>>(runtime: &R, path: &str) -> io::Result<Fil
 }
 
 /// Makes a folder that is its owner's alone. One that is there becomes so.
-fn make_private<R: Files<File = File>>(runtime: &R, path: &str) -> io::Result<()> {
+pub(crate) fn make_private<R: Files<File = File>>(runtime: &R, path: &str) -> io::Result<()> {
     let mut how = DirBuilder::new();
     how.mode(FOLDER_MODE);
     match how.create(runtime, path) {
@@ -86,7 +79,7 @@ fn make_private<R: Files<File = File>>(runtime: &R, path: &str) -> io::Result<()
 }
 
 /// Opens a file for appending, which is its owner's alone, and makes it where it is missing.
-fn open_lock<R: Files<File = File>>(runtime: &R, path: &str) -> io::Result<File> {
+pub(crate) fn open_lock<R: Files<File = File>>(runtime: &R, path: &str) -> io::Result<File> {
     let mut how = OpenOptions::new();
     how.append(true).create(true).mode(FILE_MODE);
     let file = how.open(runtime, path)?;
@@ -104,7 +97,7 @@ fn write_private<R: Files<File = File>>(runtime: &R, path: &str, content: &[u8])
 }
 
 /// Removes a file, where it is there.
-fn remove<R: Files<File = File>>(runtime: &R, path: &str) -> io::Result<()> {
+pub(crate) fn remove<R: Files<File = File>>(runtime: &R, path: &str) -> io::Result<()> {
     match fs::remove_file(runtime, path) {
         Err(fault) if fault.kind() != ErrorKind::NotFound => Err(fault),
         _ => Ok(()),
@@ -208,6 +201,11 @@ impl ServiceFolder {
         self.replace("supervise/counts", "supervise/counts.new", line)
     }
 
+    /// Puts this line, which process the service has, in the place of the one before. After a fault that stands there.
+    pub fn replace_process(&self, line: &[u8]) -> io::Result<()> {
+        self.replace("supervise/process", "supervise/process.new", line)
+    }
+
     /// Removes the counts of an earlier svscan, where they are there.
     pub fn remove_counts(&self) -> io::Result<()> {
         remove(&self.files, self.path("supervise/counts").as_str())
@@ -231,12 +229,16 @@ impl ServiceFolder {
         }
     }
 
-    /// The process that an earlier svscan left running in this folder. The status record that stands there names it.
-    /// Since that record is soon replaced, a copy is kept as `supervise/earlier` while the process runs, and names it
-    /// to the next svscan too. None where no such process runs.
-    pub fn earlier(&self) -> Option<u32> {
+    /// The process that an earlier svscan left running in this folder, and that can't be adopted. The status record that
+    /// stands there names it, where no process is adopted. Since that record is soon replaced, a copy is kept as
+    /// `supervise/earlier` while the process runs, and names it to the next svscan too, also where that adopts a child
+    /// which only says that it runs. None where no such process runs, and none was being started.
+    pub fn earlier(&self, alloc: Global, adopted: Option<u32>) -> Option<u32> {
         if let Some((pid, _kept)) = self.process_of("supervise/earlier") {
             return Some(pid);
+        }
+        if adopted.is_some() {
+            return None;
         }
         match self.process_of("supervise/status") {
             Some((pid, record)) => {
@@ -249,15 +251,70 @@ impl ServiceFolder {
             }
             None => {
                 let _ = remove(&self.files, self.path("supervise/earlier").as_str());
-                None
+                self.unrecorded(alloc)
             }
+        }
+    }
+
+    /// Keeps a record as `supervise/earlier` that names a process.
+    fn keep_earlier(&self, view: View, pid: u32) {
+        let named = encode(&View {
+            pid,
+            paused: false,
+            ..view
+        });
+        let _ = self.replace("supervise/earlier", "supervise/earlier.new", &named);
+    }
+
+    /// The process of a start that was asked for and is not recorded, where svscan was killed between the two: one that
+    /// runs in this folder and has lost its parent. It is kept as `supervise/earlier` then, for the next svscan.
+    fn unrecorded(&self, alloc: Global) -> Option<u32> {
+        match self.record() {
+            Some(Loaded::New(full)) if full.phase == Phase::Starting => {
+                let runs_here = |pid: u32| self.is_running(pid);
+                let pid = find_orphan(&self.files, alloc, runs_here).ok()??;
+                self.keep_earlier(full.view, pid);
+                Some(pid)
+            }
+            _ => None,
+        }
+    }
+
+    /// The status record.
+    fn record(&self) -> Option<Loaded> {
+        let front = read_status_front(&self.files, self.path("supervise/status").as_str()).ok()?;
+        decode_front(front.as_slice()).ok()
+    }
+
+    /// The process that was recorded at the last start.
+    fn process(&self) -> Option<ProcessId>
+        ensures { IfSome result (λ process. 0 < process.pid) }
+    {
+        let path = self.path("supervise/process");
+        let line = read_front::<HostRuntime, 128>(&self.files, path.as_str()).ok()?;
+        read_process(line.as_slice())
+    }
+
+    /// What an earlier svscan left of the service, in this boot, at this time.
+    pub fn left(&self, boot: Option<&BootId>, label: Label) -> Left
+        ensures { IsLiving result.process }
+    {
+        Left {
+            record: self.record(),
+            process: match (self.process(), boot) {
+                (Some(process), Some(boot)) => {
+                    find(Some(process), boot, tick_of(&self.files, process.pid))
+                }
+                _ => Found::Unknown,
+            },
+            label,
         }
     }
 
     /// Whether a process runs in this folder.
     pub fn is_running(&self, pid: u32) -> bool {
         match (
-            fs::metadata(&self.files, path_of_process(pid).as_str()),
+            fs::metadata(&self.files, path_of_process(pid, "cwd").as_str()),
             self.service.metadata(),
         ) {
             (Ok(there), Ok(here)) => there.dev() == here.dev() && there.ino() == here.ino(),

@@ -1,8 +1,8 @@
 //! The real world of one service: its folder, its children, its signals and its status record.
 //!
 //! `ChildWorld` keeps the rules of a service's world over the small trait `ChildSystem`, and is proved: no second copy
-//! of a service that still runs, no signal to a process that may be another's, each start and each death told once, and how a child ended is recorded
-//! once, beside how many began and ended.
+//! of a service that still runs, no signal to a process that may be another's, each start and each death told once, which
+//! process the service has is recorded at each start, and how it ended at each death, beside how many began and ended.
 //! Below that trait is the system's own layer, which tells contracts nothing: `ServiceFolder`, `SystemChildren` with
 //! their `ChildReaper`, `SignalShell`.
 #![tactic(auto)]
@@ -11,6 +11,8 @@ mod begin;
 mod child_reaper;
 mod child_system;
 mod folder;
+mod output;
+mod processes;
 mod shell;
 mod system;
 mod world;
@@ -19,6 +21,8 @@ pub use begin::{Begin, Death, LastChild};
 pub use child_reaper::ChildReaper;
 pub use child_system::ChildSystem;
 pub use folder::{FolderFault, ServiceFolder};
+pub use output::{OutputEnds, open_output};
+pub use processes::boot_id;
 pub use shell::SignalShell;
 pub use system::{Streams, SystemChildren};
 pub use world::ChildWorld;

@@ -65,10 +65,10 @@ fn tell(shell: &mut Option<Child<SystemProcess>>, line: &str) -> io::Result<()> 
     }
 }
 
-/// Ends a shell that takes no line.
+/// Ends a shell that takes no line: it sends the signals of the lines that it took, and meets the end of its input.
 fn end(shell: &mut Option<Child<SystemProcess>>) {
     if let Some(mut child) = shell.take() {
-        let _ = child.kill();
+        drop(child.stdin.take());
         let _ = child.wait();
     }
 }

@@ -1,21 +1,25 @@
 //! The system's own children of one service.
-ghost use Rattle.std.specs.Prelude.{◌≡◌, [], ◌∷◌, codes, decimal, IfOk};
+ghost use Rattle.std.specs.Prelude.{◌≡◌, [], ◌∷◌, codes, IfOk};
 ghost use Rattle.std.specs.Process.{command_args, command_program};
 
 use crate::begin::{Begin, Death};
-use crate::child_reaper::{ChildReaper, ChildSlot, DeathSlot, WatchedChild};
+use crate::child_reaper::{ChildReaper, ChildSlot, DeathSlot, Watched};
 use crate::child_system::ChildSystem;
 use crate::folder::ServiceFolder;
+use crate::processes::{AdoptedProcess, tick_of};
 use crate::shell::SignalShell;
 use cmd_base::SystemClock;
 use std::alloc::{AllocError, Global};
+use std::fs::File;
 use std::io;
-use std::io::{PipeReader, PipeWriter};
+use std::io::{ErrorKind, PipeReader, Write};
 use std::process::{Child, Command, Processes, SystemProcess};
 use std::sync::{Arc, OnceLock, Wait};
 use std::time::Clock;
 use sup_core::Sig;
+use svc_exit::Ending;
 use svc_house::Notifier;
+use svc_left::ProcessId;
 use tai_status::{Label, TimeSource};
 
 /// What the children of a service have as standard input and output, each one after the other. What is None they have
@@ -25,7 +29,18 @@ pub struct Streams {
     /// Standard input.
     pub input: Option<PipeReader>,
     /// Standard output.
-    pub output: Option<PipeWriter>,
+    pub output: Option<File>,
+}
+
+/// Where the death of the process of a service is found.
+#[derive(Drop)]
+enum DeathSource {
+    /// There is no process.
+    None,
+    /// The reaper puts it here.
+    Slot(DeathSlot),
+    /// The process is no child.
+    Process(AdoptedProcess),
 }
 
 /// The children of one service on this system. It tells contracts nothing but that a child has a number.
@@ -35,6 +50,7 @@ where
     R: Processes<Started = SystemProcess> + Wait + Clock + Copy + Drop,
 {
     runtime: R,
+    files: HostRuntime,
     alloc: Global,
     folder: Arc<ServiceFolder, Global>,
     name: String,
@@ -42,11 +58,11 @@ where
     shell: Arc<SignalShell<R>, Global>,
     clock: SystemClock<R>,
     slot: ChildSlot,
-    death: Option<DeathSlot>,
+    death: DeathSource,
 }
 
-/// What a shell says and does in the place of a service that still runs.
-const STILL_RUNS: &str = "printf '%s\\n' \"svscan: $1: process $2 still runs\" >&2; exit 111";
+/// What a shell does in the place of a service that can't be run.
+const SAY: &str = "printf 'svscan: %s: %s\\n' \"$1\" \"$2\" >&2; exit 111";
 
 /// Runs the service.
 fn run(alloc: Global) -> Result<Command, AllocError>
@@ -66,21 +82,29 @@ fn run_by_shell(alloc: Global) -> Result<Command, AllocError>
     Ok(command)
 }
 
-/// A shell that says that a process of the service of this name still runs, and fails.
-fn say_still_runs(alloc: Global, name: &str, pid: u32) -> Result<Command, AllocError>
+/// A shell that says this of the service of this name, and fails.
+fn say(alloc: Global, name: &str, what: &str) -> Result<Command, AllocError>
     ensures program { IfOk result (λ command. command_program command ≡ codes "/bin/sh") }
     ensures words { IfOk result (λ command. command_args command
-        ≡ codes "-c" ∷ STILL_RUNS.now ∷ codes "sh" ∷ name.now ∷ decimal pid ∷ []) }
+        ≡ codes "-c" ∷ SAY.now ∷ codes "sh" ∷ name.now ∷ what.now ∷ []) }
 {
-    let number = format!(in alloc; "{pid}")?;
     let mut command = Command::new(alloc, "/bin/sh")?;
     command
         .arg("-c")?
-        .arg(STILL_RUNS)?
+        .arg(SAY)?
         .arg("sh")?
         .arg(name)?
-        .arg(number.as_str())?;
+        .arg(what)?;
     Ok(command)
+}
+
+/// What is said of a `run` that can't be executed, or none where a shell may still run it.
+fn unable_to_run(fault: &io::Error) -> Option<&'static str> {
+    match fault.kind() {
+        ErrorKind::NotFound => Some("unable to run ./run: No such file or directory"),
+        ErrorKind::PermissionDenied => Some("unable to run ./run: Permission denied"),
+        _ => None,
+    }
 }
 
 impl<R> SystemChildren<R>
@@ -91,6 +115,7 @@ where
     /// own: by it their deaths are known. It notifies the notifier after each death.
     pub fn new(
         runtime: R,
+        files: HostRuntime,
         alloc: Global,
         folder: Arc<ServiceFolder, Global>,
         name: &str,
@@ -101,6 +126,7 @@ where
         let (slot, reaper) = ChildReaper::open(alloc, notifier)?;
         let children = SystemChildren {
             runtime,
+            files,
             alloc,
             folder,
             name: String::from_str(alloc, name)?,
@@ -108,9 +134,20 @@ where
             shell,
             clock: SystemClock::new(runtime),
             slot,
-            death: None,
+            death: DeathSource::None,
         };
         Ok((children, reaper))
+    }
+
+    /// The process is adopted that runs for the service already.
+    pub fn adopt(&mut self, process: &ProcessId) {
+        let adopted = AdoptedProcess {
+            files: self.files,
+            pid: process.pid,
+            tick: process.tick,
+        };
+        self.slot.put(&self.runtime, Watched::Adopted(adopted));
+        self.death = DeathSource::Process(adopted);
     }
 
     /// Starts a command in the folder, with the streams.
@@ -125,16 +162,32 @@ where
         command.spawn(&self.runtime)
     }
 
+    /// What runs in the place of a `run` that can't be executed.
+    fn in_place_of_run(&self, fault: &io::Error) -> Result<Command, AllocError> {
+        match unable_to_run(fault) {
+            Some(what) => say(self.alloc, self.name.as_str(), what),
+            None => run_by_shell(self.alloc),
+        }
+    }
+
     /// Makes a child. Where `./run` can't be executed it is a shell, which says why.
     fn make(&self, begin: Begin) -> io::Result<Child<SystemProcess>> {
         match begin {
             Begin::Run => match self.launch(run(self.alloc)?) {
                 Ok(child) => Ok(child),
-                Err(_) => self.launch(run_by_shell(self.alloc)?),
+                Err(fault) => self.launch(self.in_place_of_run(&fault)?),
             },
             Begin::StillRuns(pid) => {
-                self.launch(say_still_runs(self.alloc, self.name.as_str(), pid)?)
+                let what = format!(in self.alloc; "process {pid} still runs")?;
+                self.launch(say(self.alloc, self.name.as_str(), what.as_str())?)
             }
+        }
+    }
+
+    /// Reports a fault of the service on this process's standard error, in one write.
+    fn report(&self, what: &str) {
+        if let Ok(line) = format!(in self.alloc; "svscan: {}: {what}\n", self.name.as_str()) {
+            let _ = self.files.stderr().write_all(line.as_bytes());
         }
     }
 
@@ -144,14 +197,8 @@ where
         let theirs = Arc::try_clone(&death)?;
         let child = self.make(begin)?;
         let pid = child.id();
-        self.slot.put(
-            &self.runtime,
-            WatchedChild {
-                child,
-                death: theirs,
-            },
-        );
-        self.death = Some(death);
+        self.slot.put(&self.runtime, Watched::Child(child, theirs));
+        self.death = DeathSource::Slot(death);
         Ok(pid)
     }
 }
@@ -161,7 +208,7 @@ where
     R: Processes<Started = SystemProcess> + Wait + Clock + Copy + Drop,
 {
     fn spawn(&mut self, begin: Begin) -> Option<u32> {
-        self.death = None;
+        self.death = DeathSource::None;
         match self.make_watched(begin) {
             Ok(pid) if pid > 0 => Some(pid),
             _ => None,
@@ -169,8 +216,16 @@ where
     }
 
     fn death(&mut self) -> Option<Death> {
-        let death = self.death.as_ref()?.get().copied()?;
-        self.death = None;
+        let death = match &self.death {
+            DeathSource::None => return None,
+            DeathSource::Slot(slot) => slot.get().copied()?,
+            DeathSource::Process(process) if process.lives() => return None,
+            DeathSource::Process(_) => Death {
+                ending: Ending::Unknown,
+                label: self.clock.now(),
+            },
+        };
+        self.death = DeathSource::None;
         Some(death)
     }
 
@@ -179,7 +234,11 @@ where
     }
 
     fn replace_status(&mut self, bytes: &[u8; 20]) -> io::Result<()> {
-        self.folder.replace_status(bytes)
+        let replaced = self.folder.replace_status(bytes);
+        if replaced.is_err() {
+            self.report("unable to write status");
+        }
+        replaced
     }
 
     fn replace_exit(&mut self, line: &[u8]) -> io::Result<()> {
@@ -188,6 +247,14 @@ where
 
     fn replace_counts(&mut self, line: &[u8]) -> io::Result<()> {
         self.folder.replace_counts(line)
+    }
+
+    fn replace_process(&mut self, line: &[u8]) -> io::Result<()> {
+        self.folder.replace_process(line)
+    }
+
+    fn tick(&mut self, pid: u32) -> Option<u64> {
+        tick_of(&self.files, pid)
     }
 
     fn is_running(&mut self, pid: u32) -> bool {

@@ -9,16 +9,19 @@ use std::marker::Model;
 use sup_core::Sig;
 use svc_exit::{Counts, Exit, counts_text, exit_text};
 use svc_house::{StartAnswer, World};
+use svc_left::{ProcessId, process_line};
 use tai_status::Label;
 
 /// The world of one service. Contracts see it as `Watch` (specs/Watch).
 ///
-/// A service that an earlier svscan left running is not started a second time, and a signal goes to the child that was
-/// made last, while its death is not known. A status record that can't be written is counted, and the service goes on; so
-/// it does where the lines of an exit or of counts can't be, which the next ones replace.
+/// The process that an earlier svscan left running is adopted, or else not started a second time beside. A signal goes to
+/// the child that was made last, or to the process that was adopted, while its death is not known. Which process the
+/// service has is recorded at each start. A status record that can't be written is counted, and the service goes on; so
+/// it does where the lines of a process, of an exit or of counts can't be, which the next ones replace.
 #[derive(Drop)]
 pub struct ChildWorld<C: ChildSystem + Drop> {
     system: C,
+    boot: Option<[u8; 36]>,
     earlier: Option<u32>,
     answer: Option<StartAnswer>,
     child: LastChild,
@@ -35,6 +38,7 @@ impl<C: ChildSystem + Drop> Model for ChildWorld<C> {
 
     ghost view = { λ w. record {
       calls = C.calls w.system;
+      boot = w.boot;
       earlier = w.earlier;
       answer = w.answer;
       child = w.child;
@@ -69,27 +73,34 @@ fn child_of(child: Option<u32>) -> LastChild
 
 impl<C: ChildSystem + Drop> ChildWorld<C> {
     ghost use Rattle.std.specs.Prelude.{◌≡◌, None};
-    ghost use Rattle.svc_world.specs.declared.begin.LastChild.TheVariants.{Gone};
     ghost use Rattle.svc_exit.specs.Counts.{no_counts};
-    ghost use Rattle.svc_world.specs.Watch.{Watch, CountsStart, SeeksDeath, SeeksEarlier, TellsDeath};
+    ghost use Rattle.svc_world.specs.Watch.{Watch, CountsStart, RecordsProcess, RecordsStart, SeeksDeath, SeeksEarlier, TellsDeath};
+    ghost use Rattle.svc_world.specs.Watch.{child_of};
 
-    /// The world over these children. `earlier` is the process that the status record names which was found at the
-    /// opening, if it names one.
-    pub fn new(system: C, earlier: Option<u32>) -> ChildWorld<C>
+    /// The world over these children, in this boot. `adopted` is the process that runs for the service already, and
+    /// `earlier` one that an earlier svscan left, if there is one, and that can't be adopted.
+    pub fn new(
+        system: C,
+        boot: Option<[u8; 36]>,
+        earlier: Option<u32>,
+        adopted: Option<u32>,
+    ) -> ChildWorld<C>
         ensures { result ≡ record {
           calls = C.calls system;
+          boot = boot;
           earlier = earlier;
           answer = None;
-          child = Gone;
+          child = child_of adopted;
           counts = no_counts;
           unwritten = 0;
         } }
     {
         ChildWorld {
             system,
+            boot,
             earlier,
             answer: None,
-            child: LastChild::Gone,
+            child: child_of(adopted),
             counts: Counts::none(),
             unwritten: 0,
         }
@@ -116,6 +127,20 @@ impl<C: ChildSystem + Drop> ChildWorld<C> {
         }
     }
 
+    // Records the process of a start that made a child.
+    fn record_process(&mut self, child: Option<u32>)
+        ensures { RecordsProcess child self.old self.new }
+    {
+        if let (Some(pid), Some(boot)) = (child, self.boot) {
+            if let Some(tick) = self.system.tick(pid) {
+                let process = ProcessId { pid, tick, boot };
+                let _ = self
+                    .system
+                    .replace_process(process_line(&process).as_slice());
+            }
+        }
+    }
+
     // Counts a start that made a child.
     fn count_start(&mut self, child: Option<u32>)
         ensures { CountsStart child self.old self.new }
@@ -126,6 +151,14 @@ impl<C: ChildSystem + Drop> ChildWorld<C> {
                 .system
                 .replace_counts(counts_text(&self.counts).as_bytes());
         }
+    }
+
+    // Records the process of a start that made a child, and counts it.
+    fn record_start(&mut self, child: Option<u32>)
+        ensures { RecordsStart child self.old self.new }
+    {
+        self.record_process(child);
+        self.count_start(child);
     }
 
     // Records how the child ended whose death is told, and counts it. Answers when it ended.
@@ -186,7 +219,7 @@ impl<C: ChildSystem + Drop> World for ChildWorld<C> {
         let child = self.system.spawn(begin);
         self.answer = Some(answer_of(child, label));
         self.child = child_of(child);
-        self.count_start(child);
+        self.record_start(child);
     }
 
     /// Replaces the status record.

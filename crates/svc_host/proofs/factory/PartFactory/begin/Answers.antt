@@ -1,6 +1,7 @@
 use Rattle.std.proofs.Common.{rules, sym, ap, ◌∙◌, subst}
 use Rattle.std.specs.Prelude.{option_copied, IfSome}
-use Rattle.sup_core.specs.History.{Begin}
+use Rattle.svc_left.specs.Opening.{beginning}
+use Rattle.svc_host.specs.Parts.{HostPart}
 use Rattle.svc_host.specs.Begun.{IsBegun}
 use Rattle.svc_host.proofs.Rows.{begins_if}
 use Rattle.svc_host.proofs.factory.PartFactory.begin.Goals as goal
@@ -9,4 +10,4 @@ pub returns-clause-begun : goal.returns-clause-begun
 returns-clause-begun g c =
     begins_if c.args.table.now.slots c.args.rows.now c.args.label c.args.id _ c.in-Some-find_row.row.now c.make.result
     (sym c.name.ensures ∙ ap option_copied c.in-Some.is) (search rules)
-    (subst (λ down. IfSome c.make.result (λ part. IsBegun c.args.id (Begin down c.args.label) part)) c.is_down-down.ensures c.make.ensures)
+    (subst (λ down. IfSome c.make.result (λ (part : HostPart). IsBegun c.args.id (beginning part.opening down c.args.label) part)) c.is_down-down.ensures c.make.ensures)

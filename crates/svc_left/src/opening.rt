@@ -1,0 +1,173 @@
+//! How a service begins.
+ghost use Rattle.std.specs.Prelude.{◌≡◌, ◌<◌, ◌⊎◌};
+ghost use Rattle.tai_status.specs.declared.phase.Phase.{Phase};
+ghost use Rattle.tai_status.specs.Loading.{status_in};
+ghost use Rattle.svc_left.specs.Process.{IsLiving};
+ghost use Rattle.svc_left.specs.Opening.{adopted, as_recorded, exiting_in, running, up_since, without_process};
+ghost use Rattle.svc_left.specs.declared.opening.Opening.{Opening};
+
+use crate::process::Found;
+use sup_core::{Ask, Asks, Machine};
+use tai_status::{Full, Label, Loaded, Phase, View, Want, encode_full};
+
+/// How a service begins.
+#[derive(Clone, Copy, Debug, PartialEq, Eq)]
+pub enum Opening {
+    /// With or without its `down` file, as its row says.
+    ByRow,
+    /// Whatever its row says, as with the `down` file, or as without.
+    Wanted { down: bool },
+    /// As an earlier svscan left it.
+    AsLeft(Machine),
+}
+
+impl Opening {
+    ghost use Rattle.std.specs.Prelude.{◌≡◌};
+    ghost use Rattle.sup_core.specs.History.{state_of};
+    ghost use Rattle.sup_core.specs.Rules.{asks_of_begin};
+    ghost use Rattle.svc_left.specs.Opening.{beginning};
+
+    /// The machine with which a service begins, whose row has the `down` file or not.
+    pub fn machine(&self, down: bool, label: Label) -> Machine
+        ensures { result ≡ state_of (beginning self.now down label) }
+    {
+        match self {
+            Opening::ByRow => Machine::begin(down, label).0,
+            Opening::Wanted { down } => Machine::begin(*down, label).0,
+            Opening::AsLeft(machine) => *machine,
+        }
+    }
+
+    /// What is asked as it begins: its record, and a start where it is one that begins up. What was left is no start.
+    pub fn asks(&self, down: bool, label: Label) -> Asks
+        ensures { result ≡ asks_of_begin (beginning self.now down label) }
+    {
+        match self {
+            Opening::ByRow => Machine::begin(down, label).1,
+            Opening::Wanted { down } => Machine::begin(*down, label).1,
+            Opening::AsLeft(machine) => {
+                let mut asks = Asks::new();
+                asks.try_push(Ask::Write(encode_full(&machine.full())));
+                asks
+            }
+        }
+    }
+}
+
+/// The machine that a full record tells, of a service that has a process or is down.
+fn as_recorded(full: &Full) -> Machine
+    requires { (0 < full.now.status.pid) ⊎ (full.now.phase ≡ Phase.Down) }
+    ensures { result ≡ as_recorded full.now }
+{
+    let until = match full.phase {
+        Phase::Settling => Some(full.view.label.plus_second()),
+        _ => None,
+    };
+    Machine::of_parts(full.phase, full.view, full.exiting, until).unwrap()
+}
+
+/// The machine of a service that is up as its record says, or since it was found.
+fn up(view: View, exiting: bool) -> Machine
+    requires { 0 < view.pid }
+    ensures { result ≡ up_since view.label view.pid view.paused view.want exiting }
+{
+    Machine::of_parts(Phase::Up, view, exiting, None).unwrap()
+}
+
+/// The machine that a record tells which names a process.
+fn running(loaded: &Loaded) -> Machine
+    requires { 0 < (status_in loaded.now).pid }
+    ensures { result ≡ running loaded.now }
+{
+    match loaded {
+        Loaded::Old(view) => up(*view, false),
+        Loaded::New(full) => as_recorded(full),
+    }
+}
+
+/// Whether supervise was to end, as far as a record says.
+fn exiting_in(loaded: &Loaded) -> bool
+    ensures { result ≡ exiting_in loaded.now }
+{
+    match loaded {
+        Loaded::Old(_) => false,
+        Loaded::New(full) => full.exiting,
+    }
+}
+
+/// The machine of the process of this number, which lives on and was found at this time.
+fn adopted(recorded: &Option<Loaded>, pid: u32, found: Label) -> Machine
+    requires { 0 < pid }
+    ensures { result ≡ adopted recorded.now pid found }
+{
+    let (want, exiting) = match recorded {
+        Some(loaded) if loaded.view().pid == pid => return running(loaded),
+        Some(loaded) => (loaded.view().want, exiting_in(loaded)),
+        None => (Want::Up, false),
+    };
+    let view = View {
+        label: found,
+        pid,
+        paused: false,
+        want,
+    };
+    up(view, exiting)
+}
+
+/// How a service begins whose process is gone.
+fn without_process(full: &Full) -> Opening
+    ensures { result ≡ without_process full.now }
+{
+    if full.exiting {
+        Opening::ByRow
+    } else if full.phase == Phase::Down {
+        Opening::AsLeft(as_recorded(full))
+    } else {
+        Opening::Wanted {
+            down: full.view.want != Want::Up,
+        }
+    }
+}
+
+/// What an earlier svscan left of a service.
+#[derive(Clone, Copy, Debug, PartialEq, Eq)]
+pub struct Left {
+    /// Its status record, where that could be read.
+    pub record: Option<Loaded>,
+    /// What became of its process.
+    pub process: Found,
+    /// When this was found.
+    pub label: Label,
+}
+
+impl Left {
+    ghost use Rattle.std.specs.Prelude.{◌≡◌};
+    ghost use Rattle.svc_left.specs.Process.{IsLiving};
+    ghost use Rattle.svc_left.specs.Opening.{opening_left};
+
+    /// How the service begins. A record counts in the boot alone in which a process was recorded.
+    ///
+    /// | process | record | it begins |
+    /// |---|---|---|
+    /// | lives | names it | as the record tells |
+    /// | lives | names another, or none | up since it was found, wanted as the record says |
+    /// | lives | there is none | up since it was found, wanted up |
+    /// | gone | exiting or gone | by its row |
+    /// | gone | down | as the record tells |
+    /// | gone | any other, wanted up | up |
+    /// | gone | any other, wanted down or once | down |
+    /// | gone | of 18 bytes, or none | by its row |
+    /// | none in this boot | any | by its row |
+    pub fn opening(&self) -> Opening
+        requires { IsLiving self.now.process }
+        ensures { result ≡ opening_left self.now }
+    {
+        match (&self.process, &self.record) {
+            (Found::Lives(process), record) => {
+                Opening::AsLeft(adopted(record, process.pid, self.label))
+            }
+            (Found::Gone, Some(Loaded::New(full))) => without_process(full),
+            _ => Opening::ByRow,
+        }
+    }
+}

@@ -1,0 +1,109 @@
+//! The output of a service that has a logger: what it writes waits there for whoever reads it.
+//!
+//! It is a FIFO in the folder of the service, which each of its processes has open for reading too. So a process that
+//! writes while there is no svscan gets no signal and no error: it waits once the FIFO is full, and goes on with the next
+//! svscan. Where there can be no FIFO, or another svscan has the service, it is a pipe, which ends with svscan.
+use crate::folder::{make_private, open_lock, remove};
+use std::alloc::Global;
+use std::fs::{File, Files, OpenOptions};
+use std::io::{Error, ErrorKind};
+use std::os::fd::AsRawFd;
+use std::os::unix::fs::FileTypeExt;
+use std::process::{Command, Processes, Stdio, SystemProcess};
+use std::sync::Wait;
+use std::{fs, io};
+
+/// The two ends of an output: what is read, and what the processes of the service have.
+#[derive(Drop)]
+pub struct OutputEnds {
+    pub read: File,
+    pub write: File,
+}
+
+fn is_fifo<R: Files<File = File>>(files: &R, path: &str) -> bool {
+    match fs::symlink_metadata(files, path) {
+        Ok(found) => found.file_type().is_fifo(),
+        Err(_) => false,
+    }
+}
+
+/// Makes a FIFO that is its owner's alone, by the system's own tool, where it is not there. A file in its place is
+/// removed.
+fn make_fifo<R: Processes<Started = SystemProcess> + Wait>(
+    rt: &R,
+    files: &HostRuntime,
+    alloc: Global,
+    path: &str,
+) -> io::Result<()> {
+    if is_fifo(files, path) {
+        return Ok(());
+    }
+    remove(files, path)?;
+    let mut command = Command::new(alloc, "mkfifo")?;
+    command.arg("-m")?.arg("600")?.arg(path)?;
+    command.stderr(Stdio::null()).spawn(rt)?.wait()?;
+    Ok(())
+}
+
+/// Whether no svscan has the service in a folder.
+fn is_free<R: Files<File = File>>(files: &R, alloc: Global, folder: &str) -> io::Result<bool> {
+    let supervise = format!(in alloc; "{folder}/supervise")?;
+    make_private(files, supervise.as_str())?;
+    let lock = format!(in alloc; "{folder}/supervise/lock")?;
+    let file = open_lock(files, lock.as_str())?;
+    if file.try_lock().is_err() {
+        return Ok(false);
+    }
+    // A child that starts just now has the file too, until it executes its program: closing alone would leave the lock.
+    file.unlock()?;
+    Ok(true)
+}
+
+/// Opens the FIFO of the service in a folder.
+fn open_fifo<R: Processes<Started = SystemProcess> + Wait>(
+    rt: &R,
+    files: &HostRuntime,
+    alloc: Global,
+    folder: &str,
+) -> io::Result<OutputEnds> {
+    if !is_free(files, alloc, folder)? {
+        return Err(Error::from(ErrorKind::WouldBlock));
+    }
+    let path = format!(in alloc; "{folder}/supervise/out")?;
+    make_fifo(rt, files, alloc, path.as_str())?;
+    if !is_fifo(files, path.as_str()) {
+        return Err(Error::from(ErrorKind::InvalidInput));
+    }
+    // The end that can be written is open first, so that the other one does not wait for it.
+    let mut how = OpenOptions::new();
+    how.read(true).write(true);
+    let write = how.open(files, path.as_str())?;
+    let read = fs::open(files, path.as_str())?;
+    Ok(OutputEnds { read, write })
+}
+
+/// A pipe, as files.
+fn open_pipe(files: &HostRuntime, alloc: Global) -> io::Result<OutputEnds> {
+    let (reader, writer) = io::pipe(files)?;
+    let read = format!(in alloc; "/proc/self/fd/{}", reader.as_raw_fd())?;
+    let write = format!(in alloc; "/proc/self/fd/{}", writer.as_raw_fd())?;
+    let mut how = OpenOptions::new();
+    how.write(true);
+    Ok(OutputEnds {
+        read: fs::open(files, read.as_str())?,
+        write: how.open(files, write.as_str())?,
+    })
+}
+
+/// Opens the output of the service in a folder.
+pub fn open_output<R: Processes<Started = SystemProcess> + Wait>(
+    rt: &R,
+    files: &HostRuntime,
+    alloc: Global,
+    folder: &str,
+) -> io::Result<OutputEnds> {
+    match open_fifo(rt, files, alloc, folder) {
+        Ok(ends) => Ok(ends),
+        Err(_) => open_pipe(files, alloc),
+    }
+}

@@ -1,0 +1,138 @@
+//! Processes of this system that are no children of this one.
+ghost use Rattle.std.specs.Prelude.{◌≡◌, ◌≤◌, length};
+ghost use Rattle.svc_world.specs.Commands.{path_of_process};
+
+use crate::folder::ShortPath;
+use arrayvec::{ArrayString, ArrayVec};
+use cmd_base::push_number;
+use std::alloc::Global;
+use std::fs::{File, Files};
+use std::io::Read;
+use std::{fs, io};
+use sup_core::{read_number, split_field};
+use svc_left::BootId;
+
+/// How much of a process's line is read: up to the tick at which it began, whatever the program's name.
+const STAT_BYTES: usize = 512;
+
+/// What the line of a process tells of it (proc(5), `stat`).
+#[derive(Clone, Copy)]
+struct Stat {
+    /// Whether it died, and its parent has not waited for it.
+    has_died: bool,
+    /// The number of its parent.
+    parent: u64,
+    /// The tick of the kernel's clock at which it began.
+    tick: u64,
+}
+
+/// The first bytes of a file.
+pub(crate) fn read_front<R: Files<File = File>, const N: usize>(
+    files: &R,
+    path: &str,
+) -> io::Result<ArrayVec<u8, N>> {
+    let file = fs::open(files, path)?;
+    let mut front = ArrayVec::new();
+    io::copy(&mut file.take(N as u64), &mut front)?;
+    Ok(front)
+}
+
+/// The path of a name in the folder that the kernel has of a process.
+pub(crate) fn path_of_process(pid: u32, name: &str) -> ShortPath
+    requires { length name.now ≤ 23 }
+    ensures { result.bytes ≡ path_of_process pid name.now }
+{
+    let mut path = ArrayString::new();
+    path.push_str("/proc/");
+    push_number(&mut path, u64::from(pid));
+    path.push_str("/");
+    path.push_str(name);
+    path
+}
+
+/// What stands behind the last parenthesis of a process's line, which ends the program's name.
+fn behind_name(line: &[u8]) -> Option<&[u8]> {
+    line.rsplit(|byte| *byte == b')').next()
+}
+
+/// The field at a place of the line of a process. That of how it stands is the first.
+fn field_at(behind: &[u8], place: usize) -> Option<&[u8]> {
+    let mut rest = behind;
+    for _ in 0..place {
+        rest = split_field(rest).1?;
+    }
+    Some(split_field(rest).0)
+}
+
+/// What the line of a process tells.
+fn read_stat(line: &[u8]) -> Option<Stat> {
+    let behind = behind_name(line)?;
+    Some(Stat {
+        has_died: matches!(field_at(behind, 1)?, b"Z" | b"X"),
+        parent: read_number(field_at(behind, 2)?)?,
+        tick: read_number(field_at(behind, 20)?)?,
+    })
+}
+
+/// What the kernel tells of the process of this number, if there is one.
+fn stat_of<R: Files<File = File>>(files: &R, pid: u32) -> Option<Stat> {
+    let path = path_of_process(pid, "stat");
+    let line = read_front::<R, STAT_BYTES>(files, path.as_str()).ok()?;
+    read_stat(line.as_slice())
+}
+
+/// The tick at which the process of this number began that lives now, if there is one.
+pub(crate) fn tick_of<R: Files<File = File>>(files: &R, pid: u32) -> Option<u64> {
+    let stat = stat_of(files, pid)?;
+    if stat.has_died { None } else { Some(stat.tick) }
+}
+
+/// Whether the process of this number lives and has lost its parent.
+fn is_orphan<R: Files<File = File>>(files: &R, pid: u32) -> bool {
+    match stat_of(files, pid) {
+        Some(stat) => stat.parent == 1 && !stat.has_died,
+        None => false,
+    }
+}
+
+/// The first process that has lost its parent and of which this holds.
+pub(crate) fn find_orphan<R: Files<File = File>, F: Fn(u32) -> bool>(
+    files: &R,
+    alloc: Global,
+    holds: F,
+) -> io::Result<Option<u32>>
+    requires { F.IsAlwaysCallable holds }
+{
+    for entry in fs::read_dir(&(files, &alloc), "/proc")? {
+        let entry = entry?;
+        if let Some(number) = read_number(entry.file_name().as_bytes()) {
+            if let Ok(pid) = u32::try_from(number) {
+                if is_orphan(files, pid) && holds(pid) {
+                    return Ok(Some(pid));
+                }
+            }
+        }
+    }
+    Ok(None)
+}
+
+/// The boot, where the kernel names it.
+pub fn boot_id<R: Files<File = File>>(files: &R) -> Option<BootId> {
+    let front = read_front::<R, 36>(files, "/proc/sys/kernel/random/boot_id").ok()?;
+    BootId::try_from(front.as_slice()).ok()
+}
+
+/// A process that is no child of this one, and is not mistaken for another.
+#[derive(Clone, Copy)]
+pub(crate) struct AdoptedProcess {
+    pub(crate) files: HostRuntime,
+    pub(crate) pid: u32,
+    pub(crate) tick: u64,
+}
+
+impl AdoptedProcess {
+    /// Whether it lives.
+    pub(crate) fn lives(&self) -> bool {
+        tick_of(&self.files, self.pid) == Some(self.tick)
+    }
+}

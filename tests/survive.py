@@ -1,0 +1,189 @@
+"""svscan is killed at any moment, and another one begins: no service is started twice or another time, each stands as before,
+and each line is logged once and in order, but for what svscan had in its memory. Works in the folder that it is in, on the
+program that its first word names, with so many kills as its second word says."""
+import json
+import os
+import random
+import re
+import signal
+import subprocess
+import sys
+import time
+
+program, kills = sys.argv[1], int(sys.argv[2])
+checked, failed = 0, 0
+# What svscan has in its memory of a pair's output, at most: what it read at once, its mailbox, and what it writes at once.
+BOUND = 131_072
+
+
+def check(name, wanted, got):
+    global checked, failed
+    checked += 1
+    if wanted != got:
+        failed += 1
+        print(f"FAILED {name}\n  wanted {wanted}\n  got    {got}", flush=True)
+
+
+def service(folder, run):
+    """Makes a service whose folder appears with all it has."""
+    made = os.path.dirname(folder) + "/.made"
+    os.makedirs(made)
+    with open(made + "/run", "w") as file:
+        file.write("#!/bin/sh\necho $$ >>starts\n" + run)
+    os.chmod(made + "/run", 0o755)
+    os.rename(made, folder)
+
+
+def read(path):
+    try:
+        with open(path, "rb") as file:
+            return file.read()
+    except OSError:
+        return b""
+
+
+def is_alive(pid):
+    return read(f"/proc/{pid}/stat").rpartition(b")")[2].split()[:1] not in ([], [b"Z"])
+
+
+def living(name):
+    """The processes of the starts of a service that live."""
+    return [int(line) for line in read(f"d/{name}/starts").split() if is_alive(int(line))]
+
+
+def until(seconds, is_so):
+    """Whether it is so within these seconds, three times as many on a busy machine."""
+    end = time.monotonic() + 3 * seconds
+    while not is_so():
+        if time.monotonic() > end:
+            return False
+        time.sleep(0.05)
+    return True
+
+
+def svc(letters, names):
+    subprocess.run([program, "svc", letters, *["d/" + name for name in names]], capture_output=True)
+
+
+def stands(names):
+    """How each service stands: its process, since when, and what is wanted, as its record and svstat have it."""
+    told = subprocess.run([program, "svstat", "--json", *["d/" + name for name in names]], capture_output=True, text=True).stdout
+    found = {}
+    for name, line in zip(names, told.splitlines()):
+        line = json.loads(line)
+        line.pop("seconds", None)
+        found[name] = line, read(f"d/{name}/supervise/status")[:12]
+    return found
+
+
+svscan = None
+
+
+def start():
+    global svscan
+    with open("told", "ab") as told:
+        svscan = subprocess.Popen([program, "svscan", "d"], stdin=subprocess.DEVNULL, stdout=subprocess.DEVNULL, stderr=told,
+                                  start_new_session=True)
+
+
+def kill():
+    svscan.kill()
+    svscan.wait()
+
+
+def is_served(names):
+    return all(subprocess.run([program, "svok", "d/" + name], capture_output=True).returncode == 0 for name in names)
+
+
+SLEEP = "exec sleep 1000\n"
+# A service that gave its streams away, and a child of it that holds them.
+QUIET = "sleep 900 &\nexec sleep 1000 </dev/null >/dev/null 2>&1\n"
+OTHER = "exec setpriv --reuid 65534 --regid 65534 --clear-groups sleep 1000\n"
+FLOW = """i=0
+until [ -e ../../stop ]; do
+  i=$((i + 1))
+  echo "line $((100000000 + i))"
+  [ $((i % 50)) -ne 0 ] || sleep 0.02
+done
+echo $i >last
+exec sleep 1000
+"""
+
+os.mkdir("d")
+up = [f"s{number}" for number in range(21)] + ["quiet"] + (["other"] if os.geteuid() == 0 else [])
+paused, put, once, dying = ["p0", "p1"], ["d0", "d1"], ["o0", "o1"], ["x0", "x1"]
+pairs = [f"f{number}" for number in range(10)]
+loggers = [name + "/log" for name in pairs]
+steady = up + paused + put + once + pairs
+for name in up + paused + put + once + dying:
+    service("d/" + name, {"quiet": QUIET, "other": OTHER}.get(name, SLEEP))
+for name in pairs:
+    service("d/" + name, FLOW)
+    service(f"d/{name}/log", f"exec {program} multilog s16777215 ./main\n")
+
+start()
+check("all are up", True, until(20, lambda: is_served(steady + dying + loggers) and all(living(name) for name in steady + loggers)))
+time.sleep(1.5)
+svc("-p", paused)
+svc("-d", put)
+svc("-o", once)
+check("put down", True, until(10, lambda: not any(living(name) for name in put)))
+time.sleep(0.5)
+before = stands(steady)
+wrong = []
+for number in range(kills):
+    time.sleep(random.uniform(0.1, 1.5))
+    kill()
+    if number % 5 == 4:
+        for pid in living("x0") + living("x1"):
+            os.kill(pid, signal.SIGKILL)
+    time.sleep(random.choice([0, 0, random.uniform(0, 0.5)]))
+    start()
+    if not until(10, lambda: is_served(steady + dying + loggers)):
+        wrong.append(f"kill {number}: not served")
+    after = stands(steady)
+    wrong += [f"kill {number}: {name}: {after.get(name)}, not {before[name]}" for name in steady if after.get(name) != before[name]]
+    wrong += [f"kill {number}: {name} runs {living(name)}" for name in steady + dying if len(living(name)) > 1]
+check("each service stands as before", [], wrong[:10])
+check("what died meanwhile is begun anew", True, until(10, lambda: all(living(name) for name in dying)))
+
+open("stop", "w").close()
+check("the flows end", True, until(30, lambda: all(read(f"d/{name}/last") for name in pairs)))
+last = {name: int(read(f"d/{name}/last")) for name in pairs}
+until(10, lambda: all(read(f"d/{name}/log/main/current").endswith(b"line %d\n" % (100000000 + last[name])) for name in pairs))
+for name in pairs:
+    lines = read(f"d/{name}/log/main/current").split(b"\n")[:-1]
+    whole = [int(line[5:]) - 100000000 for line in lines if re.fullmatch(rb"line 1\d{8}", line)]
+    check(f"{name}: the last line is logged", last[name], whole[-1] if whole else None)
+    check(f"{name}: no line twice, and in order", [], [line for line, next in zip(whole, whole[1:]) if line >= next][:5])
+    check(f"{name}: torn lines, one a kill at most", True, len(lines) - len(whole) <= kills)
+    check(f"{name}: missing bytes, within the bound", True, (last[name] - len(whole)) * 15 <= kills * BOUND)
+check("nothing was told", b"", read("told"))
+
+kill()
+wrong = []
+for number in range(30):
+    start()
+    time.sleep(random.uniform(0, 0.06))
+    kill()
+    wrong += [f"{number}: {name} runs {living(name)}" for name in steady + dying if len(living(name)) > 1]
+start()
+check("all are served", True, until(15, lambda: is_served(steady + dying + loggers)))
+time.sleep(2)
+wrong += [f"last: {name} runs {living(name)}" for name in steady + dying if len(living(name)) > 1]
+check("killed soon after the start: never two copies", [], wrong[:10])
+# A process of which a kill kept the record from being written is told; one that is being begun keeps the lock so long.
+check("nothing else was told", b"", re.sub(rb"svscan: \S+: (process \d+ still runs|unable to lock)\n", b"", read("told")))
+
+kill()
+for name in steady + dying + loggers:
+    for pid in living(name):
+        os.kill(pid, signal.SIGKILL)
+for pid in [pid for pid in os.listdir("/proc") if pid.isdigit()]:
+    try:
+        if os.readlink(f"/proc/{pid}/cwd").startswith(os.getcwd() + "/d/"):
+            os.kill(int(pid), signal.SIGKILL)
+    except OSError:
+        pass
+print(f"survive: {checked} checks, {failed} failed")
+sys.exit(failed > 0)
