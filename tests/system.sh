@@ -2,7 +2,8 @@
 # What no contract can say: that the system's own files, folders, children, pipes and clock are what the program takes
 # them for. Runs the program that the first word names, prints each check that fails, and ends with how many did not.
 # The wanted values are those of the daemontools pages and of docs/FORMATS.md.
-. "$(dirname "$0")/checks.sh" "$1"
+top=$(realpath "$(dirname "$0")/..")
+. "$top/tests/checks.sh" "$1"
 trap 'rm -rf "$room"' EXIT
 
 # ended NAME STATUS TOLD COMMAND..: the command's status, and what it tells; what it prints is left in out.
@@ -95,12 +96,27 @@ coproc_input=${simulating[1]}
 exec {coproc_input}>&-
 wait
 
+# Which dtools this is, by which kit it was built, and from which sources: those here, where they are.
+for word in version --version; do
+  ended "$word" 0 '' "$program" "$word"
+  is "$word: lines" 'dtools kit source ' "$(cut -d ' ' -f 1 out | tr '\n' ' ')"
+  is "$word: the sum has 64 digits" yes "$(sed -n 3p out | grep -qE '^source [0-9a-f]{64}$' && echo yes)"
+done
+if [ -e "$top/packaging/source-sum" ]; then
+  is 'version: its number' "dtools $(sed -n '1s/.*(\(.*\)).*/\1/p' "$top/packaging/changelog")" "$(sed -n 1p out)"
+  is 'version: the sum' "source $("$top/packaging/source-sum")" "$(sed -n 3p out)"
+  is 'version: the kit' "$(sed -n 's/.*KIT: &str = "\(.*\)";/kit \1/p' "$top/crates/cmd_help/src/source.rt")" "$(sed -n 2p out)"
+fi
+
 # A full device is told.
 if [ -w /dev/full ]; then
   printf 'begin up @400000000000000a00000000\n' >begin
   "$program" sim <begin >/dev/full 2>told
   is 'a full device' 111 "$?"
   is 'a full device: told' 'sim: write fault' "$(cat told)"
+  "$program" version >/dev/full 2>told
+  is 'version on a full device' 111 "$?"
+  is 'version on a full device: told' 'version: write fault' "$(cat told)"
 fi
 
 counts system

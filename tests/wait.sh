@@ -159,16 +159,30 @@ begun 'a record that is none comes' -u s
 status s 00
 over 'a record that is none comes' 111 'wait: s: bad status record: Length'
 
-# The time: it does not end before it, and then it does. Between two looks are 40 ms at least, on any machine: so in two
-# seconds are 52 at most.
+# The time: it does not end before it, and then it does. Between two looks are 45 ms at least, on any machine, and where nothing
+# changes, after the first second or so, 22 times as much: so in four seconds are 27 at most.
 status s "$label$none"00$down"00$phase_down"
 : >s/supervise/looks
 began=${EPOCHREALTIME/[.,]/}
-ended 'the time is over' 99 'wait: s: not up in time' -t 2 s
+ended 'the time is over' 99 'wait: s: not up in time' -t 4 s
 took=$(((${EPOCHREALTIME/[.,]/} - began) / 1000))
-is "the time: at least 2 s, and it was $took ms" yes "$([ "$took" -ge 2000 ] && echo yes)"
+is "the time: at least 4 s, and it was $took ms" yes "$([ "$took" -ge 4000 ] && echo yes)"
 looks=$(stat -c %s s/supervise/looks)
-is "the time: 2 to 52 looks, and there were $looks" yes "$([ "$looks" -ge 2 ] && [ "$looks" -le 52 ] && echo yes)"
+is "the time: 2 to 27 looks, and there were $looks" yes "$([ "$looks" -ge 2 ] && [ "$looks" -le 27 ] && echo yes)"
+
+# Where something changes meanwhile, looks come one rest apart: ten of them without that would take ten seconds.
+: >s/supervise/looks
+begun 'it changes in a quiet time' s
+until_true looked 26 s
+began=${EPOCHREALTIME/[.,]/}
+looks=$(stat -c %s s/supervise/looks)
+status s "$label$none"00$up"00$starting"
+until_true looked $((looks + 11)) s
+took=$(((${EPOCHREALTIME/[.,]/} - began) / 1000))
+is "it changes in a quiet time: looks soon, and it was $took ms" yes "$([ "$took" -le 9000 ] && echo yes)"
+status s "$label$some"00$up"00$phase_up"
+over 'it changes in a quiet time' 0 ''
+status s "$label$none"00$down"00$phase_down"
 
 # Several: each was found once, at whatever moment. One that was found is not looked at again.
 listen t

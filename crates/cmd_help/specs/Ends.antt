@@ -1,8 +1,10 @@
 -- How `help` and `version` end.
 use Rattle.std.specs.Prelude.{◌≡◌, ◌⊎◌, ℕ, List, [], ◌∷◌, ◌++◌, codes}
 use Rattle.tai_status.specs.Counted.{Device, Fails, Tells, Works, Wrote, WroteFront}
+use Rattle.cmd_base.specs.Printed.{printed}
 use Rattle.cmd_base.specs.Told.{usage_text}
 use Rattle.cmd_help.specs.Pages.{IsPageOf, overview}
+use Rattle.cmd_help.specs.declared.source.TheConstants.{KIT, SOURCE}
 
 -- A text was printed, and nothing is told.
 pub record PrintsAll (text : List ℕ) (status : ℕ) (old new faults tells : Device) : Type 0 where
@@ -51,8 +53,11 @@ HelpEnds [] status old new faults tells = Prints overview help_told status old n
 HelpEnds (name ∷ []) status old new faults tells = ShowsPage name status old new faults tells
 HelpEnds (name ∷ other ∷ words) status old new faults tells = Refuses status old new faults tells
 
+-- what `version` prints: which dtools this is, the line of the kit that built it, and the sum of its sources
+abbrev pub version_text : List ℕ
+version_text = printed (codes "dtools 2.0.0" ∷ (codes "kit " ++ KIT.now) ∷ (codes "source " ++ SOURCE.now) ∷ [])
+
 -- `version` takes no words.
 abbrev pub VersionEnds : (words : List (List ℕ)) (status : ℕ) (old new faults tells : Device) → Type 0
-VersionEnds [] status old new faults tells =
-    Prints (codes "dtools 2.0.0" ++ 10 ∷ []) version_told status old new faults tells
+VersionEnds [] status old new faults tells = Prints version_text version_told status old new faults tells
 VersionEnds (word ∷ words) status old new faults tells = Refuses status old new faults tells

@@ -1,8 +1,10 @@
 //! The commands themselves.
-ghost use Rattle.std.specs.Prelude.{map};
-ghost use Rattle.cmd_help.specs.Ends.{HelpEnds, Prints, PrintsPage, VersionEnds};
+ghost use Rattle.std.specs.Prelude.{◌≡◌, map};
+ghost use Rattle.cmd_help.specs.Ends.{HelpEnds, Prints, PrintsPage, VersionEnds, version_text};
 
 use crate::pages::{overview, page_of};
+use crate::source::{KIT, SOURCE};
+use arrayvec::ArrayString;
 use cmd_base::{DONE, TROUBLE, report, usage};
 use std::io::Write;
 use tai_status::Output;
@@ -48,8 +50,21 @@ pub fn run_help<W: Write, E: Write>(
     }
 }
 
-/// The command `version`: prints the name and the version of this program. Answers the status: 0; 100 for any word; 111
-/// for a fault of the writer.
+/// What `version` prints: which dtools this is, by which kit it was built, and from which sources.
+fn version_text() -> ArrayString<192>
+    ensures { result.bytes ≡ version_text }
+{
+    let mut text = ArrayString::new();
+    text.push_str("dtools 2.0.0\nkit ");
+    text.push_str(KIT);
+    text.push_str("\nsource ");
+    text.push_str(SOURCE);
+    text.push_str("\n");
+    text
+}
+
+/// The command `version`: prints the version of this program, the line of the kit that built it, and the sum of the sources
+/// that it was built from, each on a line. Answers the status: 0; 100 for any word; 111 for a fault of the writer.
 pub fn run_version<W: Write, E: Write>(
     words: &[&str],
     writer: &mut Output<W>,
@@ -58,7 +73,10 @@ pub fn run_version<W: Write, E: Write>(
     ensures ends { VersionEnds (map (λ word. word.now) words.now) result writer.old writer.new faults.old faults.new }
 {
     match words {
-        [] => print(b"dtools 2.0.0\n", b"version: write fault\n", writer, faults),
+        [] => {
+            let text = version_text();
+            print(text.as_bytes(), b"version: write fault\n", writer, faults)
+        }
         _ => usage(faults),
     }
 }

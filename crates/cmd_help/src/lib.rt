@@ -3,6 +3,7 @@
 
 mod command;
 mod pages;
+mod source;
 
 pub use command::{run_help, run_version};
 pub use pages::{overview, page_of};

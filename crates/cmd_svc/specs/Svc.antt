@@ -1,5 +1,5 @@
 -- What `svc` sends, and how it ends (cr.yp.to/daemontools/svc.html).
-use Rattle.std.specs.Prelude.{◌≡◌, ◌<◌, ◌⊎◌, ℕ, Bool, true, false, ◌||◌, if◌then◌else◌, List, [], ◌∷◌, ◌++◌, length}
+use Rattle.std.specs.Prelude.{◌≡◌, ◌<◌, ◌⊎◌, ℕ, Bool, false, ◌||◌, if◌then◌else◌, List, [], ◌∷◌, ◌++◌, length}
 use Rattle.std.specs.Prelude.{codes}
 use Rattle.std.specs.Prelude.{bytes_eq, Option, Some, None, is_some, MatchOption}
 use Rattle.hex.specs.Hex.{encode_lower}

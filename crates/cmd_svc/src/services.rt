@@ -17,7 +17,7 @@ pub enum Unreached {
 /// it keeps that.
 pub trait Services {
     ghost use Rattle.std.specs.Prelude.{◌∷◌, [], Option, Some, None, List, IfOk, IfErr, OnOk, OnErr};
-    ghost use Rattle.cmd_svc.specs.Calls.{Call, Sent, Asked, ReadStatus, SoughtDown};
+    ghost use Rattle.cmd_svc.specs.Calls.{Call, Sent, Asked, ReadStatus, SoughtChange, SoughtDown};
     ghost use Rattle.tai_status.specs.Extended.{Extended};
 
     ghost calls: { Self → Option (List Call) } = { λ _. None };
@@ -43,4 +43,9 @@ pub trait Services {
     /// Whether the folder of a service has a file `down`.
     fn has_down(&mut self, folder: &str) -> bool
         ensures sought { Extended (calls self.old) (calls self.new) (SoughtDown folder.now result ∷ []) };
+
+    /// When something in the folder `supervise` of the service was made, replaced or removed last, in nanoseconds since
+    /// 1970. None where that can't be told.
+    fn changed_at(&mut self, folder: &str) -> Option<u64>
+        ensures sought { Extended (calls self.old) (calls self.new) (SoughtChange folder.now result ∷ []) };
 }

@@ -6,10 +6,11 @@ use crate::services::{Services, Unreached};
 use arrayvec::ArrayString;
 use cmd_base::{StatusFront, path_by_descriptor, read_status_front};
 use mio::net::UnixStream;
-use std::fs::{File, Files};
+use std::fs::{File, Files, Metadata};
 use std::io::{Error, ErrorKind, Write};
 use std::net::Net;
 use std::os::fd::AsRawFd;
+use std::os::unix::fs::MetadataExt;
 use std::{fs, io};
 
 /// How long a path is at most on this system, with the zero behind it.
@@ -96,6 +97,13 @@ fn send_bytes<R: Files<File = File> + Net>(
     connect(runtime, folder, "control")?.write_all(bytes)
 }
 
+/// When a folder was changed last, in nanoseconds since 1970. None before that, and beyond the year 2554.
+fn changed_at(folder: &Metadata) -> Option<u64> {
+    let seconds = u64::try_from(folder.mtime()).ok()?;
+    let rest = u64::try_from(folder.mtime_nsec()).ok()?;
+    seconds.checked_mul(1_000_000_000)?.checked_add(rest)
+}
+
 impl<R: Files<File = File> + Net + Drop> Services for SystemServices<R> {
     fn send(&mut self, folder: &str, bytes: &[u8]) -> Result<(), Unreached> {
         send_bytes(&self.runtime, folder, bytes).map_err(|fault| unreached(&fault))
@@ -118,5 +126,11 @@ impl<R: Files<File = File> + Net + Drop> Services for SystemServices<R> {
             Ok(path) => fs::metadata(&self.runtime, path.as_str()).is_ok(),
             Err(_) => false,
         }
+    }
+
+    fn changed_at(&mut self, folder: &str) -> Option<u64> {
+        let path = path_in(folder, "/supervise").ok()?;
+        let found = fs::metadata(&self.runtime, path.as_str()).ok()?;
+        changed_at(&found)
     }
 }

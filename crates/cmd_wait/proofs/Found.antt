@@ -1,9 +1,10 @@
 -- What rounds found: each service is left, or a look found it.
-use Rattle.std.proofs.Common.{◌≡◌, ℕ, List, [], ◌∷◌, ◌++◌, ◌⊎◌, refl, sym, ap, ◌∙◌, subst, inl, inr, append-nil, Option}
+use Rattle.std.proofs.Common.{◌≡◌, ℕ, List, [], ◌∷◌, ◌++◌, ◌⊎◌, refl, sym, ◌∙◌, subst, inl, inr, append-nil, Option}
 use Rattle.cmd_svc.specs.Calls.{Call}
 use Rattle.cmd_wait.specs.Finding.{finding_of}
+use Rattle.cmd_wait.specs.Watching.{Watched}
 use Rattle.cmd_wait.specs.Words.{Order}
-use Rattle.cmd_wait.specs.Rounds.{Sight, Look, LooksAt, folders, left_at, left_by, Waits, none, more, looks_of, IsAmong, IsFound}
+use Rattle.cmd_wait.specs.Rounds.{Look, LooksAt, folders, left_at, left_by, Waits, none, more, looks_of, IsAmong, IsFound}
 use Rattle.cmd_wait.specs.declared.finding.Goal.{Goal}
 use Rattle.cmd_wait.specs.declared.finding.Finding.{Finding}
 use Rattle.cmd_wait.specs.declared.finding.Finding.TheVariants.{Reached, Waiting, Failed}
@@ -48,7 +49,7 @@ round-found goal services left a b h folder among =
     ]
 
 -- rounds
-pub waits-found : {order : Order} {begin : ℕ} {services : List (List ℕ)} {old : Sight} {left : List (List ℕ)} {now : Sight} (w : Waits order begin services old left now) (folder : List ℕ)
+pub waits-found : {order : Order} {begin : ℕ} {services : List (List ℕ)} {old : Watched} {left : List (List ℕ)} {now : Watched} (w : Waits order begin services old left now) (folder : List ℕ)
     → IsAmong folder services → IsFound order.goal folder (looks_of w) ⊎ IsAmong folder left
 waits-found none folder among = inr among
 waits-found {order = order} (more w r) folder among = elim (waits-found w folder among) [
@@ -60,7 +61,7 @@ waits-found {order = order} (more w r) folder among = elim (waits-found w folder
 ]
 
 -- rounds, and a last one that leaves nothing
-pub all-found : {order : Order} {begin : ℕ} {services : List (List ℕ)} {old : Sight} {left : List (List ℕ)} {now : Sight} (w : Waits order begin services old left now)
+pub all-found : {order : Order} {begin : ℕ} {services : List (List ℕ)} {old : Watched} {left : List (List ℕ)} {now : Watched} (w : Waits order begin services old left now)
     (a b : Option (List Call)) (h : LooksAt order.goal left [] [] a b) (folder : List ℕ)
     → IsAmong folder services → IsFound order.goal folder (looks_of w ++ h.looks)
 all-found {order = order} {left = left} w a b h folder among = elim (waits-found w folder among) [

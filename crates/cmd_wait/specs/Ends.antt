@@ -6,9 +6,10 @@ use Rattle.tai_status.specs.declared.record.RecordFault.{RecordFault}
 use Rattle.cmd_base.specs.Told.{usage_text}
 use Rattle.cmd_svc.specs.Svstat.{fault_name}
 use Rattle.cmd_svc.specs.Turns.{InTurn}
-use Rattle.cmd_wait.specs.Steps.{Read}
+use Rattle.cmd_wait.specs.Steps.{Read, Sight, IsOver}
+use Rattle.cmd_wait.specs.Watching.{Watched, watched, first_watch}
 use Rattle.cmd_wait.specs.Words.{Order, Asks, AskNothing}
-use Rattle.cmd_wait.specs.Rounds.{Sight, Look, TakesRound, FailsAt, IsOver, Waits, looks_of, IsAmong, IsFound}
+use Rattle.cmd_wait.specs.Rounds.{Look, TakesRound, FailsAt, Waits, looks_of, IsAmong, IsFound}
 use Rattle.cmd_wait.specs.declared.finding.Goal.{Goal}
 use Rattle.cmd_wait.specs.declared.finding.Goal.TheVariants as goal
 use Rattle.cmd_wait.specs.declared.finding.WaitFault.{WaitFault}
@@ -105,11 +106,11 @@ pub record WaitsFor (order : Order) (status : ℕ) (old new : Scene) : Type 0 wh
   pub begin : ℕ
   pub begun : Sight
   pub left : List (List ℕ)
-  pub middle : Sight
+  pub middle : Watched
   pub read : Extended old.sight.steps begun.steps (Read begin ∷ [])
   pub unasked : begun.calls ≡ old.sight.calls
-  pub waits : Waits order begin order.services begun left middle
-  pub ends : EndsBy order begin (looks_of waits) left status (scene middle old.faults) new
+  pub waits : Waits order begin order.services (watched first_watch begun) left middle
+  pub ends : EndsBy order begin (looks_of waits) left status (scene middle.sight old.faults) new
 
 -- Ends
 

@@ -1,5 +1,6 @@
 pub mod Steps
 pub mod Words
 pub mod Finding
+pub mod Watching
 pub mod Rounds
 pub mod Ends

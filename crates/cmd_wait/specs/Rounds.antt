@@ -1,10 +1,10 @@
 -- How services are waited for, in rounds.
-use Rattle.std.specs.Prelude.{◌≡◌, ◌≢◌, ◌⊎◌, ⊤, ℕ, ◌-◌, ◌*◌, ◌≤◌, List, [], ◌∷◌, ◌++◌, map, flat_map, All, Option}
-use Rattle.std.specs.Prelude.{Some, None}
+use Rattle.std.specs.Prelude.{◌≡◌, ◌≢◌, ◌⊎◌, ⊤, ℕ, List, [], ◌∷◌, ◌++◌, map, flat_map, All, Option}
 use Rattle.tai_status.specs.Extended.{Extended}
 use Rattle.cmd_svc.specs.Calls.{Call}
-use Rattle.cmd_wait.specs.Steps.{Step, Read, Rested}
+use Rattle.cmd_wait.specs.Steps.{Read, Sight, IsOver}
 use Rattle.cmd_wait.specs.Finding.{Sighting, calls_of_look, finding_of, Finds}
+use Rattle.cmd_wait.specs.Watching.{Watched, watched, Pauses}
 use Rattle.cmd_wait.specs.Words.{Order}
 use Rattle.cmd_wait.specs.declared.finding.Goal.{Goal}
 use Rattle.cmd_wait.specs.declared.finding.Finding.{Finding}
@@ -61,46 +61,32 @@ pub record FailsAt (goal : Goal) (services : List (List ℕ)) (folder : List ℕ
 
 -- Rounds, one after the other
 
--- What a wait has done: the calls of services, and the steps of its pace.
-pub record Sight : Type 0 where
-  pub calls : Option (List Call)
-  pub steps : Option (List Step)
-
-abbrev pub sight : (calls : Option (List Call)) (steps : Option (List Step)) → Sight
-sight calls steps = record { calls = calls; steps = steps }
-
--- The time is over, where there is one, between two readings of the clock.
-abbrev pub IsOver : (limit : Option ℕ) (begin now : ℕ) → Type 0
-IsOver None begin now = ⊥
-IsOver (Some seconds) begin now = 1000 * seconds ≤ now - begin
-
 -- A round: the clock is read, and then each of these services is looked at, once; these are left.
 pub record TakesRound (order : Order) (now : ℕ) (services left : List (List ℕ)) (old new : Sight) : Type 0 where
   pub read : Extended old.steps new.steps (Read now ∷ [])
   pub looked : LooksAt order.goal services left [] old.calls new.calls
 
--- A round that is not the last: services are left, the time was not over when it began, and behind it is a rest.
-pub record Repeats (order : Order) (begin : ℕ) (services left : List (List ℕ)) (old new : Sight) : Type 0 where
+-- A round that is not the last: services are left, the time was not over when it began, and behind it is a pause.
+pub record Repeats (order : Order) (begin : ℕ) (services left : List (List ℕ)) (old new : Watched) : Type 0 where
   pub now : ℕ
   pub middle : Sight
-  pub takes : TakesRound order now services left old middle
+  pub takes : TakesRound order now services left old.sight middle
   pub some : left ≢ []
   pub in_time : IsOver order.limit begin now → ⊥
-  pub rested : Extended middle.steps new.steps (Rested ∷ [])
-  pub unasked : new.calls ≡ middle.calls
+  pub pauses : Pauses order.limit begin left (watched old.watch middle) new
 
 -- Rounds that are not the last were taken from these services on, each over those that the one before it left.
-pub data Waits (order : Order) (begin : ℕ) (services : List (List ℕ)) (old : Sight)
-    : (left : List (List ℕ)) → (now : Sight) → Type 0 where
+pub data Waits (order : Order) (begin : ℕ) (services : List (List ℕ)) (old : Watched)
+    : (left : List (List ℕ)) → (now : Watched) → Type 0 where
   none : Waits order begin services old services old
-  more : {left after : List (List ℕ)} {now new : Sight} → Waits order begin services old left now
+  more : {left after : List (List ℕ)} {now new : Watched} → Waits order begin services old left now
       → Repeats order begin left after now new → Waits order begin services old after new
 
 -- What they found
 
 -- the looks of these rounds
-abbrev pub looks_of : {order : Order} {begin : ℕ} {services : List (List ℕ)} {old : Sight}
-    {left : List (List ℕ)} {now : Sight} → Waits order begin services old left now → List Look
+abbrev pub looks_of : {order : Order} {begin : ℕ} {services : List (List ℕ)} {old : Watched}
+    {left : List (List ℕ)} {now : Watched} → Waits order begin services old left now → List Look
 looks_of none = []
 looks_of (more waits round) = looks_of waits ++ round.takes.looked.looks
 

@@ -10,6 +10,7 @@ mod pace;
 mod rounds;
 mod sayings;
 mod wait;
+mod watch;
 
 pub use finding::{Finding, Goal, WaitFault};
 pub use options::{Options, read_options};

@@ -2,8 +2,8 @@
 use std::thread;
 use std::time::{Clock, Duration};
 
-/// How long it rests between two rounds, in milliseconds: a change is seen within 50.
-const REST_MILLISECONDS: u64 = 40;
+/// How long it rests, in milliseconds: a change is seen within 50.
+const REST_MILLISECONDS: u64 = 45;
 
 /// A clock, and rests. Contracts see what it gave, where it keeps that.
 pub trait Pace {
@@ -17,7 +17,7 @@ pub trait Pace {
     fn now(&mut self) -> u64
         ensures read { Extended (steps self.old) (steps self.new) (Read result ∷ []) };
 
-    /// Rests for 40 milliseconds.
+    /// Rests for 45 milliseconds.
     fn rest(&mut self)
         ensures rested { Extended (steps self.old) (steps self.new) (Rested ∷ []) };
 }

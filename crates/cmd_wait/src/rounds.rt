@@ -1,7 +1,8 @@
 //! A round over the services that are left.
 ghost use Rattle.std.specs.Prelude.{◌≡◌, ◌↔◌, [], IsTrue, OnOk, IfErr};
 ghost use Rattle.cmd_svc.specs.Words.{texts};
-ghost use Rattle.cmd_wait.specs.Rounds.{FailsAt, IsOver, LooksAt};
+ghost use Rattle.cmd_wait.specs.Rounds.{FailsAt, LooksAt};
+ghost use Rattle.cmd_wait.specs.Steps.{IsOver};
 
 use crate::finding::{Finding, Goal, WaitFault, look};
 use cmd_svc::Services;

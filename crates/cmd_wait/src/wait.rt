@@ -1,7 +1,7 @@
 //! The command `wait`.
 ghost use Rattle.std.specs.Prelude.{◌≡◌};
 ghost use Rattle.cmd_svc.specs.Words.{texts};
-ghost use Rattle.cmd_wait.specs.Rounds.{sight};
+ghost use Rattle.cmd_wait.specs.Steps.{sight};
 ghost use Rattle.cmd_wait.specs.Ends.{scene, WaitEnds, WaitsFor};
 ghost use Rattle.cmd_wait.specs.Words.{order};
 
@@ -9,6 +9,7 @@ use crate::options::{Options, read_options};
 use crate::pace::Pace;
 use crate::rounds::{is_over, look_at_each};
 use crate::sayings::{report_failure, report_over};
+use crate::watch::{Watch, pause};
 use cmd_base::{DONE, TROUBLE, report, usage};
 use cmd_svc::Services;
 use std::alloc::Allocator;
@@ -19,7 +20,7 @@ use tai_status::Output;
 /// The status of a wait whose time is over.
 const OVER: u8 = 99;
 
-/// Waits for services: looks at those that are left, in rounds, and rests between each two.
+/// Waits for services: looks at those that are left, in rounds, and pauses between each two.
 fn wait_for<R: Wait, S: Services, P: Pace, A: Allocator, E: Write>(
     rt: &R,
     services: &mut S,
@@ -34,6 +35,7 @@ fn wait_for<R: Wait, S: Services, P: Pace, A: Allocator, E: Write>(
         (scene (sight (S.calls services.new) (P.steps pace.new)) faults.new) }
 {
     let mut left = names;
+    let mut watch = Watch::new();
     let begin = pace.now();
     for _ in rt.forever() {
         let now = pace.now();
@@ -47,15 +49,16 @@ fn wait_for<R: Wait, S: Services, P: Pace, A: Allocator, E: Write>(
             report_over(options.goal, &left, faults);
             return OVER;
         }
-        pace.rest();
+        pause(services, pace, &mut watch, options.limit, begin, &left);
     }
     unreachable!()
 }
 
 /// The command `wait [-u|-d|-x] [-t SECONDS] SERVICE..`: returns once each service is up and settled, down (`-d`), or
-/// no longer supervised (`-x`). It looks at them in rounds, 40 milliseconds apart, and at each until it was found so once:
-/// what comes of it later is not seen. With `-t` the last round is the first that begins when so many seconds are over,
-/// so that `-t 0` looks once; else it may not come back.
+/// no longer supervised (`-x`). It looks at them in rounds, and at each until it was found so once: what comes of it later
+/// is not seen. A round comes 45 milliseconds after the one before it for a second after something changed in a folder
+/// `supervise` of theirs, and so after such a change; else a second after it. With `-t` the last round is the first that
+/// begins when so many seconds are over, so that `-t 0` looks once; else it may not come back.
 ///
 /// Answers the status: 0; 99 where the time is over, with a line on `faults` for each service that is left; 102 where a
 /// service is not supervised, or no longer so; 111 where this user may not look at one, where a status can't be read or

@@ -14,6 +14,7 @@ use Rattle.cmd_envdir.specs.System.{Launch, SystemState}
 use Rattle.cmd_envdir.specs.System as handed
 use Rattle.cmd_envdir.specs.Ends.{EnvdirEnds}
 use Rattle.cmd_multilog.specs.Shelf.{Shelf}
+use Rattle.mlog_core.specs.Feed.{Feed}
 use Rattle.cmd_multilog.specs.Ends.{Stage, stage, MultilogEnds}
 use Rattle.cmd_svc.specs.Calls.{Call}
 use Rattle.cmd_svc.specs.Svc.{Effects, effects, SvcEnds}
@@ -23,8 +24,7 @@ use Rattle.cmd_report.specs.Ends.{ReportEnds}
 use Rattle.cmd_report.specs.MetricsEnds.{CountFiles}
 use Rattle.cmd_why.specs.Why.{Knowledge, WhyEnds}
 use Rattle.cmd_why.specs.Why as why
-use Rattle.cmd_wait.specs.Steps.{Step}
-use Rattle.cmd_wait.specs.Rounds.{sight}
+use Rattle.cmd_wait.specs.Steps.{Step, sight}
 use Rattle.cmd_wait.specs.Ends.{WaitEnds}
 use Rattle.cmd_wait.specs.Ends as waiting
 use Rattle.cmd_svscan.specs.Calls as handling
@@ -35,9 +35,9 @@ pub record Equipment : Type 0 where
   pub console : Console
   pub readings : Option (List Tai64n)
 
--- What `multilog` works with, of it
-abbrev pub stage_of : Shelf → Equipment → Stage
-stage_of shelf e = stage shelf e.console.reader e.readings e.console.faults
+-- What `multilog` works with: its own input, its store, and of the equipment the clock and where faults are told
+abbrev pub stage_of : Shelf → Feed → Equipment → Stage
+stage_of shelf feed e = stage shelf feed e.readings e.console.faults
 
 -- What `envdir` works with, of it
 abbrev pub envdir_scene : Option (List Launch) → Equipment → handed.Scene
@@ -74,11 +74,12 @@ pub record System : Type 0 where
   pub counts : CountFiles
 
 -- What was asked of the operating system so far, where that is kept: the commands that it was handed to start; the
--- store of logs; the calls of services that were made; what was asked of the services of a folder; and the steps of a
--- pace.
+-- store of logs, and the input of a logger; the calls of services that were made; what was asked of the services of a
+-- folder; and the steps of a pace.
 pub record CallsSoFar : Type 0 where
   pub launches : Option (List Launch)
   pub shelf : Shelf
+  pub feed : Feed
   pub calls : Option (List Call)
   pub rounds : Option (List handling.Call)
   pub steps : Option (List Step)
@@ -111,9 +112,9 @@ Prints end words status old new =
     end words status old.writer new.writer old.faults new.faults × (new.reader ≡ old.reader)
 
 -- The command of this name was given these words, and ended as it promises. Only `tai64n`, `multilog`, `svstat` and
--- `why` read the clock that is among the devices, only `envdir` starts a command, only `multilog` keeps logs, only
--- `svc`, `svstat`, `svok`, `why` and `wait` ask services, only `wait` has a pace, and only `svscan` keeps services
--- running.
+-- `why` read the clock that is among the devices, only `envdir` starts a command, only `multilog` keeps logs and reads
+-- the input of a logger, only `svc`, `svstat`, `svok`, `why` and `wait` ask services, only `wait` has a pace, and only
+-- `svscan` keeps services running.
 pub record CommandEnds (name : List ℕ) (words : List (List ℕ)) (status : ℕ) (system : System) (before after : CallsSoFar)
     (old new : Equipment) : Type 0 where
   pub unknown : NamesNoCommand name → RefusesWords status old.console new.console
@@ -129,8 +130,9 @@ pub record CommandEnds (name : List ℕ) (words : List (List ℕ)) (status : ℕ
       new.console.faults
   pub trace_unread : name ≡ codes "trace" → new.console.reader ≡ old.console.reader
   pub multilog : name ≡ codes "multilog"
-      → MultilogEnds words status (stage_of before.shelf old) (stage_of after.shelf new)
-  pub multilog_unwritten : name ≡ codes "multilog" → new.console.writer ≡ old.console.writer
+      → MultilogEnds words status (stage_of before.shelf before.feed old) (stage_of after.shelf after.feed new)
+  pub multilog_silent : name ≡ codes "multilog"
+      → (new.console.reader ≡ old.console.reader) × (new.console.writer ≡ old.console.writer)
   pub svc : name ≡ codes "svc" → SvcEnds words status (effects_of before.calls old) (effects_of after.calls new)
   pub svc_silent : name ≡ codes "svc"
       → (new.console.reader ≡ old.console.reader) × (new.console.writer ≡ old.console.writer)
@@ -158,6 +160,7 @@ pub record CommandEnds (name : List ℕ) (words : List (List ℕ)) (status : ℕ
   pub clock : ReadsNoClock name → new.readings ≡ old.readings
   pub child : name ≢ codes "envdir" → after.launches ≡ before.launches
   pub logs : name ≢ codes "multilog" → after.shelf ≡ before.shelf
+  pub lines : name ≢ codes "multilog" → after.feed ≡ before.feed
   pub services : AsksNoService name → after.calls ≡ before.calls
   pub kept : name ≢ codes "svscan" → after.rounds ≡ before.rounds
   pub paced : name ≢ codes "wait" → after.steps ≡ before.steps
@@ -187,7 +190,7 @@ abbrev pub system : (files : List ℕ → Option (List ℕ)) (state : SystemStat
 system files state services ahead counts =
     record { files = files; state = state; services = services; ahead = ahead; counts = counts }
 
-abbrev pub calls_so_far : (launches : Option (List Launch)) (shelf : Shelf) (calls : Option (List Call))
+abbrev pub calls_so_far : (launches : Option (List Launch)) (shelf : Shelf) (feed : Feed) (calls : Option (List Call))
     (rounds : Option (List handling.Call)) (steps : Option (List Step)) → CallsSoFar
-calls_so_far launches shelf calls rounds steps =
-    record { launches = launches; shelf = shelf; calls = calls; rounds = rounds; steps = steps }
+calls_so_far launches shelf feed calls rounds steps =
+    record { launches = launches; shelf = shelf; feed = feed; calls = calls; rounds = rounds; steps = steps }

@@ -19,16 +19,18 @@ use cmd_svscan::{ServiceSet, run_svscan};
 use cmd_trace::run_trace;
 use cmd_wait::{Pace, run_wait};
 use cmd_why::{LocalTimes, ServiceFiles, run_why};
+use mlog_core::PartedInput;
 use std::io::{Read, Write};
 use std::sync::Wait;
 use tai_status::{Output, TimeSource};
 
-/// Runs the command of this name over words, and answers its status. A name of no command is
-/// `dtools: usage`, 100.
-fn run_command<R, L, K, S, P, V, T, Z, D, W, E, C>(
+/// Runs the command of this name over words, and answers its status. A logger has an input of its own. A name of no
+/// command is `dtools: usage`, 100.
+fn run_command<R, L, K, I, S, P, V, T, Z, D, W, E, C>(
     rt: &R,
     launcher: &mut L,
     store: &mut FolderStore<K>,
+    lines: &mut I,
     services: &mut S,
     service_set: &mut P,
     waiting: &V,
@@ -42,6 +44,7 @@ where
     R: FileSource + EnvSystem + ServiceFiles + CountFiles + AllocGlobal,
     L: Launcher,
     K: LogSystem + Drop,
+    I: PartedInput,
     S: Services,
     P: ServiceSet,
     V: Wait,
@@ -58,9 +61,9 @@ where
         (system (R.file_at rt.now) (R.state rt.now)
         (knowledge (R.trace_at rt.now) (R.exit_at rt.now) (R.fault_at rt.now) (Z.text_at zone.now)) (Z.ahead_at zone.now)
         (R.counts_at rt.now))
-        (calls_so_far (L.calls launcher.old) store.old (S.calls services.old)
+        (calls_so_far (L.calls launcher.old) store.old (I.feed lines.old) (S.calls services.old)
         (P.calls service_set.old) (T.steps pace.old))
-        (calls_so_far (L.calls launcher.new) store.new (S.calls services.new)
+        (calls_so_far (L.calls launcher.new) store.new (I.feed lines.new) (S.calls services.new)
         (P.calls service_set.new) (T.steps pace.new))
         devices.old devices.new }
 {
@@ -75,7 +78,7 @@ where
         "tai64n" => return run_tai64n(words, reader, writer, faults, clock),
         "tai64nlocal" => return run_tai64nlocal(zone, words, reader, writer, faults),
         "readproctitle" => return run_readproctitle(rt.alloc(), words, reader, writer, faults),
-        "multilog" => return run_multilog(rt.alloc(), store, words, reader, faults, clock),
+        "multilog" => return run_multilog(rt.alloc(), store, words, lines, faults, clock),
         "svc" => return run_svc(rt.alloc(), services, words, faults),
         "svstat" => return run_report(rt.alloc(), services, rt, words, writer, faults, clock),
         "svok" => return run_svok(services, words),
@@ -107,10 +110,11 @@ fn refuse_no_word<E: Write>(faults: &mut Output<E>) -> u8
 /// Runs the command that the first word names, over the words after it, and answers its status. No
 /// word, or one that names no command, is `dtools: usage`, 100; where there is none, a line behind it
 /// names `dtools help`.
-pub fn run<R, L, K, S, P, V, T, Z, D, W, E, C>(
+pub fn run<R, L, K, I, S, P, V, T, Z, D, W, E, C>(
     rt: &R,
     launcher: &mut L,
     store: &mut FolderStore<K>,
+    lines: &mut I,
     services: &mut S,
     service_set: &mut P,
     waiting: &V,
@@ -123,6 +127,7 @@ where
     R: FileSource + EnvSystem + ServiceFiles + CountFiles + AllocGlobal,
     L: Launcher,
     K: LogSystem + Drop,
+    I: PartedInput,
     S: Services,
     P: ServiceSet,
     V: Wait,
@@ -139,9 +144,9 @@ where
         (system (R.file_at rt.now) (R.state rt.now)
         (knowledge (R.trace_at rt.now) (R.exit_at rt.now) (R.fault_at rt.now) (Z.text_at zone.now)) (Z.ahead_at zone.now)
         (R.counts_at rt.now))
-        (calls_so_far (L.calls launcher.old) store.old (S.calls services.old)
+        (calls_so_far (L.calls launcher.old) store.old (I.feed lines.old) (S.calls services.old)
         (P.calls service_set.old) (T.steps pace.old))
-        (calls_so_far (L.calls launcher.new) store.new (S.calls services.new)
+        (calls_so_far (L.calls launcher.new) store.new (I.feed lines.new) (S.calls services.new)
         (P.calls service_set.new) (T.steps pace.new))
         devices.old devices.new }
 {
@@ -150,6 +155,7 @@ where
             rt,
             launcher,
             store,
+            lines,
             services,
             service_set,
             waiting,

@@ -14,6 +14,7 @@ use cmd_svscan::{FolderServices, Request, ServiceSet, SystemHost, handle};
 use cmd_wait::SystemPace;
 use command::run;
 use devices::Devices;
+use mlog_core::PartedInput;
 use std::env;
 use std::io::{ErrorKind, Read, Write};
 use std::process::ExitCode;
@@ -21,9 +22,9 @@ use std::sync::Wait;
 use tai_status::{Counted, Output, TimeSource};
 
 fn main(rt: HostRuntime) -> ExitCode {
-    let channel = logger_channel(&rt);
+    let mut lines = Stoppable::new(SystemInput::new(rt.stdin(), logger_channel(&rt)));
     let mut devices = Devices {
-        reader: Counted::new(Stoppable::new(SystemInput::new(rt.stdin(), channel))),
+        reader: Counted::new(rt.stdin()),
         writer: Counted::new(rt.stdout()),
         faults: Counted::new(rt.stderr()),
         clock: SystemClock::new(rt),
@@ -32,10 +33,10 @@ fn main(rt: HostRuntime) -> ExitCode {
     let mut host: Option<SystemHost<HostRuntime>> = None;
     let handling = |request: Request| handle(rt, rt, alloc, &mut host, request);
     let mut service_set = FolderServices::new(alloc, handling);
-    ExitCode::from(run_arguments(&rt, &rt, &mut service_set, &mut devices))
+    ExitCode::from(run_arguments(&rt, &rt, &mut lines, &mut service_set, &mut devices))
 }
 
-/// The channel by which a logger is told to stop, where the command is one and there is a channel.
+/// The channel by which a logger is told to stop or to rotate, where the command is one and there is a channel.
 fn logger_channel(rt: &HostRuntime) -> Option<i32> {
     match env::args(rt).ok()?.skip(1).next() {
         Some(name) if name.as_str() == "multilog" => stop_channel(rt),
@@ -44,12 +45,21 @@ fn logger_channel(rt: &HostRuntime) -> Option<i32> {
 }
 
 /// Runs the program's words, but for its own name.
-fn run_arguments<V: Wait, P: ServiceSet, D: Read, W: Write, E: Write, C: TimeSource>(
+fn run_arguments<V, I, P, D, W, E, C>(
     rt: &HostRuntime,
     waiting: &V,
+    lines: &mut I,
     service_set: &mut P,
     devices: &mut Devices<D, W, E, C>,
 ) -> u8
+where
+    V: Wait,
+    I: PartedInput,
+    P: ServiceSet,
+    D: Read,
+    W: Write,
+    E: Write,
+    C: TimeSource,
     requires { P.ready service_set.old }
 {
     let texts = match arguments(rt) {
@@ -68,6 +78,7 @@ fn run_arguments<V: Wait, P: ServiceSet, D: Read, W: Write, E: Write, C: TimeSou
             rt,
             &mut SystemLauncher::new(rt),
             &mut store,
+            lines,
             &mut SystemServices::new(rt),
             service_set,
             waiting,

@@ -1,0 +1,121 @@
+//! The pause between two rounds.
+ghost use Rattle.std.specs.Prelude.{◌≡◌};
+ghost use Rattle.cmd_svc.specs.Words.{texts};
+ghost use Rattle.cmd_wait.specs.Steps.{sight};
+ghost use Rattle.cmd_wait.specs.Watching.{is_same, newer, watched, LearnsNewest, Pauses, Rests};
+
+use crate::pace::Pace;
+use crate::rounds::is_over;
+use cmd_svc::Services;
+
+/// How many rests a second has.
+const MOST_RESTS: u32 = 22;
+
+/// What is noted of the services that are left.
+#[derive(Clone, Copy, Debug)]
+pub struct Watch {
+    /// When something changed last in a folder of theirs, in nanoseconds since 1970. None where that is not known of each.
+    newest: Option<u64>,
+    /// How many rests still have a round behind them, since something changed less than a second ago.
+    lively: u32,
+}
+
+impl Watch {
+    ghost use Rattle.cmd_wait.specs.Watching.{first_watch, is_due, next_watch};
+
+    /// Nothing is noted yet.
+    pub(crate) fn new() -> Watch
+        ensures { result ≡ first_watch }
+    {
+        Watch {
+            newest: None,
+            lively: 0,
+        }
+    }
+
+    /// Notes when something changed last. Answers whether a round is due: something changed since that was noted, or
+    /// that was less than a second ago.
+    fn is_due(&mut self, newest: Option<u64>) -> bool
+        ensures due { result ≡ is_due self.old newest }
+        ensures noted { self.new ≡ next_watch self.old newest }
+    {
+        if !is_same(self.newest, newest) {
+            self.newest = newest;
+            self.lively = MOST_RESTS;
+            return true;
+        }
+        let due = self.lively > 0;
+        self.lively = self.lively.saturating_sub(1);
+        due
+    }
+}
+
+/// Whether two times are known, and are the same.
+fn is_same(one: Option<u64>, other: Option<u64>) -> bool
+    ensures { result ≡ is_same one other }
+{
+    match (one, other) {
+        (Some(one), Some(other)) => one == other,
+        _ => false,
+    }
+}
+
+/// The newer of two times, where both are known.
+fn newer(one: Option<u64>, other: Option<u64>) -> Option<u64>
+    ensures { result ≡ newer one other }
+{
+    match (one, other) {
+        (Some(one), Some(other)) => Some(one.max(other)),
+        _ => None,
+    }
+}
+
+/// When something changed last in a folder of these services, where that is known of each.
+fn newest_change<S: Services>(services: &mut S, folders: &[&str]) -> Option<u64>
+    ensures { LearnsNewest (texts folders.now) result (S.calls services.old) (S.calls services.new) }
+{
+    let mut newest = Some(0);
+    for folder in folders {
+        newest = newer(newest, services.changed_at(folder));
+    }
+    newest
+}
+
+/// Rests once. Answers whether a round is due then: something changed, or the time is over.
+fn rest_once<S: Services, P: Pace>(
+    services: &mut S,
+    pace: &mut P,
+    watch: &mut Watch,
+    limit: Option<u32>,
+    begin: u64,
+    left: &[&str],
+) -> bool
+    ensures { Rests limit begin (texts left.now) result
+        (watched watch.old (sight (S.calls services.old) (P.steps pace.old)))
+        (watched watch.new (sight (S.calls services.new) (P.steps pace.new))) }
+{
+    pace.rest();
+    let newest = newest_change(services, left);
+    let over = is_over(limit, begin, pace.now());
+    watch.is_due(newest) || over
+}
+
+/// Rests until a round is due, for a second at most.
+pub(crate) fn pause<S: Services, P: Pace>(
+    services: &mut S,
+    pace: &mut P,
+    watch: &mut Watch,
+    limit: Option<u32>,
+    begin: u64,
+    left: &[&str],
+)
+    ensures { Pauses limit begin (texts left.now)
+        (watched watch.old (sight (S.calls services.old) (P.steps pace.old)))
+        (watched watch.new (sight (S.calls services.new) (P.steps pace.new))) }
+{
+    for _ in 0..MOST_RESTS {
+        if rest_once(services, pace, watch, limit, begin, left) {
+            return;
+        }
+    }
+}
