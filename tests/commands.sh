@@ -5,7 +5,7 @@
 tests=$(dirname "$(realpath "$0")")
 program=$(realpath "$1")
 shift
-[ "$#" -gt 0 ] || set -- svc report machines envdir wrappers local why wait service
+[ "$#" -gt 0 ] || set -- svc report machines envdir wrappers local why wait service input devices
 printed=$(mktemp -d)
 trap 'rm -rf "$printed"' EXIT
 declare -A running

@@ -2,6 +2,7 @@
 none. A command ends as without the fault, or with one line that says what failed and the status 111; never by a signal, and
 never without an end. Of what it prints and writes there is a front then. svscan goes on, and what it could not begin in
 one round it begins in a later one. Works in the folder that it is in, where faults.so stands, on the program that its first word names."""
+import functools
 import os
 import re
 import shutil
@@ -40,6 +41,16 @@ def plain(text):
 
 def seen(ran):
     return ran.returncode, plain(ran.stdout), plain(ran.stderr)
+
+
+# A service that is brought down, and two services in a folder, for sim.
+EVENTS = b"begin up @400000000000000a00000000\nstarted 4711 @400000000000000b00000000\nclock @400000000000000c00000000\nbyte d\n"
+SCANS = b"""scan @400000000000000a00000000 d---:a dl--:b
+at 0.main.1 started 10 @400000000000000b00000000
+at 0.main.1 clock @400000000000000c00000000
+at 0.main.1 byte d
+scan @400000000000000d00000000 d---:a dl--:b d---:c
+"""
 
 
 def starves(*words, given=b"a line\n@4000000037c219bf2ef02e94 another\n"):
@@ -91,15 +102,20 @@ def logs(error, call):
 
 # The services of svscan, a pair among them.
 SERVICES = {"web": "exec sleep 1000", "db": "echo said\nexec sleep 1000", "db/log": "exec cat >>lines"}
-TOLD = re.compile(r"svscan: (OutOfMemory|unable to list|\S+: unable to (supervise|lock|write the trace))|dtools: OutOfMemory")
+TOLD = re.compile(r"svscan: (OutOfMemory|unable to list|\S+: unable to (supervise|lock|write status|write the trace))|"
+                  r"dtools: OutOfMemory")
 
 
 def make_services(folder):
-    for name, run in SERVICES.items():
+    """Each run is written once, before there are threads, and linked: one that is open for writing while another thread begins a
+    process can't be executed."""
+    for number, (name, run) in enumerate(SERVICES.items()):
+        if not os.path.exists(f"run{number}"):
+            with open(f"run{number}", "w") as file:
+                file.write(f"#!/bin/sh\necho $$ >>started\n{run}\n")
+            os.chmod(f"run{number}", 0o755)
         os.makedirs(f"{folder}/{name}")
-        with open(f"{folder}/{name}/run", "w") as file:
-            file.write(f"#!/bin/sh\necho $$ >>started\n{run}\n")
-        os.chmod(f"{folder}/{name}/run", 0o755)
+        os.link(f"run{number}", f"{folder}/{name}/run")
 
 
 def read(path):
@@ -191,8 +207,31 @@ def supervised(fault, cycles):
     return met, [f"{fault}: {what}" for what in wrong]
 
 
-def scans(call, error, workers):
-    """Each call of a kind in turn, so many svscans side by side, until one meets none; and what was wrong."""
+def rounds(fault):
+    """svscan of one round with one fault: it ends, and nothing that it started is left. Gives whether it was met, and what was wrong."""
+    here = f"{room}/rounds-{fault}"
+    make_services(here + "/d")
+    ran = faulted(fault, here + "/met", ["svscan", here + "/d", "1"])
+    wrong = []
+    if ran is None:
+        wrong.append("no end")
+    else:
+        told = ran.stderr.decode().splitlines()
+        wrong += ["told: " + line for line in told if not TOLD.fullmatch(line)]
+        if ran.returncode not in (0, 111) or (ran.returncode == 111 and not told):
+            wrong.append(f"it ended with {ran.returncode}")
+    left = [pid for name in SERVICES for pid in started(f"{here}/d/{name}") if is_alive(pid)]
+    wrong += [f"process {pid} is left" for pid in left]
+    for pid in left:
+        os.kill(pid, signal.SIGKILL)
+    met = os.path.exists(here + "/met")
+    shutil.rmtree(here, ignore_errors=True)
+    return met, [f"{fault}, one round: {what}" for what in wrong]
+
+
+def in_turn(name, trial, workers):
+    """The trial with the first, the second, .. of its faults, so many side by side, until one is not met. Gives what waits for
+    all of them and checks that nothing was wrong."""
     numbers, lock = iter(range(1, 5000)), threading.Lock()
     wrong, met, unmet = [], [], []
 
@@ -200,35 +239,49 @@ def scans(call, error, workers):
         while not unmet:
             with lock:
                 number = next(numbers)
-            was_met, bad = supervised(f"{call}:{number}:{error}", call != "malloc")
+            was_met, bad = trial(number)
             (met if was_met else unmet).append(number)
             wrong.extend(bad)
 
     threads = [threading.Thread(target=work) for _ in range(workers)]
     for thread in threads:
         thread.start()
-    return lambda: [thread.join() for thread in threads] and check(f"svscan: {call}, error {error}", wrong, len(met))
+    return lambda: [thread.join() for thread in threads] and check(name, wrong, len(met))
 
 
-os.makedirs("env")
-open("env/A", "w").write("x y")
-open("env/B", "w").write("it's")
+def commands():
+    """The commands and multilog."""
+    os.makedirs("env")
+    open("env/A", "w").write("x y")
+    open("env/B", "w").write("it's")
+    run("svscan", "d", "1")
+    for words in ["tai64n", "tai64nlocal", "readproctitle " + "." * 40, "sim table", "trace d/web/supervise/trace",
+                  "trace d/web/supervise/trace --break phase:gone", "svstat d/web d/db nowhere", "svstat --json d/web d/db",
+                  "svstat --metrics d/web d/db", "svc -u d/web d/db", "svc -W -u d/web", "svok d/web", "why d/web",
+                  "wait -x -t 0 d/web", "envdir env true", "envdir --words env", "help svc"]:
+        starves(*words.split())
+    starves("sim", given=EVENTS)
+    starves("sim", given=SCANS)
+    for error, call in [(5, "read"), (5, "write"), (5, "open"), (5, "fsync"), (5, "rename"), (5, "flock"), (5, "getdents"),
+                        (28, "mkdir"), (28, "write"), (28, "open"), (24, "open"), (12, "malloc")]:
+        logs(error, call)
+
+
+def svscans():
+    """svscan, all trials side by side: they wait more than they work."""
+    waiting = [in_turn("svscan DIR 1: each growth refused", lambda number: rounds(f"malloc:{number}:12"), 16),
+               in_turn("svscan: each growth refused", lambda number: supervised(f"malloc:{number}:12", False), 32)]
+    for call, error in [("thread", 11), ("spawn", 11), ("accept", 24), ("socket", 24), ("pipe", 24), ("open", 24), ("open", 5),
+                        ("read", 5), ("write", 28), ("rename", 28), ("unlink", 5), ("mkdir", 28), ("fchmod", 5), ("flock", 5),
+                        ("bind", 13), ("listen", 12), ("epoll_create", 24), ("epoll_ctl", 12), ("fcntl", 5), ("getdents", 5),
+                        ("eventfd", 24)]:
+        trial = functools.partial(lambda call, error, number: supervised(f"{call}:{number}:{error}", True), call, error)
+        waiting.append(in_turn(f"svscan: {call}, error {error}", trial, 4))
+    for wait in waiting:
+        wait()
+
+
 make_services("d")
-run("svscan", "d", "1")
-for words in ["tai64n", "tai64nlocal", "readproctitle " + "." * 40, "sim table", "trace d/web/supervise/trace",
-              "trace d/web/supervise/trace --break phase:gone", "svstat d/web d/db nowhere", "svstat --json d/web d/db",
-              "svstat --metrics d/web d/db", "svc -u d/web d/db", "svc -W -u d/web", "svok d/web", "why d/web",
-              "wait -x -t 0 d/web", "envdir env true", "envdir --words env", "help svc"]:
-    starves(*words.split())
-for error, call in [(5, "read"), (5, "write"), (5, "open"), (5, "fsync"), (5, "rename"), (5, "flock"), (5, "getdents"),
-                    (28, "mkdir"), (28, "write"), (28, "open"), (24, "open"), (12, "malloc")]:
-    logs(error, call)
-# svscan takes minutes of a computer that has nothing else to do: it is asked for by a word.
-waiting = [] if sys.argv[2:] != ["svscan"] else [scans(call, error, 16 if call == "malloc" else 2) for call, error in [
-    ("malloc", 12), ("thread", 11), ("spawn", 11), ("accept", 24), ("socket", 24), ("pipe", 24), ("open", 24), ("open", 5),
-    ("write", 28), ("rename", 28), ("mkdir", 28), ("flock", 5), ("bind", 13), ("listen", 12), ("epoll_ctl", 12),
-    ("getdents", 5), ("eventfd", 24)]]
-for wait in waiting:
-    wait()
+svscans() if sys.argv[2:] == ["svscan"] else commands()
 print(f"faults: {checked} checks, {failed} failed")
 sys.exit(failed > 0)

@@ -1,53 +1,88 @@
-use bumpalo::Bump;
 use env_title::{Env, EnvFault, EnvFile, Title, TitleFault, apply};
+use std::alloc::{Allocator, Global};
 use std::test::Fail;
-use test_base::region;
+use test_base::{Scarce, check, refuse_in_turn};
 
-/// Each growth of an environment is refused in turn.
-#[test]
-fn applies_files_with_ample_memory(rt: HostRuntime) -> Result<(), Fail> {
-    let files = [
-        EnvFile {
-            name: "A",
-            bytes: b"1",
-        },
-        EnvFile {
-            name: "B",
-            bytes: b"2 \nrest",
-        },
-    ];
-    let mut refused = 0usize;
-    for words in 0..400usize {
-        let bump = region(rt.alloc(), words * 8)?;
-        match apply(&bump, &files, &Env::new(&bump)) {
-            Ok(env) => {
-                assert_eq!(rt; env.get("B"), Some("2"));
-                break;
-            }
-            Err(fault) => assert_eq!(rt; fault, EnvFault::OutOfMemory),
-        }
-        refused = words;
-    }
-    assert!(rt; refused > 0 && refused < 399);
-    Ok(())
+/// Files, and the variables that were and that then are, in their order, by hand.
+const FILES: [EnvFile<'static>; 5] = [
+    EnvFile {
+        name: ".E",
+        bytes: b"x",
+    },
+    EnvFile {
+        name: "A",
+        bytes: b"x y \t\nrest",
+    },
+    EnvFile {
+        name: "B",
+        bytes: b"",
+    },
+    EnvFile {
+        name: "C",
+        bytes: b"\n",
+    },
+    EnvFile {
+        name: "D",
+        bytes: b"p\0q",
+    },
+];
+
+const BEFORE: [(&str, &str); 3] = [("B", "1"), ("A", "0"), ("Z", "9")];
+
+const AFTER: [(&str, &str); 4] = [("Z", "9"), ("A", "x y"), ("C", ""), ("D", "p\nq")];
+
+/// Whether an environment has these variables, in this order.
+fn has<A: Allocator + Clone>(env: &Env<A>, variables: &[(&str, &str)]) -> bool {
+    env.len() == variables.len()
+        && env.as_slice().iter().zip(variables).all(|(found, (name, value))| found.name() == *name
+            && found.value() == *value)
 }
 
-/// Each growth of a title is refused in turn.
-#[test]
-fn shows_a_title_with_ample_memory(rt: HostRuntime) -> Result<(), Fail> {
-    let mut refused = 0usize;
-    for left in 0..100usize {
-        let bump = region(rt.alloc(), left)?;
-        match Title::new(&bump, 8) {
-            Ok(title) => {
-                if title.text().is_ok() {
-                    break;
-                }
-            }
-            Err(fault) => assert_eq!(rt; fault, TitleFault::OutOfMemory),
-        }
-        refused = left;
+/// Applies files to an environment, which stays as it was.
+fn applying(memory: &Scarce<Global>, growths: u64) -> Result<bool, Fail> {
+    let mut old = Env::new(memory);
+    for (name, value) in BEFORE {
+        old.put(
+            String::from_str(memory, name)?,
+            String::from_str(memory, value)?,
+        )?;
     }
-    assert!(rt; refused > 0 && refused < 50);
-    Ok(())
+    memory.give(growths);
+    let fault = apply(memory, &FILES, &old).err();
+    let refused = memory.lift();
+    check(
+        "want of memory",
+        fault == refused.then_some(EnvFault::OutOfMemory),
+    )?;
+    check("what was", has(&old, &BEFORE))?;
+    check("what is then", has(&apply(memory, &FILES, &old)?, &AFTER))?;
+    Ok(refused)
+}
+
+/// Makes a title, and then its text.
+fn titling(memory: &Scarce<Global>, growths: u64) -> Result<bool, Fail> {
+    memory.give(growths);
+    let fault = Title::new(memory, 8).err();
+    let no_title = memory.lift();
+    check(
+        "a title",
+        fault == no_title.then_some(TitleFault::OutOfMemory),
+    )?;
+    let mut title = Title::new(memory, 8)?;
+    title.push_all(b"abcdef");
+    memory.give(growths);
+    let is_refused = title.text().is_err();
+    let no_text = memory.lift();
+    check("a text", is_refused == no_text)?;
+    check(
+        "the text",
+        title.text()?.as_slice() == b"...bcdef".as_slice(),
+    )?;
+    Ok(no_title || no_text)
+}
+
+#[test]
+fn each_growth_of_environments_and_titles_is_refused_in_turn(rt: HostRuntime) -> Result<(), Fail> {
+    refuse_in_turn(rt.alloc(), applying)?;
+    refuse_in_turn(rt.alloc(), titling)
 }

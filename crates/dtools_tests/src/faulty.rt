@@ -9,6 +9,8 @@ use tai_status::Label;
 pub enum Call {
     None,
     Append,
+    /// Each append but the first.
+    LaterAppend,
     Finish,
     RemoveSmallest,
     ReplaceStatus,
@@ -22,6 +24,7 @@ pub struct Faulty {
     store: MemoryStore,
     most: usize,
     failing: Call,
+    has_appended: bool,
     failures: u64,
 }
 
@@ -34,6 +37,7 @@ impl Faulty {
             store,
             most: most.max(1),
             failing,
+            has_appended: false,
             failures: 0,
         }
     }
@@ -41,6 +45,20 @@ impl Faulty {
     /// The logs, the status files and all alerts.
     pub fn take_apart(self) -> (Vec<LogFiles>, Vec<StatusFile>, Vec<u8>) {
         self.store.take_apart()
+    }
+
+    /// How many calls failed.
+    pub fn failures(&self) -> u64 {
+        self.failures
+    }
+
+    // Whether the next append is to fail.
+    fn refuses_append(&self) -> bool {
+        match self.failing {
+            Call::Append => true,
+            Call::LaterAppend => self.has_appended,
+            _ => false,
+        }
     }
 
     // Counts a failed call.
@@ -61,9 +79,10 @@ impl LogStore for Faulty {
     ghost state = { λ faulty. tells_nothing (length faulty.store.logs) (length faulty.store.statuses) faulty.failures };
 
     fn append(&mut self, log: usize, piece: &[u8]) -> Result<usize, StoreFault> {
-        if self.failing == Call::Append {
+        if self.refuses_append() {
             return Err(self.fail());
         }
+        self.has_appended = true;
         let front = piece.len().min(self.most);
         match self.store.append(log, &piece[..front]) {
             Ok(count) => {

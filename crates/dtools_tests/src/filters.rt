@@ -1,11 +1,11 @@
-use bumpalo::Bump;
 use cmd_filters::{run_readproctitle, run_tai64n};
+use std::alloc::Global;
 use std::cell::Cell;
 use std::io;
 use std::io::{Read, Write};
 use std::test::Fail;
-use tai_status::{Counted, Label, TimeSource};
-use test_base::{Slow, Tight};
+use tai_status::{Counted, Label, LabelFault, TimeSource, read_text, stamp_lines};
+use test_base::{Scarce, Slow, Tight, check, refuse_in_turn};
 
 /// A reader of one byte a read, a writer and a clock that share one count. A read adds 1 to it and a
 /// write 100, and the clock gives the second that it stands at.
@@ -74,6 +74,38 @@ fn stamps_each_line_at_its_first_byte(rt: HostRuntime) {
     );
 }
 
+/// A clock that is a second later at each look.
+#[derive(Drop)]
+struct Ticking {
+    second: u64,
+}
+
+impl TimeSource for Ticking {
+    fn now(&mut self) -> Label {
+        let label = Label::from_unix(self.second, 0).unwrap_or(Label::MAX);
+        self.second = self.second.saturating_add(1);
+        label
+    }
+}
+
+#[test]
+fn counts_the_lines_that_it_stamps(rt: HostRuntime) {
+    let mut reader = Counted::new(Slow::ending(b"a\nb", 7));
+    let mut writer = Counted::new(Vec::new(rt.alloc()));
+    let lines = stamp_lines(&mut reader, &mut writer, &mut Ticking { second: 0 });
+    assert_eq!(rt; lines, Ok(2));
+    assert_eq!(rt;
+        writer.into_device().as_slice(),
+        b"@400000000000000a00000000 a\n@400000000000000b00000000 b".as_slice()
+    );
+}
+
+#[test]
+fn refuses_a_capital_digit_of_a_label(rt: HostRuntime) {
+    let read = read_text(b"@400000000000000A00000000");
+    assert_eq!(rt; read.err(), Some(LabelFault::Digit));
+}
+
 /// A clock that stands still.
 #[derive(Drop)]
 struct Still {
@@ -102,16 +134,37 @@ fn tells_of_devices(rt: HostRuntime) {
     }
 }
 
+/// Keeps the last bytes. Nothing is read where the first growth is refused, and nothing is written where one is.
+fn titling(memory: &Scarce<Global>, growths: u64) -> Result<bool, Fail> {
+    let mut reader = Counted::new(b"abcdefgh".as_slice());
+    let mut writer = Counted::new(Vec::new(memory.ample()));
+    let mut faults = Counted::new(Vec::new(memory.ample()));
+    memory.give(growths);
+    let status = run_readproctitle(memory, &["12345"], &mut reader, &mut writer, &mut faults);
+    let refused = memory.lift();
+    let out = writer.into_device();
+    let told = faults.into_device();
+    if !refused {
+        let title = out.as_slice() == b"...gh\n".as_slice();
+        check("the title", status == 0 && title && told.is_empty())?;
+        return Ok(false);
+    }
+    let is_told = told.as_slice() == b"readproctitle: OutOfMemory\n".as_slice();
+    check("want of memory", status == 111 && is_told && out.is_empty())?;
+    let unread = reader.into_device().len() == 8;
+    check(
+        "the first growth is before the first read",
+        growths > 0 || unread,
+    )?;
+    Ok(true)
+}
+
 #[test]
-fn tells_why_there_is_no_title(rt: HostRuntime) {
-    let none = Bump::new(rt.alloc());
-    none.set_allocation_limit(Some(0));
-    let ample = Bump::new(rt.alloc());
-    for (alloc, fails, room, held, told) in [
-        (&ample, false, 100, "...bc\n", ""),
-        (&ample, false, 4, "...b", "readproctitle: write fault\n"),
-        (&ample, true, 100, "", "readproctitle: read fault\n"),
-        (&none, false, 100, "", "readproctitle: OutOfMemory\n"),
+fn tells_why_there_is_no_title(rt: HostRuntime) -> Result<(), Fail> {
+    for (fails, room, held, told) in [
+        (false, 100, "...bc\n", ""),
+        (false, 4, "...b", "readproctitle: write fault\n"),
+        (true, 100, "", "readproctitle: read fault\n"),
     ] {
         let slow = if fails {
             Slow::failing(b"abc", 1)
@@ -121,11 +174,18 @@ fn tells_why_there_is_no_title(rt: HostRuntime) {
         let mut reader = Counted::new(slow);
         let mut writer = Counted::new(Tight::failing(rt.alloc(), room));
         let mut faults = Counted::new(Vec::new(rt.alloc()));
-        let status = run_readproctitle(alloc, &["12345"], &mut reader, &mut writer, &mut faults);
+        let status = run_readproctitle(
+            rt.alloc(),
+            &["12345"],
+            &mut reader,
+            &mut writer,
+            &mut faults,
+        );
         assert_eq!(rt; status, if told.is_empty() { 0 } else { 111 });
         assert_eq!(rt; writer.into_device().held(), held.as_bytes());
         assert_eq!(rt; faults.into_device().as_slice(), told.as_bytes());
     }
+    refuse_in_turn(rt.alloc(), titling)
 }
 
 /// A full writer takes no byte, and none is a fault.

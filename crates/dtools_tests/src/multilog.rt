@@ -1,12 +1,11 @@
 use crate::faulty::{Call, Faulty};
-use bumpalo::Bump;
 use mlog_core::{Counts, RunFault, run};
 use mlog_files::{LogFiles, MemoryStore, StatusFile};
 use mlog_script::Script;
-use std::alloc::Global;
+use std::alloc::{Allocator, Global};
 use std::test::Fail;
 use tai_status::{Counted, Label, TimeSource};
-use test_base::{Slow, leave};
+use test_base::{Scarce, Slow, check, refuse_in_turn};
 
 /// A clock that stands.
 #[derive(Drop)]
@@ -26,17 +25,18 @@ struct Ran {
     log: LogFiles,
     status: Vec<u8>,
     alerts: Vec<u8>,
+    reads: u64,
+    failures: u64,
     answer: Result<Counts, RunFault>,
 }
 
-/// Runs a script of at most one log and one status file over an input that comes in reads of so many bytes, and then
-/// ends or fails. The clock stands at the beginning of 1970.
-fn run_over(
+/// Runs a script of at most one log and one status file, in this memory, over an input that comes in reads of so many
+/// bytes, and then ends or fails. The clock stands at the beginning of 1970.
+fn run_in<A: Allocator + Clone>(
+    memory: A,
     alloc: Global,
     words: &[&[u8]],
-    input: &[u8],
-    most: usize,
-    fails: bool,
+    device: Slow<'_>,
 ) -> Result<Ran, Fail> {
     let Ok(script) = Script::read(alloc, words) else {
         return Err("a script")?;
@@ -57,20 +57,33 @@ fn run_over(
     let mut clock = Still {
         label: Label::from_unix(0, 0).ok_or("a label")?,
     };
-    let device = if fails {
-        Slow::failing(input, most)
-    } else {
-        Slow::ending(input, most)
-    };
     let mut reader = Counted::new(device);
-    let answer = run(alloc, &script, &mut reader, &mut store, &mut clock);
+    let answer = run(memory, &script, &mut reader, &mut store, &mut clock);
     let (mut logs, mut statuses, alerts) = store.take_apart();
     Ok(Ran {
         log: logs.pop().ok_or("a log")?,
         status: statuses.pop().ok_or("a status file")?.bytes,
         alerts,
+        reads: reader.reads(),
+        failures: 0,
         answer,
     })
+}
+
+/// The same, where memory serves, and the input ends or fails.
+fn run_over(
+    alloc: Global,
+    words: &[&[u8]],
+    input: &[u8],
+    most: usize,
+    fails: bool,
+) -> Result<Ran, Fail> {
+    let device = if fails {
+        Slow::failing(input, most)
+    } else {
+        Slow::ending(input, most)
+    };
+    run_in(alloc, alloc, words, device)
 }
 
 /// So many times `a`, and then this.
@@ -175,11 +188,14 @@ fn run_faulty(
     };
     let mut reader = Counted::new(Slow::ending(input, 7));
     let answer = run(alloc, &script, &mut reader, &mut store, &mut clock);
+    let failures = store.failures();
     let (mut logs, mut statuses, alerts) = store.take_apart();
     Ok(Ran {
         log: logs.pop().ok_or("a log")?,
         status: statuses.pop().ok_or("a status file")?.bytes,
         alerts,
+        reads: reader.reads(),
+        failures,
         answer,
     })
 }
@@ -208,16 +224,33 @@ fn stands_at_a_front_where_the_store_fails(rt: HostRuntime) -> Result<(), Fail> 
     let first = run_faulty(rt.alloc(), &words, b"x\ny\n", 3, Call::Append)?;
     assert_eq!(rt; first.answer.err(), Some(RunFault::Store));
     assert!(rt; first.log.current.is_empty());
+    assert_eq!(rt; first.failures, 1);
+    let abc = [b"./log".as_slice()];
+    let later = run_faulty(rt.alloc(), &abc, b"abcdef\n", 3, Call::LaterAppend)?;
+    assert_eq!(rt; later.answer.err(), Some(RunFault::Store));
+    assert_eq!(rt;
+        (later.log.current.as_slice(), later.failures),
+        (b"abc".as_slice(), 1)
+    );
     // The append that fills the file is done.
-    let line = many(rt.alloc(), 5000, "\n")?;
-    let full = run_faulty(rt.alloc(), &words, line.as_bytes(), 3, Call::Finish)?;
+    let line = many(rt.alloc(), 2095, "\n")?;
+    let full = run_faulty(rt.alloc(), &words, line.as_bytes(), 4096, Call::Finish)?;
     assert_eq!(rt; full.answer.err(), Some(RunFault::Store));
-    assert_eq!(rt; (full.log.olds.len(), full.log.current.len()), (0, 4096));
+    assert_eq!(rt; (full.log.olds.len(), full.log.current.len()), (0, 2096));
     // The second finish is done.
-    let two = many(rt.alloc(), 9000, "\n")?;
-    let kept = run_faulty(rt.alloc(), &words, two.as_bytes(), 3, Call::RemoveSmallest)?;
+    let two = line.as_bytes().repeat(rt.alloc(), 2)?;
+    let kept = run_faulty(
+        rt.alloc(),
+        &words,
+        two.as_slice(),
+        4096,
+        Call::RemoveSmallest,
+    )?;
     assert_eq!(rt; kept.answer.err(), Some(RunFault::Store));
-    assert_eq!(rt; (kept.log.olds.len(), kept.log.current.len()), (2, 0));
+    assert_eq!(rt; kept.log.olds.len(), 2);
+    assert_eq!(rt; kept.log.olds[0].bytes.len(), 2096);
+    assert_eq!(rt; kept.log.olds[1].bytes.len(), 2096);
+    assert!(rt; kept.log.current.is_empty());
     let status = run_faulty(rt.alloc(), &words, b"x\n", 3, Call::ReplaceStatus)?;
     assert_eq!(rt; status.answer.err(), Some(RunFault::Store));
     assert!(rt; status.status.is_empty());
@@ -228,56 +261,31 @@ fn stands_at_a_front_where_the_store_fails(rt: HostRuntime) -> Result<(), Fail> 
     Ok(())
 }
 
-/// Runs a script of an alert, a log and a status file over a line, where so many bytes of memory are left.
-fn run_within(alloc: Global, left: usize) -> Result<(Result<Counts, RunFault>, u64), Fail> {
+/// Runs a script of an alert, a log and a status file over a line. A run that was refused memory did nothing.
+fn running(memory: &Scarce<Global>, growths: u64) -> Result<bool, Fail> {
     let words: [&[u8]; 3] = [b"e", b"=st", b"./log"];
-    let Ok(script) = Script::read(alloc, &words) else {
-        return Err("a script")?;
-    };
-    if script.logs() > 1 || script.files() > 1 {
-        return Err("one log and one status file")?;
-    }
-    let mut logs = Vec::new(alloc);
-    logs.push(LogFiles {
-        current: Vec::new(alloc),
-        olds: Vec::new(alloc),
-    })?;
-    let mut statuses = Vec::new(alloc);
-    statuses.push(StatusFile {
-        bytes: Vec::new(alloc),
-    })?;
-    let mut store = MemoryStore::new(alloc, logs, statuses);
-    let mut clock = Still {
-        label: Label::from_unix(0, 0).ok_or("a label")?,
-    };
-    let mut reader = Counted::new(Slow::ending(b"x\n", 7));
-    let bump = Bump::try_with_capacity(alloc, 65_536)?;
-    leave(&bump, left)?;
-    let answer = run(&bump, &script, &mut reader, &mut store, &mut clock);
-    Ok((answer, reader.reads()))
+    let alloc = memory.ample();
+    memory.give(growths);
+    let ran = run_in(memory, alloc, &words, Slow::ending(b"x\n", 7))?;
+    let refused = memory.lift();
+    let fault = ran.answer.as_ref().err().copied();
+    check(
+        "want of memory",
+        fault == refused.then_some(RunFault::OutOfMemory),
+    )?;
+    let is_untouched = ran.log.current.is_empty() && ran.status.is_empty() && ran.alerts.is_empty();
+    check("nothing was read", refused == (ran.reads == 0))?;
+    check("nothing was written", refused == is_untouched)?;
+    let again = run_in(memory, alloc, &words, Slow::ending(b"x\n", 7))?;
+    check("it ends", again.answer.is_ok())?;
+    check(
+        "the line",
+        again.log.current.as_slice() == b"x\n".as_slice(),
+    )?;
+    Ok(refused)
 }
 
-/// The memory of a run is a block and some marks for the log, and a byte each for the alert, the log and the status
-/// file.
 #[test]
-fn reads_nothing_where_memory_is_short(rt: HostRuntime) -> Result<(), Fail> {
-    let mut refused = 0_u32;
-    for left in 32_768..33_024 {
-        match run_within(rt.alloc(), left)? {
-            (Ok(counts), reads) => {
-                assert_eq!(rt; counts.lines, 1);
-                assert!(rt; reads > 0);
-                break;
-            }
-            (Err(why), reads) => {
-                assert_eq!(rt; why, RunFault::OutOfMemory);
-                assert_eq!(rt; reads, 0);
-                refused = refused.saturating_add(1);
-            }
-        }
-    }
-    // The block does not fit without its marks; then one byte, two and three are wanting.
-    assert!(rt; refused > 3);
-    assert!(rt; refused < 256);
-    Ok(())
+fn each_growth_of_a_run_is_refused_in_turn(rt: HostRuntime) -> Result<(), Fail> {
+    refuse_in_turn(rt.alloc(), running)
 }

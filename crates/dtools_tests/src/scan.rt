@@ -1,10 +1,9 @@
-use bumpalo::Bump;
 use scan_table::{DirRow, MAX_SLOTS, PartId, Role, ScanFault, ScanTable};
 use std::alloc::{AllocError, Allocator, Global};
 use std::ops::Range;
 use std::test::Fail;
 use tai_status::Name;
-use test_base::leave;
+use test_base::{Scarce, check, refuse_in_turn};
 
 /// An entry of the folder by its flags, `d` for a directory and `l` for one with a log, and its name.
 fn row<A: Allocator>(alloc: A, flags: &str, name: &str) -> Result<DirRow<A>, AllocError> {
@@ -30,11 +29,14 @@ fn rows<A: Allocator + Clone>(
 }
 
 /// Directories of these numbers, as `d0000`.
-fn numbered(alloc: Global, numbers: Range<usize>) -> Result<Vec<DirRow>, AllocError> {
-    let mut rows = Vec::new(alloc);
+fn numbered<A: Allocator + Clone>(
+    alloc: A,
+    numbers: Range<usize>,
+) -> Result<Vec<DirRow<A>, A>, AllocError> {
+    let mut rows = Vec::new(alloc.clone()?);
     for number in numbers {
-        let name = format!(in alloc; "d{:04}", number)?;
-        rows.push(row(alloc, "d", name.as_str())?)?;
+        let name = format!(in alloc.clone()?; "d{:04}", number)?;
+        rows.push(row(alloc.clone()?, "d", name.as_str())?)?;
     }
     Ok(rows)
 }
@@ -127,31 +129,80 @@ fn drops_before_it_counts(rt: HostRuntime) -> Result<(), Fail> {
     Ok(())
 }
 
-/// Each growth of a scan that starts, restarts and drops is refused in turn. Nothing has changed then: the same scan
-/// with memory answers as if the refused one had not been.
-#[test]
-fn scans_with_ample_memory(rt: HostRuntime) -> Result<(), Fail> {
-    let mut refused = 0usize;
-    for left in 0..2048usize {
-        let bump = Bump::try_with_capacity(rt.alloc(), 16384)?;
-        let mut table = ScanTable::new(&bump, 0)?;
-        table.scan(rows(&bump, &[("dl", "a"), ("d", "b")])?.as_slice())?;
-        assert!(rt; table.ended(log_of(0, 2)) && table.ended(main_of(3, 4)));
-        let found = rows(&bump, &[("d", "a"), ("d", "c")])?;
-        leave(&bump, left)?;
-        if let Err(fault) = table.scan(found.as_slice()) {
-            assert_eq!(rt; fault, ScanFault::OutOfMemory);
-            refused = left;
-            bump.set_allocation_limit(None);
-        } else {
-            break;
+/// A scan that starts, restarts and drops, and a copy of the table. Where a growth is refused nothing has changed, and the same scan with memory
+/// answers as if the refused one had not been.
+fn scanning(memory: &Scarce<Global>, growths: u64) -> Result<bool, Fail> {
+    let mut table = ScanTable::new(memory, 0)?;
+    table.scan(rows(memory, &[("dl", "a"), ("d", "b")])?.as_slice())?;
+    let ended = table.ended(log_of(0, 2)) && table.ended(main_of(3, 4));
+    check("both were there", ended)?;
+    let found = rows(memory, &[("d", "a"), ("d", "c")])?;
+    memory.give(growths);
+    let first = table.scan(found.as_slice());
+    let refused = memory.lift();
+    check(
+        "want of memory is told where a growth is refused",
+        first.is_err() == refused,
+    )?;
+    let out = match first {
+        Ok(out) => out,
+        Err(fault) => {
+            check("and nothing else", fault == ScanFault::OutOfMemory)?;
+            check("what was", table.slots() == 2 && table.name(3).is_some())?;
+            table.scan(found.as_slice())?
         }
-        let out = table.scan(found.as_slice())?;
-        assert_eq!(rt; out.restarts.as_slice(), [log_of(0, 5)].as_slice());
-        assert_eq!(rt; out.starts.as_slice(), [main_of(6, 7)].as_slice());
-        assert_eq!(rt; out.drops.as_slice(), [3].as_slice());
-        assert_eq!(rt; table.slots(), 2);
-    }
-    assert!(rt; refused > 0 && refused < 2047);
-    Ok(())
+    };
+    check(
+        "restarts",
+        out.restarts.as_slice() == [log_of(0, 5)].as_slice(),
+    )?;
+    check(
+        "starts",
+        out.starts.as_slice() == [main_of(6, 7)].as_slice(),
+    )?;
+    check("drops", out.drops.as_slice() == [3].as_slice())?;
+    check("slots", table.slots() == 2)?;
+    memory.give(growths);
+    let is_refused = table.copy().is_err();
+    let no_copy = memory.lift();
+    check("a copy", is_refused == no_copy)?;
+    check(
+        "the copy",
+        table.copy()?.name(6).map(Name::as_str) == Some("c"),
+    )?;
+    Ok(refused || no_copy)
+}
+
+/// A scan of one name more than there are slots for.
+fn refusing(memory: &Scarce<Global>, growths: u64) -> Result<bool, Fail> {
+    let mut table = ScanTable::new(memory, 0)?;
+    table.scan(numbered(memory, 0..1000)?.as_slice())?;
+    let found = numbered(memory, 0..1001)?;
+    memory.give(growths);
+    let first = table.scan(found.as_slice());
+    let refused = memory.lift();
+    check(
+        "want of memory is told where a growth is refused",
+        first.is_err() == refused,
+    )?;
+    let out = match first {
+        Ok(out) => out,
+        Err(fault) => {
+            check("and nothing else", fault == ScanFault::OutOfMemory)?;
+            table.scan(found.as_slice())?
+        }
+    };
+    let name = out.refused.as_slice().first().map(Name::as_str);
+    check("the name that gets no slot", name == Some("d1000"))?;
+    check(
+        "nothing else",
+        out.starts.is_empty() && table.slots() == MAX_SLOTS,
+    )?;
+    Ok(refused)
+}
+
+#[test]
+fn each_growth_of_a_scan_is_refused_in_turn(rt: HostRuntime) -> Result<(), Fail> {
+    refuse_in_turn(rt.alloc(), scanning)?;
+    refuse_in_turn(rt.alloc(), refusing)
 }

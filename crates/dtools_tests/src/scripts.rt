@@ -1,6 +1,7 @@
 use mlog_script::{Choices, Script, ScriptFault, ScriptFaultKind};
+use std::alloc::{AllocError, Global};
 use std::test::Fail;
-use test_base::region;
+use test_base::{Scarce, check, refuse_in_turn};
 
 /// A word that is no script alone, and what is wrong with it, by hand.
 const ROWS: [(&[u8], ScriptFaultKind); 14] = [
@@ -23,7 +24,8 @@ const ROWS: [(&[u8], ScriptFaultKind); 14] = [
 /// Bad words are told by place and kind, with no memory too.
 #[test]
 fn tells_the_first_bad_word(rt: HostRuntime) -> Result<(), Fail> {
-    let none = region(rt.alloc(), 0)?;
+    let none = Scarce::new(rt.alloc());
+    none.give(0);
     for (word, kind) in ROWS {
         let fault = Script::read(&none, &[word]).err();
         assert_eq!(rt; fault, Some(ScriptFault { word: 1, kind }));
@@ -41,63 +43,82 @@ fn tells_the_first_bad_word(rt: HostRuntime) -> Result<(), Fail> {
     Ok(())
 }
 
-/// Each growth of a script is refused in turn.
-#[test]
-fn reads_with_ample_memory(rt: HostRuntime) -> Result<(), Fail> {
-    let words: [&[u8]; 9] = [
-        b"t", b"-*", b"./a", b"+*x*", b"s04096", b"n5", b"e", b"=st", b"/b",
-    ];
-    let mut refused = 0usize;
-    for left in 0..4000usize {
-        match Script::read(&region(rt.alloc(), left)?, &words) {
-            Ok(script) => {
-                assert!(rt; script.stamps() && script.has_patterns());
-                assert_eq!(rt; (script.alerts(), script.logs(), script.files()), (1, 2, 1));
-                assert_eq!(rt; script.file(0), Some(b"st".as_slice()));
-                let first = script.log(0).ok_or("a first log")?;
-                assert_eq!(rt;
-                    (first.folder, first.size, first.keep),
-                    (b"./a".as_slice(), 99_999, 10)
-                );
-                let second = script.log(1).ok_or("a second log")?;
-                assert_eq!(rt;
-                    (second.folder, second.size, second.keep),
-                    (b"/b".as_slice(), 4096, 5)
-                );
-                assert!(rt; script.log(2).is_none());
-                break;
-            }
-            Err(fault) => {
-                assert_eq!(rt; fault.kind, ScriptFaultKind::OutOfMemory);
-                assert!(rt; fault.word >= 1 && fault.word <= 9);
-            }
-        }
-        refused = left;
+/// The words of a script.
+const SCRIPT: [&[u8]; 9] = [
+    b"t", b"-*", b"./a", b"+*x*", b"s04096", b"n5", b"e", b"=st", b"/b",
+];
+
+/// The folder, size and count of old files of a log of a script.
+fn is_log(
+    script: &Script<&Scarce<Global>>,
+    log: usize,
+    folder: &[u8],
+    size: u64,
+    keep: u64,
+) -> bool {
+    match script.log(log) {
+        Some(plan) => plan.folder == folder && plan.size == size && plan.keep == keep,
+        None => false,
     }
-    assert!(rt; refused > 0 && refused < 3999);
-    Ok(())
 }
 
-/// Each growth of choices is refused in turn. Then the last pattern before an action that matches decides.
-#[test]
-fn chooses_with_ample_memory(rt: HostRuntime) -> Result<(), Fail> {
-    let words: [&[u8]; 7] = [b"./a", b"-*", b"./b", b"+*x*", b"./c", b"e", b"=st"];
-    let script = Script::read(rt.alloc(), &words)?;
-    let mut refused = 0usize;
-    for left in 0..400usize {
-        if let Ok(mut choices) = Choices::new(&region(rt.alloc(), left)?, &script) {
-            choices.choose(&script, b"yyy");
-            assert_eq!(rt; choices.logs(), [true, false, false].as_slice());
-            choices.choose(&script, b"yxy");
-            assert_eq!(rt; choices.logs(), [true, false, true].as_slice());
-            assert_eq!(rt;
-                (choices.alerts(), choices.files()),
-                ([true].as_slice(), [true].as_slice())
-            );
-            break;
-        }
-        refused = left;
+/// Whether this is what the words say, by hand.
+fn is_as_written(script: &Script<&Scarce<Global>>) -> bool {
+    let counts = (script.alerts(), script.logs(), script.files());
+    script.stamps()
+        && script.has_patterns()
+        && counts == (1, 2, 1)
+        && script.file(0) == Some(b"st".as_slice())
+        && is_log(script, 0, b"./a", 99_999, 10)
+        && is_log(script, 1, b"/b", 4096, 5)
+        && script.log(2).is_none()
+}
+
+/// Reads a script. The word of which the action got no memory is told.
+fn reading(memory: &Scarce<Global>, growths: u64) -> Result<bool, Fail> {
+    memory.give(growths);
+    let fault = Script::read(memory, &SCRIPT).err();
+    let refused = memory.lift();
+    check("want of memory", fault.is_some() == refused)?;
+    if let Some(ScriptFault { word, kind }) = fault {
+        check("kind", kind == ScriptFaultKind::OutOfMemory)?;
+        check("word", word >= 1 && word <= 9)?;
     }
-    assert!(rt; refused > 0 && refused < 399);
-    Ok(())
+    let script = Script::read(memory, &SCRIPT)?;
+    check("it is read", is_as_written(&script))?;
+    Ok(refused)
+}
+
+#[test]
+fn each_growth_of_a_script_is_refused_in_turn(rt: HostRuntime) -> Result<(), Fail> {
+    refuse_in_turn(rt.alloc(), reading)
+}
+
+/// Makes choices. The last pattern before an action that matches decides.
+fn choosing(memory: &Scarce<Global>, growths: u64) -> Result<bool, Fail> {
+    let words: [&[u8]; 7] = [b"./a", b"-*", b"./b", b"+*x*", b"./c", b"e", b"=st"];
+    let script = Script::read(memory, &words)?;
+    memory.give(growths);
+    let fault = Choices::new(memory, &script).err();
+    let refused = memory.lift();
+    check("want of memory", fault == refused.then_some(AllocError))?;
+    let mut choices = Choices::new(memory, &script)?;
+    choices.choose(&script, b"yyy");
+    check(
+        "neither the second nor the third log",
+        choices.logs() == [true, false, false].as_slice(),
+    )?;
+    choices.choose(&script, b"yxy");
+    check(
+        "not the second log",
+        choices.logs() == [true, false, true].as_slice(),
+    )?;
+    check("the alert", choices.alerts() == [true].as_slice())?;
+    check("the status file", choices.files() == [true].as_slice())?;
+    Ok(refused)
+}
+
+#[test]
+fn each_growth_of_choices_is_refused_in_turn(rt: HostRuntime) -> Result<(), Fail> {
+    refuse_in_turn(rt.alloc(), choosing)
 }

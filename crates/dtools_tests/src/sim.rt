@@ -1,10 +1,9 @@
-use bumpalo::Bump;
 use cmd_sim::run_sim;
 use std::alloc::{AllocError, Global};
 use std::io::Read;
 use std::test::Fail;
 use tai_status::Counted;
-use test_base::{Slow, Tight, leave};
+use test_base::{Scarce, Slow, Tight, check, refuse_in_turn};
 
 /// One service that is begun, started, brought down and dead, and what is answered.
 const SERVICE: &[u8] = b"begin up @400000000000000a00000000
@@ -84,46 +83,38 @@ fn answers_byte_by_byte_and_tells_of_devices(rt: HostRuntime) {
     }
 }
 
-#[test]
-fn says_where_memory_is_refused(rt: HostRuntime) {
-    let bump = Bump::new(rt.alloc());
-    bump.set_allocation_limit(Some(0));
-    let mut reader = Counted::new(SERVICE);
-    let mut writer = Counted::new(Vec::new(rt.alloc()));
-    let mut faults = Counted::new(Vec::new(rt.alloc()));
-    let status = run_sim(&bump, &[], &mut reader, &mut writer, &mut faults);
-    assert_eq!(rt; status, 111);
+/// Runs `sim` over the lines of a suite. What is written where a growth is refused is a front of the answers.
+fn answering(memory: &Scarce<Global>, growths: u64) -> Result<bool, Fail> {
+    let mut reader = Counted::new(SUITE);
+    let mut writer = Counted::new(Vec::new(memory.ample()));
+    let mut faults = Counted::new(Vec::new(memory.ample()));
+    memory.give(growths);
+    let status = run_sim(memory, &[], &mut reader, &mut writer, &mut faults);
+    let refused = memory.lift();
+    let out = writer.into_device();
     let told = faults.into_device();
-    assert_eq!(rt; told.as_slice(), b"sim: OutOfMemory\n".as_slice());
-    // Nothing was read or written.
-    assert_eq!(rt; reader.into_device().len(), SERVICE.len());
-    assert_eq!(rt; writer.into_device().len(), 0);
+    if !refused {
+        let whole = out.as_slice() == SUITE_ANSWERS && told.is_empty();
+        check("all answers", status == 0 && whole)?;
+        return Ok(false);
+    }
+    check("the status", status == 111)?;
+    check(
+        "want of memory",
+        told.as_slice() == b"sim: OutOfMemory\n".as_slice(),
+    )?;
+    check("a front", SUITE_ANSWERS.starts_with(out.as_slice()))?;
+    let unread = reader.into_device().len() == SUITE.len() && out.is_empty();
+    check(
+        "the first growth is before the first read",
+        growths > 0 || unread,
+    )?;
+    Ok(true)
 }
 
-/// Memory runs out further and further on, up to a run that has enough. What is written then is a front of the answers.
 #[test]
-fn tells_want_of_memory_for_a_suite(rt: HostRuntime) -> Result<(), Fail> {
-    let mut refused = 0usize;
-    for step in 0..4096usize {
-        let bump = Bump::try_with_capacity(rt.alloc(), 1 << 19)?;
-        leave(&bump, 65_536 + 64 * step)?;
-        let mut reader = Counted::new(SUITE);
-        let mut writer = Counted::new(Vec::new(rt.alloc()));
-        let mut faults = Counted::new(Vec::new(rt.alloc()));
-        let status = run_sim(&bump, &[], &mut reader, &mut writer, &mut faults);
-        let out = writer.into_device();
-        if status == 0 {
-            assert_eq!(rt; out.as_slice(), SUITE_ANSWERS);
-            break;
-        }
-        assert_eq!(rt; status, 111);
-        assert!(rt; SUITE_ANSWERS.starts_with(out.as_slice()));
-        let told = faults.into_device();
-        assert_eq!(rt; told.as_slice(), b"sim: OutOfMemory\n".as_slice());
-        refused = step;
-    }
-    assert!(rt; refused > 0 && refused < 4095);
-    Ok(())
+fn each_growth_of_sim_is_refused_in_turn(rt: HostRuntime) -> Result<(), Fail> {
+    refuse_in_turn(rt.alloc(), answering)
 }
 
 /// The line of a scan that finds directories of these numbers up to 1000, as `d0000`, all with a file `down`.

@@ -7,7 +7,6 @@ ghost use Rattle.svc_station.specs.Ends.{IsSameReader, history_of, reader_statio
 
 use crate::mail::two_of as two_senders;
 use crate::station::{end_two, two_of as two_readers};
-use bumpalo::Bump;
 use std::alloc::{Allocator, Global};
 use std::process::Abort;
 use std::sync::Wait;
@@ -25,7 +24,7 @@ use svc_station::reader::Reader;
 use svc_station::station::Station;
 use svc_station::writer::Writer;
 use tai_status::{Label, View, Want};
-use test_base::region;
+use test_base::Scarce;
 
 // A world with set answers, one for each poll. It keeps what it was told as long as there is memory.
 #[derive(Drop)]
@@ -170,7 +169,7 @@ impl<A: Allocator + Clone> Stage<A> {
         self,
         rt: &R,
         alloc: Global,
-        limited: Option<&Bump>,
+        limited: Option<&Scarce<Global>>,
     ) -> Option<Wound<A>> {
         let Stage {
             house,
@@ -236,7 +235,7 @@ struct Wound<A: Allocator> {
 // Winds a service up that is gone. Where there was no memory it lifts the limit, and winds up what came back.
 fn wind_up_gone<A: Allocator + Clone, R: Wait>(
     rt: &R,
-    limited: Option<&Bump>,
+    limited: Option<&Scarce<Global>>,
     house: House<Script, MailInbox<A>, OpenGate>,
     mailbox: Mailbox<u8, A>,
     senders: Vec<Sender<u8, A>, A>,
@@ -260,8 +259,8 @@ fn wind_up_gone<A: Allocator + Clone, R: Wait>(
                 senders,
             },
         ) => {
-            if let Some(bump) = limited {
-                bump.set_allocation_limit(None);
+            if let Some(memory) = limited {
+                let _refused = memory.lift();
             }
             (true, house.wind_up(rt, mailbox, senders))
         }
@@ -272,7 +271,7 @@ fn wind_up_gone<A: Allocator + Clone, R: Wait>(
 fn wind_up_twice<A: Allocator + Clone, R: Wait>(
     rt: &R,
     alloc: Global,
-    limited: Option<&Bump>,
+    limited: Option<&Scarce<Global>>,
     house: House<Script, MailInbox<A>, OpenGate>,
     mailbox: Mailbox<u8, A>,
     senders: Vec<Sender<u8, A>, A>,
@@ -523,18 +522,17 @@ fn a_service_is_wound_up(rt: HostRuntime) -> Result<(), Fail> {
 /// Where there is no memory for the letters that are left, all comes back, and can be wound up once there is.
 #[test]
 fn a_winding_up_is_refused_and_made_again(rt: HostRuntime) -> Result<(), Fail> {
-    let mut refusals = 0usize;
-    for words in 0..400usize {
-        let bump = region(rt.alloc(), words * 8)?;
+    for growths in 0..400u64 {
+        let memory = Scarce::new(rt.alloc());
         let script = Script::new(rt.alloc(), [None, None], [None, None], at(0)?);
-        let Some(mut stage) = Stage::open(&rt, rt.alloc(), &bump, true, script) else {
-            continue;
-        };
+        let mut stage = Stage::open(&rt, rt.alloc(), &memory, true, script).ok_or("no memory")?;
         assert!(rt; stage.post(&rt, b'x'));
         assert!(rt; stage.post(&rt, b'u'));
-        let Some(wound) = stage.wind_up(&rt, rt.alloc(), Some(&bump)) else {
+        memory.give(growths);
+        let Some(wound) = stage.wind_up(&rt, rt.alloc(), Some(&memory)) else {
             return Err(Fail::from("not wound up"));
         };
+        assert_eq!(rt; wound.refused, memory.lift());
         assert_eq!(rt; wound.early, WindFault::Running);
         let left = [Letter {
             sender: 0,
@@ -544,10 +542,9 @@ fn a_winding_up_is_refused_and_made_again(rt: HostRuntime) -> Result<(), Fail> {
         assert_eq!(rt; wound.letters.as_slice(), left.as_slice());
         assert_eq!(rt; wound.machine.phase(), Phase::Gone);
         if !wound.refused {
-            break;
+            assert!(rt; growths > 0);
+            return Ok(());
         }
-        refusals = refusals.wrapping_add(1);
     }
-    assert!(rt; refusals > 0);
-    Ok(())
+    Err(Fail::from("it never has enough"))
 }

@@ -4,7 +4,6 @@ ghost use Rattle.svc_mail.specs.Ends.{IsSameSender, IsSameReceiver, HasPosted, H
 ghost use Rattle.svc_mail.specs.Ends.{receiver_home, taken_by, senders_at, box_of, senders_in, AreNewSenders};
 ghost use Rattle.svc_mail.specs.Ends.{IsNewSender, IsItsReceiver};
 
-use bumpalo::Bump;
 use std::alloc::{AllocError, Allocator, Global};
 use std::sync::Wait;
 use std::test::Fail;
@@ -17,7 +16,7 @@ use svc_mail::promise::{PostsThese, TakesThese};
 use svc_mail::receiver::Receiver;
 use svc_mail::sender::Sender;
 use svc_mail::whole::every_letter_arrives;
-use test_base::region;
+use test_base::Scarce;
 
 // The two senders of a mailbox that was just opened, and the vector that held them.
 pub(crate) fn two_of<T: Copy, A: Allocator + Clone>(
@@ -38,7 +37,7 @@ pub(crate) fn two_of<T: Copy, A: Allocator + Clone>(
 // Closes a mailbox of two senders. Where there was no memory it lifts the limit, and closes what came back.
 fn close_two<T: Copy, A: Allocator + Clone, R: Wait>(
     rt: &R,
-    limited: Option<&Bump>,
+    limited: Option<&Scarce<Global>>,
     mailbox: Mailbox<T, A>,
     one: Sender<T, A>,
     two: Sender<T, A>,
@@ -57,8 +56,8 @@ fn close_two<T: Copy, A: Allocator + Clone, R: Wait>(
     match mailbox.close(rt, ends, receiver) {
         Ok(left) => Ok(left),
         Err(back) => {
-            if let Some(bump) = limited {
-                bump.set_allocation_limit(None);
+            if let Some(memory) = limited {
+                let _refused = memory.lift();
             }
             match back.mailbox.close(rt, back.senders, back.receiver) {
                 Ok(left) => Ok(left),
@@ -75,14 +74,13 @@ fn each_growth_is_refused_in_turn(rt: HostRuntime) -> Result<(), Fail> {
         place,
         item,
     });
-    let mut opens_refused = 0usize;
-    let mut closes_refused = 0usize;
-    for words in 0..400usize {
-        let bump = region(rt.alloc(), words * 8)?;
-        let Ok((mailbox, senders, mut receiver)) = Mailbox::<u8, &Bump>::open(&bump, 3, 2) else {
-            opens_refused = opens_refused.wrapping_add(1);
-            continue;
-        };
+    for growths in 0..400u64 {
+        let memory = Scarce::new(rt.alloc());
+        memory.give(growths);
+        let is_refused = Mailbox::<u8, &Scarce<Global>>::open(&memory, 3, 2).is_err();
+        let no_mailbox = memory.lift();
+        assert_eq!(rt; is_refused, no_mailbox);
+        let (mailbox, senders, mut receiver) = Mailbox::open(&memory, 3, 2)?;
         let (mut first, mut second, room) = two_of(senders, 3, &mailbox);
         assert_eq!(rt; receiver.take(&rt), None);
         assert_eq!(rt; first.post(&rt, b'u'), Ok(()));
@@ -92,17 +90,24 @@ fn each_growth_is_refused_in_turn(rt: HostRuntime) -> Result<(), Fail> {
         receiver.learn(second.tell());
         assert_eq!(rt; receiver.take(&rt), Some(letters[0]));
         first.learn(receiver.tell());
-        let left = close_two(&rt, Some(&bump), mailbox, first, second, receiver, room)?.into_vec();
+        memory.give(growths);
+        let left = close_two(
+            &rt,
+            Some(&memory),
+            mailbox,
+            first,
+            second,
+            receiver,
+            room,
+        )?.into_vec();
         assert_eq!(rt; left.as_slice(), &letters[1..]);
-        if bump.allocation_limit().is_some() {
-            break;
+        if !memory.lift() && !no_mailbox {
+            assert!(rt; growths > 0);
+            every_letter_arrives::<u8, Global>();
+            return Ok(());
         }
-        closes_refused = closes_refused.wrapping_add(1);
     }
-    assert!(rt; opens_refused > 0);
-    assert!(rt; closes_refused > 0);
-    every_letter_arrives::<u8, Global>();
-    Ok(())
+    Err(Fail::new("it never has enough"))
 }
 
 #[test]

@@ -16,7 +16,7 @@ use svc_station::reader::Reader;
 use svc_station::station::Station;
 use svc_station::writer::Writer;
 use tai_status::{Label, View, Want};
-use test_base::region;
+use test_base::Scarce;
 
 // The two readers of a station that was just opened, and the vector that held them.
 pub(crate) fn two_of(mut readers: Vec<Reader>, writer: &Writer) -> (Reader, Reader, Vec<Reader>)
@@ -70,6 +70,23 @@ fn begins_what_was_published<R: Abort>(rt: &R, reader: &Reader, writer: &mut Wri
     was_published(reader, writer);
 }
 
+// Each growth of a trace is refused in turn, and what was read before is read again.
+fn trace_growth_by_growth<R: Abort>(rt: &R, alloc: Global, reader: &mut Reader)
+    ensures { IsSameReader reader.old reader.new }
+{
+    let memory = Scarce::new(alloc);
+    for growths in 0..400u64 {
+        memory.give(growths);
+        let is_refused = reader.trace(&memory).is_err();
+        assert_eq!(rt; is_refused, memory.lift());
+        if !is_refused {
+            assert!(rt; growths > 0);
+            return;
+        }
+    }
+    rt.panic("it never has enough");
+}
+
 /// Opening and traces alone grow, and publishing succeeds without memory.
 #[test]
 fn readers_read_what_was_published(rt: HostRuntime) {
@@ -87,8 +104,7 @@ fn readers_read_what_was_published(rt: HostRuntime) {
     first.learn(writer.tell());
     let held = writer.publish(&rt, Event::Byte(b'u')).expect(&rt, "room");
     assert!(rt; matches!(&held, Reply::Held));
-    let tight = region(rt.alloc(), 0).expect(&rt, "memory");
-    assert!(rt; first.trace(&tight).is_err());
+    trace_growth_by_growth(&rt, rt.alloc(), &mut first);
     // The second reader learnt no note.
     for (view, count) in [read(&mut first, rt.alloc()), read(&mut second, rt.alloc())] {
         let shown = (view.label, view.pid, view.paused, view.want);
