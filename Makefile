@@ -1,5 +1,6 @@
 # try: builds nothing that stays and proves nothing; runs the worked scripts on the program, in a minute.
-# build: proves the crates that the program stands on, as many side by side as there are processors, and builds it.
+# build: stamps the program with the sum of its sources, proves the crates that it stands on, as many side by side as there are
+# processors, and builds it.
 # test: the gate.
 # check: runs the worked scripts and the scripts of tests/ on PROGRAM, which needs neither the kit nor a compiler.
 # install: copies PROGRAM to PREFIX/bin/dtools, with svscan-run, dtools-service and a wrapper or script for each command of daemontools in
@@ -11,7 +12,7 @@ SHELL = bash
 PREFIX ?= /usr/local
 DESTDIR ?=
 NAMES ?=
-JOBS ?= $(shell nproc)
+JOBS ?=
 PROGRAM ?= crates/dtools/out/dtools
 COMMANDS = svscan svc svstat svok svwait tai64n tai64nlocal readproctitle
 # Scripts that stand in a place of their own: multilog and envdir over the program, the others over tools of the system.
@@ -34,13 +35,14 @@ try:
 	cd crates/dtools && rt try --cases ../../tests/cases
 
 build:
+	packaging/stamp
 	packaging/prove $(JOBS)
 
 test:
 	.ci/run
 
 check:
-	for script in cases system multilog commands svscan faults install manual package; do tests/$$script.sh $(PROGRAM) || exit 1; done
+	for script in cases system multilog commands svscan survive faults install manual package; do tests/$$script.sh $(PROGRAM) || exit 1; done
 
 package tarball:
 	packaging/build $(PROGRAM) packages
