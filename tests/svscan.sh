@@ -748,67 +748,6 @@ END
   is 'nothing was told' '' "$(cat told told2)"
 }
 
-# Ten pairs in full flow, and svscan is killed five times. No service is restarted, no line is doubled, and each log lacks at
-# most what svscan had in its memory.
-cat >flow.py <<'END'
-import re, sys
-kills, last = int(sys.argv[2]), int(sys.argv[3])
-numbers, torn, size = [], 0, 0
-for line in open(sys.argv[1], "rb").read().split(b"\n")[:-1]:
-    found = re.fullmatch(rb"line 1(\d{8})", line)
-    size += len(line) + 1
-    if found:
-        numbers.append(int(found[1]))
-    else:
-        torn += 1
-if any(a >= b for a, b in zip(numbers, numbers[1:])):
-    print("not in order")
-elif torn > 2 * kills:
-    print("torn:", torn)
-elif last * 14 - size > kills * 131072:
-    print("missing:", last * 14 - size)
-else:
-    print("in order")
-END
-
-killed_in_flow() {
-  local name kept
-  for name in 0 1 2 3 4 5 6 7 8 9; do
-    service d/p$name <<'END'
-echo $$ >>starts
-i=0
-until [ -e ../../stop ]; do
-  i=$((i + 1))
-  echo "line $((100000000 + i))"
-  [ $((i % 50)) -ne 0 ] || sleep 0.02
-done
-echo $i >last
-exec sleep 1000
-END
-    logger d/p$name/log
-  done
-  start told d
-  soon 'up' 20 all_are is_settled d/p0 d/p9 d/p0/log d/p9/log
-  kept=$(for name in 0 1 2 3 4 5 6 7 8 9; do process d/p$name; done | paste -sd ' ')
-  for _ in 1 2 3 4 5; do
-    sleep "1.$((RANDOM % 10))"
-    kill -KILL "$svscan"
-    soon 'svscan is dead' 3 is_gone "$svscan"
-    sleep "0.$((RANDOM % 5))"
-    start told d
-    soon 'served' 10 all_are is_served d/p0 d/p9 d/p0/log d/p9/log
-  done
-  sleep 2
-  : >stop
-  soon 'the last line' 20 test -s d/p9/last
-  sleep 3
-  is 'the same processes' "$kept" "$(for name in 0 1 2 3 4 5 6 7 8 9; do process d/p$name; done | paste -sd ' ')"
-  for name in 0 1 2 3 4 5 6 7 8 9; do
-    is "lines of p$name" 'in order' "$(python3 ../flow.py d/p$name/log/main/current 5 "$(cat d/p$name/last)")"
-  done
-  is 'nothing was told' '' "$(cat told)"
-}
-
 # A record of 18 bytes, as an earlier dtools left it, names a process that still runs.
 earlier_record() {
   sleeper d/web
@@ -1531,7 +1470,7 @@ play_all() {
 scenarios=(life modes_kept exits endings no_run links stubborn killed_service killed_svscan killed_early unwritten new_boot other_user earlier_record changes twice names silent
   connections no_supervise rounds untaken ordered first_process two_services child begins_anew shortage)
 # These keep every processor busy, and have the machine for themselves.
-crowds=(killed_logger killed_in_flow late_logger last_entries given_back many)
+crowds=(killed_logger late_logger last_entries given_back many)
 shift
 if [ $# -gt 0 ]; then
   play_all "$@"
