@@ -1,7 +1,9 @@
 -- The child of `envdir`: what a command says of variables, faults that are of no file, and names in byte order.
-use Rattle.std.proofs.Common.{◌≡◌, ℕ, suc, ◌+◌, ◌<◌, ◌||◌, Bool, true, false, List, [], ◌∷◌, drop, drop-cons, length, Option, Some, None, refl, sym, ap, ◌∙◌, ◌⊎◌, inl, inr, arith, subst, String}
+use Rattle.std.proofs.Common.{◌≡◌, ℕ, suc, ◌+◌, ◌<◌, ◌||◌, Bool, true, false, List, [], ◌∷◌, drop, drop-cons, length}
+use Rattle.std.proofs.Common.{Option, Some, None, refl, sym, ap, ◌∙◌, ◌⊎◌, inl, inr, arith, subst, String}
 use Rattle.std.proofs.lemmas.List.{length-map, get_or-map}
-use Rattle.std.specs.Prelude.{◌≢◌, bytes_eq, option_map, find, get_or, map, string_bytes, string_cmp, IsSorted, if◌then◌else◌}
+use Rattle.std.specs.Prelude.{◌≢◌, bytes_eq, option_map, find, get_or, map, string_bytes, string_cmp, IsSorted}
+use Rattle.std.specs.Prelude.{if◌then◌else◌}
 use Rattle.std.specs.List.{IsDistinct, AllByRecursion}
 use Rattle.std.proofs.lemmas.Slice.Eq.{bytes_eq-Decides}
 use Rattle.env_title.specs.Env.{Binding, HasDistinctNames, is_named, value_of}
@@ -25,22 +27,26 @@ abbrev Sayings : Type 0
 Sayings = List ℕ → Option (Option (List ℕ))
 
 -- the item at a place, and those behind it
-cut : {X : Type 0} (items : List X) (i : ℕ) (item : X) → i < length items → item ≡ get_or items i item → drop i items ≡ item ∷ drop (i + 1) items
+cut : {X : Type 0} (items : List X) (i : ℕ) (item : X) → i < length items → item ≡ get_or items i item
+    → drop i items ≡ item ∷ drop (i + 1) items
 cut items i item within is =
     let next : suc i ≡ i + 1 = omega arith in
     drop-cons items i item within ∙ ap (λ x. x ∷ drop (suc i) items) (sym is) ∙ ap (λ k. item ∷ drop k items) next
 
 -- what is said of a variable after one of this name is changed
 changed : (name at : List ℕ) (said : Option (Option (List ℕ))) (before after : Sayings) → after at ≡ said
-    → ((other : List ℕ) → other ≢ at → after other ≡ before other) → after name ≡ (if bytes_eq name at then said else before name)
+    → ((other : List ℕ) → other ≢ at → after other ≡ before other)
+    → after name ≡ (if bytes_eq name at then said else before name)
 changed name at said before after set others =
     elim (bytes_eq name at) as (λ b. bytes_eq name at ≡ b → after name ≡ (if b then said else before name)) [
       | true ↦ λ same. ap after ((bytes_eq-Decides name at).0 same) ∙ set
-      | false ↦ λ differ. others name (λ same. let yes = (bytes_eq-Decides name at).1 same in let no : true ≡ false = sym yes ∙ differ in cc no)
+      | false ↦ λ differ. others name (λ same. let yes = (bytes_eq-Decides name at).1 same in let no : true ≡ false =
+          sym yes ∙ differ in cc no)
     ] refl
 
 -- a name that is taken away, and those behind it
-pub taken_further : (files : List File) (i : ℕ) (file : File) (before after all : Sayings) → i < length files → file ≡ get_or files i file
+pub taken_further : (files : List File) (i : ℕ) (file : File) (before after all : Sayings) → i < length files
+    → file ≡ get_or files i file
     → after file.name ≡ Some None → ((other : List ℕ) → other ≢ file.name → after other ≡ before other)
     → ((name : List ℕ) → said_after_files (drop i files) name (before name) ≡ all name)
     → (name : List ℕ) → said_after_files (drop (i + 1) files) name (after name) ≡ all name
@@ -60,9 +66,11 @@ bytes_eq-sym xs ys =
     ] refl
 
 -- a variable that is set, and those behind it
-pub set_further : (variables : List Binding) (i : ℕ) (variable : Binding) (before after all : Sayings) → i < length variables
+pub set_further : (variables : List Binding) (i : ℕ) (variable : Binding) (before after all : Sayings)
+    → i < length variables
     → variable ≡ get_or variables i variable
-    → after variable.name ≡ Some (Some variable.value) → ((other : List ℕ) → other ≢ variable.name → after other ≡ before other)
+    → after variable.name ≡ Some (Some variable.value)
+    → ((other : List ℕ) → other ≢ variable.name → after other ≡ before other)
     → ((name : List ℕ) → said_after_set (drop i variables) name (before name) ≡ all name)
     → (name : List ℕ) → said_after_set (drop (i + 1) variables) name (after name) ≡ all name
 set_further variables i variable before after all within is set others so name =
@@ -101,7 +109,8 @@ not_set : (at name : List ℕ) (variables : List Binding) (before : Option (Opti
 not_set at name [] before same apart = refl
 not_set at name (variable ∷ variables) before same apart =
     let is = (bytes_eq-Decides at name).0 same in
-    let differ : bytes_eq variable.name name ≡ false = bytes_eq-sym variable.name name ∙ ap (λ n. bytes_eq n variable.name) (sym is) ∙ apart.0 in
+    let differ : bytes_eq variable.name name ≡ false = bytes_eq-sym variable.name name
+    ∙ ap (λ n. bytes_eq n variable.name) (sym is) ∙ apart.0 in
     ap (λ b. said_after_set variables name (if b then Some (Some variable.value) else before)) differ
     ∙ not_set at name variables before same apart.1
 
@@ -110,20 +119,23 @@ set_all : (variables : List Binding) (name : List ℕ) (before : Option (Option 
 unfolding IsDistinct
 set_all [] name before distinct = refl
 set_all (variable ∷ variables) name before distinct =
-    elim (bytes_eq variable.name name) as (λ b. bytes_eq variable.name name ≡ b → said_after_set variables name (if b then Some (Some variable.value) else before)
+    elim (bytes_eq variable.name name) as (λ b. bytes_eq variable.name name ≡ b
+    → said_after_set variables name (if b then Some (Some variable.value) else before)
     ≡ set_or (option_map (λ v. v.value) (if b then Some variable else find (is_named name) variables)) before) [
       | true ↦ λ same. not_set variable.name name variables (Some (Some variable.value)) same distinct.0
       | false ↦ λ _. set_all variables name before distinct.1
     ] refl
 
-set_or-taken : (value : Option (List ℕ)) (taken : Bool) → set_or value (if taken then gone else None) ≡ said_of value taken
+set_or-taken : (value : Option (List ℕ)) (taken : Bool) → set_or value (if taken then gone else None)
+    ≡ said_of value taken
 set_or-taken (Some value) taken = refl
 set_or-taken None true = refl
 set_or-taken None false = refl
 
 -- A command that took away the names of files and then set these variables says this of each.
 pub said_whole : (files : List File) (variables : List Binding) (name : List ℕ) → HasDistinctNames variables
-    → said_after_set variables name (said_after_files files name None) ≡ said_of (value_of variables name) (has_file files name)
+    → said_after_set variables name (said_after_files files name None)
+    ≡ said_of (value_of variables name) (has_file files name)
 said_whole files variables name distinct =
     ap (said_after_set variables name) (taken_away files name None)
     ∙ set_all variables name (if has_file files name then gone else None) distinct
@@ -146,7 +158,8 @@ of_no_file (fault.NotText place) files (inr h) = cc h
 -- Folders
 
 -- a folder that is not read
-pub not_read : (error : Error) (cause : EnvdirFault) (folder : Option (List File)) (files : List File) → (error_kind error ≡ OutOfMemory → cause ≡ fault.OutOfMemory)
+pub not_read : (error : Error) (cause : EnvdirFault) (folder : Option (List File)) (files : List File)
+    → (error_kind error ≡ OutOfMemory → cause ≡ fault.OutOfMemory)
     → (cause ≡ fault.OutOfMemory) ⊎ (cause ≡ fault.Unread) → IsMissed error folder → WasRead cause folder files
 not_read error fault.OutOfMemory folder files memory either missed = tt
 not_read error fault.Unread folder files memory either missed = missed (λ is. let never = memory is in cc never)
@@ -158,7 +171,8 @@ not_read error (fault.NotText place) folder files memory (inl h) missed = cc h
 not_read error (fault.NotText place) folder files memory (inr h) missed = cc h
 
 -- a folder that is read
-pub is_read : (cause : EnvdirFault) (folder : Option (List File)) (files : List File) → cause ≢ fault.Unread → IsKnown folder files → WasRead cause folder files
+pub is_read : (cause : EnvdirFault) (folder : Option (List File)) (files : List File) → cause ≢ fault.Unread
+    → IsKnown folder files → WasRead cause folder files
 is_read fault.Unread folder files readable known = absurd (readable refl)
 is_read fault.OutOfMemory folder files readable known = tt
 is_read fault.NotRun folder files readable known = known
@@ -168,10 +182,12 @@ is_read (fault.NotText place) folder files readable known = known
 -- Names
 
 -- texts in order, by their bytes
-pub in_byte_order : {Z : Type 0} (names : List (String Z)) → IsSorted string_cmp names → AreInByteOrder (map string_bytes names)
+pub in_byte_order : {Z : Type 0} (names : List (String Z)) → IsSorted string_cmp names
+    → AreInByteOrder (map string_bytes names)
 in_byte_order [] h = λ k d low within. absurd (omega (arith, within))
 in_byte_order {Z} (name ∷ names) h = λ k d low within.
-    let texts : length (map string_bytes (name ∷ names)) ≡ length (name ∷ names) = length-map (name ∷ names) string_bytes in
+    let texts : length (map string_bytes (name ∷ names)) ≡ length (name ∷ names) =
+    length-map (name ∷ names) string_bytes in
     let far : k + 1 < length (name ∷ names) = subst (λ (n : ℕ). k + 1 < n) texts within in
     let near : k < length (name ∷ names) = omega (arith, far) in
     let later = get_or-map string_bytes (name ∷ names) (k + 1) name d far in

@@ -1,6 +1,7 @@
 -- What `env` makes of an environment by the words of files.
 use Rattle.std.proofs.Common.{◌≡◌, ℕ, ◌||◌, Bool, true, false, cond, List, [], ◌∷◌, ◌++◌, refl, sym, ◌∙◌, ap, subst}
-use Rattle.std.specs.Prelude.{Result, Ok, Err, IfOk, Option, Some, None, option_map, map, not, ◌&&◌, filter, find, fold, bytes_eq, if◌then◌else◌}
+use Rattle.std.specs.Prelude.{Result, Ok, Err, IfOk, Option, Some, None, option_map, map, not, ◌&&◌, filter, find, fold}
+use Rattle.std.specs.Prelude.{bytes_eq, if◌then◌else◌}
 use Rattle.std.specs.List.{IsDistinct, AllByRecursion, last_or}
 use Rattle.std.proofs.lemmas.Slice.Eq.{bytes_eq-Decides}
 use Rattle.env_title.specs.Env.{Binding, HasDistinctNames, binding, is_named, value_of, without, put}
@@ -40,7 +41,8 @@ after_removal (variable ∷ env) gone name =
     value_of (cond (not b) (variable ∷ without env gone) (without env gone)) name
     ≡ (if bytes_eq gone name then None else value_of (variable ∷ env) name)) [
       | true ↦ λ is.
-          let called : bytes_eq variable.name name ≡ bytes_eq gone name = ap (λ n. bytes_eq n name) (same variable.name gone is) in
+          let called : bytes_eq variable.name name ≡ bytes_eq gone name =
+          ap (λ n. bytes_eq n name) (same variable.name gone is) in
           after_removal env gone name
           ∙ elim (bytes_eq gone name) as (λ b. bytes_eq variable.name name ≡ b → (if b then None else value_of env name)
           ≡ (if b then None else value_of (variable ∷ env) name)) [
@@ -50,9 +52,11 @@ after_removal (variable ∷ env) gone name =
       | false ↦ λ other.
           elim (bytes_eq variable.name name) as (λ b. bytes_eq variable.name name ≡ b →
           option_map (λ (v : Binding). v.value) (cond b (Some variable) (find (is_named name) (without env gone)))
-          ≡ (if bytes_eq gone name then None else option_map (λ (v : Binding). v.value) (cond b (Some variable) (find (is_named name) env)))) [
+          ≡ (if bytes_eq gone name then None else option_map (λ (v : Binding). v.value)
+          (cond b (Some variable) (find (is_named name) env)))) [
             | true ↦ λ is.
-                elim (bytes_eq gone name) as (λ b. bytes_eq gone name ≡ b → Some variable.value ≡ (if b then None else Some variable.value)) [
+                elim (bytes_eq gone name) as (λ b. bytes_eq gone name ≡ b
+                → Some variable.value ≡ (if b then None else Some variable.value)) [
                   | true ↦ λ too.
                       let one : variable.name ≡ gone = same variable.name name is ∙ sym (same gone name too) in
                       let never : true ≡ false = sym ((bytes_eq-Decides variable.name gone).1 one) ∙ other in
@@ -70,7 +74,8 @@ found_behind [] last name = refl
 found_behind (variable ∷ env) last name =
     elim (bytes_eq variable.name name) as (λ b.
     option_map (λ (v : Binding). v.value) (cond b (Some variable) (find (is_named name) (env ++ last ∷ [])))
-    ≡ or_else (option_map (λ (v : Binding). v.value) (cond b (Some variable) (find (is_named name) env))) (value_of (last ∷ []) name)) [
+    ≡ or_else (option_map (λ (v : Binding). v.value) (cond b (Some variable) (find (is_named name) env)))
+    (value_of (last ∷ []) name)) [
       | true ↦ refl
       | false ↦ found_behind env last name
     ]
@@ -112,8 +117,10 @@ after_settings (variable ∷ set) env name distinct =
     after_settings set (put env variable.name variable.value) name distinct.1
     ∙ ap (or_else (value_of set name)) (after_setting env variable name)
     ∙ elim (bytes_eq variable.name name) as (λ b. bytes_eq variable.name name ≡ b →
-    or_else (value_of set name) (or_else (option_map (λ (v : Binding). v.value) (cond b (Some variable) None)) (value_of env name))
-    ≡ or_else (option_map (λ (v : Binding). v.value) (cond b (Some variable) (find (is_named name) set))) (value_of env name)) [
+    or_else (value_of set name)
+    (or_else (option_map (λ (v : Binding). v.value) (cond b (Some variable) None)) (value_of env name))
+    ≡ or_else (option_map (λ (v : Binding). v.value) (cond b (Some variable) (find (is_named name) set)))
+    (value_of env name)) [
       | true ↦ λ is. rw (not_there set variable.name name is distinct.0) refl
       | false ↦ λ _. refl
     ] refl
@@ -138,19 +145,24 @@ after_removals : (files : List File) (env : List Binding) (name : List ℕ)
 after_removals [] env name = refl
 after_removals (file ∷ files) env name =
     elim (is_hidden file) as (λ b. is_hidden file ≡ b →
-    value_of (fold without env (names (file ∷ files))) name ≡ left_of (last_file (file ∷ files) name) (value_of env name)) [
+    value_of (fold without env (names (file ∷ files))) name
+    ≡ left_of (last_file (file ∷ files) name) (value_of env name)) [
       | true ↦ λ hidden. rw hidden (after_removals files env name)
       | false ↦ λ visible.
           elim (bytes_eq file.name name) as (λ b. bytes_eq file.name name ≡ b →
-          value_of (fold without env (names (file ∷ files))) name ≡ left_of (last_file (file ∷ files) name) (value_of env name)) [
+          value_of (fold without env (names (file ∷ files))) name
+          ≡ left_of (last_file (file ∷ files) name) (value_of env name)) [
             | true ↦ λ is. rw (visible, is) (
                 after_removals files (without env file.name) name
-                ∙ ap (left_of (last_file files name)) (after_removal env file.name name ∙ ap (λ b. if b then None else value_of env name) is)
+                ∙ ap (left_of (last_file files name)) (after_removal env file.name name
+                ∙ ap (λ b. if b then None else value_of env name) is)
                 ∙ still_none (last_file files name)
-                ∙ sym (gone_on (filter (λ f. not (is_hidden f) && bytes_eq f.name name) files) file (value_of env name)))
+                ∙ sym (gone_on (filter (λ f. not (is_hidden f) && bytes_eq f.name name) files) file
+                (value_of env name)))
             | false ↦ λ other. rw (visible, other) (
                 after_removals files (without env file.name) name
-                ∙ ap (left_of (last_file files name)) (after_removal env file.name name ∙ ap (λ b. if b then None else value_of env name) other))
+                ∙ ap (left_of (last_file files name)) (after_removal env file.name name
+                ∙ ap (λ b. if b then None else value_of env name) other))
           ] refl
     ] refl
 
@@ -158,13 +170,15 @@ after_removals (file ∷ files) env name =
 both : (last : Option File) (before : Value) → or_else (value_by last None) (left_of last before) ≡ value_by last before
 both None before = refl
 both (Some file) before =
-    elim (is_empty file) as (λ b. or_else (if b then None else Some (file_value file.bytes)) None ≡ (if b then None else Some (file_value file.bytes))) [
+    elim (is_empty file) as (λ b. or_else (if b then None else Some (file_value file.bytes)) None
+    ≡ (if b then None else Some (file_value file.bytes))) [
       | true ↦ refl
       | false ↦ refl
     ]
 
 -- `env` makes of any environment what the files make of it
-pub makes_it : LastFileDecides → (files : List File) → HasDistinctNames (env_after files []) → (env : List Binding) (name : List ℕ)
+pub makes_it : LastFileDecides → (files : List File) → HasDistinctNames (env_after files [])
+    → (env : List Binding) (name : List ℕ)
     → value_of (made_of env (names files) (env_after files [])) name ≡ value_of (env_after files env) name
 makes_it decides files distinct env name =
     after_settings (env_after files []) (fold without env (names files)) name distinct
@@ -174,7 +188,8 @@ makes_it decides files distinct env name =
     ∙ sym (decides files env name)
 
 -- the text of these words
-pub reads_as_words : LastFileDecides → (files : List File) (set : List Binding) (text : List ℕ) → set ≡ env_after files []
+pub reads_as_words : LastFileDecides → (files : List File) (set : List Binding) (text : List ℕ)
+    → set ≡ env_after files []
     → HasDistinctNames set → text ≡ words_text files set → ReadsAsWordsOf files text
 reads_as_words decides files set text is distinct written = record {
   words = env_words (names files) set;
@@ -189,8 +204,10 @@ reads_as_words decides files set text is distinct written = record {
 }
 
 -- so where there was memory for it
-pub if_written : {T E : Type 0} (r : Result T E) (items : T → List ℕ) → LastFileDecides → (files : List File) (set : List Binding)
+pub if_written : {T E : Type 0} (r : Result T E) (items : T → List ℕ) → LastFileDecides
+    → (files : List File) (set : List Binding)
     → set ≡ env_after files [] → HasDistinctNames set → IfOk r (λ text. items text ≡ words_text files set)
     → IfOk r (λ text. ReadsAsWordsOf files (items text))
-if_written (Ok text) items decides files set is distinct written = reads_as_words decides files set (items text) is distinct written
+if_written (Ok text) items decides files set is distinct written =
+    reads_as_words decides files set (items text) is distinct written
 if_written (Err error) items decides files set is distinct written = tt

@@ -1,5 +1,5 @@
--- How a shell reads words in single quotes (POSIX, Shell Command Language, 2.2.1 and 2.2.2). What else may stand outside
--- of quotes is not said here.
+-- How a shell reads words in single quotes (POSIX, Shell Command Language, 2.2.1 and 2.2.2). What else may stand
+-- outside of quotes is not said here.
 use Rattle.std.specs.Prelude.{ℕ, ◌==◌, if◌then◌else◌, List, [], ◌∷◌, ◌++◌, Option, Some, None, option_map}
 
 -- where in a text a shell is: between words, or in a word behind these bytes of it; there within single quotes, or

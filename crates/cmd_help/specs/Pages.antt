@@ -45,7 +45,8 @@ pub record IsPageOf (name page : List ℕ) : Type 0 where
   pub svscan : name ≡ codes "svscan"
       → page ≡ codes "dtools svscan [DIR [ROUNDS]], over the working directory where no DIR is given" ++ 10 ∷ []
   pub svc : name ≡ codes "svc"
-      → page ≡ codes "dtools svc [-W] [-udopchaitkx12q] SERVICE.., with u up, d down, o once, x exit, and signals" ++ 10 ∷ []
+      → page
+      ≡ codes "dtools svc [-W] [-udopchaitkx12q] SERVICE.., with u up, d down, o once, x exit, and signals" ++ 10 ∷ []
   pub svstat : name ≡ codes "svstat" → page ≡ codes "dtools svstat [--json | --metrics] SERVICE.." ++ 10 ∷ []
   pub svok : name ≡ codes "svok" → page ≡ codes "dtools svok SERVICE" ++ 10 ∷ []
   pub multilog : name ≡ codes "multilog"
@@ -59,10 +60,12 @@ pub record IsPageOf (name page : List ℕ) : Type 0 where
   pub sim : name ≡ codes "sim"
       → page ≡ codes "dtools sim, with a script on standard input, or dtools sim table" ++ 10 ∷ []
   pub trace : name ≡ codes "trace"
-      → page ≡ codes "dtools trace FILE [--break SPEC] [--local], where SPEC is byte:C, phase:PHASE or signal:NAME" ++ 10 ∷ []
+      → page
+      ≡ codes "dtools trace FILE [--break SPEC] [--local], where SPEC is byte:C, phase:PHASE or signal:NAME" ++ 10 ∷ []
   pub why : name ≡ codes "why" → page ≡ codes "dtools why [--timeline] SERVICE.." ++ 10 ∷ []
   pub wait : name ≡ codes "wait"
-      → page ≡ codes "dtools wait [-u|-d|-x] [-t SECONDS] SERVICE.., with u up, d down, x no longer supervised" ++ 10 ∷ []
+      → page
+      ≡ codes "dtools wait [-u|-d|-x] [-t SECONDS] SERVICE.., with u up, d down, x no longer supervised" ++ 10 ∷ []
   pub help : name ≡ codes "help" → page ≡ codes "dtools help [COMMAND]" ++ 10 ∷ []
   pub version : name ≡ codes "version" → page ≡ codes "dtools version" ++ 10 ∷ []
   pub unknown : HasNoPage name → page ≡ []

@@ -63,8 +63,9 @@ fn version_text() -> ArrayString<192>
     text
 }
 
-/// The command `version`: prints the version of this program, the line of the kit that built it, and the sum of the sources
-/// that it was built from, each on a line. Answers the status: 0; 100 for any word; 111 for a fault of the writer.
+/// The command `version`: prints the version of this program, the line of the kit that built it, and the sum of the
+/// sources that it was built from, each on a line. Answers the status: 0; 100 for any word; 111 for a fault of the
+/// writer.
 pub fn run_version<W: Write, E: Write>(
     words: &[&str],
     writer: &mut Output<W>,

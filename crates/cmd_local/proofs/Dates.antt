@@ -1,5 +1,6 @@
 -- The date of a day number.
-use Rattle.std.proofs.Common.{◌≡◌, ℕ, ◌≤◌, true, false, Some, None, refl, sym, subst, ◌∙◌, arith, ℤ, pos, negsuc, ◌≤ℤ◌, ◌<ℤ◌}
+use Rattle.std.proofs.Common.{◌≡◌, ℕ, ◌≤◌, true, false, Some, None, refl, sym, subst, ◌∙◌, arith, ℤ, pos, negsuc, ◌≤ℤ◌}
+use Rattle.std.proofs.Common.{◌<ℤ◌}
 use Rattle.std.specs.Prelude.{unsigned_abs}
 use Rattle.std.specs.List.{range_with_len}
 use Rattle.std.specs.Int.{int_div_euclid, int_rem_euclid}
@@ -10,8 +11,10 @@ use Rattle.jiff_core.specs.Calendar.{days_in_month, IsEpochDay}
 use Rattle.jiff_core.specs.Date.{epoch_day}
 use Rattle.jiff_core.proofs.DateLemmas.{epoch_day_injective, epoch_day_range}
 use Rattle.jiff_core.proofs.SignedLemmas.{signed_arith}
-use Rattle.cmd_local.specs.Civil.{CivilDate, plain, dates_of_month, dates_of_year, dates, day_number, date_of, time_text, civil_text}
-use Rattle.cmd_local.proofs.Members.{In, In-map, In-from_map, In-flat_map, In-from_flat_map, In-range, In-from_range, find-the, find-none}
+use Rattle.cmd_local.specs.Civil.{CivilDate, plain, dates_of_month, dates_of_year, dates, day_number, date_of}
+use Rattle.cmd_local.specs.Civil.{time_text, civil_text}
+use Rattle.cmd_local.proofs.Members.{In, In-map, In-from_map, In-flat_map, In-from_flat_map, In-range, In-from_range}
+use Rattle.cmd_local.proofs.Members.{find-the, find-none}
 
 -- a date of these years
 record IsDated (date : CivilDate) : Type 0 where
@@ -32,7 +35,8 @@ member date is =
     (In-range date.year 1900 8100 is.year_from (omega (arith, is.year_to)))
     (In-flat_map (dates_of_month date.year) date.month date (range_with_len 1 12)
     (In-range date.month 1 12 is.month_from (omega (arith, is.month_to)))
-    (In-map (λ (day : ℕ). record { year = date.year; month = date.month; day = day }) date.day (range_with_len 1 (days_in_month (pos date.year) date.month))
+    (In-map (λ (day : ℕ). record { year = date.year; month = date.month; day = day }) date.day
+    (range_with_len 1 (days_in_month (pos date.year) date.month))
     (In-range date.day 1 (days_in_month (pos date.year) date.month) is.day_from (omega (arith, is.day_to)))))
 
 dated : (date : CivilDate) → In date dates → IsDated date
@@ -69,7 +73,8 @@ late_year : (year : ℤ) → pos 1900 ≤ℤ year → pos (unsigned_abs year) �
 late_year (pos year) late = refl
 late_year (negsuc year) late = absurd (omega (arith, signed_arith, late))
 
-year_to_9999 : (year : ℤ) → pos 1900 ≤ℤ year → year ≤ℤ pos 9999 → (1900 ≤ unsigned_abs year) × (unsigned_abs year ≤ 9999)
+year_to_9999 : (year : ℤ) → pos 1900 ≤ℤ year → year ≤ℤ pos 9999 → (1900 ≤ unsigned_abs year)
+    × (unsigned_abs year ≤ 9999)
 year_to_9999 (pos year) late to = (omega (arith, signed_arith, late), omega (arith, signed_arith, to))
 year_to_9999 (negsuc year) late to = absurd (omega (arith, signed_arith, late))
 
@@ -81,7 +86,8 @@ plain_dated date late = record {
   month_from = date.month_in.0;
   month_to = date.month_in.1;
   day_from = date.day_in.0;
-  day_to = let same = late_year date.year late in subst (λ (y : ℤ). date.day ≤ days_in_month y date.month) (sym same) date.day_in.1;
+  day_to = let same = late_year date.year late in
+      subst (λ (y : ℤ). date.day ≤ days_in_month y date.month) (sym same) date.day_in.1;
 }
 
 same_number : (date : Date) → pos 1900 ≤ℤ date.year → day_number (plain date) ≡ epoch_day date
@@ -104,12 +110,14 @@ true_eq a b same = grind (arith, ints, same)
 eq_false : (a b : ℤ) → ¬ (a ≡ b) → int_eq a b ≡ false
 eq_false a b apart = grind (arith, ints, apart)
 
-pub date_of-late : (date : Date) (day : ℤ) → epoch_day date ≡ day → pos 1900 ≤ℤ date.year → date_of day ≡ Some (plain date)
+pub date_of-late : (date : Date) (day : ℤ) → epoch_day date ≡ day → pos 1900 ≤ℤ date.year
+    → date_of day ≡ Some (plain date)
 date_of-late date day is late =
     let here : IsDated (plain date) = plain_dated date late in
     find-the (λ (d : CivilDate). int_eq (day_number d) day) (plain date) dates
     (eq_true _ _ (same_number date late ∙ is))
-    (λ y among passes. one_date y (plain date) (dated y among) here (true_eq _ _ passes ∙ sym (same_number date late ∙ is)))
+    (λ y among passes. one_date y (plain date) (dated y among) here (true_eq _ _ passes
+    ∙ sym (same_number date late ∙ is)))
     (member (plain date) here)
 
 pub date_of-early : (date : Date) (day : ℤ) → epoch_day date ≡ day → date.year <ℤ pos 1900 → date_of day ≡ None
@@ -127,12 +135,14 @@ date_of-outside day out =
 
 -- The text of a time.
 
-pub civil_text-late : (date : Date) (second : ℤ) → epoch_day date ≡ int_div_euclid second (pos 86_400) → pos 1900 ≤ℤ date.year
+pub civil_text-late : (date : Date) (second : ℤ) → epoch_day date ≡ int_div_euclid second (pos 86_400)
+    → pos 1900 ≤ℤ date.year
     → civil_text second ≡ Some (time_text (plain date) (unsigned_abs (int_rem_euclid second (pos 86_400))))
 unfolding civil_text
 civil_text-late date second is late = rw (date_of-late date _ is late) refl
 
-pub civil_text-early : (date : Date) (second : ℤ) → epoch_day date ≡ int_div_euclid second (pos 86_400) → date.year <ℤ pos 1900
+pub civil_text-early : (date : Date) (second : ℤ) → epoch_day date ≡ int_div_euclid second (pos 86_400)
+    → date.year <ℤ pos 1900
     → civil_text second ≡ None
 unfolding civil_text
 civil_text-early date second is early = rw (date_of-early date _ is early) refl

@@ -1,5 +1,6 @@
 -- The members of a list, and what is found among them.
-use Rattle.std.proofs.Common.{◌≡◌, ℕ, zero, suc, ◌+◌, ◌<◌, ◌≤◌, ◌⊎◌, inl, inr, Bool, true, false, List, [], ◌∷◌, ◌++◌, Some, None, refl, ap, arith}
+use Rattle.std.proofs.Common.{◌≡◌, ℕ, zero, suc, ◌+◌, ◌<◌, ◌≤◌, ◌⊎◌, inl, inr, Bool, true, false, List, [], ◌∷◌, ◌++◌}
+use Rattle.std.proofs.Common.{Some, None, refl, ap, arith}
 use Rattle.std.specs.Prelude.{map, flat_map}
 use Rattle.std.proofs.lemmas.Bool.{cases_order}
 use Rattle.std.specs.List.{find, range_with_len}
@@ -8,7 +9,8 @@ abbrev pub In : {X : Type 0} → X → List X → Type 0
 In x [] = ⊥
 In x (y ∷ ys) = (x ≡ y) ⊎ In x ys
 
-found_by : {X : Type 0} (test : X → Bool) (x y : X) (ys : List X) (passes : Bool) → test y ≡ passes → (test y ≡ true → y ≡ x)
+found_by : {X : Type 0} (test : X → Bool) (x y : X) (ys : List X) (passes : Bool) → test y ≡ passes
+    → (test y ≡ true → y ≡ x)
     → find test ys ≡ Some x → find test (y ∷ ys) ≡ Some x
 found_by test x y ys true e same rest = rw e (ap Some (same e))
 found_by test x y ys false e same rest = rw e rest
@@ -25,7 +27,8 @@ find-the test x (y ∷ ys) passes only (inr later) =
     found_by test x y ys (test y) refl (only y (inl refl)) (find-the test x ys passes (λ z is. only z (inr is)) later)
 
 -- Where no member passes, none is found.
-pub find-none : {X : Type 0} (test : X → Bool) (xs : List X) → ((y : X) → In y xs → test y ≡ false) → find test xs ≡ None
+pub find-none : {X : Type 0} (test : X → Bool) (xs : List X) → ((y : X) → In y xs → test y ≡ false)
+    → find test xs ≡ None
 find-none test [] fails = refl
 find-none test (y ∷ ys) fails =
     let here : test y ≡ false = fails y (inl refl) in rw here (find-none test ys (λ z is. fails z (inr is)))
@@ -58,12 +61,14 @@ In-from_map f y [] is = absurd is
 In-from_map f y (x ∷ xs) (inl same) = (x, inl refl, same)
 In-from_map f y (x ∷ xs) (inr later) = let rest = In-from_map f y xs later in (rest.0, inr rest.1, rest.2)
 
-pub In-flat_map : {X Y : Type 0} (f : X → List Y) (x : X) (y : Y) (xs : List X) → In x xs → In y (f x) → In y (flat_map f xs)
+pub In-flat_map : {X Y : Type 0} (f : X → List Y) (x : X) (y : Y) (xs : List X) → In x xs → In y (f x)
+    → In y (flat_map f xs)
 In-flat_map f x y [] is of = absurd is
 In-flat_map f x y (z ∷ zs) (inl same) of = In-first y (f z) (flat_map f zs) (rw (← same) of)
 In-flat_map f x y (z ∷ zs) (inr later) of = In-second y (f z) (flat_map f zs) (In-flat_map f x y zs later of)
 
-pub In-from_flat_map : {X Y : Type 0} (f : X → List Y) (y : Y) (xs : List X) → In y (flat_map f xs) → (x : X) × In x xs × In y (f x)
+pub In-from_flat_map : {X Y : Type 0} (f : X → List Y) (y : Y) (xs : List X) → In y (flat_map f xs) → (x : X) × In x xs
+    × In y (f x)
 In-from_flat_map f y [] is = absurd is
 In-from_flat_map f y (x ∷ xs) is =
     elim (In-either y (f x) (flat_map f xs) is) [

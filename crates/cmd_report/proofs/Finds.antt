@@ -13,7 +13,8 @@ finds_all-then files (first ∷ founds) found old middle new done one =
     (done.0, (done.1.0, finds_all-then files founds found done.0 middle new done.1.1 one))
 
 -- One service more
-pub finds_words-then : (files : CountFiles) (words : List (List ℕ)) (founds : List Found) (word : List ℕ) (found : Found)
+pub finds_words-then : (files : CountFiles) (words : List (List ℕ)) (founds : List Found) (word : List ℕ)
+    (found : Found)
     (old middle new : Sight) → FindsWords files words founds old middle → found.folder.now ≡ word
     → FindsOne files found middle new → FindsWords files (words ++ word ∷ []) (founds ++ found ∷ []) old new
 finds_words-then files words founds word found old middle new done same one = record {

@@ -18,18 +18,20 @@ reads_special byte special written text is reads =
     subst (λ (b : ℕ). ReadsAs (label_byte b ++ written) (b ∷ text)) (sym ((Decides-eqb byte special).0 is)) reads
 
 -- one byte more
-reads_byte : (byte : ℕ) (written text : List ℕ) → ReadsAs written text → ReadsAs (label_byte byte ++ written) (byte ∷ text)
+reads_byte : (byte : ℕ) (written text : List ℕ) → ReadsAs written text
+    → ReadsAs (label_byte byte ++ written) (byte ∷ text)
 unfolding label_byte
 reads_byte byte written text reads =
     elim (byte == 92) as (λ t. (byte == 92) ≡ t → ReadsAs (label_byte byte ++ written) (byte ∷ text)) [
       | true ↦ λ is. reads_special byte 92 written text is (Backslash written text reads)
       | false ↦ λ a. elim (byte == 34) as (λ t. (byte == 34) ≡ t → ReadsAs (label_byte byte ++ written) (byte ∷ text)) [
         | true ↦ λ is. reads_special byte 34 written text is (Quote written text reads)
-        | false ↦ λ b. elim (byte == 10) as (λ t. (byte == 10) ≡ t → ReadsAs (label_byte byte ++ written) (byte ∷ text)) [
-          | true ↦ λ is. reads_special byte 10 written text is (Newline written text reads)
-          | false ↦ λ c. subst (λ (w : List ℕ). ReadsAs (w ++ written) (byte ∷ text)) (sym (plain byte a b c))
-              (Plain byte (apart byte 92 a) (apart byte 34 b) (apart byte 10 c) written text reads)
-        ] refl
+        | false ↦ λ b. elim (byte == 10) as (λ t.
+            (byte == 10) ≡ t → ReadsAs (label_byte byte ++ written) (byte ∷ text)) [
+              | true ↦ λ is. reads_special byte 10 written text is (Newline written text reads)
+              | false ↦ λ c. subst (λ (w : List ℕ). ReadsAs (w ++ written) (byte ∷ text)) (sym (plain byte a b c))
+                  (Plain byte (apart byte 92 a) (apart byte 34 b) (apart byte 10 c) written text reads)
+            ] refl
       ] refl
     ] refl
 

@@ -1,5 +1,6 @@
 -- The answers to one line.
-use Rattle.std.proofs.Common.{◌≡◌, ℕ, ◌+◌, ◌<◌, ◌≤◌, Bool, true, false, List, [], ◌∷◌, ◌++◌, length, map, take, get_or, Option, Some, None, Result, Ok, Err, refl, sym, ap, ◌∙◌, subst, arith, codes}
+use Rattle.std.proofs.Common.{◌≡◌, ℕ, ◌+◌, ◌<◌, ◌≤◌, Bool, true, false, List, [], ◌∷◌, ◌++◌, length, map, take, get_or}
+use Rattle.std.proofs.Common.{Option, Some, None, Result, Ok, Err, refl, sym, ap, ◌∙◌, subst, arith, codes}
 use Rattle.std.specs.Prelude.{flat_map, bytes_eq, nat_lt, if◌then◌else◌}
 use Rattle.std.proofs.lemmas.List.{flat_map_more, take_more, map-append}
 use Rattle.scan_table.specs.declared.part.PartId.{PartId}
@@ -19,7 +20,8 @@ use Rattle.suite_lines.specs.declared.event.SuiteEvent.{SuiteEvent}
 use Rattle.suite_lines.specs.declared.event.SuiteEvent.TheVariants.{Scan, At}
 use Rattle.suite_lines.specs.declared.fault.SuiteLineFault.{SuiteLineFault}
 use Rattle.suite_lines.specs.Text.{IsSpellable, step_lines}
-use Rattle.suite_lines.specs.Reading.{dotted, part_from, rows_of_texts, scan_of, scan_from, at_of, at_from, suite_event_from}
+use Rattle.suite_lines.specs.Reading.{dotted, part_from, rows_of_texts, scan_of, scan_from, at_of, at_from}
+use Rattle.suite_lines.specs.Reading.{suite_event_from}
 use Rattle.suite_lines.specs.Answers.{line_fault, IsRead}
 use Rattle.suite_core.specs.declared.fault.StepFault.{StepFault}
 use Rattle.suite_core.specs.declared.fault.StepFault.TheVariants as step
@@ -30,7 +32,8 @@ use Rattle.cmd_sim.specs.declared.answering.Told.TheVariants as code
 use Rattle.cmd_sim.specs.declared.fault.Why.{Why}
 use Rattle.cmd_sim.specs.declared.fault.Why.TheVariants as why
 use Rattle.cmd_sim.specs.declared.fault.NoAnswer.TheVariants as none
-use Rattle.cmd_sim.specs.Sim.{Past, Nothing, Service, OfSuite, Said, event_why, beginning, going_on, step_why, refused_step, stepped_unless, stepping, tells_scan, said_by, said}
+use Rattle.cmd_sim.specs.Sim.{Past, Nothing, Service, OfSuite, Said, event_why, beginning, going_on, step_why}
+use Rattle.cmd_sim.specs.Sim.{refused_step, stepped_unless, stepping, tells_scan, said_by, said}
 use Rattle.cmd_sim.specs.Progress.{unread, refused_or_missed, unstepped, TellsService, Stands, Says, is_suite_line}
 
 -- The allocator of an event does not matter.
@@ -46,17 +49,20 @@ abbrev plainly : {A : Type 0} → Result (SuiteEvent A) EventFault → Result (S
 plainly (Ok event) = Ok (plain event)
 plainly (Err why) = Err why
 
-scan_plainly : (A : Type 0) (label : Option Tai64n) (rows : Option (List Row)) → scan_of {A = Plain} label rows ≡ plainly (scan_of {A = A} label rows)
+scan_plainly : (A : Type 0) (label : Option Tai64n) (rows : Option (List Row)) → scan_of {A = Plain} label rows
+    ≡ plainly (scan_of {A = A} label rows)
 scan_plainly A None rows = refl
 scan_plainly A (Some label) None = refl
 scan_plainly A (Some label) (Some rows) = refl
 
-at_plainly : (A : Type 0) (part : Result PartId EventFault) (event : Result Event EventFault) → at_of {A = Plain} part event ≡ plainly (at_of {A = A} part event)
+at_plainly : (A : Type 0) (part : Result PartId EventFault) (event : Result Event EventFault)
+    → at_of {A = Plain} part event ≡ plainly (at_of {A = A} part event)
 at_plainly A (Err why) event = refl
 at_plainly A (Ok part) (Err why) = refl
 at_plainly A (Ok part) (Ok event) = refl
 
-scan_fields_plainly : (A : Type 0) (parts : List (List ℕ)) → scan_from {A = Plain} parts ≡ plainly (scan_from {A = A} parts)
+scan_fields_plainly : (A : Type 0) (parts : List (List ℕ)) → scan_from {A = Plain} parts
+    ≡ plainly (scan_from {A = A} parts)
 scan_fields_plainly A [] = refl
 scan_fields_plainly A (label ∷ rows) = scan_plainly A (label_of_text label) (rows_of_texts rows)
 
@@ -65,19 +71,22 @@ at_fields_plainly A [] = refl
 at_fields_plainly A (part ∷ []) = refl
 at_fields_plainly A (part ∷ word ∷ rest) = at_plainly A (part_from (dotted part)) (event_from (word ∷ rest))
 
-either_plainly : {A : Type 0} (b : Bool) (x y : Result (SuiteEvent Plain) EventFault) (v w : Result (SuiteEvent A) EventFault)
+either_plainly : {A : Type 0} (b : Bool) (x y : Result (SuiteEvent Plain) EventFault)
+    (v w : Result (SuiteEvent A) EventFault)
     → x ≡ plainly v → y ≡ plainly w → (if b then x else y) ≡ plainly (if b then v else w)
 either_plainly true x y v w p q = p
 either_plainly false x y v w p q = q
 
-read_plainly : (A : Type 0) (parts : List (List ℕ)) → suite_event_from {A = Plain} parts ≡ plainly (suite_event_from {A = A} parts)
+read_plainly : (A : Type 0) (parts : List (List ℕ)) → suite_event_from {A = Plain} parts
+    ≡ plainly (suite_event_from {A = A} parts)
 read_plainly A [] = refl
 read_plainly A (word ∷ rest) =
     either_plainly (bytes_eq word (codes "scan")) _ _ (scan_from {A = A} rest) _ (scan_fields_plainly A rest)
     (either_plainly (bytes_eq word (codes "at")) _ _ (at_from {A = A} rest) _ (at_fields_plainly A rest) refl)
 
 outs_plain : (A : Type 0) (suite : SuiteState) (id : PartId) (event : Event)
-    → flat_map step_lines (outs_of {A = Plain} suite (At id event)) ≡ flat_map step_lines (outs_of {A = A} suite (At id event))
+    → flat_map step_lines (outs_of {A = Plain} suite (At id event))
+    ≡ flat_map step_lines (outs_of {A = A} suite (At id event))
 outs_plain A suite id event =
     elim (trace_of suite.parts id) as (λ kept. flat_map step_lines (outs_at {A = Plain} id event kept)
     ≡ flat_map step_lines (outs_at {A = A} id event kept)) [
@@ -90,14 +99,18 @@ unless_plain : {A : Type 0} (refused : Option Why) (suite : SuiteState) (event :
 unless_plain (Some why) suite event = refl
 unless_plain None suite (Scan rows label) = refl
 unless_plain {A} None suite (At part event) =
-    ap {B = Result Said Why} (λ (texts : List (List ℕ)). Ok (record { texts = texts; past = OfSuite (suite_after {A = A} suite (At part event)) }))
+    ap {B = Result Said Why}
+    (λ (texts : List (List ℕ)).
+    Ok (record { texts = texts; past = OfSuite (suite_after {A = A} suite (At part event)) }))
     (outs_plain A suite part event)
 
-refusal_plain : {A : Type 0} (suite : SuiteState) (event : SuiteEvent A) → refusal suite (plain event) ≡ refusal suite event
+refusal_plain : {A : Type 0} (suite : SuiteState) (event : SuiteEvent A) → refusal suite (plain event)
+    ≡ refusal suite event
 refusal_plain suite (Scan rows label) = refl
 refusal_plain suite (At part event) = refl
 
-stepping_plainly : {A : Type 0} (suite : SuiteState) (told : Result (SuiteEvent A) EventFault) → stepping suite (plainly told) ≡ stepping suite told
+stepping_plainly : {A : Type 0} (suite : SuiteState) (told : Result (SuiteEvent A) EventFault)
+    → stepping suite (plainly told) ≡ stepping suite told
 stepping_plainly suite (Err why) = refl
 stepping_plainly suite (Ok event) =
     ap (λ (r : Option StepFault). stepped_unless (refused_step r) suite (plain event)) (refusal_plain suite event)
@@ -105,7 +118,8 @@ stepping_plainly suite (Ok event) =
 
 pub stepping_any : (A : Type 0) (suite : SuiteState) (parts : List (List ℕ))
     → stepping suite (suite_event_from {A = Plain} parts) ≡ stepping suite (suite_event_from {A = A} parts)
-stepping_any A suite parts = ap (stepping suite) (read_plainly A parts) ∙ stepping_plainly suite (suite_event_from {A = A} parts)
+stepping_any A suite parts = ap (stepping suite) (read_plainly A parts)
+    ∙ stepping_plainly suite (suite_event_from {A = A} parts)
 
 -- A suite's line
 
@@ -113,9 +127,11 @@ pub IsSuiteEvent-spellable : {A : Type 0} (event : SuiteEvent A) → IsSpellable
 IsSuiteEvent-spellable (Scan rows label) h = tt
 IsSuiteEvent-spellable (At part event) h = IsEvent-in_range event h.1
 
-pub unread_so : {A : Type 0} (suite : SuiteState) (told : Result (SuiteEvent A) EventFault) (fault : SuiteLineFault) (why : Why)
+pub unread_so : {A : Type 0} (suite : SuiteState) (told : Result (SuiteEvent A) EventFault) (fault : SuiteLineFault)
+    (why : Why)
     → IsRead told (Err fault) → unread fault ≡ none.Refused why → stepping suite told ≡ Err why
-unread_so suite (Ok (Scan rows label)) fault why h is = let missed : none.OutOfMemory ≡ none.Refused why = ap unread (sym h) ∙ is in cc missed
+unread_so suite (Ok (Scan rows label)) fault why h is = let missed : none.OutOfMemory ≡ none.Refused why =
+    ap unread (sym h) ∙ is in cc missed
 unread_so suite (Ok (At part event)) fault why h is = cc h
 unread_so suite (Err e) fault why h is =
     let same : fault ≡ line_fault e = cc h in
@@ -139,23 +155,31 @@ unstepped_so suite event fault why cause is = refused (refusal suite event) faul
     named (Some other) why is = cc is
     named None why is = cc is
 
-    refused : (r : Option StepFault) (fault : StepFault) (why : Why) → IsCause r fault → unstepped fault ≡ none.Refused why
+    refused : (r : Option StepFault) (fault : StepFault) (why : Why) → IsCause r fault
+        → unstepped fault ≡ none.Refused why
         → stepped_unless (refused_step r) suite event ≡ Err why
-    refused r step.NoSuchPart why cause is = unless (refused_step r) why (ap refused_step cause ∙ named (step_why step.NoSuchPart) why is)
-    refused r (step.Scan fault) why cause is = unless (refused_step r) why (ap refused_step cause ∙ named (step_why (step.Scan fault)) why is)
+    refused r step.NoSuchPart why cause is =
+        unless (refused_step r) why (ap refused_step cause ∙ named (step_why step.NoSuchPart) why is)
+    refused r (step.Scan fault) why cause is =
+        unless (refused_step r) why (ap refused_step cause ∙ named (step_why (step.Scan fault)) why is)
     refused r step.OutOfMemory why cause is = cc is
 
-pub stepped_so : {A : Type 0} (suite after : SuiteState) (told : Result (SuiteEvent A) EventFault) (event : SuiteEvent A) (lines : List (List ℕ))
-    → told ≡ Ok event → refusal suite event ≡ None → after ≡ suite_after suite event → lines ≡ flat_map step_lines (outs_of suite event)
+pub stepped_so : {A : Type 0} (suite after : SuiteState) (told : Result (SuiteEvent A) EventFault)
+    (event : SuiteEvent A) (lines : List (List ℕ))
+    → told ≡ Ok event → refusal suite event ≡ None → after ≡ suite_after suite event
+    → lines ≡ flat_map step_lines (outs_of suite event)
     → stepping suite told ≡ Ok (record { texts = lines; past = OfSuite after })
 stepped_so suite after told event lines is taken goes said_so =
     ap (stepping suite) is ∙ ap (λ (r : Option StepFault). stepped_unless (refused_step r) suite event) taken
-    ∙ ap {B = Result Said Why} (λ (texts : List (List ℕ)). Ok (record { texts = texts; past = OfSuite (suite_after suite event) })) (sym said_so)
+    ∙ ap {B = Result Said Why}
+    (λ (texts : List (List ℕ)). Ok (record { texts = texts; past = OfSuite (suite_after suite event) }))
+    (sym said_so)
     ∙ ap {B = Result Said Why} (λ (suite : SuiteState). Ok (record { texts = lines; past = OfSuite suite })) (sym goes)
 
 -- A line
 
-pub Says-service : {A : Type 0} (past : Past) (line text : List ℕ) (machine : State) (told : Result Said Why) → said past line ≡ told
+pub Says-service : {A : Type 0} (past : Past) (line text : List ℕ) (machine : State) (told : Result Said Why)
+    → said past line ≡ told
     → TellsService told machine text → Says {A = A} past line (text ∷ []) (code.Service machine)
 Says-service past line text machine told is tells = record {
   answer = record { texts = text ∷ []; past = Service tells.past };
@@ -164,8 +188,10 @@ Says-service past line text machine told is tells = record {
   stands = tells.stands;
 }
 
-pub Says-suite : {A : Type 0} (past : Past) (line : List ℕ) (texts : List (List ℕ)) (suite : SuiteState) (told : Result Said Why)
-    → said past line ≡ told → told ≡ Ok (record { texts = texts; past = OfSuite suite }) → Says {A = A} past line texts (code.Suite suite)
+pub Says-suite : {A : Type 0} (past : Past) (line : List ℕ) (texts : List (List ℕ)) (suite : SuiteState)
+    (told : Result Said Why)
+    → said past line ≡ told → told ≡ Ok (record { texts = texts; past = OfSuite suite })
+    → Says {A = A} past line texts (code.Suite suite)
 Says-suite past line texts suite told is tells = record {
   answer = record { texts = texts; past = OfSuite suite };
   is = is ∙ tells;
@@ -176,16 +202,19 @@ Says-suite past line texts suite told is tells = record {
 pub said-short : (past : Past) (line : List ℕ) → length line ≤ 65536 → said past line ≡ said_by past line
 said-short past line short = grind (arith, short)
 
-pub said-first : (line : List ℕ) → length line ≤ 65536 → tells_scan (fields line) ≡ false → said Nothing line ≡ beginning (begin_from (fields line))
+pub said-first : (line : List ℕ) → length line ≤ 65536 → tells_scan (fields line) ≡ false
+    → said Nothing line ≡ beginning (begin_from (fields line))
 said-first line short other =
     said-short Nothing line short
-    ∙ ap (λ (b : Bool). if b then stepping (new_suite 0 256) (suite_event_from {A = Plain} (fields line)) else beginning (begin_from (fields line))) other
+    ∙ ap (λ (b : Bool). if b then stepping (new_suite 0 256) (suite_event_from {A = Plain} (fields line)) else beginning
+    (begin_from (fields line))) other
 
 pub said-first_scan : (A : Type 0) (line : List ℕ) → length line ≤ 65536 → tells_scan (fields line) ≡ true
     → said Nothing line ≡ stepping (new_suite 0 256) (suite_event_from {A = A} (fields line))
 said-first_scan A line short scan =
     said-short Nothing line short
-    ∙ ap (λ (b : Bool). if b then stepping (new_suite 0 256) (suite_event_from {A = Plain} (fields line)) else beginning (begin_from (fields line))) scan
+    ∙ ap (λ (b : Bool). if b then stepping (new_suite 0 256) (suite_event_from {A = Plain} (fields line)) else beginning
+    (begin_from (fields line))) scan
     ∙ stepping_any A (new_suite 0 256) (fields line)
 
 pub said-suite : (A : Type 0) (suite : SuiteState) (line : List ℕ) → length line ≤ 65536
@@ -198,7 +227,8 @@ abbrev past_in : Result Said Why → Past
 past_in (Ok answer) = answer.past
 past_in (Err why) = Nothing
 
-stepping-past : {A : Type 0} (suite : SuiteState) (told : Result (SuiteEvent A) EventFault) (next : List ℕ) (answer : Said)
+stepping-past : {A : Type 0} (suite : SuiteState) (told : Result (SuiteEvent A) EventFault) (next : List ℕ)
+    (answer : Said)
     → stepping suite told ≡ Ok answer → is_suite_line answer.past next ≡ true
 stepping-past suite (Err why) next answer h = cc h
 stepping-past suite (Ok event) next answer h = unless (refused_step (refusal suite event)) h
@@ -212,7 +242,8 @@ beginning-past : (told : Result (Bool × Tai64n) EventFault) (next : List ℕ) (
 beginning-past (Err why) next answer h = cc h
 beginning-past (Ok opening) next answer h = ap (λ (r : Result Said Why). is_suite_line (past_in r) next) (sym h)
 
-going_on-past : (past : History) (told : Result Event EventFault) (next : List ℕ) (answer : Said) → going_on past told ≡ Ok answer
+going_on-past : (past : History) (told : Result Event EventFault) (next : List ℕ) (answer : Said)
+    → going_on past told ≡ Ok answer
     → is_suite_line answer.past next ≡ false
 going_on-past past (Err why) next answer h = cc h
 going_on-past past (Ok event) next answer h = ap (λ (r : Result Said Why). is_suite_line (past_in r) next) (sym h)
@@ -221,13 +252,15 @@ by-past : (past : Past) (line next : List ℕ) (answer : Said) → said_by past 
     → is_suite_line answer.past next ≡ is_suite_line past line
 by-past Nothing line next answer h =
     elim (tells_scan (fields line)) as (λ b. tells_scan (fields line) ≡ b
-    → (if b then stepping (new_suite 0 256) (suite_event_from {A = Plain} (fields line)) else beginning (begin_from (fields line))) ≡ Ok answer
+    → (if b then stepping (new_suite 0 256) (suite_event_from {A = Plain} (fields line)) else beginning
+    (begin_from (fields line))) ≡ Ok answer
     → is_suite_line answer.past next ≡ b) [
       | true ↦ λ is h. stepping-past (new_suite 0 256) (suite_event_from {A = Plain} (fields line)) next answer h
       | false ↦ λ is h. beginning-past (begin_from (fields line)) next answer h
     ] refl h
 by-past (Service past) line next answer h = going_on-past past (event_from (fields line)) next answer h
-by-past (OfSuite suite) line next answer h = stepping-past suite (suite_event_from {A = Plain} (fields line)) next answer h
+by-past (OfSuite suite) line next answer h =
+    stepping-past suite (suite_event_from {A = Plain} (fields line)) next answer h
 
 pub is_suite_line-said : (past : Past) (line next : List ℕ) (answer : Said) → said past line ≡ Ok answer
     → is_suite_line answer.past next ≡ is_suite_line past line
@@ -240,84 +273,108 @@ is_suite_line-said past line next answer h =
 
 -- A service's line
 
-pub begun_so : (told : Result (Bool × Tai64n) EventFault) (opening : Bool × Tai64n) (machine : State) (text : List ℕ) → told ≡ Ok opening
+pub begun_so : (told : Result (Bool × Tai64n) EventFault) (opening : Bool × Tai64n) (machine : State) (text : List ℕ)
+    → told ≡ Ok opening
     → machine ≡ state_of (Begin opening.0 opening.1)
     → text ≡ answer_text (Took (asks_of_begin (Begin opening.0 opening.1))) (phase_of (Begin opening.0 opening.1))
     → TellsService (beginning told) machine text
 begun_so told opening machine text is stands said_so = record {
   past = Begin opening.0 opening.1;
   is = ap beginning is
-      ∙ ap {B = Result Said Why} (λ (t : List ℕ). Ok (record { texts = t ∷ []; past = Service (Begin opening.0 opening.1) })) (sym said_so);
+      ∙ ap {B = Result Said Why}
+      (λ (t : List ℕ). Ok (record { texts = t ∷ []; past = Service (Begin opening.0 opening.1) })) (sym said_so);
   stands = sym stands;
 }
 
 -- The lines of the steps so far, and of one more.
-pub lines_more : {S O : Type 0} (bytes : S → List ℕ) (texts : O → List (List ℕ)) (outs : List O) (i : ℕ) (out : O) (old more new : List S)
-    → i < length outs → out ≡ get_or outs i out → map bytes old ≡ flat_map texts (take i outs) → map bytes more ≡ texts out
+pub lines_more : {S O : Type 0} (bytes : S → List ℕ) (texts : O → List (List ℕ)) (outs : List O) (i : ℕ) (out : O)
+    (old more new : List S)
+    → i < length outs → out ≡ get_or outs i out → map bytes old ≡ flat_map texts (take i outs)
+    → map bytes more ≡ texts out
     → new ≡ old ++ more → map bytes new ≡ flat_map texts (take (i + 1) outs)
 lines_more bytes texts outs i out old more new within at so_far here put =
     ap (map bytes) put ∙ map-append bytes old more
-    ∙ ap (λ (t : List (List ℕ)). t ++ map bytes more) so_far ∙ ap (λ (t : List (List ℕ)). flat_map texts (take i outs) ++ t) here
+    ∙ ap (λ (t : List (List ℕ)). t ++ map bytes more) so_far
+    ∙ ap (λ (t : List (List ℕ)). flat_map texts (take i outs) ++ t) here
     ∙ ap (λ o. flat_map texts (take i outs) ++ texts o) at
     ∙ flat_map_more texts [] (take i outs) (get_or outs i out)
     ∙ ap (flat_map texts) (sym (take_more outs i out within))
 
 -- As what the code holds goes on
 
-pub service_refused : {A : Type 0} (past : Past) (line : List ℕ) (machine : State) (now : Told A) (why : Why) → Stands past now
-    → now ≡ code.Service machine → length line ≤ 65536 → ((h : History) → going_on h (event_from (fields line)) ≡ Err why)
+pub service_refused : {A : Type 0} (past : Past) (line : List ℕ) (machine : State) (now : Told A) (why : Why)
+    → Stands past now
+    → now ≡ code.Service machine → length line ≤ 65536
+    → ((h : History) → going_on h (event_from (fields line)) ≡ Err why)
     → said past line ≡ Err why
-service_refused {A} past line machine now why stands is short refused = held past (subst (λ (t : Told A). Stands past t) is stands)
+service_refused {A} past line machine now why stands is short refused =
+    held past (subst (λ (t : Told A). Stands past t) is stands)
   where
     held : (past : Past) → Stands {A = A} past (code.Service machine) → said past line ≡ Err why
     held Nothing stands = absurd stands
     held (Service h) stands = said-short (Service h) line short ∙ refused h
     held (OfSuite suite) stands = absurd stands
 
-pub service_says : {A : Type 0} (past : Past) (line text : List ℕ) (machine after : State) (now : Told A) → Stands past now
+pub service_says : {A : Type 0} (past : Past) (line text : List ℕ) (machine after : State) (now : Told A)
+    → Stands past now
     → now ≡ code.Service machine → length line ≤ 65536
     → ((h : History) → state_of h ≡ machine → TellsService (going_on h (event_from (fields line))) after text)
     → Says {A = A} past line (text ∷ []) (code.Service after)
-service_says {A} past line text machine after now stands is short tells = held past (subst (λ (t : Told A). Stands past t) is stands)
+service_says {A} past line text machine after now stands is short tells =
+    held past (subst (λ (t : Told A). Stands past t) is stands)
   where
-    held : (past : Past) → Stands {A = A} past (code.Service machine) → Says {A = A} past line (text ∷ []) (code.Service after)
+    held : (past : Past) → Stands {A = A} past (code.Service machine)
+        → Says {A = A} past line (text ∷ []) (code.Service after)
     held Nothing stands = absurd stands
     held (Service h) stands =
-        Says-service (Service h) line text after (going_on h (event_from (fields line))) (said-short (Service h) line short) (tells h stands)
+        Says-service (Service h) line text after (going_on h (event_from (fields line)))
+        (said-short (Service h) line short) (tells h stands)
     held (OfSuite suite) stands = absurd stands
 
-pub suite_refused : {A : Type 0} (past : Past) (line : List ℕ) (suite : SuiteState) (now : Told A) (why : Why) → Stands past now
-    → now ≡ code.Suite suite → length line ≤ 65536 → stepping suite (suite_event_from {A = A} (fields line)) ≡ Err why → said past line ≡ Err why
-suite_refused {A} past line suite now why stands is short refused = held past (subst (λ (t : Told A). Stands past t) is stands)
+pub suite_refused : {A : Type 0} (past : Past) (line : List ℕ) (suite : SuiteState) (now : Told A) (why : Why)
+    → Stands past now
+    → now ≡ code.Suite suite → length line ≤ 65536 → stepping suite (suite_event_from {A = A} (fields line)) ≡ Err why
+    → said past line ≡ Err why
+suite_refused {A} past line suite now why stands is short refused =
+    held past (subst (λ (t : Told A). Stands past t) is stands)
   where
     held : (past : Past) → Stands {A = A} past (code.Suite suite) → said past line ≡ Err why
     held Nothing stands = absurd stands
     held (Service h) stands = absurd stands
     held (OfSuite told) stands =
-        said-suite A told line short ∙ ap (λ (s : SuiteState). stepping s (suite_event_from {A = A} (fields line))) (sym stands) ∙ refused
+        said-suite A told line short
+        ∙ ap (λ (s : SuiteState). stepping s (suite_event_from {A = A} (fields line))) (sym stands) ∙ refused
 
-pub suite_says : {A : Type 0} (past : Past) (line : List ℕ) (texts : List (List ℕ)) (suite after : SuiteState) (now : Told A) → Stands past now
+pub suite_says : {A : Type 0} (past : Past) (line : List ℕ) (texts : List (List ℕ)) (suite after : SuiteState)
+    (now : Told A) → Stands past now
     → now ≡ code.Suite suite → length line ≤ 65536
     → stepping suite (suite_event_from {A = A} (fields line)) ≡ Ok (record { texts = texts; past = OfSuite after })
     → Says {A = A} past line texts (code.Suite after)
-suite_says {A} past line texts suite after now stands is short tells = held past (subst (λ (t : Told A). Stands past t) is stands)
+suite_says {A} past line texts suite after now stands is short tells =
+    held past (subst (λ (t : Told A). Stands past t) is stands)
   where
     held : (past : Past) → Stands {A = A} past (code.Suite suite) → Says {A = A} past line texts (code.Suite after)
     held Nothing stands = absurd stands
     held (Service h) stands = absurd stands
     held (OfSuite told) stands =
         Says-suite (OfSuite told) line texts after (stepping suite (suite_event_from {A = A} (fields line)))
-        (said-suite A told line short ∙ ap (λ (s : SuiteState). stepping s (suite_event_from {A = A} (fields line))) (sym stands)) tells
+        (said-suite A told line short
+        ∙ ap (λ (s : SuiteState). stepping s (suite_event_from {A = A} (fields line))) (sym stands)) tells
 
-pub first_refused_scan : (A : Type 0) (line : List ℕ) (suite : SuiteState) (why : Why) → suite ≡ new_suite 0 256 → length line ≤ 65536
-    → tells_scan (fields line) ≡ true → stepping suite (suite_event_from {A = A} (fields line)) ≡ Err why → said Nothing line ≡ Err why
+pub first_refused_scan : (A : Type 0) (line : List ℕ) (suite : SuiteState) (why : Why) → suite ≡ new_suite 0 256
+    → length line ≤ 65536
+    → tells_scan (fields line) ≡ true → stepping suite (suite_event_from {A = A} (fields line)) ≡ Err why
+    → said Nothing line ≡ Err why
 first_refused_scan A line suite why new short scan refused =
-    said-first_scan A line short scan ∙ ap (λ (s : SuiteState). stepping s (suite_event_from {A = A} (fields line))) (sym new) ∙ refused
+    said-first_scan A line short scan
+    ∙ ap (λ (s : SuiteState). stepping s (suite_event_from {A = A} (fields line))) (sym new) ∙ refused
 
-pub first_says_scan : {A : Type 0} (line : List ℕ) (texts : List (List ℕ)) (suite after : SuiteState) → suite ≡ new_suite 0 256 → length line ≤ 65536
+pub first_says_scan : {A : Type 0} (line : List ℕ) (texts : List (List ℕ)) (suite after : SuiteState)
+    → suite ≡ new_suite 0 256 → length line ≤ 65536
     → tells_scan (fields line) ≡ true
     → stepping suite (suite_event_from {A = A} (fields line)) ≡ Ok (record { texts = texts; past = OfSuite after })
     → Says {A = A} Nothing line texts (code.Suite after)
 first_says_scan {A} line texts suite after new short scan tells =
     Says-suite Nothing line texts after (stepping suite (suite_event_from {A = A} (fields line)))
-    (said-first_scan A line short scan ∙ ap (λ (s : SuiteState). stepping s (suite_event_from {A = A} (fields line))) (sym new)) tells
+    (said-first_scan A line short scan
+    ∙ ap (λ (s : SuiteState). stepping s (suite_event_from {A = A} (fields line))) (sym new)) tells

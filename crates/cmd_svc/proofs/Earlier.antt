@@ -19,16 +19,23 @@ among_without x y (z ∷ zs) apart = grind (arith, common_steps, same_number x y
 -- The same letters stand there.
 pub among-without_earlier : (xs : List ℕ) (y : ℕ) → is_among (without_earlier xs) y ≡ is_among xs y
 among-without_earlier [] y = refl
-among-without_earlier (x ∷ xs) y = grind (arith, common_steps, among_without x y (without_earlier xs), among-without_earlier xs y)
+among-without_earlier (x ∷ xs) y =
+    grind (arith, common_steps, among_without x y (without_earlier xs), among-without_earlier xs y)
 
 -- One more letter is put at the end, unless it is there.
 pub without_earlier-push : (xs : List ℕ) (y : ℕ)
     → without_earlier (xs ++ y ∷ []) ≡ (if is_among xs y then without_earlier xs else without_earlier xs ++ y ∷ [])
 without_earlier-push [] y = refl
 without_earlier-push (x ∷ xs) y =
-    grind (arith, common_steps, filter-append (λ other. not (other == x)) (without_earlier xs) (y ∷ []), without_earlier-push xs y)
+    grind (
+      arith,
+      common_steps,
+      filter-append (λ other. not (other == x)) (without_earlier xs) (y ∷ []),
+      without_earlier-push xs y,
+    )
 
 -- What stands there puts a letter at the end as the letters themselves do.
 pub added : (xs : List ℕ) (y : ℕ)
-    → (if is_among (without_earlier xs) y then without_earlier xs else without_earlier xs ++ y ∷ []) ≡ without_earlier (xs ++ y ∷ [])
+    → (if is_among (without_earlier xs) y then without_earlier xs else without_earlier xs ++ y ∷ [])
+    ≡ without_earlier (xs ++ y ∷ [])
 added xs y = grind (arith, among-without_earlier xs y, without_earlier-push xs y)

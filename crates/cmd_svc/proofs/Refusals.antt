@@ -4,7 +4,8 @@ use Rattle.std.specs.Prelude.{MatchOption, IsOkUnless, IsErrOf}
 use Rattle.cmd_svc.specs.declared.order.SvcFault.{SvcFault}
 use Rattle.cmd_svc.specs.declared.order.SvcFault.TheVariants.{UnknownLetter, OutOfMemory}
 
-same_letter : {T : Type 0} (a b : ℕ) (r : Result T SvcFault) → r ≡ Err (UnknownLetter a) → r ≡ Err (UnknownLetter b) → a ≡ b
+same_letter : {T : Type 0} (a b : ℕ) (r : Result T SvcFault) → r ≡ Err (UnknownLetter a) → r ≡ Err (UnknownLetter b)
+    → a ≡ b
 same_letter a b r h k = cc
 
 never_both : {T : Type 0} (b : ℕ) (r : Result T SvcFault) → r ≡ Err OutOfMemory → r ≡ Err (UnknownLetter b) → ⊥
@@ -15,7 +16,8 @@ not_memory {T} a r h k =
     let wrong : UnknownLetter a ≡ OutOfMemory = subst (λ (s : Result T SvcFault). IsOkUnless s OutOfMemory) h k in cc
 
 -- The letter that was refused is the first that is unknown.
-pub letter-refused : {T : Type 0} (unknown : Option ℕ) (r : Result T SvcFault) (letter : ℕ) (P : Type 0) (Q : ℕ → Type 0)
+pub letter-refused : {T : Type 0} (unknown : Option ℕ) (r : Result T SvcFault) (letter : ℕ) (P : Type 0) (Q : ℕ
+    → Type 0)
     → MatchOption unknown (IsOkUnless r OutOfMemory) (λ first. IsErrOf r (UnknownLetter first))
     → r ≡ Err (UnknownLetter letter) → Q letter → MatchOption unknown P Q
 letter-refused None r letter P Q why is q = absurd (not_memory letter r is why)

@@ -1,5 +1,6 @@
 -- Known letters, each once, are few.
-use Rattle.std.proofs.Common.{◌≡◌, refl, ℕ, ◌<◌, ◌≤◌, true, false, List, [], ◌∷◌, ◌++◌, length, length-append, arith, rules}
+use Rattle.std.proofs.Common.{◌≡◌, refl, ℕ, ◌<◌, ◌≤◌, true, false, List, [], ◌∷◌, ◌++◌, length, length-append, arith}
+use Rattle.std.proofs.Common.{rules}
 use Rattle.std.specs.Prelude.{◌==◌}
 use Rattle.std.specs.List.{list_all, IsDistinct}
 use Rattle.std.proofs.lemmas.Grind.{common_steps}
@@ -22,7 +23,8 @@ known_among [] q all here = search rules
 known_among (x ∷ xs) q all here = grind (arith, common_steps, known_where_equal x q, known_among xs q)
 
 -- One more known letter that is not there.
-pub ordered_push : (bytes : List ℕ) (letter : ℕ) → AreKnownOnce bytes → is_known letter ≡ true → is_among bytes letter ≡ false
+pub ordered_push : (bytes : List ℕ) (letter : ℕ) → AreKnownOnce bytes → is_known letter ≡ true
+    → is_among bytes letter ≡ false
     → AreKnownOnce (bytes ++ letter ∷ [])
 ordered_push bytes letter ordered known apart = record {
   known = grind (arith, common_steps, list_all-append is_known bytes (letter ∷ []), ordered.known);
@@ -32,10 +34,15 @@ ordered_push bytes letter ordered known apart = record {
 -- Ordered bytes are no more than the known letters.
 pub few_ordered : (bytes : List ℕ) → AreKnownOnce bytes → length bytes ≤ 14
 few_ordered bytes ordered =
-    length-le_from_is_member nat_eq_equiv bytes known_letters ordered.once (λ q here. known_among bytes q ordered.known here)
+    length-le_from_is_member nat_eq_equiv bytes known_letters ordered.once
+    (λ q here. known_among bytes q ordered.known here)
 
 -- So there is room for one that is not there.
 pub room : (bytes : List ℕ) (letter : ℕ) → AreKnownOnce bytes → is_known letter ≡ true → is_among bytes letter ≡ false
     → length bytes < 14
 room bytes letter ordered known apart =
-    omega (arith, few_ordered (bytes ++ letter ∷ []) (ordered_push bytes letter ordered known apart), length-append bytes (letter ∷ []))
+    omega (
+      arith,
+      few_ordered (bytes ++ letter ∷ []) (ordered_push bytes letter ordered known apart),
+      length-append bytes (letter ∷ []),
+    )

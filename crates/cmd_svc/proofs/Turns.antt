@@ -1,5 +1,6 @@
 -- Calls and steps, one after the other.
-use Rattle.std.proofs.Common.{◌≡◌, ℕ, ◌+◌, ◌<◌, List, [], ◌∷◌, ◌++◌, length, map, take, drop, get_or, Option, Some, None, refl, sym, ap, ◌∙◌, subst, append_assoc, add-one, Bool, true, false, not}
+use Rattle.std.proofs.Common.{◌≡◌, ℕ, ◌+◌, ◌<◌, List, [], ◌∷◌, ◌++◌, length, map, take, drop, get_or, Option, Some}
+use Rattle.std.proofs.Common.{None, refl, sym, ap, ◌∙◌, subst, append_assoc, add-one, Bool, true, false, not}
 use Rattle.std.proofs.lemmas.List.{take_more, take-append-drop, map-append}
 use Rattle.std.proofs.Math.Seq.{drop-cons}
 use Rattle.cmd_svc.specs.Calls.{Call}
@@ -7,7 +8,8 @@ use Rattle.tai_status.specs.Extended.{Extended}
 use Rattle.cmd_svc.specs.Turns.{InTurn}
 
 -- calls after calls
-pub extended-then : (a b c : Option (List Call)) (first rest : List Call) → Extended a b first → Extended b c rest → Extended a c (first ++ rest)
+pub extended-then : (a b c : Option (List Call)) (first rest : List Call) → Extended a b first → Extended b c rest
+    → Extended a c (first ++ rest)
 extended-then None b c first rest h k = tt
 extended-then (Some a) None c first rest h k = absurd h
 extended-then (Some a) (Some b) None first rest h k = absurd k
@@ -15,7 +17,8 @@ extended-then (Some a) (Some b) (Some c) first rest h k =
     k ∙ ap (λ (t : List Call). t ++ rest) h ∙ append_assoc a first rest
 
 -- one more step
-pub in_turn-then : {S : Type 0} (step : List ℕ → S → S → Type 0) (words : List (List ℕ)) (word : List ℕ) (old middle new : S)
+pub in_turn-then : {S : Type 0} (step : List ℕ → S → S → Type 0) (words : List (List ℕ)) (word : List ℕ)
+    (old middle new : S)
     → InTurn step words old middle → step word middle new → InTurn step (words ++ word ∷ []) old new
 in_turn-then {S} step [] word old middle new done one = (new, (subst (λ (s : S). step word s new) done one, refl))
 in_turn-then {S} step (first ∷ words) word old middle new done one =

@@ -1,5 +1,6 @@
 -- One step along letters, and along words.
-use Rattle.std.proofs.Common.{◌≡◌, refl, sym, ◌∙◌, ap, ℕ, ◌<◌, ◌+◌, true, List, [], ◌∷◌, ◌++◌, append_assoc, length, get_or, map, take, drop, Bor, Result, Ok, Err, arith}
+use Rattle.std.proofs.Common.{◌≡◌, refl, sym, ◌∙◌, ap, ℕ, ◌<◌, ◌+◌, true, List, [], ◌∷◌, ◌++◌, append_assoc, length}
+use Rattle.std.proofs.Common.{get_or, map, take, drop, Bor, Result, Ok, Err, arith}
 use Rattle.std.specs.Prelude.{Option, Some, None, MatchOption, IsOk, if◌then◌else◌}
 use Rattle.std.proofs.Math.Seq.{drop-cons}
 use Rattle.std.proofs.lemmas.Grind.{common_steps}
@@ -15,7 +16,8 @@ pub known_here : (letters : List ℕ) (i : ℕ) → i < length letters → is_kn
 known_here letters i within known = let e = drop-cons letters i 0 within in grind (arith, common_steps, e)
 
 -- The next letter is put at the end, unless it is there.
-pub added_next : (before letters now new : List ℕ) (i : ℕ) → i < length letters → now ≡ without_earlier (before ++ take i letters)
+pub added_next : (before letters now new : List ℕ) (i : ℕ) → i < length letters
+    → now ≡ without_earlier (before ++ take i letters)
     → new ≡ (if is_among now (get_or letters i 0) then now else now ++ get_or letters i 0 ∷ [])
     → new ≡ without_earlier (before ++ take (i + 1) letters)
 added_next before letters now new i within e put =
@@ -25,18 +27,21 @@ added_next before letters now new i within e put =
     grind (arith, common_steps, more, step, joined)
 
 -- The letters from an option word on are its own and those of the words after it.
-pub option_here : (words : List (Bor (List ℕ))) (i : ℕ) (d : Bor (List ℕ)) → i < length words → is_option (get_or words i d).now ≡ true
+pub option_here : (words : List (Bor (List ℕ))) (i : ℕ) (d : Bor (List ℕ)) → i < length words
+    → is_option (get_or words i d).now ≡ true
     → option_letters (map (λ word. word.now) (drop i words))
     ≡ drop 1 (get_or words i d).now ++ option_letters (map (λ word. word.now) (drop (i + 1) words))
 option_here words i d within option = let e = drop-cons words i d within in grind (arith, common_steps, e)
 
 -- Where all of the first are known, the first unknown one is among the others.
-pub unknown_later : (first others : List ℕ) → first_unknown first ≡ None → first_unknown (first ++ others) ≡ first_unknown others
+pub unknown_later : (first others : List ℕ) → first_unknown first ≡ None → first_unknown (first ++ others)
+    ≡ first_unknown others
 unknown_later [] others none = refl
 unknown_later (letter ∷ first) others none = grind (arith, common_steps, unknown_later first others)
 
 -- The first unknown one of the first is the first of all.
-pub unknown_before : (first others : List ℕ) (letter : ℕ) → first_unknown first ≡ Some letter → first_unknown (first ++ others) ≡ Some letter
+pub unknown_before : (first others : List ℕ) (letter : ℕ) → first_unknown first ≡ Some letter
+    → first_unknown (first ++ others) ≡ Some letter
 unknown_before [] others letter some = grind (arith, common_steps)
 unknown_before (x ∷ first) others letter some = grind (arith, common_steps, unknown_before first others letter)
 
@@ -54,11 +59,14 @@ taken None r x cases fine = refl
 taken (Some letter) r x cases fine = cc
 
 -- An option word's letters were refused: the first unknown letter of all was told.
-pub told_first : (words : List (Bor (List ℕ))) (i : ℕ) (d : Bor (List ℕ)) (letters : List ℕ) (r : Result Unit SvcFault) (e : SvcFault)
+pub told_first : (words : List (Bor (List ℕ))) (i : ℕ) (d : Bor (List ℕ)) (letters : List ℕ) (r : Result Unit SvcFault)
+    (e : SvcFault)
     → i < length words → is_option (get_or words i d).now ≡ true → letters ≡ drop 1 (get_or words i d).now
-    → first_unknown (option_letters (map (λ word. word.now) (drop i words))) ≡ first_unknown (option_letters (map (λ word. word.now) words))
+    → first_unknown (option_letters (map (λ word. word.now) (drop i words)))
+    ≡ first_unknown (option_letters (map (λ word. word.now) words))
     → MatchOption (first_unknown letters) (IsOk r) (λ letter. r ≡ Err (UnknownLetter letter)) → r ≡ Err e
-    → (letter : ℕ) × (first_unknown (option_letters (map (λ word. word.now) words)) ≡ Some letter) × (e ≡ UnknownLetter letter)
+    → (letter : ℕ) × (first_unknown (option_letters (map (λ word. word.now) words)) ≡ Some letter)
+    × (e ≡ UnknownLetter letter)
 told_first words i d letters r e within option own same cases refused =
     let fault = told (first_unknown letters) r e cases refused in
     let rest = option_letters (map (λ word. word.now) (drop (i + 1) words)) in
@@ -66,13 +74,16 @@ told_first words i d letters r e within option own same cases refused =
     (fault.0, sym same ∙ ap first_unknown (option_here words i d within option) ∙ first, fault.2)
 
 -- An option word's letters were taken: the first unknown letter is further on.
-pub taken_first : (words : List (Bor (List ℕ))) (i : ℕ) (d : Bor (List ℕ)) (letters : List ℕ) (r : Result Unit SvcFault) (x : Unit)
+pub taken_first : (words : List (Bor (List ℕ))) (i : ℕ) (d : Bor (List ℕ)) (letters : List ℕ) (r : Result Unit SvcFault)
+    (x : Unit)
     → i < length words → is_option (get_or words i d).now ≡ true → letters ≡ drop 1 (get_or words i d).now
     → MatchOption (first_unknown letters) (IsOk r) (λ letter. r ≡ Err (UnknownLetter letter)) → r ≡ Ok x
-    → first_unknown (option_letters (map (λ word. word.now) (drop (i + 1) words))) ≡ first_unknown (option_letters (map (λ word. word.now) (drop i words)))
+    → first_unknown (option_letters (map (λ word. word.now) (drop (i + 1) words)))
+    ≡ first_unknown (option_letters (map (λ word. word.now) (drop i words)))
 taken_first words i d letters r x within option own cases fine =
     let rest = option_letters (map (λ word. word.now) (drop (i + 1) words)) in
-    let later = unknown_later (drop 1 (get_or words i d).now) rest (ap first_unknown (sym own) ∙ taken (first_unknown letters) r x cases fine) in
+    let later = unknown_later (drop 1 (get_or words i d).now) rest (ap first_unknown (sym own)
+    ∙ taken (first_unknown letters) r x cases fine) in
     sym later ∙ ap first_unknown (sym (option_here words i d within option))
 
 -- Its letters are those that come next.

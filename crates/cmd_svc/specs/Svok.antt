@@ -1,6 +1,6 @@
 -- How `svok` ends (cr.yp.to/daemontools/svok.html).
 use Rattle.std.specs.Prelude.{◌≡◌, ℕ, List, [], ◌∷◌, Option, Some, None}
-use Rattle.cmd_svc.specs.Calls.{Call, Asked}
+use Rattle.cmd_svc.specs.Calls.{Call, Reached}
 use Rattle.tai_status.specs.Extended.{Extended}
 use Rattle.cmd_svc.specs.declared.services.Unreached.{Unreached}
 
@@ -12,7 +12,7 @@ whether (Some why) = 100
 -- It was asked once whether the service is supervised, and the status says it: 0 where it is, else 100.
 pub record SaysWhether (folder : List ℕ) (status : ℕ) (past now : Option (List Call)) : Type 0 where
   pub fault : Option Unreached
-  pub asked : Extended past now (Asked folder fault ∷ [])
+  pub asked : Extended past now (Reached folder fault ∷ [])
   pub status_is : status ≡ whether fault
 
 -- The words are not one folder: nothing is asked.

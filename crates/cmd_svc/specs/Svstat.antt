@@ -8,7 +8,7 @@ use Rattle.tai_status.specs.declared.loading.Loaded.{Loaded}
 use Rattle.tai_status.specs.declared.record.RecordFault.{RecordFault}
 use Rattle.tai_status.specs.declared.record.RecordFault.TheVariants as fault
 use Rattle.cmd_svc.specs.Line.{status_line}
-use Rattle.cmd_svc.specs.Calls.{Call, Asked, ReadStatus, SoughtDown}
+use Rattle.cmd_svc.specs.Calls.{Call, Reached, ReadStatus, SoughtDown}
 use Rattle.tai_status.specs.Extended.{Extended}
 use Rattle.cmd_svc.specs.Turns.{InTurn}
 use Rattle.cmd_svc.specs.declared.services.Unreached.{Unreached}
@@ -38,19 +38,19 @@ scene calls readings writer = record { sight = sight calls readings; writer = wr
 
 -- A service that was not reached, for this reason, is asked nothing more.
 pub record FindsNone (folder : List ℕ) (why : Unreached) (old new : Sight) : Type 0 where
-  pub asked : Extended old.calls new.calls (Asked folder (Some why) ∷ [])
+  pub asked : Extended old.calls new.calls (Reached folder (Some why) ∷ [])
   pub unread : new.readings ≡ old.readings
 
 -- Its status could not be read.
 pub record FindsUnread (folder : List ℕ) (old new : Sight) : Type 0 where
-  pub asked : Extended old.calls new.calls (Asked folder None ∷ ReadStatus folder None ∷ [])
+  pub asked : Extended old.calls new.calls (Reached folder None ∷ ReadStatus folder None ∷ [])
   pub unread : new.readings ≡ old.readings
 
 -- The bytes that were read are no record, for this fault.
 pub record FindsBad (folder : List ℕ) (cause : RecordFault) (old new : Sight) : Type 0 where
   pub bytes : List ℕ
   pub refused : loaded_from bytes ≡ Err cause
-  pub asked : Extended old.calls new.calls (Asked folder None ∷ ReadStatus folder (Some bytes) ∷ [])
+  pub asked : Extended old.calls new.calls (Reached folder None ∷ ReadStatus folder (Some bytes) ∷ [])
   pub unread : new.readings ≡ old.readings
 
 -- The bytes that were read are a record of this. The service is normally up where no file `down` was found,
@@ -60,7 +60,7 @@ pub record FindsStatus (folder : List ℕ) (loaded : Loaded) (normally_up : Bool
   pub bytes : List ℕ
   pub is : loaded_from bytes ≡ Ok loaded
   pub asked : Extended old.calls new.calls
-      (Asked folder None ∷ ReadStatus folder (Some bytes) ∷ SoughtDown folder (not normally_up) ∷ [])
+      (Reached folder None ∷ ReadStatus folder (Some bytes) ∷ SoughtDown folder (not normally_up) ∷ [])
   pub read : Extended old.readings new.readings (now ∷ [])
 
 -- What a look at the service in a folder found

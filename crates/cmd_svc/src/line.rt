@@ -6,8 +6,8 @@ use itoa::Buffer;
 use std::alloc::{AllocError, Allocator};
 use tai_status::{Label, Loaded, Phase, View, Want};
 
-/// How the service in a folder stands: `DIR: up (pid N) S seconds` or `DIR: down S seconds`, S being whole seconds since
-/// its last change of process (0 where that is still to come), and then what is not as it should be:
+/// How the service in a folder stands: `DIR: up (pid N) S seconds` or `DIR: down S seconds`, S being whole seconds
+/// since its last change of process (0 where that is still to come), and then what is not as it should be:
 ///
 /// | note | where |
 /// |---|---|

@@ -81,8 +81,10 @@ impl OrderBytes {
 
     /// Puts letters at the end, each unless it is there, up to the first that is unknown.
     pub(crate) fn add_all(&mut self, letters: &[u8]) -> Result<(), SvcFault>
-        ensures fault { MatchOption (first_unknown letters.now) (IsOk result) (λ letter. result ≡ Err (SvcFault.UnknownLetter letter)) }
-        ensures bytes { (before : List ℕ) → self.old ≡ without_earlier before → OnOk result (self.new ≡ without_earlier (before ++ letters.now)) }
+        ensures fault { MatchOption (first_unknown letters.now) (IsOk result)
+            (λ letter. result ≡ Err (SvcFault.UnknownLetter letter)) }
+        ensures bytes { (before : List ℕ) → self.old ≡ without_earlier before
+            → OnOk result (self.new ≡ without_earlier (before ++ letters.now)) }
     {
         for letter in letters {
             if !is_known(*letter) {

@@ -17,7 +17,7 @@ pub enum Unreached {
 /// it keeps that.
 pub trait Services {
     ghost use Rattle.std.specs.Prelude.{◌∷◌, [], Option, Some, None, List, IfOk, IfErr, OnOk, OnErr};
-    ghost use Rattle.cmd_svc.specs.Calls.{Call, Sent, Asked, ReadStatus, SoughtChange, SoughtDown};
+    ghost use Rattle.cmd_svc.specs.Calls.{Call, Sent, Reached, ReadStatus, SoughtChange, SoughtDown};
     ghost use Rattle.tai_status.specs.Extended.{Extended};
 
     ghost calls: { Self → Option (List Call) } = { λ _. None };
@@ -30,9 +30,9 @@ pub trait Services {
 
     /// Asks whether the service in a folder is supervised: its socket `ok` accepts. A fault is that it does not.
     fn reach(&mut self, folder: &str) -> Result<(), Unreached>
-        ensures ok { OnOk result (Extended (calls self.old) (calls self.new) (Asked folder.now None ∷ [])) }
+        ensures ok { OnOk result (Extended (calls self.old) (calls self.new) (Reached folder.now None ∷ [])) }
         ensures err { IfErr result (λ why.
-            Extended (calls self.old) (calls self.new) (Asked folder.now (Some why) ∷ [])) };
+            Extended (calls self.old) (calls self.new) (Reached folder.now (Some why) ∷ [])) };
 
     /// The bytes of the status file of the service in a folder, up to one more than the longer record has.
     fn read_status(&mut self, folder: &str) -> io::Result<StatusFront>

@@ -14,8 +14,10 @@ pub asks_nothing : (words : List (List ℕ)) → asked_of words ≡ None → (fi
 asks_nothing words none file at local asked = let never = sym none ∙ asked.1.0 in cc never
 
 -- no words at all
-pub ends_without_words : {W : Type 0} (text : W → List ℕ) (words : List W) (ahead : ℤ → ℤ) (file_at : List ℕ → Option (List ℕ))
-    (status : ℕ) (writer writes faults tells : Device) → length words ≡ 0 → status ≡ 100 → writes ≡ writer → Tells faults tells usage_text
+pub ends_without_words : {W : Type 0} (text : W → List ℕ) (words : List W) (ahead : ℤ → ℤ) (file_at : List ℕ
+    → Option (List ℕ))
+    (status : ℕ) (writer writes faults tells : Device) → length words ≡ 0 → status ≡ 100 → writes ≡ writer
+    → Tells faults tells usage_text
     → TraceEnds ahead file_at (map text words) status writer writes faults tells
 ends_without_words text [] ahead file_at status writer writes faults tells none is unwritten told = record {
   wrong = asks_nothing [] no_word;
@@ -23,7 +25,8 @@ ends_without_words text [] ahead file_at status writer writes faults tells none 
   told = told;
   status_is = is;
 }
-ends_without_words text (word ∷ words) ahead file_at status writer writes faults tells none is unwritten told = absurd (omega (arith, none))
+ends_without_words text (word ∷ words) ahead file_at status writer writes faults tells none is unwritten told =
+    absurd (omega (arith, none))
 
 -- words that ask for something
 pub ends_asked : {W : Type 0} (text : W → List ℕ) (words : List W) (ahead : ℤ → ℤ) (file_at : List ℕ → Option (List ℕ))

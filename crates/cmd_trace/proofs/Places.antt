@@ -1,5 +1,6 @@
 -- A replay at a place: what is known of the entry there, and the line of it.
-use Rattle.std.proofs.Common.{◌≡◌, ℕ, ◌+◌, ◌<◌, List, [], ◌∷◌, ◌++◌, length, take, map, get_or, append_assoc, sym, ap, ◌∙◌, arith, zero-add}
+use Rattle.std.proofs.Common.{◌≡◌, ℕ, ◌+◌, ◌<◌, List, [], ◌∷◌, ◌++◌, length, take, map, get_or, append_assoc, sym, ap}
+use Rattle.std.proofs.Common.{◌∙◌, arith, zero-add}
 use Rattle.std.specs.Prelude.{ℤ}
 use Rattle.std.specs.List.{enumerate_from}
 use Rattle.std.proofs.lemmas.List.{length-map, map_push, take-map, take_more}
@@ -20,7 +21,8 @@ pub record IsEntry (told : Told) (place : ℕ) (event : Event) : Type 0 where
   pub within : place < length told.entries
   pub at : event ≡ get_or told.entries place event
 
-pub entry_at : (told : Told) (entries : List Event) (place : ℕ) (event : Event) → IsTraceText told → entries ≡ told.entries
+pub entry_at : (told : Told) (entries : List Event) (place : ℕ) (event : Event) → IsTraceText told
+    → entries ≡ told.entries
     → place < length entries → event ≡ get_or entries place event → IsEntry told place event
 entry_at told entries place event text same below at =
     let within : place < length told.entries = omega (arith, ap length same) in
@@ -42,7 +44,8 @@ lines-more ahead told place event entry =
     let line : ℕ × Event → List ℕ = λ p. local_line ahead (p.0 + 1) (before told p.0) p.1 in
     let within : place < length placed = omega (arith, entry.within, length-enumerate_from 0 told.entries) in
     let here : get_or placed place (place, event) ≡ (place, event) =
-    get_or-enumerate_from 0 told.entries place (place, event) entry.within ∙ ap {B = ℕ × Event} (λ k. (k, get_or told.entries place event)) (zero-add place)
+    get_or-enumerate_from 0 told.entries place (place, event) entry.within
+    ∙ ap {B = ℕ × Event} (λ k. (k, get_or told.entries place event)) (zero-add place)
     ∙ ap {B = ℕ × Event} (λ e. (place, e)) (sym entry.at) in
     take-map line (place + 1) placed
     ∙ ap (map line) (take_more placed place (place, event) within)
@@ -50,7 +53,8 @@ lines-more ahead told place event entry =
     ∙ ap (λ p. map line (take place placed) ++ line p ∷ []) here
     ∙ ap (λ lines. lines ++ line (place, event) ∷ []) (sym (take-map line place placed))
 
-printed-more : (lines : List (List ℕ)) (line : List ℕ) → printed (lines ++ line ∷ []) ≡ printed lines ++ (line ++ 10 ∷ [])
+printed-more : (lines : List (List ℕ)) (line : List ℕ) → printed (lines ++ line ∷ []) ≡ printed lines
+    ++ (line ++ 10 ∷ [])
 printed-more [] line = simp append_assoc
 printed-more (first ∷ lines) line = rw (printed-more lines line) (simp append_assoc)
 
@@ -58,7 +62,8 @@ regrouped : (a b c d : List ℕ) → a ++ b ++ c ++ d ≡ a ++ (b ++ (c ++ d))
 regrouped a b c d = simp append_assoc
 
 -- with the line of the entry the lines up to the next place are written
-pub written-more : (ahead : ℤ → ℤ) (told : Told) (place : ℕ) (event : Event) (start so_far more : List ℕ) → IsEntry told place event
+pub written-more : (ahead : ℤ → ℤ) (told : Told) (place : ℕ) (event : Event) (start so_far more : List ℕ)
+    → IsEntry told place event
     → so_far ≡ start ++ printed (take place (local_lines ahead told))
     → more ≡ so_far ++ local_line ahead (place + 1) (before told place) event ++ 10 ∷ []
     → more ≡ start ++ printed (take (place + 1) (local_lines ahead told))

@@ -121,23 +121,29 @@ IsRefusedFor text fault =
     (fault.kind ≢ kind.OutOfMemory → told_from text ≡ Err fault)
     × (fault.kind ≡ kind.OutOfMemory → HasEntryAt text fault.line)
 
--- What trouble comes from. The text is refused; there was no memory for what is printed; or the writer failed, after a
--- front of that. Only the writer's fault comes after a write.
+-- A text is that of a trace.
+abbrev pub IsTraceText : List ℕ → Type 0
+IsTraceText text = (trace : Told) × (IsTold trace × (text ≡ trace_text trace))
+
+-- What trouble comes from. The text is refused; it is that of a trace, and there was no memory for what is printed; or
+-- the writer failed, after a front of that. Only the writer's fault comes after a write.
 abbrev pub TraceCause : Times → TraceTrouble → List ℕ → Option Break → (writer writes : Device) → Type 0
 TraceCause times (trouble.Refused fault) text at writer writes = (writes ≡ writer) × IsRefusedFor text fault
-TraceCause times trouble.OutOfMemory text at writer writes = writes ≡ writer
+TraceCause times trouble.OutOfMemory text at writer writes = (writes ≡ writer) × IsTraceText text
 TraceCause times trouble.Write text at writer writes = Fails writer writes × ShowsFront times text at writer writes
 
 -- How `trace` ends
 
 -- What is printed of the trace was written, the writer did not fail, and nothing is told.
-pub record ShowsText (times : Times) (text : List ℕ) (at : Option Break) (writer writes faults tells : Device) : Type 0 where
+pub record ShowsText (times : Times) (text : List ℕ) (at : Option Break) (writer writes faults tells : Device)
+    : Type 0 where
   pub shows : Shows times text at writer writes
   pub works : Works writer writes
   pub untold : tells ≡ faults
 
 -- There is trouble with a text, and it is told what it comes from.
-pub record TellsTrouble (times : Times) (text : List ℕ) (at : Option Break) (writer writes faults tells : Device) : Type 0 where
+pub record TellsTrouble (times : Times) (text : List ℕ) (at : Option Break) (writer writes faults tells : Device)
+    : Type 0 where
   pub why : TraceTrouble
   pub cause : TraceCause times why text at writer writes
   pub told : Tells faults tells (trouble_text why)
@@ -171,8 +177,8 @@ pub record TellsStarved (status : ℕ) (writer writes faults tells : Device) : T
   pub status_is : status ≡ 111
 
 -- `trace` over this file and this break.
-abbrev pub FileEnds : (times : Times) (file_at : List ℕ → Option (List ℕ)) (file : List ℕ) (at : Option Break) (status : ℕ)
-    (writer writes faults tells : Device) → Type 0
+abbrev pub FileEnds : (times : Times) (file_at : List ℕ → Option (List ℕ)) (file : List ℕ) (at : Option Break)
+    (status : ℕ) (writer writes faults tells : Device) → Type 0
 FileEnds times file_at file at status writer writes faults tells =
     EndsWithText times (file_at file) at status writer writes faults tells
     ⊎ (TellsUnread file_at file status writer writes faults tells ⊎ TellsStarved status writer writes faults tells)

@@ -17,8 +17,8 @@ use tai_status::Output;
 use trace_words::{WordsFault, parse_words};
 
 /// Writes what is printed of the trace whose text this is, with the local times of a zone where there is one.
-fn show_text<A: Allocator + Clone, W: Write, Z: Zone>(
-    alloc: &A,
+fn show_text<A: Allocator + Clone + Copy, W: Write, Z: Zone>(
+    alloc: A,
     zone: Option<&Z>,
     text: &[u8],
     at: Option<Break>,
@@ -30,17 +30,11 @@ fn show_text<A: Allocator + Clone, W: Write, Z: Zone>(
     ensures cause { IfErr result (λ trouble.
         TraceCause (option_map (λ zone. Z.ahead_at zone.now) zone.entry) trouble text.now at writer.old writer.new) }
 {
-    let Ok(own) = alloc.clone() else {
-        return Err(TraceTrouble::OutOfMemory);
-    };
-    let told = match read_text(own, text) {
+    let told = match read_text(alloc, text) {
         Ok(told) => told,
         Err(fault) => return Err(TraceTrouble::Refused(fault)),
     };
-    let Ok(own) = alloc.clone() else {
-        return Err(TraceTrouble::OutOfMemory);
-    };
-    let Ok(shown) = shown(own, zone, &told, at) else {
+    let Ok(shown) = shown(alloc, zone, &told, at) else {
         return Err(TraceTrouble::OutOfMemory);
     };
     match writer.write_all(&shown) {
@@ -77,8 +71,8 @@ fn report_trouble<E: Write>(trouble: TraceTrouble, faults: &mut Output<E>) -> u8
 }
 
 /// Prints what this text tells, with the local times of a zone where there is one, and answers the status.
-fn show_bytes<A: Allocator + Clone, W: Write, E: Write, Z: Zone>(
-    alloc: &A,
+fn show_bytes<A: Allocator + Clone + Copy, W: Write, E: Write, Z: Zone>(
+    alloc: A,
     zone: Option<&Z>,
     text: &[u8],
     at: Option<Break>,
@@ -95,9 +89,10 @@ fn show_bytes<A: Allocator + Clone, W: Write, E: Write, Z: Zone>(
 }
 
 /// Prints what this text tells, with labels, and answers the status: 0; or 111 for a text that is refused, for want of
-/// memory and for a fault of the writer.
-pub fn trace_bytes<A: Allocator + Clone, W: Write, E: Write>(
-    alloc: &A,
+/// memory and for a fault of the writer. A text that is refused is told as such, however little memory there is. The
+/// allocator is one of which a copy takes none, as the program's own.
+pub fn trace_bytes<A: Allocator + Clone + Copy, W: Write, E: Write>(
+    alloc: A,
     text: &[u8],
     at: Option<Break>,
     writer: &mut Output<W>,
@@ -109,8 +104,8 @@ pub fn trace_bytes<A: Allocator + Clone, W: Write, E: Write>(
     show_bytes(alloc, no_zone, text, at, writer, faults)
 }
 
-/// Prints what the text in a file tells, with the local times of a zone where there is one, and answers the status: that
-/// of `trace_bytes`, and 111 for a file that can't be read.
+/// Prints what the text in a file tells, with the local times of a zone where there is one, and answers the status:
+/// that of `trace_bytes`, and 111 for a file that can't be read.
 fn trace_file<R: FileSource, W: Write, E: Write, Z: Zone>(
     files: &R,
     alloc: Global,
@@ -124,7 +119,7 @@ fn trace_file<R: FileSource, W: Write, E: Write, Z: Zone>(
         result writer.old writer.new faults.old faults.new }
 {
     match files.read_file(alloc, file) {
-        Ok(text) => show_bytes(&alloc, zone, &text, at, writer, faults),
+        Ok(text) => show_bytes(alloc, zone, &text, at, writer, faults),
         Err(fault) if fault.kind() == ErrorKind::OutOfMemory => {
             report_trouble(TraceTrouble::OutOfMemory, faults)
         }

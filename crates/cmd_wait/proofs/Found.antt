@@ -4,17 +4,20 @@ use Rattle.cmd_svc.specs.Calls.{Call}
 use Rattle.cmd_wait.specs.Finding.{finding_of}
 use Rattle.cmd_wait.specs.Watching.{Watched}
 use Rattle.cmd_wait.specs.Words.{Order}
-use Rattle.cmd_wait.specs.Rounds.{Look, LooksAt, folders, left_at, left_by, Waits, none, more, looks_of, IsAmong, IsFound}
+use Rattle.cmd_wait.specs.Rounds.{Look, LooksAt, folders, left_at, left_by, Waits, none, more, looks_of, IsAmong}
+use Rattle.cmd_wait.specs.Rounds.{IsFound}
 use Rattle.cmd_wait.specs.declared.finding.Goal.{Goal}
 use Rattle.cmd_wait.specs.declared.finding.Finding.{Finding}
 use Rattle.cmd_wait.specs.declared.finding.Finding.TheVariants.{Reached, Waiting, Failed}
 
-found-first : (goal : Goal) (folder : List ℕ) (xs ys : List Look) → IsFound goal folder xs → IsFound goal folder (xs ++ ys)
+found-first : (goal : Goal) (folder : List ℕ) (xs ys : List Look) → IsFound goal folder xs
+    → IsFound goal folder (xs ++ ys)
 found-first goal folder [] ys h = absurd h
 found-first goal folder (x ∷ xs) ys (inl h) = inl h
 found-first goal folder (x ∷ xs) ys (inr h) = inr (found-first goal folder xs ys h)
 
-found-later : (goal : Goal) (folder : List ℕ) (xs ys : List Look) → IsFound goal folder ys → IsFound goal folder (xs ++ ys)
+found-later : (goal : Goal) (folder : List ℕ) (xs ys : List Look) → IsFound goal folder ys
+    → IsFound goal folder (xs ++ ys)
 found-later goal folder [] ys h = h
 found-later goal folder (x ∷ xs) ys h = inr (found-later goal folder xs ys h)
 
@@ -23,14 +26,16 @@ among-later folder [] ys h = h
 among-later folder (x ∷ xs) ys h = inr (among-later folder xs ys h)
 
 -- one look: it found the service, or left it
-here : (goal : Goal) (look : Look) (looks : List Look) (folder : List ℕ) (finding : Finding) → finding_of goal look.sighting ≡ finding → look.folder ≡ folder
+here : (goal : Goal) (look : Look) (looks : List Look) (folder : List ℕ) (finding : Finding)
+    → finding_of goal look.sighting ≡ finding → look.folder ≡ folder
     → IsFound goal folder (look ∷ looks) ⊎ IsAmong folder (left_at look.folder finding ++ left_by goal looks)
 here goal look looks folder Reached is e = inl (inl (e, is))
 here goal look looks folder Waiting is e = inr (inl e)
 here goal look looks folder (Failed fault) is e = inr (inl e)
 
 -- looks
-pub found-or-left : (goal : Goal) (looks : List Look) (folder : List ℕ) → IsAmong folder (folders looks) → IsFound goal folder looks ⊎ IsAmong folder (left_by goal looks)
+pub found-or-left : (goal : Goal) (looks : List Look) (folder : List ℕ) → IsAmong folder (folders looks)
+    → IsFound goal folder looks ⊎ IsAmong folder (left_by goal looks)
 found-or-left goal [] folder h = absurd h
 found-or-left goal (look ∷ looks) folder (inl e) = here goal look looks folder (finding_of goal look.sighting) refl e
 found-or-left goal (look ∷ looks) folder (inr h) = elim (found-or-left goal looks folder h) [
@@ -39,7 +44,8 @@ found-or-left goal (look ∷ looks) folder (inr h) = elim (found-or-left goal lo
 ]
 
 -- a round
-pub round-found : (goal : Goal) (services left : List (List ℕ)) (a b : Option (List Call)) (h : LooksAt goal services left [] a b) (folder : List ℕ)
+pub round-found : (goal : Goal) (services left : List (List ℕ)) (a b : Option (List Call))
+    (h : LooksAt goal services left [] a b) (folder : List ℕ)
     → IsAmong folder services → IsFound goal folder h.looks ⊎ IsAmong folder left
 round-found goal services left a b h folder among =
     let all : services ≡ folders h.looks = h.split ∙ append-nil (folders h.looks) in
@@ -49,7 +55,8 @@ round-found goal services left a b h folder among =
     ]
 
 -- rounds
-pub waits-found : {order : Order} {begin : ℕ} {services : List (List ℕ)} {old : Watched} {left : List (List ℕ)} {now : Watched} (w : Waits order begin services old left now) (folder : List ℕ)
+pub waits-found : {order : Order} {begin : ℕ} {services : List (List ℕ)} {old : Watched} {left : List (List ℕ)}
+    {now : Watched} (w : Waits order begin services old left now) (folder : List ℕ)
     → IsAmong folder services → IsFound order.goal folder (looks_of w) ⊎ IsAmong folder left
 waits-found none folder among = inr among
 waits-found {order = order} (more w r) folder among = elim (waits-found w folder among) [
@@ -61,7 +68,8 @@ waits-found {order = order} (more w r) folder among = elim (waits-found w folder
 ]
 
 -- rounds, and a last one that leaves nothing
-pub all-found : {order : Order} {begin : ℕ} {services : List (List ℕ)} {old : Watched} {left : List (List ℕ)} {now : Watched} (w : Waits order begin services old left now)
+pub all-found : {order : Order} {begin : ℕ} {services : List (List ℕ)} {old : Watched} {left : List (List ℕ)}
+    {now : Watched} (w : Waits order begin services old left now)
     (a b : Option (List Call)) (h : LooksAt order.goal left [] [] a b) (folder : List ℕ)
     → IsAmong folder services → IsFound order.goal folder (looks_of w ++ h.looks)
 all-found {order = order} {left = left} w a b h folder among = elim (waits-found w folder among) [

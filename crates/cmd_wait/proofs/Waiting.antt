@@ -18,14 +18,18 @@ pub record IsUnderWay (order : Order) (begin : ℕ) (old : Sight) (left : List (
   pub waits : Waits order begin order.services (watched first_watch begun) left now
 
 -- before the first round
-pub way-begins : (order : Order) (begin : ℕ) (calls : Option (List Call)) (steps read : Option (List Step)) → Extended steps read (Read begin ∷ [])
+pub way-begins : (order : Order) (begin : ℕ) (calls : Option (List Call)) (steps read : Option (List Step))
+    → Extended steps read (Read begin ∷ [])
     → IsUnderWay order begin (sight calls steps) order.services (watched first_watch (sight calls read))
 way-begins order begin calls steps read h = record { begun = sight calls read; read = h; unasked = refl; waits = none }
 
 -- one more round, and its pause
-pub way-more : (order : Order) (begin now : ℕ) (old : Sight) (left after : List (List ℕ)) (was new : Watched) (asked : Option (List Call)) (read : Option (List Step))
-    → IsUnderWay order begin old left was → Extended was.sight.steps read (Read now ∷ []) → LooksAt order.goal left after [] was.sight.calls asked
-    → after ≢ [] → (IsOver order.limit begin now → ⊥) → Pauses order.limit begin after (watched was.watch (sight asked read)) new
+pub way-more : (order : Order) (begin now : ℕ) (old : Sight) (left after : List (List ℕ)) (was new : Watched)
+    (asked : Option (List Call)) (read : Option (List Step))
+    → IsUnderWay order begin old left was → Extended was.sight.steps read (Read now ∷ [])
+    → LooksAt order.goal left after [] was.sight.calls asked
+    → after ≢ [] → (IsOver order.limit begin now → ⊥)
+    → Pauses order.limit begin after (watched was.watch (sight asked read)) new
     → IsUnderWay order begin old after new
 way-more order begin now old left after was new asked read way h looked some in_time pauses = record {
   begun = way.begun;
@@ -42,8 +46,10 @@ way-more order begin now old left after was new asked read way h looked some in_
 }
 
 -- the last round
-pub way-ends : (order : Order) (begin status : ℕ) (old : Sight) (now : Watched) (left : List (List ℕ)) (faults : Device) (new : Scene) → (way : IsUnderWay order begin old left now)
-    → EndsBy order begin (looks_of way.waits) left status (scene now.sight faults) new → WaitsFor order status (scene old faults) new
+pub way-ends : (order : Order) (begin status : ℕ) (old : Sight) (now : Watched) (left : List (List ℕ)) (faults : Device)
+    (new : Scene) → (way : IsUnderWay order begin old left now)
+    → EndsBy order begin (looks_of way.waits) left status (scene now.sight faults) new
+    → WaitsFor order status (scene old faults) new
 way-ends order begin status old now left faults new way ends = record {
   begin = begin;
   begun = way.begun;

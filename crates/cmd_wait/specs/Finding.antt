@@ -9,7 +9,7 @@ use Rattle.tai_status.specs.declared.loading.Loaded.TheVariants.{Old, New}
 use Rattle.tai_status.specs.declared.phase.Phase.{Phase}
 use Rattle.tai_status.specs.declared.phase.Phase.TheVariants as phase
 use Rattle.tai_status.specs.declared.record.RecordFault.{RecordFault}
-use Rattle.cmd_svc.specs.Calls.{Call, Asked, ReadStatus}
+use Rattle.cmd_svc.specs.Calls.{Call, Reached, ReadStatus}
 use Rattle.cmd_svc.specs.Line.{is_running}
 use Rattle.cmd_svc.specs.declared.services.Unreached.{Unreached}
 use Rattle.cmd_svc.specs.declared.services.Unreached.TheVariants.{NotRunning, Denied, Unanswered}
@@ -28,9 +28,9 @@ pub data Sighting : Type 0 where
 
 -- the calls of a look at the service in a folder
 abbrev pub calls_of_look : (folder : List ℕ) → Sighting → List Call
-calls_of_look folder (Absent why) = Asked folder (Some why) ∷ []
-calls_of_look folder Unread = Asked folder None ∷ ReadStatus folder None ∷ []
-calls_of_look folder (Shown bytes) = Asked folder None ∷ ReadStatus folder (Some bytes) ∷ []
+calls_of_look folder (Absent why) = Reached folder (Some why) ∷ []
+calls_of_look folder Unread = Reached folder None ∷ ReadStatus folder None ∷ []
+calls_of_look folder (Shown bytes) = Reached folder None ∷ ReadStatus folder (Some bytes) ∷ []
 
 abbrev pub is_up_phase : Phase → Bool
 is_up_phase phase.Up = true

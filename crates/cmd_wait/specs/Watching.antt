@@ -16,7 +16,8 @@ newer None other = None
 newer (Some one) None = None
 newer (Some one) (Some other) = Some (max one other)
 
--- What was learnt of folders so far: when something changed last in one of them, where that is known of each, and the calls.
+-- What was learnt of folders so far: when something changed last in one of them, where that is known of each, and the
+-- calls.
 pub record Learnt : Type 0 where
   pub newest : Option ℕ
   pub calls : Option (List Call)
@@ -66,8 +67,8 @@ pub record Watched : Type 0 where
 abbrev pub watched : (watch : Watch) (sight : Sight) → Watched
 watched watch sight = record { watch = watch; sight = sight }
 
--- A rest; then the services that are left were asked when something changed last, and the clock was read. A round is due
--- where something changed, as said above, and where the time is over.
+-- A rest; then the services that are left were asked when something changed last, and the clock was read. A round is
+-- due where something changed, as said above, and where the time is over.
 pub record Rests (limit : Option ℕ) (begin : ℕ) (left : List (List ℕ)) (due : Bool) (old new : Watched) : Type 0 where
   pub rested : Option (List Step)
   pub newest : Option ℕ

@@ -55,10 +55,10 @@ fn wait_for<R: Wait, S: Services, P: Pace, A: Allocator, E: Write>(
 }
 
 /// The command `wait [-u|-d|-x] [-t SECONDS] SERVICE..`: returns once each service is up and settled, down (`-d`), or
-/// no longer supervised (`-x`). It looks at them in rounds, and at each until it was found so once: what comes of it later
-/// is not seen. A round comes 45 milliseconds after the one before it for a second after something changed in a folder
-/// `supervise` of theirs, and so after such a change; else a second after it. With `-t` the last round is the first that
-/// begins when so many seconds are over, so that `-t 0` looks once; else it may not come back.
+/// no longer supervised (`-x`). It looks at them in rounds, and at each until it was found so once: what comes of it
+/// later is not seen. A round comes 45 milliseconds after the one before it for a second after something changed in a
+/// folder `supervise` of theirs, and so after such a change; else a second after it. With `-t` the last round is the
+/// first that begins when so many seconds are over, so that `-t 0` looks once; else it may not come back.
 ///
 /// Answers the status: 0; 99 where the time is over, with a line on `faults` for each service that is left; 102 where a
 /// service is not supervised, or no longer so; 111 where this user may not look at one, where a status can't be read or

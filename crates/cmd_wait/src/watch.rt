@@ -14,7 +14,8 @@ const MOST_RESTS: u32 = 22;
 /// What is noted of the services that are left.
 #[derive(Clone, Copy, Debug)]
 pub struct Watch {
-    /// When something changed last in a folder of theirs, in nanoseconds since 1970. None where that is not known of each.
+    /// When something changed last in a folder of theirs, in nanoseconds since 1970. None where that is not known of
+    /// each.
     newest: Option<u64>,
     /// How many rests still have a round behind them, since something changed less than a second ago.
     lively: u32,

@@ -1,5 +1,6 @@
 -- One item more: the last that passes a test, those behind it and those before it.
-use Rattle.std.proofs.Common.{◌≡◌, refl, ℕ, ◌+◌, ◌<◌, Bool, true, false, List, [], ◌∷◌, ◌++◌, length, get_or, take, Option, Some, None, arith, ◌∙◌, ap, sym, subst}
+use Rattle.std.proofs.Common.{◌≡◌, refl, ℕ, ◌+◌, ◌<◌, Bool, true, false, List, [], ◌∷◌, ◌++◌, length, get_or, take}
+use Rattle.std.proofs.Common.{Option, Some, None, arith, ◌∙◌, ap, sym, subst}
 use Rattle.std.specs.Prelude.{if◌then◌else◌}
 use Rattle.std.specs.List.{list_any, Contains}
 use Rattle.std.specs.Prelude.{is_some, IfSome}
@@ -36,18 +37,22 @@ last-next p xs i d within = ap (last_such p) (take_more xs i d within) ∙ last-
 
 pub before-next : {X : Type 0} (p : X → Bool) (xs : List X) (i : ℕ) (d : X) → i < length xs
     → before_last_such p (take (i + 1) xs) ≡ (if p (get_or xs i d) then take i xs else before_last_such p (take i xs))
-before-next p xs i d within = ap (before_last_such p) (take_more xs i d within) ∙ before-push p (take i xs) (get_or xs i d)
+before-next p xs i d within = ap (before_last_such p) (take_more xs i d within)
+    ∙ before-push p (take i xs) (get_or xs i d)
 
 pub behind-next : {X : Type 0} (p : X → Bool) (xs : List X) (i : ℕ) (d : X) → i < length xs
-    → behind_last_such p (take (i + 1) xs) ≡ (if p (get_or xs i d) then [] else behind_last_such p (take i xs) ++ get_or xs i d ∷ [])
-behind-next p xs i d within = ap (behind_last_such p) (take_more xs i d within) ∙ behind-push p (take i xs) (get_or xs i d)
+    → behind_last_such p (take (i + 1) xs)
+    ≡ (if p (get_or xs i d) then [] else behind_last_such p (take i xs) ++ get_or xs i d ∷ [])
+behind-next p xs i d within = ap (behind_last_such p) (take_more xs i d within)
+    ∙ behind-push p (take i xs) (get_or xs i d)
 
 -- Whether there is a last one
 pub some_last : {X : Type 0} (p : X → Bool) (xs : List X) → is_some (last_such p xs) ≡ list_any p xs
 some_last p [] = refl
 some_last p (x ∷ xs) = grind (arith, common_steps, some_last p xs)
 
-contains-step : {X : Type 0} (later here : Bool) (rest : Option X) (y x : X) (xs : List X) → (rest ≡ Some x → Contains xs x)
+contains-step : {X : Type 0} (later here : Bool) (rest : Option X) (y x : X) (xs : List X)
+    → (rest ≡ Some x → Contains xs x)
     → (if later then rest else if here then Some y else None) ≡ Some x → Contains (y ∷ xs) x
 contains-step true here rest y x xs inside e = Contains-append_right (y ∷ []) xs x (inside e)
 contains-step {X} false true rest y x xs inside e =
@@ -69,9 +74,11 @@ is-byte (Some (Death label)) byte e = absurd (cc)
 is-byte (Some (Clock label)) byte e = absurd (cc)
 
 -- A byte that the last of some entries is came among them.
-pub byte-came : (p : Event → Bool) (xs : List Event) (byte : ℕ) → byte_in (last_such p xs) ≡ Some byte → Contains xs (Byte byte)
+pub byte-came : (p : Event → Bool) (xs : List Event) (byte : ℕ) → byte_in (last_such p xs) ≡ Some byte
+    → Contains xs (Byte byte)
 byte-came p xs byte e = contains-last p xs (Byte byte) (is-byte (last_such p xs) byte e)
 
-pub byte_came_if : (p : Event → Bool) (xs : List Event) (r : Option ℕ) → r ≡ byte_in (last_such p xs) → IfSome r (λ byte. Contains xs (Byte byte))
+pub byte_came_if : (p : Event → Bool) (xs : List Event) (r : Option ℕ) → r ≡ byte_in (last_such p xs)
+    → IfSome r (λ byte. Contains xs (Byte byte))
 byte_came_if p xs None e = tt
 byte_came_if p xs (Some byte) e = byte-came p xs byte (sym e)

@@ -25,7 +25,8 @@ use Rattle.cmd_why.specs.declared.timeline.Stretch.{Stretch}
 abbrev pub stretch : (from to : ℕ) → Shown → Stretch
 stretch from to what = record { from = from; to = to; shown = what }
 
--- how a machine is shown: paused; up; an attempt, where it settles after a start or rests after one that failed; else down
+-- how a machine is shown: paused; up; an attempt, where it settles after a start or rests after one that failed; else
+-- down
 abbrev pub shown_in : Phase → Shown
 shown_in phase.Up = shown.Up
 shown_in phase.Settling = shown.Attempt
@@ -35,8 +36,8 @@ shown_in other = shown.Down
 abbrev pub shown_of : State → Shown
 shown_of state = if state.status.paused then shown.Paused else shown_in state.phase
 
--- How the machine before the entries is shown, from its label to the first one of an entry: over all of that time there was
--- a process, or none, and no more is known.
+-- How the machine before the entries is shown, from its label to the first one of an entry: over all of that time there
+-- was a process, or none, and no more is known.
 abbrev pub shown_before : Status → Shown
 shown_before status =
     if status.paused then shown.Paused else if is_running status then shown.Up else shown.Down
@@ -53,8 +54,8 @@ label_in (StartFailed label) = Some label
 label_in (Death label) = Some label
 label_in (Clock label) = Some label
 
--- When an entry of this label counts, behind the last stretch so far: not before that one, since a clock may be set back, and
--- not after the clock.
+-- When an entry of this label counts, behind the last stretch so far: not before that one, since a clock may be set
+-- back, and not after the clock.
 abbrev pub moment : (now : ℕ) → Stretch → Tai64n → ℕ
 moment now last label = min now (max last.from (nanos label))
 
@@ -63,8 +64,8 @@ abbrev pub ended_with : (now : ℕ) → Stretch → Option Tai64n → List Stret
 ended_with now last None = []
 ended_with now last (Some label) = stretch last.from (moment now last label) last.shown ∷ []
 
--- The stretch behind an entry, after which the machine stands so. A control byte came at some time in the stretch in which
--- it stands: where it pauses the process, all of that stretch is shown as paused.
+-- The stretch behind an entry, after which the machine stands so. A control byte came at some time in the stretch in
+-- which it stands: where it pauses the process, all of that stretch is shown as paused.
 abbrev pub behind : (now : ℕ) → Stretch → Option Tai64n → State → Stretch
 behind now last None state = stretch last.from last.to (if state.status.paused then shown.Paused else last.shown)
 behind now last (Some label) state = stretch (moment now last label) last.to (shown_of state)

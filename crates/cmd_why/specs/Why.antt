@@ -15,13 +15,14 @@ use Rattle.sup_trace.specs.Text.{trace_text}
 use Rattle.sup_trace.specs.Reading.{told_from}
 use Rattle.sup_trace.specs.declared.fault.TraceFault.{TraceFault}
 use Rattle.cmd_base.specs.Known.{IsKnown}
-use Rattle.cmd_svc.specs.Calls.{Call, Asked, ReadStatus, SoughtDown}
+use Rattle.cmd_svc.specs.Calls.{Call, Reached, ReadStatus, SoughtDown}
 use Rattle.cmd_svc.specs.declared.services.Unreached.{Unreached}
 use Rattle.cmd_svc.specs.declared.services.Unreached.TheVariants as unreached
 use Rattle.cmd_svc.specs.Svstat.{fault_name}
 use Rattle.cmd_svc.specs.Turns.{InTurn}
 use Rattle.svc_exit.specs.Exits.{IsEnding, Says}
 use Rattle.svc_exit.specs.declared.ending.Ending.{Ending}
+use Rattle.cmd_why.specs.Texts.{ServiceTexts}
 use Rattle.cmd_why.specs.Facts.{ended_in, facts_of, leads_to}
 use Rattle.cmd_why.specs.Sentences.{why_line}
 use Rattle.cmd_why.specs.Timeline.{bar_of, drawing_lines, left_end}
@@ -100,17 +101,17 @@ is_unread other = true
 
 -- A look at a service
 
--- What is known of the files of services and of local times: the bytes of a trace, the line of how the last process ended,
--- why a folder can't be looked at, and the text of a label.
+-- What is known of the files of services and of local times: the bytes of a trace, the line of how the last process
+-- ended, why a folder can't be looked at, and the text of a label.
 pub record Knowledge : Type 0 where
   pub traces : List ℕ → Option (List ℕ)
   pub exits : List ℕ → Option (List ℕ)
   pub looks : List ℕ → Option (Option ErrorKind)
   pub times : Tai64n → Option (List ℕ)
 
-abbrev pub knowledge : (traces exits : List ℕ → Option (List ℕ)) (looks : List ℕ → Option (Option ErrorKind))
-    (times : Tai64n → Option (List ℕ)) → Knowledge
-knowledge traces exits looks times = record { traces = traces; exits = exits; looks = looks; times = times }
+abbrev pub knowledge : (texts : ServiceTexts) (times : Tai64n → Option (List ℕ)) → Knowledge
+knowledge texts times =
+    record { traces = texts.traces; exits = texts.exits; looks = texts.looks; times = times }
 
 -- Bytes were read that are no trace, as the fault of a line tells.
 pub record IsRefused (trace : Option (List ℕ)) : Type 0 where
@@ -150,8 +151,8 @@ IsEndingOf exit (Some ended) (Some ending) = SaysOf exit ended ending
 IsEndingOf exit (Some ended) None = (exit ≡ None) ⊎ SaysNothingOf exit ended
 
 -- This is the picture of a trace beside a record, at a clock reading, and the local time of its left end.
-pub record IsPicture (times : Tai64n → Option (List ℕ)) (told : Told) (status : Status) (now : Tai64n) (picture : Picture)
-    : Type 0 where
+pub record IsPicture (times : Tai64n → Option (List ℕ)) (told : Told) (status : Status) (now : Tai64n)
+    (picture : Picture) : Type 0 where
   pub bar : picture.bar.bytes ≡ bar_of told (leads_to told status) now
   pub from : IsKnown (times (left_end told now)) picture.from.bytes
 
@@ -172,13 +173,13 @@ pub record ReachesStanding (folder : List ℕ) (loaded : Loaded) (normally_up : 
   pub bytes : List ℕ
   pub is : loaded_from bytes ≡ Ok loaded
   pub asked : Extended past now
-      (Asked folder None ∷ ReadStatus folder (Some bytes) ∷ SoughtDown folder (not normally_up) ∷ [])
+      (Reached folder None ∷ ReadStatus folder (Some bytes) ∷ SoughtDown folder (not normally_up) ∷ [])
 
 -- The bytes that were read are no record, for this fault.
 pub record ReachesBad (folder : List ℕ) (cause : RecordFault) (past now : Option (List Call)) : Type 0 where
   pub bytes : List ℕ
   pub refused : loaded_from bytes ≡ Err cause
-  pub asked : Extended past now (Asked folder None ∷ ReadStatus folder (Some bytes) ∷ [])
+  pub asked : Extended past now (Reached folder None ∷ ReadStatus folder (Some bytes) ∷ [])
 
 -- The service was not reached, and its folder was looked at, which says why nobody answers.
 pub record ReachesNobody (k : Knowledge) (folder : List ℕ) (absence : Absence) (past now : Option (List Call))
@@ -187,19 +188,19 @@ pub record ReachesNobody (k : Knowledge) (folder : List ℕ) (absence : Absence)
   pub looked : Option ErrorKind
   pub look_is : IsKnown (k.looks folder) looked
   pub absence_is : absence ≡ absence_of why looked
-  pub asked : Extended past now (Asked folder (Some why) ∷ [])
+  pub asked : Extended past now (Reached folder (Some why) ∷ [])
 
 -- What was asked of the service in a folder, and came of it: whether it is supervised; only then its status; and only
 -- where that is a record, its file `down`.
 abbrev pub Reaches : Knowledge → (folder : List ℕ) → Reach → (past now : Option (List Call)) → Type 0
 Reaches k folder (reach.Absent absence) past now = ReachesNobody k folder absence past now
-Reaches k folder reach.Unread past now = Extended past now (Asked folder None ∷ ReadStatus folder None ∷ [])
+Reaches k folder reach.Unread past now = Extended past now (Reached folder None ∷ ReadStatus folder None ∷ [])
 Reaches k folder (reach.Bad cause) past now = ReachesBad folder cause past now
 Reaches k folder (reach.Standing loaded normally_up) past now = ReachesStanding folder loaded normally_up past now
 
 -- The trace of a service was read and then the clock, once; how it stands is told by its record, that trace and this
--- reading; and how the process ended of which the trace tells last, by the line of that. A timeline is drawn where it is
--- asked for.
+-- reading; and how the process ended of which the trace tells last, by the line of that. A timeline is drawn where it
+-- is asked for.
 pub record FindsStanding (k : Knowledge) (timeline : Bool) (folder : List ℕ) (loaded : Loaded) (normally_up : Bool)
     (s : Standing) (past now : Option (List Tai64n)) : Type 0 where
   pub told : Option Told
@@ -305,7 +306,8 @@ pub record Stops (k : Knowledge) (timeline : Bool) (words : List (List ℕ)) (st
   pub told : Tells faults tells (why_told cause)
 
 -- `why` over services, with timelines or without
-abbrev pub ServicesEnd : Knowledge → (timeline : Bool) → (words : List (List ℕ)) → (status : ℕ) → (old new : Bool → Scene)
+abbrev pub ServicesEnd : Knowledge → (timeline : Bool) → (words : List (List ℕ)) → (status : ℕ)
+    → (old new : Bool → Scene)
     → (faults tells : Device) → Type 0
 ServicesEnd k timeline words status old new faults tells =
     ShowsAll k timeline words status old new faults tells ⊎ Stops k timeline words status old new faults tells

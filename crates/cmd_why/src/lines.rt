@@ -1,7 +1,8 @@
 //! What a look at a service found, and the line of that.
 ghost use Rattle.std.specs.Prelude.{◌≡◌, ◌++◌, replicate, string_bytes, IfOk, OnOk};
 ghost use Rattle.cmd_why.specs.Timeline.{drawing_lines, scale};
-ghost use Rattle.cmd_why.specs.Why.{absence_of, absence_words, drawing_in, found_line, found_text, is_denied, is_missing};
+ghost use Rattle.cmd_why.specs.Why.{absence_of, absence_words, drawing_in, found_line, found_text, is_denied};
+ghost use Rattle.cmd_why.specs.Why.{is_missing};
 
 use crate::facts::Facts;
 use crate::sentences::why_line;

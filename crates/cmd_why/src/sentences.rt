@@ -46,8 +46,9 @@ use tai_status::{Label, Loaded, Phase, View, Want};
 /// - `It has not run since supervise began.`: nothing was folded, there is no process before the entries, and no start
 ///   among them.
 ///
-/// A process ended ` with status S` or ` by SIGNAL` where its file `exit` says it of that process. It ended ` after SIGNAL (C)` where C is the last control byte with a signal between its start and its death,
-/// and ` without a control byte` where the trace has its start and no control byte between them. Starts, last:
+/// A process ended ` with status S` or ` by SIGNAL` where its file `exit` says it of that process. It ended ` after
+/// SIGNAL (C)` where C is the last control byte with a signal between its start and its death, and ` without a control
+/// byte` where the trace has its start and no control byte between them. Starts, last:
 ///
 /// - `N starts in the last 60 s.`: so many entries are starts whose label lies within 60 seconds before the clock, if
 ///   any.

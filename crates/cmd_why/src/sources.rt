@@ -8,32 +8,26 @@ use tai_status::Label;
 
 /// The files of services, as `why` reads them. Contracts see what they hold, where it tells that.
 pub trait ServiceFiles {
-    ghost use Rattle.std.specs.Prelude.{◌≡◌, ℕ, List, Option, None, IfOk, IfErr, OnErr};
+    ghost use Rattle.std.specs.Prelude.{◌≡◌, None, IfOk, IfErr, OnErr};
     ghost use Rattle.cmd_base.specs.Known.{IsKnown, IsMissed};
-    ghost use Rattle.std.specs.declared.io.ErrorKind.{ErrorKind};
+    ghost use Rattle.cmd_why.specs.Texts.{ServiceTexts, unknown_texts};
 
-    // the bytes of the trace of the service in a folder
-    ghost trace_at: { Self → List ℕ → Option (List ℕ) } = { λ _ _. None };
-
-    // the line of how the last process of the service in a folder ended
-    ghost exit_at: { Self → List ℕ → Option (List ℕ) } = { λ _ _. None };
-
-    // why a folder can't be looked at, where it can't
-    ghost fault_at: { Self → List ℕ → Option (Option ErrorKind) } = { λ _ _. None };
+    // what the files of the service in each folder hold
+    ghost texts: { Self → ServiceTexts } = { λ _. unknown_texts };
 
     /// All bytes of the trace of the service in a folder.
     fn read_trace<A: Allocator>(&self, alloc: A, folder: &str) -> io::Result<Vec<u8, A>>
-        ensures known { IfOk result (λ bytes. IsKnown (trace_at self.now folder.now) bytes.items) }
-        ensures missing { IfErr result (λ fault. IsMissed fault (trace_at self.now folder.now)) };
+        ensures known { IfOk result (λ bytes. IsKnown ((texts self.now).traces folder.now) bytes.items) }
+        ensures missing { IfErr result (λ fault. IsMissed fault ((texts self.now).traces folder.now)) };
 
     /// The line of how the last process of the service in a folder ended, with its newline.
     fn read_exit(&self, folder: &str) -> io::Result<ExitText>
-        ensures known { IfOk result (λ line. IsKnown (exit_at self.now folder.now) line.items) }
-        ensures missing { OnErr result (exit_at self.now folder.now ≡ None) };
+        ensures known { IfOk result (λ line. IsKnown ((texts self.now).exits folder.now) line.items) }
+        ensures missing { OnErr result ((texts self.now).exits folder.now ≡ None) };
 
     /// Why the folder of a service can't be looked at, where it can't. Something else of its name is `NotADirectory`.
     fn folder_fault(&self, folder: &str) -> Option<ErrorKind>
-        ensures { IsKnown (fault_at self.now folder.now) result };
+        ensures { IsKnown ((texts self.now).looks folder.now) result };
 }
 
 /// A local time, as `2026-11-25 01:33:02`.

@@ -303,8 +303,9 @@ pub(crate) fn left_end<A: Allocator>(told: &TraceText<A>, now: &Label) -> Label
 /// - `?`: what stands is not known: the trace does not lead to the record, and this is behind its last label.
 /// - `+`: more than one of these.
 ///
-/// An entry counts as of its label; as of the one in front of it where that is later, since a clock may be set back; and
-/// as of the reading where both are later than that. `AllocError` comes only where the allocator refuses the memory.
+/// An entry counts as of its label; as of the one in front of it where that is later, since a clock may be set back;
+/// and as of the reading where both are later than that. `AllocError` comes only where the allocator refuses the
+/// memory.
 pub fn bar_of<A: Allocator, B: Allocator>(
     alloc: A,
     told: &TraceText<B>,

@@ -51,7 +51,7 @@ fn reach_service<S: Services, F: ServiceFiles, T: LocalTimes>(
     times: &T,
     folder: &str,
 ) -> Reach
-    ensures { Reaches (knowledge (F.trace_at files.now) (F.exit_at files.now) (F.fault_at files.now) (T.text_at times.now)) folder.now
+    ensures { Reaches (knowledge (F.texts files.now) (T.text_at times.now)) folder.now
         result (S.calls services.old) (S.calls services.new) }
 {
     if let Err(why) = services.reach(folder) {
@@ -72,7 +72,7 @@ fn read_told<A: Allocator + Clone, F: ServiceFiles>(
     files: &F,
     folder: &str,
 ) -> Result<Option<TraceText<A>>, AllocError>
-    ensures { IfOk result (λ told. IsTraceOf (F.trace_at files.now folder.now) told) }
+    ensures { IfOk result (λ told. IsTraceOf ((F.texts files.now).traces folder.now) told) }
 {
     match files.read_trace(alloc.clone()?, folder) {
         Ok(text) => match read_text(alloc.clone()?, &text) {
@@ -95,9 +95,10 @@ fn facts_in<A: Allocator>(told: Option<&TraceText<A>>, status: &View, now: &Labe
     }
 }
 
-/// How the process that ended last ended, where the trace tells of one, and the line of how the last one ended is of it.
+/// How the process that ended last ended, where the trace tells of one, and the line of how the last one ended is of
+/// it.
 fn read_how<F: ServiceFiles>(files: &F, folder: &str, facts: Option<&Facts>) -> Option<Ending>
-    ensures { IsEndingOf (F.exit_at files.now folder.now) (ended_in (option_copied facts.entry)) result }
+    ensures { IsEndingOf ((F.texts files.now).exits folder.now) (ended_in (option_copied facts.entry)) result }
 {
     let ended = facts?.ended?;
     match files.read_exit(folder) {
@@ -156,7 +157,7 @@ fn stand<A: Allocator + Clone, F: ServiceFiles, T: LocalTimes, C: TimeSource>(
     normally_up: bool,
 ) -> Result<Standing, AllocError>
     ensures ok { IfOk result (λ standing.
-        FindsStanding (knowledge (F.trace_at files.now) (F.exit_at files.now) (F.fault_at files.now) (T.text_at times.now)) timeline
+        FindsStanding (knowledge (F.texts files.now) (T.text_at times.now)) timeline
         folder.now loaded normally_up standing (C.readings clock.old) (C.readings clock.new)) }
 {
     let told = read_told(alloc, files, folder)?;
@@ -187,7 +188,7 @@ fn find<A: Allocator + Clone, F: ServiceFiles, T: LocalTimes, C: TimeSource>(
     reach: Reach,
 ) -> Result<Found, AllocError>
     ensures { IfOk result (λ found.
-        Finds (knowledge (F.trace_at files.now) (F.exit_at files.now) (F.fault_at files.now) (T.text_at times.now)) timeline
+        Finds (knowledge (F.texts files.now) (T.text_at times.now)) timeline
         folder.now reach found (C.readings clock.old) (C.readings clock.new)) }
 {
     match reach {
@@ -263,11 +264,11 @@ where
     W: Write,
     C: TimeSource,
     ensures ok { IfOk result (λ unread_now.
-        Shows (knowledge (F.trace_at files.now) (F.exit_at files.now) (F.fault_at files.now) (T.text_at times.now)) timeline
+        Shows (knowledge (F.texts files.now) (T.text_at times.now)) timeline
         folder.now (scene (S.calls services.old) (C.readings clock.old) writer.old unread)
         (scene (S.calls services.new) (C.readings clock.new) writer.new unread_now)) }
     ensures err { IfErr result (λ cause.
-        ShowsNot (knowledge (F.trace_at files.now) (F.exit_at files.now) (F.fault_at files.now) (T.text_at times.now)) timeline
+        ShowsNot (knowledge (F.texts files.now) (T.text_at times.now)) timeline
         folder.now cause (scene (S.calls services.old) (C.readings clock.old) writer.old unread)
         (scene (S.calls services.new) (C.readings clock.new) writer.new false)) }
 {
@@ -299,12 +300,12 @@ where
     W: Write,
     C: TimeSource,
     ensures ok { IfOk result (λ unread.
-        InTurn (Shows (knowledge (F.trace_at files.now) (F.exit_at files.now) (F.fault_at files.now) (T.text_at times.now)) timeline)
+        InTurn (Shows (knowledge (F.texts files.now) (T.text_at times.now)) timeline)
         (map (λ word. word.now) folders.now)
         (scene (S.calls services.old) (C.readings clock.old) writer.old false)
         (scene (S.calls services.new) (C.readings clock.new) writer.new unread)) }
     ensures err { IfErr result (λ cause.
-        ShowsUpTo (knowledge (F.trace_at files.now) (F.exit_at files.now) (F.fault_at files.now) (T.text_at times.now)) timeline
+        ShowsUpTo (knowledge (F.texts files.now) (T.text_at times.now)) timeline
         (map (λ word. word.now) folders.now) cause
         (scene (S.calls services.old) (C.readings clock.old) writer.old false)
         (scene (S.calls services.new) (C.readings clock.new) writer.new false)) }
@@ -348,7 +349,7 @@ where
     W: Write,
     E: Write,
     C: TimeSource,
-    ensures ends { ServicesEnd (knowledge (F.trace_at files.now) (F.exit_at files.now) (F.fault_at files.now) (T.text_at times.now))
+    ensures ends { ServicesEnd (knowledge (F.texts files.now) (T.text_at times.now))
         timeline (map (λ word. word.now) folders.now) result
         (scene (S.calls services.old) (C.readings clock.old) writer.old)
         (scene (S.calls services.new) (C.readings clock.new) writer.new) faults.old faults.new }
@@ -370,8 +371,8 @@ where
 /// read: the picture of its trace, as [`bar_of`] draws it, and the local time at which that begins, with `now` at its
 /// end; or one line that there is no trace that can be read.
 ///
-/// Answers the status: 0; 111 where a service could not be read, which its line tells; and 111 for a fault of the writer
-/// and for want of memory, and then the services after that one are not looked at.
+/// Answers the status: 0; 111 where a service could not be read, which its line tells; and 111 for a fault of the
+/// writer and for want of memory, and then the services after that one are not looked at.
 pub fn run_why<S, F, T, A, W, E, C>(
     alloc: A,
     services: &mut S,
@@ -390,7 +391,7 @@ where
     W: Write,
     E: Write,
     C: TimeSource,
-    ensures ends { WhyEnds (knowledge (F.trace_at files.now) (F.exit_at files.now) (F.fault_at files.now) (T.text_at times.now))
+    ensures ends { WhyEnds (knowledge (F.texts files.now) (T.text_at times.now))
         (map (λ word. word.now) words.now) result
         (scene (S.calls services.old) (C.readings clock.old) writer.old)
         (scene (S.calls services.new) (C.readings clock.new) writer.new) faults.old faults.new }

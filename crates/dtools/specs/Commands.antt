@@ -63,9 +63,9 @@ wait_scene calls steps e = waiting.scene (sight calls steps) e.console.faults
 abbrev pub watch_of : Option (List handling.Call) → Equipment → svscan.Effects
 watch_of rounds e = svscan.effects rounds e.console.faults
 
--- What the operating system holds, where that is known: its files; the folders and variables; the files of services, and
--- local times; by how many seconds the clocks of its zone are ahead of UTC, at each second of Unix time; and the counts of
--- services.
+-- What the operating system holds, where that is known: its files; the folders and variables; the files of services,
+-- and local times; by how many seconds the clocks of its zone are ahead of UTC, at each second of Unix time; and the
+-- counts of services.
 pub record System : Type 0 where
   pub files : List ℕ → Option (List ℕ)
   pub state : SystemState

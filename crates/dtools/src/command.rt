@@ -58,9 +58,8 @@ where
     requires no_logs { store.old.logs ≡ [] }
     requires no_files { store.old.statuses ≡ [] }
     ensures ends { CommandEnds name.now (texts words.now) result
-        (system (R.file_at rt.now) (R.state rt.now)
-        (knowledge (R.trace_at rt.now) (R.exit_at rt.now) (R.fault_at rt.now) (Z.text_at zone.now)) (Z.ahead_at zone.now)
-        (R.counts_at rt.now))
+        (system (R.file_at rt.now) (R.state rt.now) (knowledge (R.texts rt.now) (Z.text_at zone.now))
+        (Z.ahead_at zone.now) (R.counts_at rt.now))
         (calls_so_far (L.calls launcher.old) store.old (I.feed lines.old) (S.calls services.old)
         (P.calls service_set.old) (T.steps pace.old))
         (calls_so_far (L.calls launcher.new) store.new (I.feed lines.new) (S.calls services.new)
@@ -141,9 +140,8 @@ where
     requires no_logs { store.old.logs ≡ [] }
     requires no_files { store.old.statuses ≡ [] }
     ensures ends { ProgramEnds (texts words.now) result
-        (system (R.file_at rt.now) (R.state rt.now)
-        (knowledge (R.trace_at rt.now) (R.exit_at rt.now) (R.fault_at rt.now) (Z.text_at zone.now)) (Z.ahead_at zone.now)
-        (R.counts_at rt.now))
+        (system (R.file_at rt.now) (R.state rt.now) (knowledge (R.texts rt.now) (Z.text_at zone.now))
+        (Z.ahead_at zone.now) (R.counts_at rt.now))
         (calls_so_far (L.calls launcher.old) store.old (I.feed lines.old) (S.calls services.old)
         (P.calls service_set.old) (T.steps pace.old))
         (calls_so_far (L.calls launcher.new) store.new (I.feed lines.new) (S.calls services.new)

@@ -22,7 +22,7 @@ fn explaining(memory: &Scarce<Global>, growths: u64) -> Result<bool, Fail> {
     let mut writer = Counted::new(Vec::new(memory.ample()));
     let mut faults = Counted::new(Vec::new(memory.ample()));
     memory.give(growths);
-    let status = trace_bytes(&memory, TRACE, None, &mut writer, &mut faults);
+    let status = trace_bytes(memory, TRACE, None, &mut writer, &mut faults);
     let refused = memory.lift();
     let out = writer.into_device();
     let told = faults.into_device();
@@ -50,7 +50,7 @@ fn tells_trouble_of_a_text(rt: HostRuntime) -> Result<(), Fail> {
     ] {
         let mut writer = Counted::new(Tight::failing(rt.alloc(), 10));
         let mut faults = Counted::new(Vec::new(rt.alloc()));
-        let status = trace_bytes(&rt.alloc(), text, None, &mut writer, &mut faults);
+        let status = trace_bytes(rt.alloc(), text, None, &mut writer, &mut faults);
         assert_eq!(rt; status, 111);
         assert_eq!(rt; writer.into_device().held(), held.as_bytes());
         assert_eq!(rt; faults.into_device().as_slice(), told.as_bytes());

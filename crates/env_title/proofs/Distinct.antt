@@ -4,7 +4,8 @@ use Rattle.std.specs.Prelude.{not, filter, bytes_eq}
 use Rattle.std.specs.List.{IsDistinct, AllByRecursion}
 use Rattle.env_title.specs.Env.{Binding, HasDistinctNames, binding, is_named, without, put}
 
-all_filter : {X : Type 0} (P : X → Type 0) (p : X → Bool) (xs : List X) → AllByRecursion P xs → AllByRecursion P (filter p xs)
+all_filter : {X : Type 0} (P : X → Type 0) (p : X → Bool) (xs : List X) → AllByRecursion P xs
+    → AllByRecursion P (filter p xs)
 all_filter P p [] all = tt
 all_filter P p (x ∷ xs) all =
     elim (p x) as (λ b. AllByRecursion P (cond b (x ∷ filter p xs) (filter p xs))) [
@@ -12,11 +13,13 @@ all_filter P p (x ∷ xs) all =
       | false ↦ all_filter P p xs all.1
     ]
 
-all_push : {X : Type 0} (P : X → Type 0) (xs : List X) (y : X) → AllByRecursion P xs → P y → AllByRecursion P (xs ++ y ∷ [])
+all_push : {X : Type 0} (P : X → Type 0) (xs : List X) (y : X) → AllByRecursion P xs → P y
+    → AllByRecursion P (xs ++ y ∷ [])
 all_push P [] y all one = (one, tt)
 all_push P (x ∷ xs) y all one = (all.0, all_push P xs y all.1 one)
 
-distinct_filter : {X : Type 0} (e : X → X → Bool) (p : X → Bool) (xs : List X) → IsDistinct e xs → IsDistinct e (filter p xs)
+distinct_filter : {X : Type 0} (e : X → X → Bool) (p : X → Bool) (xs : List X) → IsDistinct e xs
+    → IsDistinct e (filter p xs)
 unfolding IsDistinct
 distinct_filter e p [] distinct = tt
 distinct_filter e p (x ∷ xs) distinct =
@@ -25,7 +28,8 @@ distinct_filter e p (x ∷ xs) distinct =
       | false ↦ distinct_filter e p xs distinct.1
     ]
 
-distinct_push : {X : Type 0} (e : X → X → Bool) (xs : List X) (y : X) → IsDistinct e xs → AllByRecursion (λ x. e x y ≡ false) xs
+distinct_push : {X : Type 0} (e : X → X → Bool) (xs : List X) (y : X) → IsDistinct e xs
+    → AllByRecursion (λ x. e x y ≡ false) xs
     → IsDistinct e (xs ++ y ∷ [])
 unfolding IsDistinct
 distinct_push e [] y distinct apart = (tt, tt)
@@ -33,11 +37,13 @@ distinct_push e (x ∷ xs) y distinct apart =
     (all_push (λ z. e x z ≡ false) xs y distinct.0 apart.0, distinct_push e xs y distinct.1 apart.1)
 
 -- no variable is left that has the name
-all_without : (env : List Binding) (name : List ℕ) → AllByRecursion (λ variable. bytes_eq variable.name name ≡ false) (without env name)
+all_without : (env : List Binding) (name : List ℕ)
+    → AllByRecursion (λ variable. bytes_eq variable.name name ≡ false) (without env name)
 all_without [] name = tt
 all_without (variable ∷ env) name =
     elim (is_named name variable) as (λ b. is_named name variable ≡ b →
-    AllByRecursion (λ other. bytes_eq other.name name ≡ false) (cond (not b) (variable ∷ without env name) (without env name))) [
+    AllByRecursion (λ other. bytes_eq other.name name ≡ false)
+    (cond (not b) (variable ∷ without env name) (without env name))) [
       | true ↦ λ _. all_without env name
       | false ↦ λ is. (is, all_without env name)
     ] refl
@@ -50,7 +56,8 @@ pub distinct-without : (env : List Binding) (name : List ℕ) → HasDistinctNam
 distinct-without env name distinct =
     distinct_filter (λ one other. bytes_eq one.name other.name) (λ variable. not (is_named name variable)) env distinct
 
-pub distinct-put : (env : List Binding) (name value : List ℕ) → HasDistinctNames env → HasDistinctNames (put env name value)
+pub distinct-put : (env : List Binding) (name value : List ℕ) → HasDistinctNames env
+    → HasDistinctNames (put env name value)
 distinct-put env name value distinct =
     distinct_push (λ one other. bytes_eq one.name other.name) (without env name) (binding name value)
     (distinct-without env name distinct) (all_without env name)

@@ -30,7 +30,8 @@ told (Some f) r fault bad is = cc
 pub none_parts : (place : ℕ) (file : File) (files : List File) → slice_get (faults_from place (file ∷ files)) 0 ≡ None
     → (fault_at place file ≡ None) × (slice_get (faults_from (place + 1) files) 0 ≡ None)
 none_parts place file files none =
-    elim (fault_at place file) as (λ o. fault_at place file ≡ o → (o ≡ None) × (slice_get (faults_from (place + 1) files) 0 ≡ None)) [
+    elim (fault_at place file) as (λ o. fault_at place file ≡ o
+    → (o ≡ None) × (slice_get (faults_from (place + 1) files) 0 ≡ None)) [
       | None ↦ λ good. let rest = rw good at none in (refl, rest)
       | Some fault ↦ λ bad. let first : Some fault ≡ None = rw bad at none in cc
     ] refl

@@ -1,5 +1,6 @@
 -- The last items of a list that grows.
-use Rattle.std.proofs.Common.{◌≡◌, ℕ, suc, take, append_assoc, ◌+◌, ◌-◌, ◌<◌, ◌≤◌, List, [], ◌∷◌, ◌++◌, length, drop, sym, ◌∙◌, ap, arith, length-append, length-drop}
+use Rattle.std.proofs.Common.{◌≡◌, ℕ, suc, take, append_assoc, ◌+◌, ◌-◌, ◌<◌, ◌≤◌, List, [], ◌∷◌, ◌++◌, length, drop}
+use Rattle.std.proofs.Common.{sym, ◌∙◌, ap, arith, length-append, length-drop}
 use Rattle.std.proofs.lemmas.List.{drop-append-le, drop-drop, take_rest, replicate-append-replicate, length-replicate}
 use Rattle.std.specs.Prelude.{replicate}
 use Rattle.circular_buffer.specs.Buffer.{keep_last}
@@ -36,7 +37,8 @@ length-keep_last n xs long = omega (arith, length-drop (length xs - n) xs)
 pub run-shown : (n : ℕ) (items start rest all : List ℕ) (at : ℕ) → at < length rest → Passes (is_byte 0) rest at
     → Nowhere (Passes (is_byte 0) rest) 0 at
     → keep_last n (items ++ without_nul rest) ≡ keep_last n (start ++ without_nul all)
-    → keep_last n (keep_last n (items ++ take at rest) ++ without_nul (take (length (drop at rest) - 1) (drop 1 (drop at rest))))
+    → keep_last n (keep_last n (items ++ take at rest)
+    ++ without_nul (take (length (drop at rest) - 1) (drop 1 (drop at rest))))
     ≡ keep_last n (start ++ without_nul all)
 run-shown n items start rest all at within is before shown =
     let next : at + 1 ≡ suc at = omega arith in
@@ -53,5 +55,6 @@ pub rest-shown : (n : ℕ) (items start rest all : List ℕ) → Nowhere (Passes
     → keep_last n (items ++ rest) ≡ keep_last n (start ++ without_nul all)
 rest-shown n items start rest all none shown = ap (λ t. keep_last n (items ++ t)) (sym (nul-none rest none)) ∙ shown
 
-pub same_title : {items others : List ℕ} {len other : ℕ} → items ≡ others → len ≡ other → title_of items len ≡ title_of others other
+pub same_title : {items others : List ℕ} {len other : ℕ} → items ≡ others → len ≡ other
+    → title_of items len ≡ title_of others other
 same_title same equal = λ i. title_of (same i) (equal i)

@@ -1,5 +1,6 @@
 -- A title after many pushes.
-use Rattle.std.proofs.Common.{◌≡◌, ℕ, ◌-◌, ◌≤◌, ◌==◌, List, [], ◌∷◌, ◌++◌, length, sym, ◌∙◌, ap, arith, append_assoc, length-append}
+use Rattle.std.proofs.Common.{◌≡◌, ℕ, ◌-◌, ◌≤◌, ◌==◌, List, [], ◌∷◌, ◌++◌, length, sym, ◌∙◌, ap, arith, append_assoc}
+use Rattle.std.proofs.Common.{length-append}
 use Rattle.std.specs.Prelude.{not, replicate}
 use Rattle.std.proofs.lemmas.List.{append-nil, length-replicate}
 use Rattle.std.proofs.lemmas.List.Elements.{filter-append}
@@ -8,7 +9,8 @@ use Rattle.env_title.specs.Title.{TitleParts, dot, new_title, pushed, title_text
 use Rattle.env_title.specs.Laws.{pushed_one_by_one}
 use Rattle.env_title.proofs.KeepLast.{title_of, keep_last-append, keep_last-short, length-keep_last}
 
-pub pushed-pushed : (title : TitleParts) (bytes more : List ℕ) → pushed (pushed title bytes) more ≡ pushed title (bytes ++ more)
+pub pushed-pushed : (title : TitleParts) (bytes more : List ℕ) → pushed (pushed title bytes) more
+    ≡ pushed title (bytes ++ more)
 pushed-pushed title bytes more =
     let room = title.len - 3 in
     ap (λ items. title_of items title.len)
@@ -16,7 +18,8 @@ pushed-pushed title bytes more =
     ∙ ap (keep_last room) (append_assoc title.items (without_nul bytes) (without_nul more)
     ∙ ap (λ t. title.items ++ t) (sym (filter-append (λ byte. not (byte == 0)) bytes more))))
 
-after_more : (title : TitleParts) (done bytes : List ℕ) → pushed_one_by_one (pushed title done) bytes ≡ pushed title (done ++ bytes)
+after_more : (title : TitleParts) (done bytes : List ℕ) → pushed_one_by_one (pushed title done) bytes
+    ≡ pushed title (done ++ bytes)
 after_more title done [] = ap (pushed title) (sym (append-nil done))
 after_more title done (byte ∷ bytes) =
     ap (λ before. pushed_one_by_one before bytes) (pushed-pushed title done (byte ∷ []))
@@ -39,5 +42,6 @@ length-title len bytes long =
     let start = replicate room dot in
     let items = keep_last room (start ++ without_nul bytes) in
     let whole : length items ≡ room =
-    length-keep_last room (start ++ without_nul bytes) (omega (arith, length-append start (without_nul bytes), length-replicate room dot)) in
+    length-keep_last room (start ++ without_nul bytes)
+    (omega (arith, length-append start (without_nul bytes), length-replicate room dot)) in
     omega (arith, length-append (replicate 3 dot) items)

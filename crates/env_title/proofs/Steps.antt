@@ -1,11 +1,13 @@
 -- The environment after files, file by file.
-use Rattle.std.proofs.Common.{◌≡◌, ℕ, suc, ◌+◌, ◌<◌, length, get_or, drop, drop-cons, arith, true, false, cond, ◌||◌, List, [], ◌∷◌, ◌++◌, refl, sym, ◌∙◌, ap, append_assoc}
+use Rattle.std.proofs.Common.{◌≡◌, ℕ, suc, ◌+◌, ◌<◌, length, get_or, drop, drop-cons, arith, true, false, cond, ◌||◌}
+use Rattle.std.proofs.Common.{List, [], ◌∷◌, ◌++◌, refl, sym, ◌∙◌, ap, append_assoc}
 use Rattle.std.specs.Prelude.{not, filter, map, bytes_eq}
 use Rattle.std.proofs.lemmas.List.{append-nil}
 use Rattle.std.proofs.lemmas.List.Elements.{filter-append}
 use Rattle.std.proofs.lemmas.Slice.Eq.{bytes_eq-Decides}
 use Rattle.env_title.specs.Env.{Binding, binding, without, put}
-use Rattle.env_title.specs.Files.{File, is_hidden, is_empty, file_value, has_file, last_of_each_name, env_after, after_file}
+use Rattle.env_title.specs.Files.{File, is_hidden, is_empty, file_value, has_file, last_of_each_name, env_after}
+use Rattle.env_title.specs.Files.{after_file}
 
 -- the file at a place, and those behind it
 pub file_and_rest : (files : List File) (i : ℕ) (file : File) → i < length files → file ≡ get_or files i file
@@ -23,7 +25,8 @@ has_last : (files : List File) (name : List ℕ) → has_file (last_of_each_name
 has_last [] name = refl
 has_last (file ∷ later) name =
     elim (has_file later file.name) as (λ b. has_file later file.name ≡ b →
-    has_file (cond b (last_of_each_name later) (file ∷ last_of_each_name later)) name ≡ (bytes_eq name file.name || has_file later name)) [
+    has_file (cond b (last_of_each_name later) (file ∷ last_of_each_name later)) name
+    ≡ (bytes_eq name file.name || has_file later name)) [
       | true ↦ λ again. elim (bytes_eq name file.name) as (λ b. bytes_eq name file.name ≡ b →
           has_file (last_of_each_name later) name ≡ (b || has_file later name)) [
             | true ↦ λ is. has_last later name ∙ ap (has_file later) (same name file.name is) ∙ again
@@ -44,10 +47,12 @@ left_by-without counted (variable ∷ env) name again =
     elim (bytes_eq variable.name name) as (λ b. bytes_eq variable.name name ≡ b →
     left_by counted (cond (not b) (variable ∷ without env name) (without env name)) ≡ left_by counted (variable ∷ env)) [
       | true ↦ λ is.
-          let taken : has_file counted variable.name ≡ true = ap (has_file counted) (same variable.name name is) ∙ again in
+          let taken : has_file counted variable.name ≡ true = ap (has_file counted) (same variable.name name is)
+          ∙ again in
           rw taken (left_by-without counted env name again)
       | false ↦ λ _.
-          ap (λ rest. cond (not (has_file counted variable.name)) (variable ∷ rest) rest) (left_by-without counted env name again)
+          ap (λ rest. cond (not (has_file counted variable.name)) (variable ∷ rest) rest)
+          (left_by-without counted env name again)
     ] refl
 
 -- else it is taken away by its own file
@@ -57,9 +62,11 @@ left_by-cons file counted [] = refl
 left_by-cons file counted (variable ∷ env) =
     elim (bytes_eq variable.name file.name) as (λ b.
     left_by counted (cond (not b) (variable ∷ without env file.name) (without env file.name))
-    ≡ cond (not (b || has_file counted variable.name)) (variable ∷ left_by (file ∷ counted) env) (left_by (file ∷ counted) env)) [
+    ≡ cond (not (b || has_file counted variable.name)) (variable ∷ left_by (file ∷ counted) env)
+    (left_by (file ∷ counted) env)) [
       | true ↦ left_by-cons file counted env
-      | false ↦ ap (λ rest. cond (not (has_file counted variable.name)) (variable ∷ rest) rest) (left_by-cons file counted env)
+      | false ↦ ap (λ rest. cond (not (has_file counted variable.name)) (variable ∷ rest) rest)
+          (left_by-cons file counted env)
     ]
 
 -- what the files that count set
@@ -70,11 +77,15 @@ sets counted = map (λ file. binding file.name (file_value file.bytes)) (filter 
 step_again : (counted : List File) (env : List Binding) (file : File) → has_file counted file.name ≡ true
     → left_by counted (after_file env file) ≡ left_by counted env
 step_again counted env file again =
-    elim (is_empty file) as (λ b. left_by counted (cond b (without env file.name) (put env file.name (file_value file.bytes))) ≡ left_by counted env) [
+    elim (is_empty file) as (λ b.
+    left_by counted (cond b (without env file.name) (put env file.name (file_value file.bytes)))
+    ≡ left_by counted env) [
       | true ↦ left_by-without counted env file.name again
       | false ↦
-          filter-append (λ variable. not (has_file counted variable.name)) (without env file.name) (binding file.name (file_value file.bytes) ∷ [])
-          ∙ rw again (append-nil (left_by counted (without env file.name)) ∙ left_by-without counted env file.name again)
+          filter-append (λ variable. not (has_file counted variable.name)) (without env file.name)
+          (binding file.name (file_value file.bytes) ∷ [])
+          ∙ rw again (append-nil (left_by counted (without env file.name))
+          ∙ left_by-without counted env file.name again)
     ]
 
 -- A file that counts sets its variable in front of those of the later ones.
@@ -88,10 +99,13 @@ step_last counted env file last =
       | true ↦ ap (λ front. front ++ sets counted) (left_by-cons file counted env)
       | false ↦
           ap (λ front. front ++ sets counted)
-          (filter-append (λ variable. not (has_file counted variable.name)) (without env file.name) (binding file.name (file_value file.bytes) ∷ []))
+          (filter-append (λ variable. not (has_file counted variable.name)) (without env file.name)
+          (binding file.name (file_value file.bytes) ∷ []))
           ∙ rw last
-          (append_assoc (left_by counted (without env file.name)) (binding file.name (file_value file.bytes) ∷ []) (sets counted)
-          ∙ ap (λ front. front ++ binding file.name (file_value file.bytes) ∷ sets counted) (left_by-cons file counted env))
+          (append_assoc (left_by counted (without env file.name)) (binding file.name (file_value file.bytes) ∷ [])
+          (sets counted)
+          ∙ ap (λ front. front ++ binding file.name (file_value file.bytes) ∷ sets counted)
+          (left_by-cons file counted env))
     ]
 
 pub env_after-hidden : (file : File) (files : List File) (env : List Binding) → is_hidden file ≡ true
@@ -107,7 +121,8 @@ env_after-visible file files env visible =
     (elim (has_file others file.name) as (λ b. has_file others file.name ≡ b →
     left_by (cond b counted (file ∷ counted)) env ++ sets (cond b counted (file ∷ counted))
     ≡ left_by counted (after_file env file) ++ sets counted) [
-      | true ↦ λ again. ap (λ front. front ++ sets counted) (sym (step_again counted env file (has_last others file.name ∙ again)))
+      | true ↦ λ again. ap (λ front. front ++ sets counted)
+          (sym (step_again counted env file (has_last others file.name ∙ again)))
       | false ↦ λ last. sym (step_last counted env file (has_last others file.name ∙ last))
     ] refl)
 

@@ -1,10 +1,14 @@
 -- To make each NUL a newline changes nothing in whether bytes are UTF-8.
-use Rattle.std.proofs.Common.{◌≡◌, ℕ, zero, suc, add-one, lit<, ◌∙◌, ◌+◌, ◌<◌, ◌==◌, true, false, cond, List, [], ◌∷◌, ◌++◌, length, get_or, take, drop, refl, sym, subst, ap, arith, ◌⊎◌, inl, inr, append_assoc, length-append, take_at}
+use Rattle.std.proofs.Common.{◌≡◌, ℕ, zero, suc, add-one, lit<, ◌∙◌, ◌+◌, ◌<◌, ◌==◌, true, false, cond, List, [], ◌∷◌}
+use Rattle.std.proofs.Common.{◌++◌, length, get_or, take, drop, refl, sym, subst, ap, arith, ◌⊎◌, inl, inr}
+use Rattle.std.proofs.Common.{append_assoc, length-append, take_at}
 use Rattle.std.specs.Prelude.{map}
 use Rattle.std.specs.List.{AllZip}
 use Rattle.std.specs.Str.{IsUtf8, is_utf8}
 use Rattle.std.proofs.lemmas.Bool.{eqb-true, false_from_ne_true, both_ways}
-use Rattle.std.proofs.lemmas.Str.{IsUtf8-append, IsUtf8-take, IsUtf8-drop, IsUtf8-from_ascii, IsCharBoundary-before_ascii, IsCharBoundary-after_ascii, IsUtf8-from_is_utf8, is_utf8-from_IsUtf8}
+use Rattle.std.proofs.lemmas.Str.{IsUtf8-append, IsUtf8-take, IsUtf8-drop, IsUtf8-from_ascii}
+use Rattle.std.proofs.lemmas.Str.{IsCharBoundary-before_ascii, IsCharBoundary-after_ascii, IsUtf8-from_is_utf8}
+use Rattle.std.proofs.lemmas.Str.{is_utf8-from_IsUtf8}
 use Rattle.env_title.specs.Files.{newline, nul_as_newline}
 
 -- the same byte, or one ASCII byte for another
@@ -33,15 +37,20 @@ text_swapped front (x ∷ xs) [] same text = absurd same
 text_swapped front (x ∷ xs) (y ∷ ys) same text =
     elim same.0 [
       | inl e ↦
-          let on = text_swapped (front ++ x ∷ []) xs ys same.1 (subst IsUtf8 (sym (append_assoc front (x ∷ []) xs)) text) in
+          let on = text_swapped (front ++ x ∷ []) xs ys same.1
+          (subst IsUtf8 (sym (append_assoc front (x ∷ []) xs)) text) in
           subst (λ z. IsUtf8 (front ++ z ∷ ys)) e (subst IsUtf8 (append_assoc front (x ∷ []) ys) on)
       | inr ascii ↦
           let at = length front in
           let within : at < length (front ++ x ∷ xs) = omega (arith, length-append front (x ∷ xs)) in
           let byte : get_or (front ++ x ∷ xs) at 0 < 128 = rw (at_front front xs x) ascii.0 in
-          let before : IsUtf8 (take at (front ++ x ∷ xs)) = IsUtf8-take (front ++ x ∷ xs) at text (IsCharBoundary-before_ascii (front ++ x ∷ xs) at within byte) in
-          let behind : IsUtf8 (drop (at + 1) (front ++ x ∷ xs)) = IsUtf8-drop (front ++ x ∷ xs) (at + 1) text (IsCharBoundary-after_ascii (front ++ x ∷ xs) at text within byte) in
-          let later : drop (at + 1) (front ++ x ∷ xs) ≡ xs = ap (λ k. drop k (front ++ x ∷ xs)) (add-one at) ∙ behind_front front xs x in
+          let before : IsUtf8 (take at (front ++ x ∷ xs)) =
+          IsUtf8-take (front ++ x ∷ xs) at text (IsCharBoundary-before_ascii (front ++ x ∷ xs) at within byte) in
+          let behind : IsUtf8 (drop (at + 1) (front ++ x ∷ xs)) =
+          IsUtf8-drop (front ++ x ∷ xs) (at + 1) text
+          (IsCharBoundary-after_ascii (front ++ x ∷ xs) at text within byte) in
+          let later : drop (at + 1) (front ++ x ∷ xs) ≡ xs = ap (λ k. drop k (front ++ x ∷ xs)) (add-one at)
+          ∙ behind_front front xs x in
           let rest = text_swapped [] xs ys same.1 (subst IsUtf8 later behind) in
           IsUtf8-append front (y ∷ ys) (subst IsUtf8 (take_at front (x ∷ xs) at refl) before)
           (IsUtf8-append (y ∷ []) ys (one_ascii y ascii.1) rest)
@@ -71,5 +80,6 @@ is_utf8-swapped xs =
           (text_swapped [] xs (map nul_as_newline xs) (swaps xs) (IsUtf8-from_is_utf8 xs text))
       | false ↦ λ none. false_from_ne_true (is_utf8 (map nul_as_newline xs)) (λ text.
           both_ways (is_utf8 xs) none (is_utf8-from_IsUtf8 xs
-          (text_swapped [] (map nul_as_newline xs) xs (swaps_back xs) (IsUtf8-from_is_utf8 (map nul_as_newline xs) text))))
+          (text_swapped [] (map nul_as_newline xs) xs (swaps_back xs)
+          (IsUtf8-from_is_utf8 (map nul_as_newline xs) text))))
     ] refl

@@ -24,7 +24,8 @@ other_without (variable ∷ env) gone name apart =
     elim (bytes_eq variable.name gone) as (λ b. bytes_eq variable.name gone ≡ b →
     value_of (cond (not b) (variable ∷ without env gone) (without env gone)) name ≡ value_of (variable ∷ env) name) [
       | true ↦ λ is.
-          let other : bytes_eq variable.name name ≡ false = ap (λ n. bytes_eq n name) (same variable.name gone is) ∙ apart in
+          let other : bytes_eq variable.name name ≡ false = ap (λ n. bytes_eq n name) (same variable.name gone is)
+          ∙ apart in
           rw other (other_without env gone name apart)
       | false ↦ λ _.
           elim (bytes_eq variable.name name) as (λ b.
@@ -35,13 +36,16 @@ other_without (variable ∷ env) gone name apart =
           ]
     ] refl
 
-found_last : (env : List Binding) (last : Binding) (name : List ℕ) → value_of env name ≡ None → bytes_eq last.name name ≡ true
+found_last : (env : List Binding) (last : Binding) (name : List ℕ) → value_of env name ≡ None
+    → bytes_eq last.name name ≡ true
     → value_of (env ++ last ∷ []) name ≡ Some last.value
 found_last [] last name none is = rw is refl
 found_last (variable ∷ env) last name none is =
-    elim (bytes_eq variable.name name) as (λ b. bytes_eq variable.name name ≡ b → value_of (variable ∷ env ++ last ∷ []) name ≡ Some last.value) [
+    elim (bytes_eq variable.name name) as (λ b. bytes_eq variable.name name ≡ b
+    → value_of (variable ∷ env ++ last ∷ []) name ≡ Some last.value) [
       | true ↦ λ found. let never : Some variable.value ≡ None = rw found at none in cc
-      | false ↦ λ other. let later : value_of env name ≡ None = rw other at none in rw other (found_last env last name later is)
+      | false ↦ λ other. let later : value_of env name ≡ None = rw other at none in
+          rw other (found_last env last name later is)
     ] refl
 
 not_last : (env : List Binding) (last : Binding) (name : List ℕ) → bytes_eq last.name name ≡ false
@@ -63,7 +67,8 @@ own_value env file name is =
     let gone : value_of (without env file.name) name ≡ None =
     ap (λ n. value_of (without env n) name) called ∙ none_without env name in
     elim (is_empty file) as (λ b.
-    value_of (cond b (without env file.name) (put env file.name (file_value file.bytes))) name ≡ cond b None (Some (file_value file.bytes))) [
+    value_of (cond b (without env file.name) (put env file.name (file_value file.bytes))) name
+    ≡ cond b None (Some (file_value file.bytes))) [
       | true ↦ gone
       | false ↦ found_last (without env file.name) (binding file.name (file_value file.bytes)) name gone is
     ]
@@ -105,7 +110,8 @@ decides (file ∷ files) env name =
                 ap (λ e. value_of e name) (env_after-visible file files env visible)
                 ∙ decides files (after_file env file) name
                 ∙ ap (value_by (last_file files name)) (own_value env file name is)
-                ∙ rw (visible, is) (later_decides (filter (λ f. not (is_hidden f) && bytes_eq f.name name) files) file (value_of env name))
+                ∙ rw (visible, is) (later_decides (filter (λ f. not (is_hidden f) && bytes_eq f.name name) files) file
+                (value_of env name))
             | false ↦ λ other.
                 ap (λ e. value_of e name) (env_after-visible file files env visible)
                 ∙ decides files (after_file env file) name
@@ -113,10 +119,12 @@ decides (file ∷ files) env name =
           ] refl
     ] refl
 
-pub follows : (files more : List File) (env : List Binding) → env_after (files ++ more) env ≡ env_after more (env_after files env)
+pub follows : (files more : List File) (env : List Binding) → env_after (files ++ more) env
+    ≡ env_after more (env_after files env)
 follows [] more env = ap (env_after more) (sym (env_after-nothing env))
 follows (file ∷ files) more env =
-    elim (is_hidden file) as (λ b. is_hidden file ≡ b → env_after (file ∷ (files ++ more)) env ≡ env_after more (env_after (file ∷ files) env)) [
+    elim (is_hidden file) as (λ b. is_hidden file ≡ b → env_after (file ∷ (files ++ more)) env
+    ≡ env_after more (env_after (file ∷ files) env)) [
       | true ↦ λ hidden.
           env_after-hidden file (files ++ more) env hidden ∙ follows files more env
           ∙ ap (env_after more) (sym (env_after-hidden file files env hidden))
@@ -127,16 +135,19 @@ follows (file ∷ files) more env =
 
 distinct-file : (env : List Binding) (file : File) → HasDistinctNames env → HasDistinctNames (after_file env file)
 distinct-file env file distinct =
-    elim (is_empty file) as (λ b. HasDistinctNames (cond b (without env file.name) (put env file.name (file_value file.bytes)))) [
+    elim (is_empty file) as (λ b.
+    HasDistinctNames (cond b (without env file.name) (put env file.name (file_value file.bytes)))) [
       | true ↦ distinct-without env file.name distinct
       | false ↦ distinct-put env file.name (file_value file.bytes) distinct
     ]
 
-pub stay_distinct : (files : List File) (env : List Binding) → HasDistinctNames env → HasDistinctNames (env_after files env)
+pub stay_distinct : (files : List File) (env : List Binding) → HasDistinctNames env
+    → HasDistinctNames (env_after files env)
 stay_distinct [] env distinct = subst HasDistinctNames (sym (env_after-nothing env)) distinct
 stay_distinct (file ∷ files) env distinct =
     elim (is_hidden file) as (λ b. is_hidden file ≡ b → HasDistinctNames (env_after (file ∷ files) env)) [
-      | true ↦ λ hidden. subst HasDistinctNames (sym (env_after-hidden file files env hidden)) (stay_distinct files env distinct)
+      | true ↦ λ hidden. subst HasDistinctNames (sym (env_after-hidden file files env hidden))
+          (stay_distinct files env distinct)
       | false ↦ λ visible.
           subst HasDistinctNames (sym (env_after-visible file files env visible))
           (stay_distinct files (after_file env file) (distinct-file env file distinct))

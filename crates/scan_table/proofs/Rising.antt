@@ -1,5 +1,6 @@
 -- Rising names differ, each from each.
-use Rattle.std.proofs.Common.{◌≡◌, ℕ, ◌+◌, ◌-◌, ◌<◌, ◌≤◌, true, false, List, length, drop, slice_index_or, nat_le, sym, ap, ◌∙◌, refl, zero, suc, arith}
+use Rattle.std.proofs.Common.{◌≡◌, ℕ, ◌+◌, ◌-◌, ◌<◌, ◌≤◌, true, false, List, length, drop, slice_index_or, nat_le, sym}
+use Rattle.std.proofs.Common.{ap, ◌∙◌, refl, zero, suc, arith}
 use Rattle.std.specs.List.{list_any, AllPairs}
 use Rattle.std.specs.Ordering.{is_eq}
 use Rattle.std.specs.declared.cmp.Ordering.TheVariants.{Less}
@@ -17,7 +18,8 @@ further rows h zero i j d e b =
     rw e' (h i d (omega arith))
 further rows h (suc n) i j d e b =
     let e' : j ≡ (i + 1 + n) + 1 = omega arith in
-    rw e' (nat_list_cmp_total.trans (slice_index_or rows i d).name (slice_index_or rows (i + 1 + n) d).name (slice_index_or rows (i + 1 + n + 1) d).name
+    rw e' (nat_list_cmp_total.trans (slice_index_or rows i d).name (slice_index_or rows (i + 1 + n) d).name
+    (slice_index_or rows (i + 1 + n + 1) d).name
     (further rows h n i (i + 1 + n) d refl (omega arith)) (h (i + 1 + n) d (omega arith)))
 
 -- each name is below all later ones
@@ -41,7 +43,8 @@ among-later ns r k x pairs within here =
           let le : r ≤ k = grind (arith) in
           let e : r + (k - r) ≡ k = omega arith in
           let b : k - r < length (drop r ns) = rw (length-drop r ns) (omega arith) in
-          let at : slice_index_or (drop r ns) (k - r) x ≡ x = get_or-drop r ns (k - r) x ∙ ap (λ n. slice_index_or ns n x) e ∙ here x in
+          let at : slice_index_or (drop r ns) (k - r) x ≡ x = get_or-drop r ns (k - r) x
+          ∙ ap (λ n. slice_index_or ns n x) e ∙ here x in
           list_any_at (λ other. is_name x.name other.name) (drop r ns) (k - r) x b
           (ap (λ (y : Row). is_name x.name y.name) at ∙ is_name-same x.name)
       | false ↦ λ is.
@@ -49,7 +52,9 @@ among-later ns r k x pairs within here =
           list_any_none (λ other. is_name x.name other.name) (drop r ns)
           (λ i d b.
           let b' : i < length ns - r = rw (sym (length-drop r ns)) b in
-          let less : IsBelow (slice_index_or ns k d) (slice_index_or ns (r + i) d) = pairs k (r + i) d (omega arith) (omega arith) in
+          let less : IsBelow (slice_index_or ns k d) (slice_index_or ns (r + i) d) =
+          pairs k (r + i) d (omega arith) (omega arith) in
           let less' : IsBelow x (slice_index_or ns (r + i) d) = rw (sym (here d)) less in
-          ap (λ (y : Row). is_name x.name y.name) (get_or-drop r ns i d) ∙ below-not x.name (slice_index_or ns (r + i) d).name less')
+          ap (λ (y : Row). is_name x.name y.name) (get_or-drop r ns i d)
+          ∙ below-not x.name (slice_index_or ns (r + i) d).name less')
     ] refl

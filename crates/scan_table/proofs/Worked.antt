@@ -31,7 +31,13 @@ enough = refl
 
 -- a pair whose log has ended restarts its log alone; where its row is gone it stays, since its main part has not ended
 abbrev pair : List SlotState
-pair = record { number = 0; name = codes "a"; main = record { number = 1; has_ended = false }; log = Some (record { number = 2; has_ended = true }) } ∷ []
+pair = record {
+  number = 0;
+  name = codes "a";
+  main = record { number = 1; has_ended = false };
+  log =
+      Some (record { number = 2; has_ended = true });
+} ∷ []
 
 pub log_alone : restarts pair 3 one_row ≡ record { slot = 0; role = Log; life = 3 } ∷ []
 log_alone = refl

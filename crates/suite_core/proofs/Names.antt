@@ -26,7 +26,8 @@ is_part-later a b later =
     rw no (rw (and-false (is_role a.role b.role)) (and-false (a.slot == b.slot)))
 
 -- A part at a place has the slot and the role of the place.
-pub is_at-same : (part : PartId) (number : ℕ) (role : Role) → is_at part number role ≡ true → part ≡ record { slot = number; role = role; life = part.life }
+pub is_at-same : (part : PartId) (number : ℕ) (role : Role) → is_at part number role ≡ true
+    → part ≡ record { slot = number; role = role; life = part.life }
 is_at-same part number Main at = grind (arith, nat_tests)
 is_at-same part number Log at = grind (arith, nat_tests)
 

@@ -1,5 +1,6 @@
 -- Suite events and their lines: what is told is read, and what is read is told so.
-use Rattle.std.proofs.Common.{◌≡◌, ℕ, ◌==◌, true, false, List, [], ◌∷◌, ◌++◌, map, Option, Some, None, Result, Ok, Err, refl, sym, ap, ◌∙◌, arith, decimal, codes, subst}
+use Rattle.std.proofs.Common.{◌≡◌, ℕ, ◌==◌, true, false, List, [], ◌∷◌, ◌++◌, map, Option, Some, None, Result, Ok, Err}
+use Rattle.std.proofs.Common.{refl, sym, ap, ◌∙◌, arith, decimal, codes, subst}
 use Rattle.std.specs.Prelude.{IfSome, IfOk, MatchResult, is_some, if◌then◌else◌, bytes_eq}
 use Rattle.std.specs.List.{join_with_byte}
 use Rattle.std.specs.Cmp.Derive.{both_true}
@@ -19,13 +20,16 @@ use Rattle.sup_core.specs.Text.{event_fields, event_text}
 use Rattle.sup_core.specs.Reading.{fields, IsInRange, label_of_text, event_from}
 use Rattle.sup_core.proofs.Fields.{split_some_part}
 use Rattle.sup_core.proofs.Spelling.{TellsLabel, label_of_text-found, label_of_text-only}
-use Rattle.sup_core.proofs.Lines.{is_solid, avoids-solid, split-first, fields-join, decimal-solid, label_text-solid, event_fields-event_text, event_read, Told, told_of}
+use Rattle.sup_core.proofs.Lines.{is_solid, avoids-solid, split-first, fields-join, decimal-solid, label_text-solid}
+use Rattle.sup_core.proofs.Lines.{event_fields-event_text, event_read, Told, told_of}
 use Rattle.suite_lines.specs.declared.event.SuiteEvent.{SuiteEvent}
 use Rattle.suite_lines.specs.declared.event.SuiteEvent.TheVariants.{Scan, At}
 use Rattle.suite_lines.specs.declared.fault.SuiteLineFault.{SuiteLineFault}
 use Rattle.suite_lines.specs.declared.fault.SuiteLineFault.TheVariants as fault
-use Rattle.suite_lines.specs.Text.{role_name, part_text, row_text, IsPart, IsSpellable, suite_event_fields, suite_event_text}
-use Rattle.suite_lines.specs.Reading.{dotted, part_from, rows_of_texts, scan_of, scan_from, at_of, at_from, suite_event_from}
+use Rattle.suite_lines.specs.Text.{role_name, part_text, row_text, IsPart, IsSpellable, suite_event_fields}
+use Rattle.suite_lines.specs.Text.{suite_event_text}
+use Rattle.suite_lines.specs.Reading.{dotted, part_from, rows_of_texts, scan_of, scan_from, at_of, at_from}
+use Rattle.suite_lines.specs.Reading.{suite_event_from}
 use Rattle.suite_lines.specs.Answers.{line_fault, IsRead}
 use Rattle.suite_lines.specs.Fields.{are_rows}
 use Rattle.suite_lines.proofs.PartTexts.{part_from-part_text, part_text-part_from}
@@ -60,11 +64,13 @@ at_fields A part event range =
     ap fields (at_line A part event)
     ∙ split-first 32 (codes "at") (part_text part ++ 32 ∷ event_text event) refl
     ∙ ap (λ (more : List (List ℕ)). codes "at" ∷ more)
-    (split-first 32 (part_text part) (event_text event) (avoids-solid 32 (part_text part) (omega arith) (part_text-solid part))
+    (split-first 32 (part_text part) (event_text event)
+    (avoids-solid 32 (part_text part) (omega arith) (part_text-solid part))
     ∙ ap (λ (more : List (List ℕ)). part_text part ∷ more) (event_fields-event_text event range))
 
 -- the fields of a suite event's line
-line_fields : {A : Type 0} (event : SuiteEvent A) → IsSpellable event → fields (suite_event_text event) ≡ suite_event_fields event
+line_fields : {A : Type 0} (event : SuiteEvent A) → IsSpellable event → fields (suite_event_text event)
+    ≡ suite_event_fields event
 line_fields (Scan rows label) h = fields-join _ _ (refl, (label_text-solid label h.0, rows-solid rows h.1))
 line_fields {A} (At part event) h = at_fields A part event h.1
 
@@ -76,7 +82,8 @@ at_read part (StartFailed label) p h = rw (part_from-part_text part p, event_rea
 at_read part (Death label) p h = rw (part_from-part_text part p, event_read (Death label) h) refl
 at_read part (Clock label) p h = rw (part_from-part_text part p, event_read (Clock label) h) refl
 
-fields_read : {A : Type 0} (event : SuiteEvent A) → IsSpellable event → suite_event_from (suite_event_fields event) ≡ Ok event
+fields_read : {A : Type 0} (event : SuiteEvent A) → IsSpellable event → suite_event_from (suite_event_fields event)
+    ≡ Ok event
 fields_read (Scan rows label) h =
     rw (label_of_text-only (label_text label) label (record { range = h.0; is = refl }), rows-read rows h.1) refl
 fields_read (At part event) h = at_read part event h.0 h.1
@@ -107,11 +114,13 @@ scan_line : {A : Type 0} (word : List ℕ) (rest : List (List ℕ)) (event : Sui
     → scan_from rest ≡ Ok event → TellsEvent (word ∷ rest) event
 scan_line word [] event is h = cc h
 scan_line word (text ∷ texts) event is h =
-    scan_told word text texts (label_of_text text) (rows_of_texts texts) event (label_of_text-found text) (rows-told texts) is h
+    scan_told word text texts (label_of_text text) (rows_of_texts texts) event (label_of_text-found text)
+    (rows-told texts) is h
 
 at_told : {A : Type 0} (word text first : List ℕ) (rest : List (List ℕ)) (part : Result PartId EventFault)
     (told : Result Event EventFault) (event : SuiteEvent A)
-    → ((p : PartId) → part ≡ Ok p → IsPart p × (text ≡ part_text p)) → ((e : Event) → told ≡ Ok e → Told (first ∷ rest) e)
+    → ((p : PartId) → part ≡ Ok p → IsPart p × (text ≡ part_text p))
+    → ((e : Event) → told ≡ Ok e → Told (first ∷ rest) e)
     → word ≡ codes "at" → at_of part told ≡ Ok event → TellsEvent (word ∷ text ∷ first ∷ rest) event
 at_told word text first rest (Err why) told event p e is h = cc h
 at_told word text first rest (Ok part) (Err why) event p e is h = cc h
@@ -121,7 +130,8 @@ at_told word text first rest (Ok part) (Ok told) event p e is h =
     let line = e told refl in
     let here_is = here.1 in
     let line_is = line.is in
-    let parts : word ∷ text ∷ first ∷ rest ≡ codes "at" ∷ part_text part ∷ event_fields told = cc (is, here_is, line_is) in
+    let parts : word ∷ text ∷ first ∷ rest ≡ codes "at" ∷ part_text part ∷ event_fields told =
+    cc (is, here_is, line_is) in
     subst (TellsEvent (word ∷ text ∷ first ∷ rest)) same (record { so = (here.0, line.range); is = parts })
 
 at_parts : {A : Type 0} (word : List ℕ) (rest : List (List ℕ)) (event : SuiteEvent A) → word ≡ codes "at"
@@ -129,10 +139,12 @@ at_parts : {A : Type 0} (word : List ℕ) (rest : List (List ℕ)) (event : Suit
 at_parts word [] event is h = cc h
 at_parts word (text ∷ []) event is h = cc h
 at_parts word (text ∷ first ∷ rest) event is h =
-    at_told word text first rest (part_from (dotted text)) (event_from (first ∷ rest)) event (part_text-part_from text) (told_of (first ∷ rest)) is h
+    at_told word text first rest (part_from (dotted text)) (event_from (first ∷ rest)) event (part_text-part_from text)
+    (told_of (first ∷ rest)) is h
 
 -- a choice by a word
-choose : {R E T : Type 0} (word name : List ℕ) (a b : Result R E) (x : R) → (word ≡ name → a ≡ Ok x → T) → (b ≡ Ok x → T)
+choose : {R E T : Type 0} (word name : List ℕ) (a b : Result R E) (x : R) → (word ≡ name → a ≡ Ok x → T)
+    → (b ≡ Ok x → T)
     → (if bytes_eq word name then a else b) ≡ Ok x → T
 choose {R} {E} {T} word name a b x here otherwise h =
     elim (bytes_eq word name) as (λ t. bytes_eq word name ≡ t → (if t then a else b) ≡ Ok x → T) [
@@ -140,14 +152,17 @@ choose {R} {E} {T} word name a b x here otherwise h =
       | false ↦ λ is. otherwise
     ] refl h
 
-fields_told : {A : Type 0} (parts : List (List ℕ)) (event : SuiteEvent A) → suite_event_from parts ≡ Ok event → TellsEvent parts event
+fields_told : {A : Type 0} (parts : List (List ℕ)) (event : SuiteEvent A) → suite_event_from parts ≡ Ok event
+    → TellsEvent parts event
 fields_told [] event h = cc h
 fields_told (word ∷ rest) event h =
     choose word (codes "scan") _ _ event (scan_line word rest event)
-    (choose word (codes "at") _ _ event (at_parts word rest event) (λ (none : Err why.UnknownEvent ≡ Ok event). cc none)) h
+    (choose word (codes "at") _ _ event (at_parts word rest event)
+    (λ (none : Err why.UnknownEvent ≡ Ok event). cc none)) h
 
 -- What a line is read as has that line.
-pub suite_event_text-suite_event_from : {A : Type 0} (line : List ℕ) (event : SuiteEvent A) → suite_event_from (fields line) ≡ Ok event
+pub suite_event_text-suite_event_from : {A : Type 0} (line : List ℕ) (event : SuiteEvent A)
+    → suite_event_from (fields line) ≡ Ok event
     → IsSpellable event × (line ≡ suite_event_text event)
 suite_event_text-suite_event_from line event h =
     let told = fields_told (fields line) event h in
@@ -166,18 +181,22 @@ at_from_line {A} text line = more (fields line) (split_some_part (λ byte. byte 
 -- What is answered
 
 -- a fault, and want of memory at a scan, as they are answered
-pub IsRead-refused : {A : Type 0} (told : Result (SuiteEvent A) EventFault) (answer : Result (SuiteEvent A) SuiteLineFault) (why : EventFault)
+pub IsRead-refused : {A : Type 0} (told : Result (SuiteEvent A) EventFault)
+    (answer : Result (SuiteEvent A) SuiteLineFault) (why : EventFault)
     → told ≡ Err why → answer ≡ Err (line_fault why) → IsRead told answer
-IsRead-refused {A} told answer why is answered = subst (λ (r : Result (SuiteEvent A) EventFault). IsRead r answer) (sym is) answered
+IsRead-refused {A} told answer why is answered =
+    subst (λ (r : Result (SuiteEvent A) EventFault). IsRead r answer) (sym is) answered
 
 -- the first fault of an event at a part: the part's, then the event's
-pub part_refused : {A : Type 0} (parts : List (List ℕ)) (text line : List ℕ) (why : EventFault) → parts ≡ text ∷ fields line
+pub part_refused : {A : Type 0} (parts : List (List ℕ)) (text line : List ℕ) (why : EventFault)
+    → parts ≡ text ∷ fields line
     → Err why ≡ part_from (dotted text) → at_from {A = A} parts ≡ Err why
 part_refused {A} parts text line why is refused =
     ap (λ (ps : List (List ℕ)). at_from {A = A} ps) is ∙ at_from_line text line
     ∙ ap (λ (r : Result PartId EventFault). at_of {A = A} r (event_from (fields line))) (sym refused)
 
-pub event_refused : {A : Type 0} (parts : List (List ℕ)) (text line : List ℕ) (part : PartId) (why : EventFault) → parts ≡ text ∷ fields line
+pub event_refused : {A : Type 0} (parts : List (List ℕ)) (text line : List ℕ) (part : PartId) (why : EventFault)
+    → parts ≡ text ∷ fields line
     → Ok part ≡ part_from (dotted text) → Err why ≡ event_from (fields line) → at_from {A = A} parts ≡ Err why
 event_refused {A} parts text line part why is here refused =
     ap (λ (ps : List (List ℕ)). at_from {A = A} ps) is ∙ at_from_line text line
@@ -190,34 +209,41 @@ scan_unread label None answer right is = cc right
 scan_unread {A} label (Some rows) answer right is =
     subst (λ (r : Result (SuiteEvent A) SuiteLineFault). IsRead (Ok (Scan rows label)) r) (sym is) refl
 
-pub IsRead-unread : {A : Type 0} (parts texts : List (List ℕ)) (text : List ℕ) (label : Tai64n) (answer : Result (SuiteEvent A) SuiteLineFault)
+pub IsRead-unread : {A : Type 0} (parts texts : List (List ℕ)) (text : List ℕ) (label : Tai64n)
+    (answer : Result (SuiteEvent A) SuiteLineFault)
     → parts ≡ text ∷ texts → label_of_text text ≡ Some label → are_rows texts ≡ true → answer ≡ Err fault.OutOfMemory
     → IsRead (scan_from parts) answer
 IsRead-unread {A} parts texts text label answer is read right missed =
     rw (is, read) (scan_unread label (rows_of_texts texts) answer right missed)
 
-pub read_told : {A : Type 0} (told : Result (SuiteEvent A) EventFault) (answer : Result (SuiteEvent A) SuiteLineFault) (event : SuiteEvent A)
+pub read_told : {A : Type 0} (told : Result (SuiteEvent A) EventFault) (answer : Result (SuiteEvent A) SuiteLineFault)
+    (event : SuiteEvent A)
     → IsRead told answer → answer ≡ Ok event → told ≡ Ok event
 read_told (Ok (Scan rows label)) (Ok read) event h is = let same : read ≡ event = cc is in cc (h, same)
 read_told (Ok (Scan rows label)) (Err why) event h is = cc is
 read_told (Ok (At part at)) answer event h is = let same : Ok (At part at) ≡ Ok event = sym h ∙ is in cc same
 read_told (Err why) answer event h is = let none : Err (line_fault why) ≡ Ok event = sym h ∙ is in cc none
 
-pub read-found : {A : Type 0} (line : List ℕ) (answer : Result (SuiteEvent A) SuiteLineFault) → IsRead (suite_event_from (fields line)) answer
+pub read-found : {A : Type 0} (line : List ℕ) (answer : Result (SuiteEvent A) SuiteLineFault)
+    → IsRead (suite_event_from (fields line)) answer
     → IfOk answer (λ event. IsSpellable event × (line ≡ suite_event_text event))
 read-found line (Ok event) h =
     suite_event_text-suite_event_from line event (read_told (suite_event_from (fields line)) (Ok event) event h refl)
 read-found line (Err why) h = tt
 
-read_only : {A : Type 0} (event : SuiteEvent A) (answer : Result (SuiteEvent A) SuiteLineFault) → IsRead (Ok event) answer
+read_only : {A : Type 0} (event : SuiteEvent A) (answer : Result (SuiteEvent A) SuiteLineFault)
+    → IsRead (Ok event) answer
     → MatchResult answer (λ read. read ≡ event) (λ why. why ≡ fault.OutOfMemory)
 read_only (Scan rows label) answer h = h
 read_only {A} (At part event) answer h =
-    subst (λ (r : Result (SuiteEvent A) SuiteLineFault). MatchResult r (λ read. read ≡ At part event) (λ why. why ≡ fault.OutOfMemory)) (sym h) refl
+    subst (λ (r : Result (SuiteEvent A) SuiteLineFault).
+    MatchResult r (λ read. read ≡ At part event) (λ why. why ≡ fault.OutOfMemory)) (sym h) refl
 
-pub read-only : {A : Type 0} (line : List ℕ) (answer : Result (SuiteEvent A) SuiteLineFault) (event : SuiteEvent A) → IsSpellable event
+pub read-only : {A : Type 0} (line : List ℕ) (answer : Result (SuiteEvent A) SuiteLineFault) (event : SuiteEvent A)
+    → IsSpellable event
     → line ≡ suite_event_text event → IsRead (suite_event_from (fields line)) answer
     → MatchResult answer (λ read. read ≡ event) (λ why. why ≡ fault.OutOfMemory)
 read-only {A} line answer event so is h =
-    let told = ap (λ (text : List ℕ). suite_event_from {A = A} (fields text)) is ∙ suite_event_from-suite_event_text event so in
+    let told = ap (λ (text : List ℕ). suite_event_from {A = A} (fields text)) is
+    ∙ suite_event_from-suite_event_text event so in
     read_only event answer (subst (λ (r : Result (SuiteEvent A) EventFault). IsRead r answer) told h)

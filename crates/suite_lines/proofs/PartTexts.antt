@@ -1,5 +1,6 @@
 -- A part's text: what is told is read, and what is read is told so.
-use Rattle.std.proofs.Common.{◌≡◌, ℕ, zero, suc, ◌^◌, ◌<◌, ◌==◌, ◌&&◌, ◌/◌, ◌%◌, nat_lt, Bool, true, false, not, List, [], ◌∷◌, Option, Some, None, Ok, Err, refl, sym, ap, ◌∙◌, arith, decimal, codes, subst}
+use Rattle.std.proofs.Common.{◌≡◌, ℕ, zero, suc, ◌^◌, ◌<◌, ◌==◌, ◌&&◌, ◌/◌, ◌%◌, nat_lt, Bool, true, false, not, List}
+use Rattle.std.proofs.Common.{[], ◌∷◌, Option, Some, None, Ok, Err, refl, sym, ap, ◌∙◌, arith, decimal, codes, subst}
 use Rattle.std.specs.Prelude.{IfSome, if◌then◌else◌, bytes_eq}
 use Rattle.std.specs.List.{join_with_byte}
 use Rattle.std.specs.Cmp.Derive.{both_true}
@@ -33,18 +34,21 @@ pub record TellsNumber (text : List ℕ) (number : ℕ) : Type 0 where
   pub is : text ≡ decimal number
 
 -- an answer that is tested
-tested : {A : Type 0} (R : A → Type 0) (test : Bool) (x : A) → (test ≡ true → R x) → IfSome (if test then Some x else None) R
+tested : {A : Type 0} (R : A → Type 0) (test : Bool) (x : A) → (test ≡ true → R x)
+    → IfSome (if test then Some x else None) R
 tested R test x h =
     elim test as (λ t. test ≡ t → IfSome (if t then Some x else None) R) [ true ↦ λ is. h is | false ↦ λ is. tt ] refl
 
-number_tested : (text : List ℕ) (number : ℕ) → (nat_lt number (2 ^ 64) && bytes_eq (decimal number) text) ≡ true → TellsNumber text number
+number_tested : (text : List ℕ) (number : ℕ) → (nat_lt number (2 ^ 64) && bytes_eq (decimal number) text) ≡ true
+    → TellsNumber text number
 number_tested text number h =
     let parts = and_parts (nat_lt number (2 ^ 64)) (bytes_eq (decimal number) text) h in
     record { below = lt-from_test _ _ parts.0; is = sym ((bytes_eq-Decides (decimal number) text).0 parts.1) }
 
 pub number_of_text-found : (text : List ℕ) → IfSome (number_of_text text) (TellsNumber text)
 unfolding number_of_text
-number_of_text-found text = tested (TellsNumber text) _ (digits_value 10 text) (number_tested text (digits_value 10 text))
+number_of_text-found text =
+    tested (TellsNumber text) _ (digits_value 10 text) (number_tested text (digits_value 10 text))
 
 pub number_of_text-only : (text : List ℕ) (number : ℕ) → TellsNumber text number → number_of_text text ≡ Some number
 unfolding number_of_text
@@ -54,7 +58,8 @@ number_of_text-only text number h =
     rw (value, lt-test number (2 ^ 64) h.below, same) refl
 
 -- What reads the decimal text of each number, and nothing else, reads numbers.
-pub number_of_text-exact : (text : List ℕ) (r : Option ℕ) → IfSome r (λ n. n < 2 ^ 64) → IfSome r (λ n. text ≡ decimal n)
+pub number_of_text-exact : (text : List ℕ) (r : Option ℕ) → IfSome r (λ n. n < 2 ^ 64)
+    → IfSome r (λ n. text ≡ decimal n)
     → ((n : ℕ) → n < 2 ^ 64 → text ≡ decimal n → r ≡ Some n) → r ≡ number_of_text text
 number_of_text-exact text r range found only =
     same_told (TellsNumber text) r (number_of_text text) (both r range found) (number_of_text-found text)
@@ -96,7 +101,8 @@ role_read Log = refl
 role_found : (text : List ℕ) → IfSome (role_of_text text) (λ role. text ≡ role_name role)
 role_found text =
     elim (bytes_eq text (codes "main")) as (λ t. bytes_eq text (codes "main") ≡ t
-    → IfSome (if t then Some Main else if bytes_eq text (codes "log") then Some Log else None) (λ role. text ≡ role_name role)) [
+    → IfSome (if t then Some Main else if bytes_eq text (codes "log") then Some Log else None)
+    (λ role. text ≡ role_name role)) [
       | true ↦ λ is. (bytes_eq-Decides text (codes "main")).0 is
       | false ↦ λ not_main.
           elim (bytes_eq text (codes "log")) as (λ t. bytes_eq text (codes "log") ≡ t
@@ -111,10 +117,12 @@ role_found text =
 -- the fields of a part's text
 dotted-part_text : (part : PartId) → dotted (part_text part) ≡ part_fields part
 dotted-part_text part =
-    split-first 46 (decimal part.slot) (join_with_byte 46 (role_name part.role ∷ decimal part.life ∷ [])) (decimal-dotless part.slot)
+    split-first 46 (decimal part.slot) (join_with_byte 46 (role_name part.role ∷ decimal part.life ∷ []))
+    (decimal-dotless part.slot)
     ∙ ap (λ (fields : List (List ℕ)). decimal part.slot ∷ fields)
     (split-first 46 (role_name part.role) (decimal part.life) (role_name-dotless part.role)
-    ∙ ap (λ (fields : List (List ℕ)). role_name part.role ∷ fields) (split-last 46 (decimal part.life) (decimal-dotless part.life)))
+    ∙ ap (λ (fields : List (List ℕ)). role_name part.role ∷ fields)
+    (split-last 46 (decimal part.life) (decimal-dotless part.life)))
 
 number_read : (number : ℕ) → number < 2 ^ 64 → number_of_text (decimal number) ≡ Some number
 number_read number below = number_of_text-only (decimal number) number (record { below = below; is = refl })
@@ -131,7 +139,8 @@ pub record TellsPart (fields : List (List ℕ)) (part : PartId) : Type 0 where
   pub range : IsPart part
   pub is : fields ≡ part_fields part
 
-part_told : (a b c : List ℕ) (slot : Option ℕ) (role : Option Role) (life : Option ℕ) (part : PartId) → IfSome slot (TellsNumber a)
+part_told : (a b c : List ℕ) (slot : Option ℕ) (role : Option Role) (life : Option ℕ) (part : PartId)
+    → IfSome slot (TellsNumber a)
     → IfSome role (λ role. b ≡ role_name role) → IfSome life (TellsNumber c) → part_of slot role life ≡ Ok part
     → TellsPart (a ∷ b ∷ c ∷ []) part
 part_told a b c slot None life part s r l h = cc h
@@ -139,18 +148,21 @@ part_told a b c None (Some role) life part s r l h = cc h
 part_told a b c (Some slot) (Some role) None part s r l h = cc h
 part_told a b c (Some slot) (Some role) (Some life) part s r l h =
     let same : record { slot = slot; role = role; life = life } ≡ part = cc h in
-    subst (TellsPart (a ∷ b ∷ c ∷ [])) same (record { range = record { slot = s.below; life = l.below }; is = cc (s.is, r, l.is) })
+    subst (TellsPart (a ∷ b ∷ c ∷ [])) same
+    (record { range = record { slot = s.below; life = l.below }; is = cc (s.is, r, l.is) })
 
 fields_told : (fields : List (List ℕ)) (part : PartId) → part_from fields ≡ Ok part → TellsPart fields part
 fields_told [] part h = cc h
 fields_told (a ∷ []) part h = cc h
 fields_told (a ∷ b ∷ []) part h = cc h
 fields_told (a ∷ b ∷ c ∷ []) part h =
-    part_told a b c (number_of_text a) (role_of_text b) (number_of_text c) part (number_of_text-found a) (role_found b) (number_of_text-found c) h
+    part_told a b c (number_of_text a) (role_of_text b) (number_of_text c) part (number_of_text-found a) (role_found b)
+    (number_of_text-found c) h
 fields_told (a ∷ b ∷ c ∷ d ∷ rest) part h = cc h
 
 -- What a text is read as has that text.
-pub part_text-part_from : (text : List ℕ) (part : PartId) → part_from (dotted text) ≡ Ok part → IsPart part × (text ≡ part_text part)
+pub part_text-part_from : (text : List ℕ) (part : PartId) → part_from (dotted text) ≡ Ok part
+    → IsPart part × (text ≡ part_text part)
 part_text-part_from text part h =
     let told = fields_told (dotted text) part h in
     (told.range, sym (join_with_byte-slice_split 46 text) ∙ ap (join_with_byte 46) told.is)

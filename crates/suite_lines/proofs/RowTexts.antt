@@ -1,5 +1,6 @@
 -- Rows and their texts: what is told is read, and what is read is told so.
-use Rattle.std.proofs.Common.{◌≡◌, ℕ, ◌<◌, ◌==◌, length, ◌&&◌, nat_lt, Bool, true, false, List, [], ◌∷◌, ◌++◌, map, Option, Some, None, Result, Ok, Err, refl, sym, ap, ◌∙◌, arith, append_assoc, subst}
+use Rattle.std.proofs.Common.{◌≡◌, ℕ, ◌<◌, ◌==◌, length, ◌&&◌, nat_lt, Bool, true, false, List, [], ◌∷◌, ◌++◌, map}
+use Rattle.std.proofs.Common.{Option, Some, None, Result, Ok, Err, refl, sym, ap, ◌∙◌, arith, append_assoc, subst}
 use Rattle.std.specs.Prelude.{if◌then◌else◌, is_some, option_map, MatchOption, MatchResult}
 use Rattle.std.specs.Result.{result_ok}
 use Rattle.std.specs.Str.{IsAscii, IsUtf8}
@@ -52,8 +53,10 @@ flag_is false letter = refl
 -- the text of a row, byte by byte
 row_bytes : (row : Row)
     → row_text row
-    ≡ flag_byte row.is_dir 100 ∷ flag_byte row.has_log 108 ∷ flag_byte row.down 110 ∷ flag_byte row.log_down 109 ∷ 58 ∷ row.name
-row_bytes row = rw (flag_is row.is_dir 100, flag_is row.has_log 108, flag_is row.down 110, flag_is row.log_down 109) refl
+    ≡ flag_byte row.is_dir 100 ∷ flag_byte row.has_log 108 ∷ flag_byte row.down 110 ∷ flag_byte row.log_down 109 ∷ 58
+    ∷ row.name
+row_bytes row = rw (flag_is row.is_dir 100, flag_is row.has_log 108, flag_is row.down 110, flag_is row.log_down 109)
+    refl
 
 flag_told : (letter byte : ℕ) → is_flag letter byte ≡ true → byte ≡ flag_byte (byte == letter) letter
 flag_told letter byte h = grind (arith, nat_tests)
@@ -75,7 +78,13 @@ row_tested dir log down log_down colon name h =
     let three = and_parts (is_flag 100 dir && is_flag 108 log && is_flag 110 down) (is_flag 109 log_down) flags.0 in
     let two = and_parts (is_flag 100 dir && is_flag 108 log) (is_flag 110 down) three.0 in
     let one = and_parts (is_flag 100 dir) (is_flag 108 log) two.0 in
-    let bytes = row_bytes (record { name = name; is_dir = dir == 100; has_log = log == 108; down = down == 110; log_down = log_down == 109 }) in
+    let bytes = row_bytes (record {
+      name = name;
+      is_dir = dir == 100;
+      has_log = log == 108;
+      down = down == 110;
+      log_down = log_down == 109;
+    }) in
     let d = flag_told 100 dir one.0 in
     let l = flag_told 108 log one.1 in
     let n = flag_told 110 down two.1 in
@@ -91,12 +100,21 @@ row_of_text-told (a ∷ b ∷ []) row h = cc h
 row_of_text-told (a ∷ b ∷ c ∷ []) row h = cc h
 row_of_text-told (a ∷ b ∷ c ∷ d ∷ []) row h = cc h
 row_of_text-told (dir ∷ log ∷ down ∷ log_down ∷ colon ∷ name) row h =
-    let read : Row = record { name = name; is_dir = dir == 100; has_log = log == 108; down = down == 110; log_down = log_down == 109 } in
+    let read : Row = record {
+      name = name;
+      is_dir = dir == 100;
+      has_log = log == 108;
+      down = down == 110;
+      log_down =
+          log_down == 109;
+    } in
     let test : Bool = are_flags dir log down log_down && colon == 58 && is_row_name name in
-    elim test as (λ t. test ≡ t → (if t then Some read else None) ≡ Some row → TellsRow (dir ∷ log ∷ down ∷ log_down ∷ colon ∷ name) row) [
+    elim test as (λ t. test ≡ t → (if t then Some read else None) ≡ Some row
+    → TellsRow (dir ∷ log ∷ down ∷ log_down ∷ colon ∷ name) row) [
       | true ↦ λ is h.
           let same : read ≡ row = cc h in
-          subst (TellsRow (dir ∷ log ∷ down ∷ log_down ∷ colon ∷ name)) same (row_tested dir log down log_down colon name is)
+          subst (TellsRow (dir ∷ log ∷ down ∷ log_down ∷ colon ∷ name)) same
+          (row_tested dir log down log_down colon name is)
       | false ↦ λ is h. cc h
     ] refl h
 
@@ -164,7 +182,8 @@ rows-told (text ∷ texts) rows h =
 
 pub are_rows-more : (text : List ℕ) (texts : List (List ℕ)) (row : Row) → row_of_text text ≡ Some row
     → are_rows (text ∷ texts) ≡ are_rows texts
-are_rows-more text texts row h = ap (λ (o : Option Row). is_some (onto_rows o (rows_of_texts texts))) h ∙ onto (rows_of_texts texts)
+are_rows-more text texts row h = ap (λ (o : Option Row). is_some (onto_rows o (rows_of_texts texts))) h
+    ∙ onto (rows_of_texts texts)
   where
     onto : (os : Option (List Row)) → is_some (onto_rows (Some row) os) ≡ is_some os
     onto None = refl
@@ -177,22 +196,28 @@ pub rows-more : (done : List Row) (text : List ℕ) (texts : List (List ℕ)) (r
     → option_map (λ later. done ++ later) (rows_of_texts (text ∷ texts))
     ≡ option_map (λ later. (done ++ row ∷ []) ++ later) (rows_of_texts texts)
 rows-more done text texts row h =
-    ap (λ (o : Option Row). option_map (λ later. done ++ later) (onto_rows o (rows_of_texts texts))) h ∙ onto (rows_of_texts texts)
+    ap (λ (o : Option Row). option_map (λ later. done ++ later) (onto_rows o (rows_of_texts texts))) h
+    ∙ onto (rows_of_texts texts)
   where
     onto : (os : Option (List Row))
-        → option_map (λ later. done ++ later) (onto_rows (Some row) os) ≡ option_map (λ later. (done ++ row ∷ []) ++ later) os
+        → option_map (λ later. done ++ later) (onto_rows (Some row) os)
+        ≡ option_map (λ later. (done ++ row ∷ []) ++ later) os
     onto None = refl
     onto (Some rows) = ap Some (sym (append_assoc done (row ∷ []) rows))
 
-pub right_further : (left texts : List (List ℕ)) (text : List ℕ) (row : Row) → left ≡ text ∷ texts → row_of_text text ≡ Some row
+pub right_further : (left texts : List (List ℕ)) (text : List ℕ) (row : Row) → left ≡ text ∷ texts
+    → row_of_text text ≡ Some row
     → are_rows left ≡ true → are_rows texts ≡ true
 right_further left texts text row is read h = sym (are_rows-more text texts row read) ∙ ap are_rows (sym is) ∙ h
 
-pub rows_further : (left texts : List (List ℕ)) (text : List ℕ) (row own : Row) (done new : List Row) (all : Option (List Row))
+pub rows_further : (left texts : List (List ℕ)) (text : List ℕ) (row own : Row) (done new : List Row)
+    (all : Option (List Row))
     → left ≡ text ∷ texts → row_of_text text ≡ Some row → own ≡ row → new ≡ done ++ own ∷ []
-    → option_map (λ later. done ++ later) (rows_of_texts left) ≡ all → option_map (λ later. new ++ later) (rows_of_texts texts) ≡ all
+    → option_map (λ later. done ++ later) (rows_of_texts left) ≡ all
+    → option_map (λ later. new ++ later) (rows_of_texts texts) ≡ all
 rows_further left texts text row own done new all is read owned put h =
-    ap (λ (rows : List Row). option_map (λ later. rows ++ later) (rows_of_texts texts)) (put ∙ ap (λ (r : Row). done ++ r ∷ []) owned)
+    ap (λ (rows : List Row). option_map (λ later. rows ++ later) (rows_of_texts texts)) (put
+    ∙ ap (λ (r : Row). done ++ r ∷ []) owned)
     ∙ sym (rows-more done text texts row read)
     ∙ ap (λ (fields : List (List ℕ)). option_map (λ later. done ++ later) (rows_of_texts fields)) (sym is) ∙ h
 

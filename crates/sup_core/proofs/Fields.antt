@@ -1,5 +1,6 @@
 -- A line and its fields.
-use Rattle.std.proofs.Common.{◌≡◌, ℕ, suc, ◌+◌, ◌-◌, ◌<◌, ◌≤◌, Bool, true, false, List, [], ◌∷◌, length, take, drop, Some, None, refl, arith, length-drop, subst}
+use Rattle.std.proofs.Common.{◌≡◌, ℕ, suc, ◌+◌, ◌-◌, ◌<◌, ◌≤◌, Bool, true, false, List, [], ◌∷◌, length, take, drop}
+use Rattle.std.proofs.Common.{Some, None, refl, arith, length-drop, subst}
 use Rattle.std.specs.Prelude.{position, ◌==◌}
 use Rattle.std.specs.List.{slice_split, onto_first, position_or_len}
 use Rattle.std.proofs.lemmas.List.Splits.{slice_split_first}
@@ -35,7 +36,8 @@ split_some {X} p d xs k h =
     let at = found_at p xs k h in
     let rest : take (length xs - (k + 1)) (drop (k + 1) xs) ≡ drop (k + 1) xs =
     rw (← length-drop (k + 1) xs) (take-length (drop (k + 1) xs)) in
-    rw rest (subst (λ n. slice_split p xs ≡ take n xs ∷ slice_split p (drop (n + 1) xs)) at.1 (slice_split_first p xs d at.0))
+    rw rest (subst (λ n. slice_split p xs ≡ take n xs ∷ slice_split p (drop (n + 1) xs)) at.1
+    (slice_split_first p xs d at.0))
 
 onto_some : {X : Type 0} (x : X) (parts : List (List X)) → onto_first x parts ≡ [] → ⊥
 onto_some x [] h = cc h

@@ -1,5 +1,6 @@
 -- Laws of histories: the state of a history is all that later events depend on.
-use Rattle.std.proofs.Common.{◌≡◌, ℕ, zero, suc, ◌+◌, ◌<◌, Bool, true, false, length, take, drop, get_or, append_assoc, append-nil, add-one, List, [], ◌∷◌, ◌++◌, refl, sym, subst, if◌then◌else◌, ◌∙◌, ap, arith}
+use Rattle.std.proofs.Common.{◌≡◌, ℕ, zero, suc, ◌+◌, ◌<◌, Bool, true, false, length, take, drop, get_or, append_assoc}
+use Rattle.std.proofs.Common.{append-nil, add-one, List, [], ◌∷◌, ◌++◌, refl, sym, subst, if◌then◌else◌, ◌∙◌, ap, arith}
 use Rattle.std.specs.List.{AllByRecursion}
 use Rattle.std.proofs.lemmas.List.{take_more}
 use Rattle.tai_status.specs.Label.{Tai64n}
@@ -9,7 +10,8 @@ use Rattle.sup_core.specs.declared.asks.Ask.{Ask}
 use Rattle.sup_core.specs.declared.asks.Reply.TheVariants.{Took, Held}
 use Rattle.tai_status.specs.declared.phase.Phase.{Phase}
 use Rattle.tai_status.specs.declared.phase.Phase.TheVariants as phase
-use Rattle.sup_core.specs.History.{History, Begin, Opened, Then, state_of, ends_in_failure, is_resting, phase_of, until_of}
+use Rattle.sup_core.specs.History.{History, Begin, Opened, Then, state_of, ends_in_failure, is_resting, phase_of}
+use Rattle.sup_core.specs.History.{until_of}
 use Rattle.sup_core.specs.Runs.{AreTaken, after, asks_along, followed_by, replies_to, taken_of}
 use Rattle.sup_core.specs.Rules.{reply_to, IsEvent, next, is_taken, takes, asks_of}
 
@@ -25,7 +27,8 @@ ends_in_failure-phase (Then past (Death label)) = grind (arith)
 ends_in_failure-phase (Then past (Clock label)) = grind (arith)
 
 -- Where two histories leave one state, they leave one state after the next event.
-pub state_of-then : (p q : History) (event : Event) → state_of p ≡ state_of q → state_of (Then p event) ≡ state_of (Then q event)
+pub state_of-then : (p q : History) (event : Event) → state_of p ≡ state_of q
+    → state_of (Then p event) ≡ state_of (Then q event)
 state_of-then p q (Byte byte) h = grind (arith)
 state_of-then p q (Started pid label) h = grind (arith)
 state_of-then p q (StartFailed label) h = grind (arith)
@@ -47,7 +50,8 @@ asks_of-state p q (Byte byte) h = grind (arith, state_of-then p q (Byte byte) h)
 asks_of-state p q (Started pid label) h = grind (arith, state_of-then p q (Started pid label) h)
 asks_of-state p q (StartFailed label) h = grind (arith, state_of-then p q (StartFailed label) h)
 asks_of-state p q (Death label) h = grind (arith, state_of-then p q (Death label) h)
-asks_of-state p q (Clock label) h = grind (arith, state_of-then p q (Clock label) h, ends_in_failure-phase p, ends_in_failure-phase q)
+asks_of-state p q (Clock label) h =
+    grind (arith, state_of-then p q (Clock label) h, ends_in_failure-phase p, ends_in_failure-phase q)
 
 pub followed_by-append : (past : History) (xs ys : List Event)
     → followed_by past (xs ++ ys) ≡ followed_by (followed_by past xs) ys
@@ -101,14 +105,16 @@ pub next-held : (past : History) (event : Event) → takes past event ≡ false 
 next-held past event held = rw held refl
 
 -- What is answered with asks is taken.
-pub reply_to-took : (past : History) (event : Event) (asks : List Ask) → Took asks ≡ reply_to past event → takes past event ≡ true
+pub reply_to-took : (past : History) (event : Event) (asks : List Ask) → Took asks ≡ reply_to past event
+    → takes past event ≡ true
 reply_to-took past event asks said =
     elim (takes past event) as (λ b. Took asks ≡ (if b then Took (asks_of past event) else Held) → b ≡ true) [
       | true ↦ λ said. refl
       | false ↦ λ said. absurd (cc)
     ] said
 
-pub next-state : (p q : History) (event : Event) → state_of p ≡ state_of q → state_of (next p event) ≡ state_of (next q event)
+pub next-state : (p q : History) (event : Event) → state_of p ≡ state_of q
+    → state_of (next p event) ≡ state_of (next q event)
 next-state p q event h =
     elim (takes q event) as (λ t. takes q event ≡ t → state_of (next p event) ≡ state_of (next q event)) [
       | true ↦ λ is. rw (takes-state p q event h, is) (state_of-then p q event h)
@@ -137,7 +143,8 @@ after-append past [] ys = refl
 after-append past (x ∷ xs) ys = after-append (next past x) xs ys
 
 -- one more event
-pub after-take : (past : History) (events : List Event) (i : ℕ) (event : Event) → i < length events → event ≡ get_or events i event
+pub after-take : (past : History) (events : List Event) (i : ℕ) (event : Event) → i < length events
+    → event ≡ get_or events i event
     → after past (take (i + 1) events) ≡ next (after past (take i events)) event
 after-take past events i event below at =
     ap (after past) (take_more events i event below) ∙ after-append past (take i events) (get_or events i event ∷ [])
@@ -163,7 +170,8 @@ replies_to-cut past xs ys =
 
 -- Those events that are taken
 
-pub taken_of-state : (p q : History) (events : List Event) → state_of p ≡ state_of q → taken_of p events ≡ taken_of q events
+pub taken_of-state : (p q : History) (events : List Event) → state_of p ≡ state_of q
+    → taken_of p events ≡ taken_of q events
 taken_of-state p q [] h = refl
 taken_of-state p q (event ∷ events) h =
     elim (takes q event) as (λ t. takes q event ≡ t → taken_of p (event ∷ events) ≡ taken_of q (event ∷ events)) [
@@ -174,10 +182,12 @@ taken_of-state p q (event ∷ events) h =
     ] refl
 
 -- what is left of these events is the history
-pub after-taken_of : (past : History) (events : List Event) → after past events ≡ followed_by past (taken_of past events)
+pub after-taken_of : (past : History) (events : List Event)
+    → after past events ≡ followed_by past (taken_of past events)
 after-taken_of past [] = refl
 after-taken_of past (event ∷ events) =
-    elim (takes past event) as (λ t. takes past event ≡ t → after past (event ∷ events) ≡ followed_by past (taken_of past (event ∷ events))) [
+    elim (takes past event) as (λ t. takes past event ≡ t → after past (event ∷ events)
+    ≡ followed_by past (taken_of past (event ∷ events))) [
       | true ↦ λ is. rw is (after-taken_of (Then past event) events)
       | false ↦ λ is. rw is (after-taken_of past events)
     ] refl
@@ -187,7 +197,8 @@ pub taken_of-all : (past : History) (events : List Event) → AreTaken past even
 taken_of-all past [] h = refl
 taken_of-all past (event ∷ events) h = rw (h.1, taken_of-all (Then past event) events h.2) refl
 
-pub after-all : (past : History) (events : List Event) → AreTaken past events → after past events ≡ followed_by past events
+pub after-all : (past : History) (events : List Event) → AreTaken past events
+    → after past events ≡ followed_by past events
 after-all past events h = after-taken_of past events ∙ ap (followed_by past) (taken_of-all past events h)
 
 -- What is taken of two lists, one after the other.
@@ -196,7 +207,8 @@ pub taken_of-append : (past : History) (xs ys : List Event)
 taken_of-append past [] ys = refl
 taken_of-append past (x ∷ xs) ys =
     elim (takes past x) as (λ t. (if t then x ∷ taken_of (Then past x) (xs ++ ys) else taken_of past (xs ++ ys))
-    ≡ (if t then x ∷ taken_of (Then past x) xs else taken_of past xs) ++ taken_of (after (if t then Then past x else past) xs) ys) [
+    ≡ (if t then x ∷ taken_of (Then past x) xs else taken_of past xs)
+    ++ taken_of (after (if t then Then past x else past) xs) ys) [
       | true ↦ ap (λ (events : List Event). x ∷ events) (taken_of-append (Then past x) xs ys)
       | false ↦ taken_of-append past xs ys
     ]
@@ -208,17 +220,20 @@ takes-gone past event gone = ap (λ (p : Phase). is_taken p (until_of past) even
 pub after-gone : (past : History) (events : List Event) → phase_of past ≡ phase.Gone → after past events ≡ past
 after-gone past [] gone = refl
 after-gone past (event ∷ events) gone =
-    ap (λ (p : History). after p events) (next-held past event (takes-gone past event gone)) ∙ after-gone past events gone
+    ap (λ (p : History). after p events) (next-held past event (takes-gone past event gone))
+    ∙ after-gone past events gone
 
 -- Supervise is not done where it begins.
 pub begin-not_gone : (down : Bool) (label : Tai64n) → phase_of (Begin down label) ≡ phase.Gone → ⊥
 begin-not_gone true label h = cc h
 begin-not_gone false label h = cc h
 
-pub AreTaken-taken_of : (past : History) (events : List Event) → AllByRecursion IsEvent events → AreTaken past (taken_of past events)
+pub AreTaken-taken_of : (past : History) (events : List Event) → AllByRecursion IsEvent events
+    → AreTaken past (taken_of past events)
 AreTaken-taken_of past [] h = tt
 AreTaken-taken_of past (event ∷ events) h =
-    elim (takes past event) as (λ t. takes past event ≡ t → AreTaken past (if t then event ∷ taken_of (Then past event) events else taken_of past events)) [
+    elim (takes past event) as (λ t. takes past event ≡ t
+    → AreTaken past (if t then event ∷ taken_of (Then past event) events else taken_of past events)) [
       | true ↦ λ is. (h.0, is, AreTaken-taken_of (Then past event) events h.1)
       | false ↦ λ is. AreTaken-taken_of past events h.1
     ] refl
@@ -240,7 +255,8 @@ AreTaken-drop past zero events h = h
 AreTaken-drop past (suc n) [] h = tt
 AreTaken-drop past (suc n) (event ∷ events) h = AreTaken-drop (Then past event) n events h.2
 
-pub AreTaken-take : (past : History) (n : ℕ) (events : List Event) → AreTaken past events → AreTaken past (take n events)
+pub AreTaken-take : (past : History) (n : ℕ) (events : List Event) → AreTaken past events
+    → AreTaken past (take n events)
 AreTaken-take past zero events h = tt
 AreTaken-take past (suc n) [] h = tt
 AreTaken-take past (suc n) (event ∷ events) h = (h.0, h.1, AreTaken-take (Then past event) n events h.2)
@@ -261,7 +277,8 @@ asks_along-more past events event =
     asks_along-append past events (event ∷ [])
     ∙ ap (λ asks. asks_along past events ++ asks) (append-nil (asks_of (followed_by past events) event))
 
-pub asks_along-state : (p q : History) (events : List Event) → state_of p ≡ state_of q → asks_along p events ≡ asks_along q events
+pub asks_along-state : (p q : History) (events : List Event) → state_of p ≡ state_of q
+    → asks_along p events ≡ asks_along q events
 asks_along-state p q [] h = refl
 asks_along-state p q (event ∷ events) h =
     let first = asks_of-state p q event h in

@@ -1,5 +1,7 @@
 -- Event lines and begin lines: what is told is read, and what is read is told so.
-use Rattle.std.proofs.Common.{◌≡◌, ℕ, ◌^◌, ◌<◌, ◌≤◌, ◌==◌, nat_lt, Bool, true, false, not, List, [], ◌∷◌, ◌++◌, drop, Option, Some, None, Result, Ok, Err, zero, suc, ◌/◌, ◌%◌, refl, sym, ap, ◌∙◌, arith, decimal, subst, codes}
+use Rattle.std.proofs.Common.{◌≡◌, ℕ, ◌^◌, ◌<◌, ◌≤◌, ◌==◌, nat_lt, Bool, true, false, not, List, [], ◌∷◌, ◌++◌, drop}
+use Rattle.std.proofs.Common.{Option, Some, None, Result, Ok, Err, zero, suc, ◌/◌, ◌%◌, refl, sym, ap, ◌∙◌, arith}
+use Rattle.std.proofs.Common.{decimal, subst, codes}
 use Rattle.std.specs.Prelude.{IfOk, IfSome, if◌then◌else◌, bytes_eq, option_map, ok_or}
 use Rattle.std.specs.List.{AllByRecursion, list_all, onto_first, slice_split, join_with_byte}
 use Rattle.std.specs.Cmp.Derive.{both_true}
@@ -24,8 +26,12 @@ use Rattle.sup_core.specs.declared.reading.Word.TheVariants as kind
 use Rattle.sup_core.specs.Rules.{IsEvent}
 use Rattle.sup_core.specs.Text.{byte_text, event_fields, event_text, begin_fields, begin_text}
 use Rattle.sup_core.specs.Fields.{word_name}
-use Rattle.sup_core.specs.Reading.{fields, IsInRange, byte_of_text, pid_of_text, label_of_text, byte_event, started, start_event, label_event, event_of, event_from, side_of, begun, side_event, begin_from}
-use Rattle.sup_core.proofs.Spelling.{all_below, all_below-at, TellsByte, TellsPid, TellsLabel, byte_of_text-found, byte_of_text-only, pid_of_text-found, pid_of_text-only, label_of_text-found, label_of_text-only}
+use Rattle.sup_core.specs.Reading.{fields, IsInRange, byte_of_text, pid_of_text, label_of_text, byte_event, started}
+use Rattle.sup_core.specs.Reading.{start_event, label_event, event_of, event_from, side_of, begun, side_event}
+use Rattle.sup_core.specs.Reading.{begin_from}
+use Rattle.sup_core.proofs.Spelling.{all_below, all_below-at, TellsByte, TellsPid, TellsLabel, byte_of_text-found}
+use Rattle.sup_core.proofs.Spelling.{byte_of_text-only, pid_of_text-found, pid_of_text-only, label_of_text-found}
+use Rattle.sup_core.proofs.Spelling.{label_of_text-only}
 
 -- Parts between separators
 
@@ -38,7 +44,8 @@ not_false false h = refl
 
 -- the part before a separator
 pub split-first : (separator : ℕ) (word rest : List ℕ) → avoids separator word ≡ true
-    → slice_split (λ byte. byte == separator) (word ++ separator ∷ rest) ≡ word ∷ slice_split (λ byte. byte == separator) rest
+    → slice_split (λ byte. byte == separator) (word ++ separator ∷ rest)
+    ≡ word ∷ slice_split (λ byte. byte == separator) rest
 split-first separator [] rest h = slice_split-cons_yes (λ byte. byte == separator) separator rest (grind (arith))
 split-first separator (x ∷ xs) rest h =
     let parts = and_parts (not (x == separator)) (avoids separator xs) h in
@@ -62,7 +69,8 @@ is_solid text = list_all (λ byte. nat_lt 32 byte) text
 avoids_solid_byte : (separator byte : ℕ) → separator ≤ 32 → nat_lt 32 byte ≡ true → not (byte == separator) ≡ true
 avoids_solid_byte separator byte low h = grind (arith)
 
-pub avoids-solid : (separator : ℕ) (text : List ℕ) → separator ≤ 32 → is_solid text ≡ true → avoids separator text ≡ true
+pub avoids-solid : (separator : ℕ) (text : List ℕ) → separator ≤ 32 → is_solid text ≡ true
+    → avoids separator text ≡ true
 avoids-solid separator [] low h = refl
 avoids-solid separator (x ∷ xs) low h =
     let parts = and_parts (nat_lt 32 x) (is_solid xs) h in
@@ -112,7 +120,8 @@ lower-solid (c ∷ cs) h =
     let parts = and_parts (is_lower_digit c) (list_all is_lower_digit cs) h in
     both_true (solid_lower c parts.0) (lower-solid cs parts.1)
 
-label_lower : (text : List ℕ) (label : Tai64n) → from_text text ≡ Ok label → list_all is_lower_digit (drop 1 text) ≡ true
+label_lower : (text : List ℕ) (label : Tai64n) → from_text text ≡ Ok label → list_all is_lower_digit (drop 1 text)
+    ≡ true
 label_lower text label h = grind (arith)
 
 pub label_text-solid : (label : Tai64n) → IsLabel label → is_solid (label_text label) ≡ true
@@ -130,7 +139,8 @@ phase_name-solid phase.Gone = refl
 -- What is told is read.
 
 -- solid fields are the fields of their line
-pub fields-join : (field : List ℕ) (rest : List (List ℕ)) → AllByRecursion (λ field. is_solid field ≡ true) (field ∷ rest)
+pub fields-join : (field : List ℕ) (rest : List (List ℕ))
+    → AllByRecursion (λ field. is_solid field ≡ true) (field ∷ rest)
     → fields (join_with_byte 32 (field ∷ rest)) ≡ field ∷ rest
 fields-join field [] h = fields-last field h.0
 fields-join field (next ∷ rest) h =
@@ -140,7 +150,8 @@ fields-join field (next ∷ rest) h =
 -- the fields of an event's line
 pub event_fields-event_text : (event : Event) → IsInRange event → fields (event_text event) ≡ event_fields event
 event_fields-event_text (Byte byte) range = fields-join _ _ (refl, (byte_text-solid byte range, tt))
-event_fields-event_text (Started pid label) range = fields-join _ _ (refl, (decimal-solid pid, (label_text-solid label range.2, tt)))
+event_fields-event_text (Started pid label) range =
+    fields-join _ _ (refl, (decimal-solid pid, (label_text-solid label range.2, tt)))
 event_fields-event_text (StartFailed label) range = fields-join _ _ (refl, (label_text-solid label range, tt))
 event_fields-event_text (Death label) range = fields-join _ _ (refl, (label_text-solid label range, tt))
 event_fields-event_text (Clock label) range = fields-join _ _ (refl, (label_text-solid label range, tt))
@@ -152,7 +163,10 @@ label_read label range = label_of_text-only (label_text label) label (record { r
 pub event_read : (event : Event) → IsInRange event → event_from (event_fields event) ≡ Ok event
 event_read (Byte byte) range = rw (byte_of_text-only (byte_text byte) byte (record { below = range; is = refl })) refl
 event_read (Started pid label) range =
-    rw (pid_of_text-only (decimal pid) pid (record { some = range.0; below = range.1; is = refl }), label_read label range.2) refl
+    rw (
+      pid_of_text-only (decimal pid) pid (record { some = range.0; below = range.1; is = refl }),
+      label_read label range.2,
+    ) refl
 event_read (StartFailed label) range = rw (label_read label range) refl
 event_read (Death label) range = rw (label_read label range) refl
 event_read (Clock label) range = rw (label_read label range) refl
@@ -170,7 +184,8 @@ begin_read true label range = rw (label_read label range) refl
 begin_read false label range = rw (label_read label range) refl
 
 -- A begin line is read as what it tells.
-pub begin_from-begin_text : (down : Bool) (label : Tai64n) → IsLabel label → begin_from (fields (begin_text down label)) ≡ Ok (down, label)
+pub begin_from-begin_text : (down : Bool) (label : Tai64n) → IsLabel label → begin_from (fields (begin_text down label))
+    ≡ Ok (down, label)
 begin_from-begin_text down label range = ap begin_from (side_fields down label range) ∙ begin_read down label range
 
 -- What is read is told so.
@@ -184,7 +199,8 @@ ok_parts (Some y) e x h = cc h
 ok_parts None e x h = cc h
 
 -- a choice by a word
-choose : {A T : Type 0} (word name : List ℕ) (a b : Option A) (x : A) → (word ≡ name → a ≡ Some x → T) → (b ≡ Some x → T)
+choose : {A T : Type 0} (word name : List ℕ) (a b : Option A) (x : A) → (word ≡ name → a ≡ Some x → T)
+    → (b ≡ Some x → T)
     → (if bytes_eq word name then a else b) ≡ Some x → T
 choose {A} {T} word name a b x here otherwise h =
     elim (bytes_eq word name) as (λ t. bytes_eq word name ≡ t → (if t then a else b) ≡ Some x → T) [
@@ -200,21 +216,26 @@ byte_told word text (Some byte) event tells is h =
     subst (Told (word ∷ text ∷ [])) same (record { range = tells.below; is = fields })
 byte_told word text None event tells is h = cc h
 
-byte_line : (word : List ℕ) (rest : List (List ℕ)) (event : Event) → word ≡ codes "byte" → byte_event rest ≡ Some event → Told (word ∷ rest) event
+byte_line : (word : List ℕ) (rest : List (List ℕ)) (event : Event) → word ≡ codes "byte" → byte_event rest ≡ Some event
+    → Told (word ∷ rest) event
 byte_line word (text ∷ []) event is h = byte_told word text (byte_of_text text) event (byte_of_text-found text) is h
 byte_line word [] event is h = cc h
 byte_line word (a ∷ b ∷ rest) event is h = cc h
 
-start_told : (word first second : List ℕ) (pid : Option ℕ) (label : Option Tai64n) (event : Event) → IfSome pid (TellsPid first)
-    → IfSome label (TellsLabel second) → word ≡ codes "started" → started pid label ≡ Some event → Told (word ∷ first ∷ second ∷ []) event
+start_told : (word first second : List ℕ) (pid : Option ℕ) (label : Option Tai64n) (event : Event)
+    → IfSome pid (TellsPid first)
+    → IfSome label (TellsLabel second) → word ≡ codes "started" → started pid label ≡ Some event
+    → Told (word ∷ first ∷ second ∷ []) event
 start_told word first second (Some pid) (Some label) event p l is h =
     let same : Started pid label ≡ event = cc h in
-    let fields : word ∷ first ∷ second ∷ [] ≡ codes "started" ∷ decimal pid ∷ label_text label ∷ [] = cc (is, p.is, l.is) in
+    let fields : word ∷ first ∷ second ∷ [] ≡ codes "started" ∷ decimal pid ∷ label_text label ∷ [] =
+    cc (is, p.is, l.is) in
     subst (Told (word ∷ first ∷ second ∷ [])) same (record { range = (p.some, p.below, l.range); is = fields })
 start_told word first second (Some pid) None event p l is h = cc h
 start_told word first second None label event p l is h = cc h
 
-start_line : (word : List ℕ) (rest : List (List ℕ)) (event : Event) → word ≡ codes "started" → start_event rest ≡ Some event → Told (word ∷ rest) event
+start_line : (word : List ℕ) (rest : List (List ℕ)) (event : Event) → word ≡ codes "started"
+    → start_event rest ≡ Some event → Told (word ∷ rest) event
 start_line word [] event is h = cc h
 start_line word (a ∷ []) event is h = cc h
 start_line word (a ∷ b ∷ []) event is h =
@@ -226,12 +247,14 @@ record TellsAlone (name : List ℕ) (make : Tai64n → Event) : Type 0 where
   range : (label : Tai64n) → IsLabel label → IsInRange (make label)
   is : (label : Tai64n) → name ∷ label_text label ∷ [] ≡ event_fields (make label)
 
-label_told : (name word text : List ℕ) (make : Tai64n → Event) (o : Option Tai64n) (event : Event) → TellsAlone name make
+label_told : (name word text : List ℕ) (make : Tai64n → Event) (o : Option Tai64n) (event : Event)
+    → TellsAlone name make
     → IfSome o (TellsLabel text) → word ≡ name → option_map make o ≡ Some event → Told (word ∷ text ∷ []) event
 label_told name word text make (Some label) event alone tells is h =
     let same : make label ≡ event = cc h in
     let fields : word ∷ text ∷ [] ≡ name ∷ label_text label ∷ [] = cc (is, tells.is) in
-    subst (Told (word ∷ text ∷ [])) same (record { range = alone.range label tells.range; is = fields ∙ alone.is label })
+    subst (Told (word ∷ text ∷ [])) same
+    (record { range = alone.range label tells.range; is = fields ∙ alone.is label })
 label_told name word text make None event alone tells is h = cc h
 
 label_line : (name word : List ℕ) (make : Tai64n → Event) (rest : List (List ℕ)) (event : Event) → TellsAlone name make
@@ -250,13 +273,17 @@ death_alone = record { range = λ label h. h; is = λ label. refl }
 clock_alone : TellsAlone (codes "clock") (λ label. Clock label)
 clock_alone = record { range = λ label h. h; is = λ label. refl }
 
-event_told : (word : List ℕ) (rest : List (List ℕ)) (event : Event) → event_of word rest ≡ Some event → Told (word ∷ rest) event
+event_told : (word : List ℕ) (rest : List (List ℕ)) (event : Event) → event_of word rest ≡ Some event
+    → Told (word ∷ rest) event
 event_told word rest event h =
     choose word (codes "byte") _ _ event (byte_line word rest event)
     (choose word (codes "started") _ _ event (start_line word rest event)
-    (choose word (codes "failed") _ _ event (label_line (codes "failed") word (λ label. StartFailed label) rest event failed_alone)
-    (choose word (codes "death") _ _ event (label_line (codes "death") word (λ label. Death label) rest event death_alone)
-    (choose word (codes "clock") _ _ event (label_line (codes "clock") word (λ label. Clock label) rest event clock_alone)
+    (choose word (codes "failed") _ _ event
+    (label_line (codes "failed") word (λ label. StartFailed label) rest event failed_alone)
+    (choose word (codes "death") _ _ event
+    (label_line (codes "death") word (λ label. Death label) rest event death_alone)
+    (choose word (codes "clock") _ _ event
+    (label_line (codes "clock") word (λ label. Clock label) rest event clock_alone)
     (λ (none : None ≡ Some event). cc none))))) h
 
 pub told_of : (parts : List (List ℕ)) (event : Event) → event_from parts ≡ Ok event → Told parts event
@@ -296,12 +323,14 @@ sided word side text label begin l is h =
           elim (bytes_eq side (codes "down")) as (λ t. bytes_eq side (codes "down") ≡ t
           → begun (if t then Some true else None) label ≡ Some begin
           → BeginTold (word ∷ side ∷ text ∷ []) begin) [
-            | true ↦ λ at h. side_told word side text true label begin ((bytes_eq-Decides side (codes "down")).0 at) l is h
+            | true ↦ λ at h. side_told word side text true label begin ((bytes_eq-Decides side (codes "down")).0 at) l
+                is h
             | false ↦ λ not_down h. cc h
           ] refl h
     ] refl h
 
-side_line : (word : List ℕ) (rest : List (List ℕ)) (begin : Bool × Tai64n) → word ≡ codes "begin" → side_event rest ≡ Some begin
+side_line : (word : List ℕ) (rest : List (List ℕ)) (begin : Bool × Tai64n) → word ≡ codes "begin"
+    → side_event rest ≡ Some begin
     → BeginTold (word ∷ rest) begin
 side_line word [] begin is h = cc h
 side_line word (a ∷ []) begin is h = cc h
@@ -311,7 +340,8 @@ side_line word (a ∷ b ∷ c ∷ rest) begin is h = cc h
 begin_told : (parts : List (List ℕ)) (begin : Bool × Tai64n) → begin_from parts ≡ Ok begin → BeginTold parts begin
 begin_told [] begin h = cc h
 begin_told (word ∷ rest) begin h =
-    choose word (codes "begin") _ _ begin (side_line word rest begin) (λ (none : None ≡ Some begin). cc none) (ok_parts _ _ begin h)
+    choose word (codes "begin") _ _ begin (side_line word rest begin) (λ (none : None ≡ Some begin). cc none)
+    (ok_parts _ _ begin h)
 
 -- What a line is read as has that begin line.
 pub begin_text-begin_from : (line : List ℕ) (r : Result (Bool × Tai64n) EventFault) → r ≡ begin_from (fields line)

@@ -1,5 +1,6 @@
 -- The texts of events and of answers have no newline.
-use Rattle.std.proofs.Common.{◌≡◌, ℕ, zero, suc, ◌/◌, ◌%◌, ◌==◌, ◌&&◌, Bool, true, false, not, List, [], ◌∷◌, ◌++◌, refl, ◌∙◌, arith, decimal, codes}
+use Rattle.std.proofs.Common.{◌≡◌, ℕ, zero, suc, ◌/◌, ◌%◌, ◌==◌, ◌&&◌, Bool, true, false, not, List, [], ◌∷◌, ◌++◌}
+use Rattle.std.proofs.Common.{refl, ◌∙◌, arith, decimal, codes}
 use Rattle.std.specs.Prelude.{if◌then◌else◌, nat_le, slice_index}
 use Rattle.std.specs.List.{AllByRecursion, join_with_byte}
 use Rattle.std.proofs.lemmas.Bool.Decides.{nat_tests}
@@ -17,7 +18,8 @@ use Rattle.sup_core.specs.declared.asks.Sig.TheVariants.{Term, Cont, Stop, Hup, 
 use Rattle.sup_core.specs.declared.event.Event.{Event}
 use Rattle.sup_core.specs.declared.event.Event.TheVariants.{Byte, Started, StartFailed, Death, Clock}
 use Rattle.tai_status.specs.declared.phase.Phase.{Phase}
-use Rattle.sup_core.specs.Text.{byte_text, event_fields, event_text, signal_name, ask_text, asks_text, reply_text, answer_text}
+use Rattle.sup_core.specs.Text.{byte_text, event_fields, event_text, signal_name, ask_text, asks_text, reply_text}
+use Rattle.sup_core.specs.Text.{answer_text}
 use Rattle.sup_core.proofs.Lines.{avoids-solid, decimal-solid, phase_name-solid}
 
 abbrev is_plain_byte : ℕ → Bool
@@ -55,8 +57,10 @@ pub plain-encode_lower : (bytes : List ℕ) → IsPlain (encode_lower bytes)
 unfolding encode_with
 plain-encode_lower [] = refl
 plain-encode_lower (byte ∷ bytes) =
-    plain-cons (slice_index lower_digits (byte / 16)) (slice_index lower_digits (byte % 16) ∷ encode_lower bytes) (plain_digit (byte / 16))
-    (plain-cons (slice_index lower_digits (byte % 16)) (encode_lower bytes) (plain_digit (byte % 16)) (plain-encode_lower bytes))
+    plain-cons (slice_index lower_digits (byte / 16)) (slice_index lower_digits (byte % 16) ∷ encode_lower bytes)
+    (plain_digit (byte / 16))
+    (plain-cons (slice_index lower_digits (byte % 16)) (encode_lower bytes) (plain_digit (byte % 16))
+    (plain-encode_lower bytes))
 
 pub plain-label_text : (label : Tai64n) → IsPlain (label_text label)
 plain-label_text label = plain-cons 64 (encode_lower (packed label)) refl (plain-encode_lower (packed label))
@@ -100,14 +104,16 @@ plain-signal_name Quit = refl
 
 pub plain-ask_text : (ask : Ask) → IsPlain (ask_text ask)
 plain-ask_text (Signal sig pid) =
-    plain-append (signal_name sig ++ codes ":") (decimal pid) (plain-append (signal_name sig) (codes ":") (plain-signal_name sig) refl) (plain-decimal pid)
+    plain-append (signal_name sig ++ codes ":") (decimal pid)
+    (plain-append (signal_name sig) (codes ":") (plain-signal_name sig) refl) (plain-decimal pid)
 plain-ask_text Start = refl
 plain-ask_text (Write bytes) = plain-append (codes "record:") (encode_lower bytes) refl (plain-encode_lower bytes)
 
 plain-asks_text : (asks : List Ask) → IsPlain (asks_text asks)
 plain-asks_text [] = refl
 plain-asks_text (ask ∷ asks) =
-    plain-append (32 ∷ ask_text ask) (asks_text asks) (plain-cons 32 (ask_text ask) refl (plain-ask_text ask)) (plain-asks_text asks)
+    plain-append (32 ∷ ask_text ask) (asks_text asks) (plain-cons 32 (ask_text ask) refl (plain-ask_text ask))
+    (plain-asks_text asks)
 
 pub plain-reply_text : (reply : Reply) → IsPlain (reply_text reply)
 plain-reply_text Held = refl

@@ -1,5 +1,7 @@
 -- Bytes, process numbers and labels, and their texts.
-use Rattle.std.proofs.Common.{◌≡◌, ℕ, zero, suc, ◌^◌, ◌<◌, ◌==◌, ◌&&◌, nat_lt, nat_le, Bool, true, false, List, [], ◌∷◌, length, Option, Some, None, Result, Ok, Err, refl, sym, ap, ◌⊎◌, inl, inr, ⊎_elim, ◌∙◌, arith, decimal}
+use Rattle.std.proofs.Common.{◌≡◌, ℕ, zero, suc, ◌^◌, ◌<◌, ◌==◌, ◌&&◌, nat_lt, nat_le, Bool, true, false, List, [], ◌∷◌}
+use Rattle.std.proofs.Common.{length, Option, Some, None, Result, Ok, Err, refl, sym, ap, ◌⊎◌, inl, inr, ⊎_elim, ◌∙◌}
+use Rattle.std.proofs.Common.{arith, decimal}
 use Rattle.std.specs.Prelude.{IfSome, if◌then◌else◌, bytes_eq}
 use Rattle.std.specs.Result.{result_ok}
 use Rattle.std.specs.Str.Parse.{digits_value}
@@ -54,7 +56,9 @@ digits_read digits byte below is =
 
 text_cases : (byte : ℕ) → (byte_text byte ≡ byte ∷ []) ⊎ (byte_text byte ≡ encode_lower (byte ∷ []))
 text_cases byte =
-    elim (nat_le 0x21 byte && nat_le byte 0x7e) as (λ b. ((if b then byte ∷ [] else encode_lower (byte ∷ [])) ≡ byte ∷ []) ⊎ ((if b then byte ∷ [] else encode_lower (byte ∷ [])) ≡ encode_lower (byte ∷ []))) [
+    elim (nat_le 0x21 byte && nat_le byte 0x7e) as (λ b.
+    ((if b then byte ∷ [] else encode_lower (byte ∷ [])) ≡ byte ∷ [])
+    ⊎ ((if b then byte ∷ [] else encode_lower (byte ∷ [])) ≡ encode_lower (byte ∷ []))) [
       | true ↦ inl refl
       | false ↦ inr refl
     ]
@@ -66,11 +70,13 @@ two_digits byte = length-encode_with lower_digits (byte ∷ [])
 pub text_of_one : (text : List ℕ) (byte : ℕ) → length text ≡ 1 → text ≡ byte_text byte → text ≡ byte ∷ []
 text_of_one text byte len is =
     ⊎_elim (λ (e : byte_text byte ≡ byte ∷ []). is ∙ e)
-    (λ (e : byte_text byte ≡ encode_lower (byte ∷ [])). absurd (omega (arith, len, ap length (is ∙ e), two_digits byte)))
+    (λ (e : byte_text byte ≡ encode_lower (byte ∷ [])).
+    absurd (omega (arith, len, ap length (is ∙ e), two_digits byte)))
     (text_cases byte)
 
 -- any other is two digits
-pub text_of_two : (text : List ℕ) (byte : ℕ) → (length text ≡ 1 → ⊥) → text ≡ byte_text byte → text ≡ encode_lower (byte ∷ [])
+pub text_of_two : (text : List ℕ) (byte : ℕ) → (length text ≡ 1 → ⊥) → text ≡ byte_text byte
+    → text ≡ encode_lower (byte ∷ [])
 text_of_two text byte len is =
     ⊎_elim (λ (e : byte_text byte ≡ byte ∷ []). absurd (len (ap length (is ∙ e))))
     (λ (e : byte_text byte ≡ encode_lower (byte ∷ [])). is ∙ e)
@@ -78,7 +84,8 @@ text_of_two text byte len is =
 
 -- Answers that are tested
 
-tested : {A : Type 0} (R : A → Type 0) (test : Bool) (x : A) → (test ≡ true → R x) → IfSome (if test then Some x else None) R
+tested : {A : Type 0} (R : A → Type 0) (test : Bool) (x : A) → (test ≡ true → R x)
+    → IfSome (if test then Some x else None) R
 tested R test x h =
     elim test as (λ t. test ≡ t → IfSome (if t then Some x else None) R) [ true ↦ λ is. h is | false ↦ λ is. tt ] refl
 
@@ -104,7 +111,8 @@ pub record TellsByte (text : List ℕ) (byte : ℕ) : Type 0 where
   pub below : byte < 2 ^ 8
   pub is : text ≡ byte_text byte
 
-byte_tested : (text : List ℕ) (byte : ℕ) → (nat_lt byte (2 ^ 8) && bytes_eq (byte_text byte) text) ≡ true → TellsByte text byte
+byte_tested : (text : List ℕ) (byte : ℕ) → (nat_lt byte (2 ^ 8) && bytes_eq (byte_text byte) text) ≡ true
+    → TellsByte text byte
 byte_tested text byte h =
     let parts = and_parts (nat_lt byte (2 ^ 8)) (bytes_eq (byte_text byte) text) h in
     record { below = lt-from_test _ _ parts.0; is = sym ((bytes_eq-Decides (byte_text byte) text).0 parts.1) }
@@ -127,7 +135,8 @@ pub record TellsPid (text : List ℕ) (pid : ℕ) : Type 0 where
   pub below : pid < 2 ^ 32
   pub is : text ≡ decimal pid
 
-pid_tested : (text : List ℕ) (pid : ℕ) → (nat_lt 0 pid && nat_lt pid (2 ^ 32) && bytes_eq (decimal pid) text) ≡ true → TellsPid text pid
+pid_tested : (text : List ℕ) (pid : ℕ) → (nat_lt 0 pid && nat_lt pid (2 ^ 32) && bytes_eq (decimal pid) text) ≡ true
+    → TellsPid text pid
 pid_tested text pid h =
     let parts = and_parts (nat_lt 0 pid && nat_lt pid (2 ^ 32)) (bytes_eq (decimal pid) text) h in
     let range = and_parts (nat_lt 0 pid) (nat_lt pid (2 ^ 32)) parts.0 in
@@ -145,7 +154,8 @@ pub pid_of_text-only : (text : List ℕ) (pid : ℕ) → TellsPid text pid → p
 unfolding pid_of_text
 pid_of_text-only text pid h =
     let below = h.below in
-    let value : digits_value 10 text ≡ pid = ap (digits_value 10) h.is ∙ (decimal_is_IsNumeral pid (omega (arith, below))).1 in
+    let value : digits_value 10 text ≡ pid = ap (digits_value 10) h.is
+    ∙ (decimal_is_IsNumeral pid (omega (arith, below))).1 in
     let same = (bytes_eq-Decides (decimal pid) text).1 (sym h.is) in
     rw (value, lt-test 0 pid h.some, lt-test pid (2 ^ 32) h.below, same) refl
 

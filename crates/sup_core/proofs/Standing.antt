@@ -38,7 +38,8 @@ past_until : (until : Option Tai64n) → IsSomeAnd until (λ until. 0 < until.se
 past_until (Some until) = some_pid until.sec
 past_until None = (λ h. absurd h, λ h. cc h)
 
-waits_until-decides : (p : Phase) (s : Status) (until : Option Tai64n) → WaitsUntil p s until ↔ (waits_until p s until ≡ true)
+waits_until-decides : (p : Phase) (s : Status) (until : Option Tai64n)
+    → WaitsUntil p s until ↔ (waits_until p s until ≡ true)
 waits_until-decides phase.Starting s until = no_until until
 waits_until-decides phase.Settling s until = label_until (plus_second s.label) until
 waits_until-decides phase.Resting s until = past_until until

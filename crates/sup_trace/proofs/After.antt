@@ -1,13 +1,16 @@
 -- Traces of a machine after events, each of which is taken: `trace_after`.
-use Rattle.std.proofs.Common.{◌≡◌, ℕ, ◌-◌, ◌<◌, ◌≤◌, true, false, List, [], ◌∷◌, ◌++◌, refl, sym, ◌∙◌, arith, if◌then◌else◌}
+use Rattle.std.proofs.Common.{◌≡◌, ℕ, ◌-◌, ◌<◌, ◌≤◌, true, false, List, [], ◌∷◌, ◌++◌, refl, sym, ◌∙◌, arith}
+use Rattle.std.proofs.Common.{if◌then◌else◌}
 use Rattle.std.specs.List.{AllByRecursion}
 use Rattle.sup_core.specs.declared.event.Event.{Event}
 use Rattle.sup_core.specs.State.{State}
 use Rattle.sup_core.specs.History.{Opened, state_of}
 use Rattle.sup_core.specs.Rules.{IsEvent, takes, reply_to}
 use Rattle.sup_core.specs.Runs.{followed_by, AreTaken, taken_of}
-use Rattle.sup_trace.specs.Trace.{Kept, IsTrace, history_of, replay, noted, noted_if_taken, noted_along, new_trace, trace_after}
-use Rattle.sup_trace.proofs.Laws.{IsTrace-new, IsTrace-noted, noted-noted, noted_along-taken, replay-noted, reply_to-noted, takes-noted}
+use Rattle.sup_trace.specs.Trace.{Kept, IsTrace, history_of, replay, noted, noted_if_taken, noted_along, new_trace}
+use Rattle.sup_trace.specs.Trace.{trace_after}
+use Rattle.sup_trace.proofs.Laws.{IsTrace-new, IsTrace-noted, noted-noted, noted_along-taken, replay-noted}
+use Rattle.sup_trace.proofs.Laws.{reply_to-noted, takes-noted}
 
 pub trace_after-none : (machine : State) (capacity : ℕ) → trace_after machine capacity [] ≡ new_trace machine capacity
 trace_after-none machine capacity =
@@ -24,12 +27,14 @@ capacity-noted kept events = refl
 
 pub capacity-noted_if_taken : (kept : Kept) (event : Event) → (noted_if_taken kept event).capacity ≡ kept.capacity
 capacity-noted_if_taken kept event =
-    elim (takes (history_of kept) event) as (λ b. (if b then noted kept (event ∷ []) else kept).capacity ≡ kept.capacity) [
+    elim (takes (history_of kept) event) as (λ b. (if b then noted kept (event ∷ []) else kept).capacity
+    ≡ kept.capacity) [
       | true ↦ refl
       | false ↦ refl
     ]
 
-pub capacity-trace_after : (machine : State) (capacity : ℕ) (events : List Event) → (trace_after machine capacity events).capacity ≡ capacity
+pub capacity-trace_after : (machine : State) (capacity : ℕ) (events : List Event)
+    → (trace_after machine capacity events).capacity ≡ capacity
 capacity-trace_after machine capacity events = refl
 
 -- more events
@@ -44,7 +49,8 @@ takes-trace_after machine capacity events event =
     takes-noted (new_trace machine capacity) events event
 
 pub reply_to-trace_after : (machine : State) (capacity : ℕ) (events : List Event) (event : Event)
-    → reply_to (history_of (trace_after machine capacity events)) event ≡ reply_to (followed_by (Opened machine) events) event
+    → reply_to (history_of (trace_after machine capacity events)) event
+    ≡ reply_to (followed_by (Opened machine) events) event
 reply_to-trace_after machine capacity events event =
     reply_to-noted (new_trace machine capacity) events event
 

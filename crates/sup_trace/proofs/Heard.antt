@@ -1,5 +1,7 @@
 -- What is read is told so: a text that is read is the text of what it tells.
-use Rattle.std.proofs.Common.{◌≡◌, ℕ, ◌+◌, ◌^◌, ◌<◌, ◌≤◌, ◌==◌, nat_lt, Bool, true, false, not, List, [], ◌∷◌, ◌++◌, map, flat_map, append_assoc, length, Option, Some, None, Result, Ok, Err, refl, sym, ap, ◌∙◌, arith, codes, decimal, subst, ◌⊎◌, inl, inr, ⊎_elim}
+use Rattle.std.proofs.Common.{◌≡◌, ℕ, ◌+◌, ◌^◌, ◌<◌, ◌≤◌, ◌==◌, nat_lt, Bool, true, false, not, List, [], ◌∷◌, ◌++◌}
+use Rattle.std.proofs.Common.{map, flat_map, append_assoc, length, Option, Some, None, Result, Ok, Err, refl, sym, ap}
+use Rattle.std.proofs.Common.{◌∙◌, arith, codes, decimal, subst, ◌⊎◌, inl, inr, ⊎_elim}
 use Rattle.std.specs.Prelude.{IfSome, IfErr, if◌then◌else◌, bytes_eq}
 use Rattle.std.specs.List.{join_with_byte}
 use Rattle.std.proofs.lemmas.Slice.Eq.{bytes_eq-Decides}
@@ -22,15 +24,21 @@ use Rattle.sup_trace.specs.declared.fault.TraceFault.{TraceFault}
 use Rattle.sup_trace.specs.declared.fault.TraceFaultKind.{TraceFaultKind}
 use Rattle.sup_trace.specs.declared.fault.TraceFaultKind.TheVariants as kind
 use Rattle.sup_trace.specs.Told.{Told, told_of, told_history, IsTold}
-use Rattle.sup_trace.specs.Text.{header, front_lines, lines_text, base_fields, base_text, end_text, trace_lines, trace_text}
-use Rattle.sup_trace.specs.Reading.{Heard, Nothing, Header, Entries, Whole, folded_of_text, phase_of_text, status_of_text, exiting_of_text, until_of_text, standing, state_of_parts, base_from, base_result, with_entry, entry_result, end_result, later_result, line_result, at_end, told_by_parts, parts_of, told_from, HasEntryAt, ReadsEntry, heard_along}
+use Rattle.sup_trace.specs.Text.{header, front_lines, lines_text, base_fields, base_text, end_text, trace_lines}
+use Rattle.sup_trace.specs.Text.{trace_text}
+use Rattle.sup_trace.specs.Reading.{Heard, Nothing, Header, Entries, Whole, folded_of_text, phase_of_text}
+use Rattle.sup_trace.specs.Reading.{status_of_text, exiting_of_text, until_of_text, standing, state_of_parts, base_from}
+use Rattle.sup_trace.specs.Reading.{base_result, with_entry, entry_result, end_result, later_result, line_result}
+use Rattle.sup_trace.specs.Reading.{at_end, told_by_parts, parts_of, told_from, HasEntryAt, ReadsEntry, heard_along}
 use Rattle.std.proofs.lemmas.List.{map-append, length-append, append-nil}
 use Rattle.sup_trace.proofs.Steps.{followed, along_after, some_rest, fault_after_entry}
 use Rattle.sup_trace.proofs.Lists.{AllByRecursion-joined}
-use Rattle.sup_trace.proofs.Parts.{TellsFolded, folded_of_text-found, phase_of_text-found, TellsStatus, status_of_text-found, exiting_of_text-found, until_of_text-found}
+use Rattle.sup_trace.proofs.Parts.{TellsFolded, folded_of_text-found, phase_of_text-found, TellsStatus}
+use Rattle.sup_trace.proofs.Parts.{status_of_text-found, exiting_of_text-found, until_of_text-found}
 
 -- what a choice that succeeds shows
-test_true : {A E : Type 0} (test : Bool) (a : Result A E) (e : E) (x : A) → (if test then a else Err e) ≡ Ok x → (test ≡ true) × (a ≡ Ok x)
+test_true : {A E : Type 0} (test : Bool) (a : Result A E) (e : E) (x : A) → (if test then a else Err e) ≡ Ok x
+    → (test ≡ true) × (a ≡ Ok x)
 test_true true a e x h = (refl, h)
 test_true false a e x h = cc h
 
@@ -55,8 +63,10 @@ some_of : {A : Type 0} (R : A → Type 0) (o : Option A) (x : A) → IfSome o R 
 some_of R (Some y) x h is = let e : y ≡ x = cc is in subst R e h
 some_of R None x h is = cc is
 
-based : (more : Heard) (ft pt st et ut : List ℕ) (f : Option ℕ) (p : Option Phase) (s : Option Status) (e : Option Bool) (u : Option (Option Tai64n))
-    → folded_of_text ft ≡ f → phase_of_text pt ≡ p → status_of_text st ≡ s → exiting_of_text et ≡ e → until_of_text ut ≡ u
+based : (more : Heard) (ft pt st et ut : List ℕ) (f : Option ℕ) (p : Option Phase) (s : Option Status) (e : Option Bool)
+    (u : Option (Option Tai64n))
+    → folded_of_text ft ≡ f → phase_of_text pt ≡ p → status_of_text st ≡ s → exiting_of_text et ≡ e
+    → until_of_text ut ≡ u
     → base_from f (standing p s e) u ≡ Ok more → TellsBase (codes "base" ∷ ft ∷ pt ∷ st ∷ et ∷ ut ∷ []) more
 based more ft pt st et ut (Some f) (Some p) (Some s) (Some e) (Some u) fi pi si ei ui h =
     let base = state_of_parts (p, s, e) u in
@@ -105,7 +115,8 @@ pub record TellsEntry (told : Told) (line : List ℕ) (more : Heard) : Type 0 wh
   pub taken : takes (told_history told) event ≡ true
   pub more_is : more ≡ Entries (with_entry told event)
 
-test_false : {A E : Type 0} (test : Bool) (b : Result A E) (e : E) (x : A) → (if test then Err e else b) ≡ Ok x → (test ≡ false) × (b ≡ Ok x)
+test_false : {A E : Type 0} (test : Bool) (b : Result A E) (e : E) (x : A) → (if test then Err e else b) ≡ Ok x
+    → (test ≡ false) × (b ≡ Ok x)
 test_false true b e x h = cc h
 test_false false b e x h = (refl, h)
 
@@ -118,7 +129,8 @@ entry_told told line more (Err fault) is h = cc h
 entry_told told line more (Ok event) is h =
     let text = event_text-event_from line (Ok event) is in
     let room = test_false (not (nat_lt (length told.entries) 65536)) _ kind.Line more h in
-    let taken = test_true (takes (told_history told) event) (Ok (Entries (with_entry told event))) kind.NotTaken more room.1 in
+    let taken = test_true (takes (told_history told) event) (Ok (Entries (with_entry told event))) kind.NotTaken more
+    room.1 in
     record {
       event = event;
       is = text.1;
@@ -132,12 +144,15 @@ entry_told told line more (Ok event) is h =
 end_told : (told : Told) (parts : List (List ℕ)) (more : Heard) → end_result told parts ≡ Ok more
     → (parts ≡ decimal (length told.entries) ∷ []) × (more ≡ Whole told)
 end_told told (count ∷ []) more h =
-    let is = test_true (bytes_eq count (decimal (length told.entries))) (Ok (Whole told)) kind.Number more h in
-    (ap (λ (text : List ℕ). text ∷ []) ((bytes_eq-Decides count (decimal (length told.entries))).0 is.0), let same : Whole told ≡ more = cc is.1 in sym same)
+    let is = test_true (bytes_eq count (decimal (length told.entries))) (Ok (Whole told)) kind.Number more h in (
+      ap (λ (text : List ℕ). text ∷ []) ((bytes_eq-Decides count (decimal (length told.entries))).0 is.0),
+      let same : Whole told ≡ more = cc is.1 in sym same,
+    )
 end_told told [] more h = cc h
 end_told told (a ∷ b ∷ rest) more h = cc h
 
-later_told : (told : Told) (line : List ℕ) (more : Heard) (parts : List (List ℕ)) → parts ≡ fields line → later_result told parts ≡ Ok more
+later_told : (told : Told) (line : List ℕ) (more : Heard) (parts : List (List ℕ)) → parts ≡ fields line
+    → later_result told parts ≡ Ok more
     → ((line ≡ end_text (length told.entries)) × (more ≡ Whole told)) ⊎ TellsEntry told line more
 later_told told line more [] is h = cc h
 later_told told line more (word ∷ rest) is h =
@@ -156,13 +171,15 @@ later_told told line more (word ∷ rest) is h =
 abbrev IsHeard : Heard → List (List ℕ) → Type 0
 IsHeard Nothing lines = lines ≡ []
 IsHeard Header lines = lines ≡ header ∷ []
-IsHeard (Entries told) lines = IsTold told × (lines ≡ header ∷ base_text told.folded told.base ∷ map event_text told.entries)
+IsHeard (Entries told) lines =
+    IsTold told × (lines ≡ header ∷ base_text told.folded told.base ∷ map event_text told.entries)
 IsHeard (Whole told) lines = IsTold told × (lines ≡ trace_lines told)
 
 heard_base : (line : List ℕ) (more : Heard) → TellsBase (fields line) more → IsHeard more (header ∷ line ∷ [])
 heard_base line more tells =
     let told = told_of tells.base tells.folded [] in
-    let text : line ≡ base_text tells.folded tells.base = sym (join_with_byte-slice_split 32 line) ∙ ap (join_with_byte 32) tells.is in
+    let text : line ≡ base_text tells.folded tells.base = sym (join_with_byte-slice_split 32 line)
+    ∙ ap (join_with_byte 32) tells.is in
     let is : IsTold told = record {
       state = tells.state;
       status = tells.status;
@@ -172,9 +189,13 @@ heard_base line more tells =
       taken = tt;
       ranges = tt;
     } in
-    subst (λ (m : Heard). IsHeard m (header ∷ line ∷ [])) (sym tells.more_is) (is, ap (λ (l : List ℕ). header ∷ l ∷ []) text)
+    subst (λ (m : Heard). IsHeard m (header ∷ line ∷ [])) (sym tells.more_is) (
+      is,
+      ap (λ (l : List ℕ). header ∷ l ∷ []) text,
+    )
 
-heard_entry : (told : Told) (line : List ℕ) (lines : List (List ℕ)) (more : Heard) → TellsEntry told line more → IsHeard (Entries told) lines
+heard_entry : (told : Told) (line : List ℕ) (lines : List (List ℕ)) (more : Heard) → TellsEntry told line more
+    → IsHeard (Entries told) lines
     → IsHeard more (lines ++ line ∷ [])
 heard_entry told line lines more tells h =
     let was = h.0 in
@@ -184,17 +205,21 @@ heard_entry told line lines more tells h =
       until = was.until;
       count = was.count;
       limit = let room = tells.room in rw (length-append told.entries (tells.event ∷ [])) (omega (arith, room));
-      taken = AreTaken-append (Opened told.base) told.entries tells.event was.taken (IsEvent-in_range tells.event tells.range) tells.taken;
+      taken = AreTaken-append (Opened told.base) told.entries tells.event was.taken
+          (IsEvent-in_range tells.event tells.range) tells.taken;
       ranges = AllByRecursion-joined IsInRange told.entries (tells.event ∷ []) was.ranges (tells.range, tt);
     } in
     let front : List (List ℕ) = header ∷ base_text told.folded told.base ∷ [] in
-    let text : lines ++ line ∷ [] ≡ header ∷ base_text told.folded told.base ∷ map event_text (told.entries ++ tells.event ∷ []) =
+    let text : lines ++ line ∷ [] ≡ header ∷ base_text told.folded told.base
+    ∷ map event_text (told.entries ++ tells.event ∷ []) =
     ap (λ (ls : List (List ℕ)). ls ++ line ∷ []) h.1
     ∙ ap (λ (l : List ℕ). header ∷ base_text told.folded told.base ∷ (map event_text told.entries ++ l ∷ [])) tells.is
-    ∙ ap (λ (ls : List (List ℕ)). header ∷ base_text told.folded told.base ∷ ls) (sym (map-append event_text told.entries (tells.event ∷ []))) in
+    ∙ ap (λ (ls : List (List ℕ)). header ∷ base_text told.folded told.base ∷ ls)
+    (sym (map-append event_text told.entries (tells.event ∷ []))) in
     subst (λ (m : Heard). IsHeard m (lines ++ line ∷ [])) (sym tells.more_is) (next, text)
 
-heard_end : (told : Told) (line : List ℕ) (lines : List (List ℕ)) (more : Heard) → line ≡ end_text (length told.entries) → more ≡ Whole told
+heard_end : (told : Told) (line : List ℕ) (lines : List (List ℕ)) (more : Heard) → line ≡ end_text (length told.entries)
+    → more ≡ Whole told
     → IsHeard (Entries told) lines → IsHeard more (lines ++ line ∷ [])
 heard_end told line lines more is whole h =
     subst (λ (m : Heard). IsHeard m (lines ++ line ∷ [])) (sym whole) (
@@ -203,21 +228,25 @@ heard_end told line lines more is whole h =
           ∙ ap (λ (l : List ℕ). header ∷ base_text told.folded told.base ∷ (map event_text told.entries ++ l ∷ [])) is,
     )
 
-heard_line : (heard : Heard) (line : List ℕ) (lines : List (List ℕ)) (more : Heard) → IsHeard heard lines → line_result heard line ≡ Ok more
+heard_line : (heard : Heard) (line : List ℕ) (lines : List (List ℕ)) (more : Heard) → IsHeard heard lines
+    → line_result heard line ≡ Ok more
     → IsHeard more (lines ++ line ∷ [])
 heard_line Nothing line lines more h is =
     let told = header_told line more is in
     subst (λ (m : Heard). IsHeard m (lines ++ line ∷ [])) (sym told.1)
     (ap (λ (ls : List (List ℕ)). ls ++ line ∷ []) h ∙ ap (λ (l : List ℕ). l ∷ []) told.0)
 heard_line Header line lines more h is =
-    subst (λ (ls : List (List ℕ)). IsHeard more (ls ++ line ∷ [])) (sym h) (heard_base line more (base_told (fields line) more is))
+    subst (λ (ls : List (List ℕ)). IsHeard more (ls ++ line ∷ [])) (sym h)
+    (heard_base line more (base_told (fields line) more is))
 heard_line (Entries told) line lines more h is =
-    ⊎_elim (λ (e : (line ≡ end_text (length told.entries)) × (more ≡ Whole told)). heard_end told line lines more e.0 e.1 h)
+    ⊎_elim (λ (e : (line ≡ end_text (length told.entries)) × (more ≡ Whole told)). heard_end told line lines more e.0
+    e.1 h)
     (λ (tells : TellsEntry told line more). heard_entry told line lines more tells h)
     (later_told told line more (fields line) refl is)
 heard_line (Whole told) line lines more h is = cc is
 
-heard_rest : (number : ℕ) (heard : Heard) (lines : List (List ℕ)) (rest : List ℕ) (told : Told) → IsHeard heard lines → at_end number heard rest ≡ Ok told
+heard_rest : (number : ℕ) (heard : Heard) (lines : List (List ℕ)) (rest : List ℕ) (told : Told) → IsHeard heard lines
+    → at_end number heard rest ≡ Ok told
     → IsTold told × (lines ++ rest ∷ [] ≡ trace_lines told ++ [] ∷ [])
 heard_rest number Nothing lines rest told h is = cc is
 heard_rest number Header lines rest told h is = cc is
@@ -237,12 +266,14 @@ heard_after number line lines parts told (Ok more) here rest is =
     (all.0, sym (append_assoc lines (line ∷ []) parts) ∙ all.1)
 heard_after number line lines parts told (Err why) here rest is = cc is
 
-heard_parts : (number : ℕ) (heard : Heard) (lines parts : List (List ℕ)) (told : Told) → (parts ≡ [] → ⊥) → IsHeard heard lines
+heard_parts : (number : ℕ) (heard : Heard) (lines parts : List (List ℕ)) (told : Told) → (parts ≡ [] → ⊥)
+    → IsHeard heard lines
     → told_by_parts number heard parts ≡ Ok told → IsTold told × (lines ++ parts ≡ trace_lines told ++ [] ∷ [])
 heard_parts number heard lines [] told some h is = absurd (some refl)
 heard_parts number heard lines (rest ∷ []) told some h is = heard_rest number heard lines rest told h is
 heard_parts number heard lines (line ∷ part ∷ parts) told some h is =
-    heard_after number line lines (part ∷ parts) told (line_result heard line) (λ more said_so. heard_line heard line lines more h said_so)
+    heard_after number line lines (part ∷ parts) told (line_result heard line)
+    (λ more said_so. heard_line heard line lines more h said_so)
     (λ more so rest. heard_parts (number + 1) more (lines ++ line ∷ []) (part ∷ parts) told (λ e. cc e) so rest) is
 
 -- a text of lines, each with its newline
@@ -262,22 +293,26 @@ told_from-found text told is =
 
 heard_further : (before lines : List (List ℕ)) (line : List ℕ) (more : Heard) (r : Result Heard TraceFaultKind)
     → ((next : Heard) → r ≡ Ok next → IsHeard next (before ++ line ∷ []))
-    → ((next : Heard) → IsHeard next (before ++ line ∷ []) → heard_along next lines ≡ Ok more → IsHeard more ((before ++ line ∷ []) ++ lines))
+    → ((next : Heard) → IsHeard next (before ++ line ∷ []) → heard_along next lines ≡ Ok more
+    → IsHeard more ((before ++ line ∷ []) ++ lines))
     → along_after lines r ≡ Ok more → IsHeard more (before ++ line ∷ lines)
 heard_further before lines line more (Ok next) here rest is =
     subst (IsHeard more) (append_assoc before (line ∷ []) lines) (rest next (here next refl) is)
 heard_further before lines line more (Err why) here rest is = cc is
 
-heard_lines : (heard more : Heard) (before lines : List (List ℕ)) → IsHeard heard before → heard_along heard lines ≡ Ok more
+heard_lines : (heard more : Heard) (before lines : List (List ℕ)) → IsHeard heard before
+    → heard_along heard lines ≡ Ok more
     → IsHeard more (before ++ lines)
 heard_lines heard more before [] h is =
     let same : heard ≡ more = cc is in
     subst (λ (m : Heard). IsHeard m (before ++ [])) same (subst (IsHeard heard) (sym (append-nil before)) h)
 heard_lines heard more before (line ∷ lines) h is =
-    heard_further before lines line more (line_result heard line) (λ (next : Heard) here. heard_line heard line before next h here)
+    heard_further before lines line more (line_result heard line)
+    (λ (next : Heard) here. heard_line heard line before next h here)
     (λ (next : Heard) so along. heard_lines next more (before ++ line ∷ []) lines so along) is
 
-join_first : (line : List ℕ) (parts : List (List ℕ)) → (parts ≡ [] → ⊥) → join_with_byte 10 (line ∷ parts) ≡ line ++ 10 ∷ join_with_byte 10 parts
+join_first : (line : List ℕ) (parts : List (List ℕ)) → (parts ≡ [] → ⊥) → join_with_byte 10 (line ∷ parts)
+    ≡ line ++ 10 ∷ join_with_byte 10 parts
 join_first line [] some = absurd (some refl)
 join_first line (part ∷ parts) some = refl
 
@@ -317,6 +352,8 @@ memory_entry text (Err fault) h = λ memory. has_entry text fault.line (h memory
 
 pub memory_later : (text : List ℕ) (r : Result Told TraceFault)
     → IfErr r (λ fault. fault.kind ≡ kind.OutOfMemory → ReadsEntry fault.line 1 Nothing (parts_of text))
-    → IfErr r (λ fault. fault.kind ≡ kind.OutOfMemory → (first : TraceFault) → told_from text ≡ Err first → fault.line < first.line)
+    → IfErr r (λ fault. fault.kind ≡ kind.OutOfMemory → (first : TraceFault) → told_from text ≡ Err first
+    → fault.line < first.line)
 memory_later text (Ok told) h = tt
-memory_later text (Err fault) h = λ memory first is. fault_after_entry fault.line 1 Nothing (parts_of text) first (h memory) is
+memory_later text (Err fault) h =
+    λ memory first is. fault_after_entry fault.line 1 Nothing (parts_of text) first (h memory) is

@@ -1,5 +1,6 @@
 -- The fields of the base's line: what is told is read, and what is read is told so.
-use Rattle.std.proofs.Common.{◌≡◌, ℕ, ◌^◌, ◌≤◌, ◌&&◌, ◌==◌, nat_le, Bool, true, false, List, [], ◌∷◌, Option, Some, None, Result, Ok, Err, refl, sym, ap, ◌∙◌, arith, decimal, codes, subst}
+use Rattle.std.proofs.Common.{◌≡◌, ℕ, ◌^◌, ◌≤◌, ◌&&◌, ◌==◌, nat_le, Bool, true, false, List, [], ◌∷◌, Option, Some}
+use Rattle.std.proofs.Common.{None, Result, Ok, Err, refl, sym, ap, ◌∙◌, arith, decimal, codes, subst}
 use Rattle.std.specs.Prelude.{IfSome, IfOk, if◌then◌else◌, bytes_eq, option_map}
 use Rattle.std.specs.Result.{result_ok}
 use Rattle.std.specs.Str.Parse.{digits_value}
@@ -23,12 +24,14 @@ use Rattle.sup_core.specs.Reading.{fields, label_of_text}
 use Rattle.sup_core.proofs.Fields.{split_some_part}
 use Rattle.sup_core.proofs.Spelling.{TellsLabel, label_of_text-found, label_of_text-only}
 use Rattle.sup_trace.specs.Text.{stay_text, until_text}
-use Rattle.sup_trace.specs.Reading.{folded_of_text, phase_of_text, if_spelled, status_of_bytes, status_of_text, exiting_of_text, until_of_text, base_result}
+use Rattle.sup_trace.specs.Reading.{folded_of_text, phase_of_text, if_spelled, status_of_bytes, status_of_text}
+use Rattle.sup_trace.specs.Reading.{exiting_of_text, until_of_text, base_result}
 use Rattle.sup_trace.specs.declared.fault.TraceFaultKind.TheVariants as kind
 
 -- Answers that are tested
 
-tested : {A : Type 0} (R : A → Type 0) (test : Bool) (x : A) → (test ≡ true → R x) → IfSome (if test then Some x else None) R
+tested : {A : Type 0} (R : A → Type 0) (test : Bool) (x : A) → (test ≡ true → R x)
+    → IfSome (if test then Some x else None) R
 tested R test x h =
     elim test as (λ t. test ≡ t → IfSome (if t then Some x else None) R) [ true ↦ λ is. h is | false ↦ λ is. tt ] refl
 
@@ -44,26 +47,30 @@ pub record TellsFolded (text : List ℕ) (folded : ℕ) : Type 0 where
   pub limit : folded ≤ 2 ^ 63
   pub is : text ≡ decimal folded
 
-folded_tested : (text : List ℕ) (folded : ℕ) → (nat_le folded (2 ^ 63) && bytes_eq (decimal folded) text) ≡ true → TellsFolded text folded
+folded_tested : (text : List ℕ) (folded : ℕ) → (nat_le folded (2 ^ 63) && bytes_eq (decimal folded) text) ≡ true
+    → TellsFolded text folded
 folded_tested text folded h =
     let parts = and_parts (nat_le folded (2 ^ 63)) (bytes_eq (decimal folded) text) h in
     record { limit = le-from_test _ _ parts.0; is = sym ((bytes_eq-Decides (decimal folded) text).0 parts.1) }
 
 pub folded_of_text-found : (text : List ℕ) → IfSome (folded_of_text text) (TellsFolded text)
 unfolding folded_of_text
-folded_of_text-found text = tested (TellsFolded text) _ (digits_value 10 text) (folded_tested text (digits_value 10 text))
+folded_of_text-found text =
+    tested (TellsFolded text) _ (digits_value 10 text) (folded_tested text (digits_value 10 text))
 
 pub folded_of_text-only : (text : List ℕ) (folded : ℕ) → TellsFolded text folded → folded_of_text text ≡ Some folded
 unfolding folded_of_text
 folded_of_text-only text folded h =
     let limit = h.limit in
-    let value : digits_value 10 text ≡ folded = ap (digits_value 10) h.is ∙ (decimal_is_IsNumeral folded (omega (arith, limit))).1 in
+    let value : digits_value 10 text ≡ folded = ap (digits_value 10) h.is
+    ∙ (decimal_is_IsNumeral folded (omega (arith, limit))).1 in
     let same = (bytes_eq-Decides (decimal folded) text).1 (sym h.is) in
     rw (value, le-test folded (2 ^ 63) limit, same) refl
 
 -- The phase
 
-choose : {A T : Type 0} (word name : List ℕ) (a b : Option A) (x : A) → (word ≡ name → a ≡ Some x → T) → (b ≡ Some x → T)
+choose : {A T : Type 0} (word name : List ℕ) (a b : Option A) (x : A) → (word ≡ name → a ≡ Some x → T)
+    → (b ≡ Some x → T)
     → (if bytes_eq word name then a else b) ≡ Some x → T
 choose {A} {T} word name a b x here otherwise h =
     elim (bytes_eq word name) as (λ t. bytes_eq word name ≡ t → (if t then a else b) ≡ Some x → T) [
@@ -107,7 +114,8 @@ pub record TellsStatus (text : List ℕ) (status : Status) : Type 0 where
   pub range : IsStatus status
   pub is : text ≡ encode_lower (status_record status)
 
-only_status : (r : Result Status RecordFault) (bytes : List ℕ) → IfOk r (λ status. IsStatus status × IsRecord bytes status) → IfOk r IsStatus
+only_status : (r : Result Status RecordFault) (bytes : List ℕ)
+    → IfOk r (λ status. IsStatus status × IsRecord bytes status) → IfOk r IsStatus
 only_status (Ok status) bytes h = h.0
 only_status (Err fault) bytes h = tt
 
@@ -117,12 +125,14 @@ bytes_decoded text bytes h =
     let pairs = sym (decode_sized-pairs text 18 (omega (arith, len)) (omega (arith, len))) ∙ h in
     (decode_pairs-ok 0 text bytes pairs).2
 
-spelled_status : (text : List ℕ) (r : Result Status RecordFault) → IfOk r IsStatus → IfSome (if_spelled text (result_ok r)) (TellsStatus text)
+spelled_status : (text : List ℕ) (r : Result Status RecordFault) → IfOk r IsStatus
+    → IfSome (if_spelled text (result_ok r)) (TellsStatus text)
 spelled_status text (Err fault) range = tt
 spelled_status text (Ok status) range = tested (TellsStatus text) _ status λ same.
     record { range = range; is = sym ((bytes_eq-Decides (encode_lower (status_record status)) text).0 same) }
 
-spelled_so : (text : List ℕ) (r : Result (List ℕ) FromHexError) → decode_sized text 18 ≡ r → IfSome (if_spelled text (status_of_bytes r)) (TellsStatus text)
+spelled_so : (text : List ℕ) (r : Result (List ℕ) FromHexError) → decode_sized text 18 ≡ r
+    → IfSome (if_spelled text (status_of_bytes r)) (TellsStatus text)
 spelled_so text (Err e) h = tt
 spelled_so text (Ok bytes) h =
     let range = only_status _ bytes (found_recorded bytes (status_from bytes) (bytes_decoded text bytes h) refl) in
@@ -132,13 +142,15 @@ pub status_of_text-found : (text : List ℕ) → IfSome (status_of_text text) (T
 unfolding status_of_text
 status_of_text-found text = spelled_so text (decode_sized text 18) refl
 
-pub status_of_text-only : (text : List ℕ) (status : Status) → TellsStatus text status → status_of_text text ≡ Some status
+pub status_of_text-only : (text : List ℕ) (status : Status) → TellsStatus text status
+    → status_of_text text ≡ Some status
 unfolding status_of_text
 status_of_text-only text status h =
     let bytes = status_record status in
     let recorded = IsRecord-status_record status in
     let decoded : decode_sized text 18 ≡ Ok bytes =
-    ap (λ (digits : List ℕ). decode_sized digits 18) h.is ∙ decode_sized-encode_lower bytes 18 recorded.size (IsBytes-status_record status) in
+    ap (λ (digits : List ℕ). decode_sized digits 18) h.is
+    ∙ decode_sized-encode_lower bytes 18 recorded.size (IsBytes-status_record status) in
     let read = status_from-record bytes status h.range recorded in
     let same = (bytes_eq-Decides (encode_lower bytes) text).1 (sym h.is) in
     ap (λ (r : Result (List ℕ) FromHexError). if_spelled text (status_of_bytes r)) decoded
@@ -150,9 +162,11 @@ status_of_text-only text status h =
 stayed : (text : List ℕ) (a b : Bool) → text ≡ stay_text a → Some a ≡ Some b → text ≡ stay_text b
 stayed text a b is same = let e : a ≡ b = cc same in is ∙ ap stay_text e
 
-pub exiting_of_text-found : (text : List ℕ) (exiting : Bool) → exiting_of_text text ≡ Some exiting → text ≡ stay_text exiting
+pub exiting_of_text-found : (text : List ℕ) (exiting : Bool) → exiting_of_text text ≡ Some exiting
+    → text ≡ stay_text exiting
 exiting_of_text-found text exiting h =
-    choose text (codes "exit") _ _ exiting (stayed text true exiting) (choose text (codes "stay") _ _ exiting (stayed text false exiting)
+    choose text (codes "exit") _ _ exiting (stayed text true exiting)
+    (choose text (codes "stay") _ _ exiting (stayed text false exiting)
     (λ (none : None ≡ Some exiting). cc none)) h
 
 pub exiting_of_text-only : (exiting : Bool) → exiting_of_text (stay_text exiting) ≡ Some exiting
@@ -177,7 +191,8 @@ until_none text until is h =
     let e : None ≡ until = cc h in
     subst (TellsUntil text) e (record { range = tt; is = is })
 
-pub until_of_text-found : (text : List ℕ) (until : Option Tai64n) → until_of_text text ≡ Some until → TellsUntil text until
+pub until_of_text-found : (text : List ℕ) (until : Option Tai64n) → until_of_text text ≡ Some until
+    → TellsUntil text until
 until_of_text-found text until h =
     choose text (codes "-") _ _ until (until_none text until)
     (until_label text (label_of_text text) until (label_of_text-found text)) h
@@ -190,7 +205,8 @@ until_of_text-only (Some label) range =
 
 -- More than six fields
 
-many : (a b c d e f : List ℕ) (parts : List (List ℕ)) → (parts ≡ [] → ⊥) → base_result (a ∷ b ∷ c ∷ d ∷ e ∷ f ∷ parts) ≡ Err kind.Line
+many : (a b c d e f : List ℕ) (parts : List (List ℕ)) → (parts ≡ [] → ⊥) → base_result (a ∷ b ∷ c ∷ d ∷ e ∷ f ∷ parts)
+    ≡ Err kind.Line
 many a b c d e f [] h = absurd (h refl)
 many a b c d e f (part ∷ parts) h = refl
 

@@ -1,5 +1,7 @@
 -- A replay at a place: the machine before the entry there, what is answered, and the line of it.
-use Rattle.std.proofs.Common.{◌≡◌, ℕ, ◌+◌, ◌-◌, ◌<◌, ◌≤◌, List, [], ◌∷◌, ◌++◌, length, take, map, get_or, Some, slice_get, Result, Ok, Err, codes, append_assoc, subst, sym, ap, ◌∙◌, arith, refl, inl, inr, zero-add}
+use Rattle.std.proofs.Common.{◌≡◌, ℕ, ◌+◌, ◌-◌, ◌<◌, ◌≤◌, List, [], ◌∷◌, ◌++◌, length, take, map, get_or, Some}
+use Rattle.std.proofs.Common.{slice_get, Result, Ok, Err, codes, append_assoc, subst, sym, ap, ◌∙◌, arith, refl, inl}
+use Rattle.std.proofs.Common.{inr, zero-add}
 use Rattle.std.specs.Prelude.{IsSomeAnd, IfOk}
 use Rattle.std.specs.List.{enumerate_from}
 use Rattle.std.proofs.lemmas.Bool.{cases_lt}
@@ -26,7 +28,8 @@ pub record IsEntry (told : Told) (place : ℕ) (event : Event) : Type 0 where
   pub within : place < length told.entries
   pub at : event ≡ get_or told.entries place event
 
-pub entry_at : (told : Told) (entries : List Event) (place : ℕ) (event : Event) → IsTraceText told → entries ≡ told.entries
+pub entry_at : (told : Told) (entries : List Event) (place : ℕ) (event : Event) → IsTraceText told
+    → entries ≡ told.entries
     → place < length entries → event ≡ get_or entries place event → IsEntry told place event
 entry_at told entries place event text same below at =
     let within : place < length told.entries = omega (arith, ap length same) in
@@ -41,14 +44,16 @@ entry_at told entries place event text same below at =
     }
 
 -- The line of the entry is the next one.
-explained-more : (told : Told) (place : ℕ) (event : Event) → place < length told.entries → event ≡ get_or told.entries place event
+explained-more : (told : Told) (place : ℕ) (event : Event) → place < length told.entries
+    → event ≡ get_or told.entries place event
     → take (place + 1) (explained told) ≡ take place (explained told) ++ explained_line told place event ∷ []
 explained-more told place event below at =
     let placed = enumerate_from 0 told.entries in
     let line : ℕ × Event → List ℕ = λ p. explained_line told p.0 p.1 in
     let within : place < length placed = omega (arith, length-enumerate_from 0 told.entries) in
     let here : get_or placed place (place, event) ≡ (place, event) =
-    get_or-enumerate_from 0 told.entries place (place, event) below ∙ ap {B = ℕ × Event} (λ k. (k, get_or told.entries place event)) (zero-add place)
+    get_or-enumerate_from 0 told.entries place (place, event) below
+    ∙ ap {B = ℕ × Event} (λ k. (k, get_or told.entries place event)) (zero-add place)
     ∙ ap {B = ℕ × Event} (λ e. (place, e)) (sym at) in
     take-map line (place + 1) placed
     ∙ ap (map line) (take_more placed place (place, event) within)
@@ -63,7 +68,8 @@ answer-made past event reply phase answered led =
     ap (λ (r : Reply). answer_text r phase) answered ∙ ap (λ (p : Phase). answer_text (reply_to past event) p) led
 
 -- the line as it is made, of texts that are shown
-pub line-made : {L E : Type 0} (bytes : L → List ℕ) (r : Result L E) (number shown told event answer : List ℕ) → shown ≡ event → told ≡ answer
+pub line-made : {L E : Type 0} (bytes : L → List ℕ) (r : Result L E) (number shown told event answer : List ℕ)
+    → shown ≡ event → told ≡ answer
     → IfOk r (λ line. bytes line ≡ number ++ (codes " " ++ (shown ++ (codes ": " ++ told))))
     → IfOk r (λ line. bytes line ≡ number ++ codes " " ++ event ++ codes ": " ++ answer)
 line-made bytes (Err e) number shown told event answer is so made = tt
@@ -72,8 +78,10 @@ line-made bytes (Ok line) number shown told event answer is so made =
     ∙ ap (λ (text : List ℕ). number ++ (codes " " ++ (text ++ (codes ": " ++ answer)))) is
     ∙ simp append_assoc
 
-pub lines-more : (told : Told) (place : ℕ) (event : Event) (lines : List (List ℕ)) (line : List ℕ) → place < length told.entries
-    → event ≡ get_or told.entries place event → lines ≡ take place (explained told) → line ≡ explained_line told place event
+pub lines-more : (told : Told) (place : ℕ) (event : Event) (lines : List (List ℕ)) (line : List ℕ)
+    → place < length told.entries
+    → event ≡ get_or told.entries place event → lines ≡ take place (explained told)
+    → line ≡ explained_line told place event
     → lines ++ line ∷ [] ≡ take (place + 1) (explained told)
 lines-more told place event lines line below at so_far here =
     ap (λ (l : List (List ℕ)). l ++ line ∷ []) so_far
@@ -81,7 +89,8 @@ lines-more told place event lines line below at so_far here =
     ∙ sym (explained-more told place event below at)
 
 pub length-explained : (told : Told) → length (explained told) ≡ length told.entries
-length-explained told = length-map (enumerate_from 0 told.entries) (λ p. explained_line told p.0 p.1) ∙ length-enumerate_from 0 told.entries
+length-explained told = length-map (enumerate_from 0 told.entries) (λ p. explained_line told p.0 p.1)
+    ∙ length-enumerate_from 0 told.entries
 
 -- Breaks
 
@@ -114,5 +123,6 @@ pub no_break_at_all : (told : Told) (at : Break) (n : ℕ) → length told.entri
 no_break_at_all told at n end none place breaks =
     elim (cases_lt place n) [
       | inl below ↦ none place below breaks
-      | inr past ↦ subst (λ found. IsSomeAnd found (Breaks at (before told place))) (slice_get_past told.entries place (omega arith)) breaks
+      | inr past ↦ subst (λ found. IsSomeAnd found (Breaks at (before told place)))
+          (slice_get_past told.entries place (omega arith)) breaks
     ]

@@ -1,5 +1,6 @@
 -- The lines of traces and of what explains them have no newline.
-use Rattle.std.proofs.Common.{ℕ, ◌+◌, length, Option, Some, None, Bool, true, false, List, [], ◌∷◌, ◌++◌, map, refl, decimal, codes}
+use Rattle.std.proofs.Common.{ℕ, ◌+◌, length, Option, Some, None, Bool, true, false, List, [], ◌∷◌, ◌++◌, map, refl}
+use Rattle.std.proofs.Common.{decimal, codes}
 use Rattle.std.specs.List.{AllByRecursion, enumerate_from}
 use Rattle.tai_status.specs.Label.{Tai64n}
 use Rattle.tai_status.specs.LineReader.{IsPlain}
@@ -9,7 +10,8 @@ use Rattle.sup_core.specs.State.{State}
 use Rattle.sup_core.specs.History.{phase_of}
 use Rattle.sup_core.specs.Rules.{next, reply_to}
 use Rattle.sup_core.specs.Text.{event_text}
-use Rattle.sup_core.proofs.Plain.{plain-append, plain-join, plain-decimal, plain-encode_lower, plain-label_text, plain-event_text, plain-phase_name, plain-answer_text}
+use Rattle.sup_core.proofs.Plain.{plain-append, plain-join, plain-decimal, plain-encode_lower, plain-label_text}
+use Rattle.sup_core.proofs.Plain.{plain-event_text, plain-phase_name, plain-answer_text}
 use Rattle.sup_trace.specs.Told.{Told}
 use Rattle.sup_trace.specs.Text.{header, stay_text, until_text, base_fields, end_text, trace_lines}
 use Rattle.sup_trace.specs.Explained.{before, answer_at, explained, explained_line}
@@ -21,7 +23,8 @@ plain-explained_line told place event =
     let number = plain-append (decimal (place + 1)) (codes " ") (plain-decimal (place + 1)) refl in
     let happened = plain-append (decimal (place + 1) ++ codes " ") (event_text event) number (plain-event_text event) in
     let front = plain-append (decimal (place + 1) ++ codes " " ++ event_text event) (codes ": ") happened refl in
-    plain-append (decimal (place + 1) ++ codes " " ++ event_text event ++ codes ": ") (answer_at (before told place) event) front
+    plain-append (decimal (place + 1) ++ codes " " ++ event_text event ++ codes ": ")
+    (answer_at (before told place) event) front
     (plain-answer_text (reply_to (before told place) event) (phase_of (next (before told place) event)))
 
 plain-lines : (told : Told) (place : ℕ) (events : List Event)
@@ -55,11 +58,17 @@ plain-base_fields folded base =
 plain-end_text : (count : ℕ) → IsPlain (end_text count)
 plain-end_text count = plain-append (codes "end ") (decimal count) refl (plain-decimal count)
 
-plain-entries : (events : List Event) (count : ℕ) → AllByRecursion IsPlain (map event_text events ++ end_text count ∷ [])
+plain-entries : (events : List Event) (count : ℕ)
+    → AllByRecursion IsPlain (map event_text events ++ end_text count ∷ [])
 plain-entries [] count = (plain-end_text count, tt)
 plain-entries (event ∷ events) count = (plain-event_text event, plain-entries events count)
 
 pub plain-trace_lines : (told : Told) → AllByRecursion IsPlain (trace_lines told)
 plain-trace_lines told =
-    let base = base_fields told.folded told.base in
-    (plain-header, (plain-join base (plain-base_fields told.folded told.base), plain-entries told.entries (length told.entries)))
+    let base = base_fields told.folded told.base in (
+      plain-header,
+      (
+        plain-join base (plain-base_fields told.folded told.base),
+        plain-entries told.entries (length told.entries),
+      ),
+    )

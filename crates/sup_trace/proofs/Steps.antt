@@ -1,5 +1,6 @@
 -- Reading goes on from line to line.
-use Rattle.std.proofs.Common.{◌≡◌, ℕ, ◌+◌, ◌<◌, ◌≤◌, ◌==◌, nat_lt, Bool, true, false, not, List, [], ◌∷◌, ◌++◌, length, length-append, Result, Ok, Err, refl, sym, ap, ◌∙◌, arith, subst}
+use Rattle.std.proofs.Common.{◌≡◌, ℕ, ◌+◌, ◌<◌, ◌≤◌, ◌==◌, nat_lt, Bool, true, false, not, List, [], ◌∷◌, ◌++◌, length}
+use Rattle.std.proofs.Common.{length-append, Result, Ok, Err, refl, sym, ap, ◌∙◌, arith, subst}
 use Rattle.std.specs.List.{join_with_byte}
 use Rattle.std.proofs.lemmas.List.Splits.{join_with_byte-slice_split}
 use Rattle.sup_core.proofs.Fields.{split_some_part}
@@ -15,10 +16,13 @@ use Rattle.sup_core.specs.Rules.{takes, next}
 use Rattle.sup_core.specs.Reading.{fields}
 use Rattle.sup_core.proofs.Laws.{followed_by-append, next-taken}
 use Rattle.sup_trace.specs.Told.{Told, told_of, told_history, replay_of}
-use Rattle.sup_trace.specs.Reading.{Heard, Nothing, Header, Entries, Whole, line_result, at_end, told_by_parts, parts_of, told_from, with_entry, entry_result, end_result, kind_of, refusal, AddsEntry, ReadsLine, ReadsEntry, heard_along}
+use Rattle.sup_trace.specs.Reading.{Heard, Nothing, Header, Entries, Whole, line_result, at_end, told_by_parts}
+use Rattle.sup_trace.specs.Reading.{parts_of, told_from, with_entry, entry_result, end_result, kind_of, refusal}
+use Rattle.sup_trace.specs.Reading.{AddsEntry, ReadsLine, ReadsEntry, heard_along}
 
 -- a line that is not refused
-pub goes_on : (number : ℕ) (heard more : Heard) (line : List ℕ) (parts : List (List ℕ)) → (parts ≡ [] → ⊥) → line_result heard line ≡ Ok more
+pub goes_on : (number : ℕ) (heard more : Heard) (line : List ℕ) (parts : List (List ℕ)) → (parts ≡ [] → ⊥)
+    → line_result heard line ≡ Ok more
     → told_by_parts number heard (line ∷ parts) ≡ told_by_parts (number + 1) more parts
 goes_on number heard more line [] some is = absurd (some refl)
 goes_on number heard more line (part ∷ parts) some is =
@@ -27,7 +31,8 @@ goes_on number heard more line (part ∷ parts) some is =
       | Err why ↦ refusal number why
     ]) is
 
-stops : (number : ℕ) (heard : Heard) (why : TraceFaultKind) (line : List ℕ) (parts : List (List ℕ)) → (parts ≡ [] → ⊥) → line_result heard line ≡ Err why
+stops : (number : ℕ) (heard : Heard) (why : TraceFaultKind) (line : List ℕ) (parts : List (List ℕ)) → (parts ≡ [] → ⊥)
+    → line_result heard line ≡ Err why
     → told_by_parts number heard (line ∷ parts) ≡ refusal number why
 stops number heard why line [] some is = absurd (some refl)
 stops number heard why line (part ∷ parts) some is =
@@ -37,7 +42,8 @@ stops number heard why line (part ∷ parts) some is =
     ]) is
 
 -- a line that is read
-pub line_read : (number later : ℕ) (text rest : List ℕ) (heard more : Heard) → ReadsLine number later text rest heard more
+pub line_read : (number later : ℕ) (text rest : List ℕ) (heard more : Heard)
+    → ReadsLine number later text rest heard more
     → told_by_parts number heard (parts_of text) ≡ told_by_parts later more (parts_of rest)
 line_read number later text rest heard more reads =
     ap (told_by_parts number heard) reads.cut
@@ -45,10 +51,12 @@ line_read number later text rest heard more reads =
     ∙ ap (λ (n : ℕ). told_by_parts n more (parts_of rest)) (sym reads.next)
 
 -- a line that is refused
-pub line_refused : (number : ℕ) (heard : Heard) (why : TraceFaultKind) (line text rest : List ℕ) → parts_of text ≡ line ∷ parts_of rest → line_result heard line ≡ Err why
+pub line_refused : (number : ℕ) (heard : Heard) (why : TraceFaultKind) (line text rest : List ℕ)
+    → parts_of text ≡ line ∷ parts_of rest → line_result heard line ≡ Err why
     → told_by_parts number heard (parts_of text) ≡ refusal number why
 line_refused number heard why line text rest cut is =
-    ap (told_by_parts number heard) cut ∙ stops number heard why line (parts_of rest) (split_some_part (λ byte. byte == 10) rest) is
+    ap (told_by_parts number heard) cut
+    ∙ stops number heard why line (parts_of rest) (split_some_part (λ byte. byte == 10) rest) is
 
 -- Not all was told.
 abbrev pub IsPartial : Heard → Type 0
@@ -65,7 +73,8 @@ at_end-partial number (Whole told) rest h = absurd h
 -- a line that is missing, or has no newline
 pub line_missing : (number : ℕ) (heard : Heard) (text : List ℕ) → IsPartial heard → parts_of text ≡ text ∷ []
     → told_by_parts number heard (parts_of text) ≡ refusal number kind.Line
-line_missing number heard text partial cut = ap (told_by_parts number heard) cut ∙ at_end-partial number heard text partial
+line_missing number heard text partial cut = ap (told_by_parts number heard) cut
+    ∙ at_end-partial number heard text partial
 
 over_parts : (number : ℕ) (told : Told) (part : List ℕ) (parts : List (List ℕ)) → (parts ≡ [] → 0 < length part)
     → told_by_parts number (Whole told) (part ∷ parts) ≡ refusal number kind.Line
@@ -75,7 +84,8 @@ over_parts number told part (next ∷ parts) some = refl
 
 -- The end line
 
-end_fields : (told : Told) (count : List ℕ) (parts : List (List ℕ)) → (parts ≡ [] → ⊥) → end_result told (count ∷ parts) ≡ Err kind.Line
+end_fields : (told : Told) (count : List ℕ) (parts : List (List ℕ)) → (parts ≡ [] → ⊥) → end_result told (count ∷ parts)
+    ≡ Err kind.Line
 end_fields told count [] h = absurd (h refl)
 end_fields told count (part ∷ parts) h = refl
 
@@ -90,10 +100,13 @@ machine_takes told machine event taken stands said = sym (said (told_history tol
 replay-more : (told : Told) (event : Event) → takes (told_history told) event ≡ true
     → state_of (next (told_history told) event) ≡ replay_of (with_entry told event)
 replay-more told event taken =
-    ap state_of (next-taken (told_history told) event taken ∙ sym (followed_by-append (Opened told.base) told.entries (event ∷ [])))
+    ap state_of (next-taken (told_history told) event taken
+    ∙ sym (followed_by-append (Opened told.base) told.entries (event ∷ [])))
 
-pub replay-stepped : (told : Told) (machine after : State) (event : Event) (entries : List Event) → machine ≡ replay_of told
-    → takes (told_history told) event ≡ true → ((past : History) → state_of past ≡ machine → after ≡ state_of (next past event))
+pub replay-stepped : (told : Told) (machine after : State) (event : Event) (entries : List Event)
+    → machine ≡ replay_of told
+    → takes (told_history told) event ≡ true
+    → ((past : History) → state_of past ≡ machine → after ≡ state_of (next past event))
     → entries ≡ told.entries ++ event ∷ [] → after ≡ replay_of (told_of told.base told.folded entries)
 replay-stepped told machine after event entries stands taken stepped grown =
     stepped (told_history told) (sym stands) ∙ replay-more told event taken
@@ -118,9 +131,11 @@ entry_seen : (told seen : Told) (event : Event) (r : Result Event EventFault) �
 entry_seen told seen event r same is =
     ap (entry_result seen) (sym is) ∙ ap (λ (t : Told). entry_result t (Ok event)) (sym same)
 
-pub entry_refused : (seen : Told) (told_why : EventFault) (fault : TraceFaultKind) (r : Result Event EventFault) → Err told_why ≡ r
+pub entry_refused : (seen : Told) (told_why : EventFault) (fault : TraceFaultKind) (r : Result Event EventFault)
+    → Err told_why ≡ r
     → fault ≡ kind_of told_why → entry_result seen r ≡ Err fault
-entry_refused seen told_why fault r is so = ap (entry_result seen) (sym is) ∙ ap (λ (k : TraceFaultKind). refused k) (sym so)
+entry_refused seen told_why fault r is so = ap (entry_result seen) (sym is)
+    ∙ ap (λ (k : TraceFaultKind). refused k) (sym so)
 
 pub entry_full : (told seen : Told) (event : Event) (r : Result Event EventFault) → told ≡ seen → Ok event ≡ r
     → 65536 ≤ length told.entries → entry_result seen r ≡ Err kind.Line
@@ -132,7 +147,8 @@ pub entry_held : (told seen : Told) (event : Event) (r : Result Event EventFault
 entry_held told seen event r same is room held =
     entry_seen told seen event r same is ∙ rw (room-test (length told.entries) 65536 room, held) refl
 
-pub entry_taken : (told seen : Told) (event : Event) (r : Result Event EventFault) (entries : List Event) → told ≡ seen → Ok event ≡ r
+pub entry_taken : (told seen : Told) (event : Event) (r : Result Event EventFault) (entries : List Event) → told ≡ seen
+    → Ok event ≡ r
     → length told.entries < 65536 → takes (told_history told) event ≡ true → entries ≡ told.entries ++ event ∷ []
     → entry_result seen r ≡ Ok (Entries (told_of told.base told.folded entries))
 entry_taken told seen event r entries same is room taken grown =
@@ -156,7 +172,8 @@ kind_of-memory why.Label h = cc h
 
 -- A fault is at the line of this number, or later.
 
-at_refusal : (number : ℕ) (why : TraceFaultKind) (first : TraceFault) → refusal number why ≡ Err first → number ≤ first.line
+at_refusal : (number : ℕ) (why : TraceFaultKind) (first : TraceFault) → refusal number why ≡ Err first
+    → number ≤ first.line
 at_refusal number why first h =
     let same : record { line = number; kind = why } ≡ first = cc h in
     let line : number ≡ first.line = ap (λ (f : TraceFault). f.line) same in
@@ -165,7 +182,8 @@ at_refusal number why first h =
 at_line : (number : ℕ) (first : TraceFault) → refusal number kind.Line ≡ Err first → number ≤ first.line
 at_line number first h = at_refusal number kind.Line first h
 
-later_at_end : (number : ℕ) (heard : Heard) (rest : List ℕ) (first : TraceFault) → at_end number heard rest ≡ Err first → number ≤ first.line
+later_at_end : (number : ℕ) (heard : Heard) (rest : List ℕ) (first : TraceFault) → at_end number heard rest ≡ Err first
+    → number ≤ first.line
 later_at_end number Nothing rest first h = at_line number first h
 later_at_end number Header rest first h = at_line number first h
 later_at_end number (Entries told) rest first h = at_line number first h
@@ -184,25 +202,33 @@ later : (number : ℕ) (first : TraceFault) (parts : List (List ℕ)) (r : Resul
 later number first parts (Ok more) rest h = let after = rest more h in omega (arith, after)
 later number first parts (Err why) rest h = at_refusal number why first h
 
-pub fault_later : (number : ℕ) (heard : Heard) (parts : List (List ℕ)) (first : TraceFault) → told_by_parts number heard parts ≡ Err first → number ≤ first.line
+pub fault_later : (number : ℕ) (heard : Heard) (parts : List (List ℕ)) (first : TraceFault)
+    → told_by_parts number heard parts ≡ Err first → number ≤ first.line
 fault_later number heard [] first h = later_at_end number heard [] first h
 fault_later number heard (rest ∷ []) first h = later_at_end number heard rest first h
 fault_later number heard (line ∷ part ∷ parts) first h =
-    later number first (part ∷ parts) (line_result heard line) (λ (more : Heard). fault_later (number + 1) more (part ∷ parts) first) h
+    later number first (part ∷ parts) (line_result heard line)
+    (λ (more : Heard). fault_later (number + 1) more (part ∷ parts) first) h
 
 -- bytes after the end line
-over : (number : ℕ) (told : Told) (rest : List ℕ) (parts : List (List ℕ)) → (parts ≡ [] → ⊥) → join_with_byte 10 parts ≡ rest → 0 < length rest
+over : (number : ℕ) (told : Told) (rest : List ℕ) (parts : List (List ℕ)) → (parts ≡ [] → ⊥)
+    → join_with_byte 10 parts ≡ rest → 0 < length rest
     → told_by_parts number (Whole told) parts ≡ refusal number kind.Line
 over number told rest [] some joined long = absurd (some refl)
-over number told rest (part ∷ []) some joined long = over_parts number told part [] (λ e. subst (λ (xs : List ℕ). 0 < length xs) (sym joined) long)
-over number told rest (part ∷ next ∷ parts) some joined long = over_parts number told part (next ∷ parts) (λ e. absurd (cc e))
+over number told rest (part ∷ []) some joined long =
+    over_parts number told part [] (λ e. subst (λ (xs : List ℕ). 0 < length xs) (sym joined) long)
+over number told rest (part ∷ next ∷ parts) some joined long =
+    over_parts number told part (next ∷ parts) (λ e. absurd (cc e))
 
-pub over_end : (number : ℕ) (told : Told) (rest : List ℕ) → 0 < length rest → told_by_parts number (Whole told) (parts_of rest) ≡ refusal number kind.Line
+pub over_end : (number : ℕ) (told : Told) (rest : List ℕ) → 0 < length rest
+    → told_by_parts number (Whole told) (parts_of rest) ≡ refusal number kind.Line
 over_end number told rest long =
-    over number told rest (parts_of rest) (split_some_part (λ byte. byte == 10) rest) (join_with_byte-slice_split 10 rest) long
+    over number told rest (parts_of rest) (split_some_part (λ byte. byte == 10) rest)
+    (join_with_byte-slice_split 10 rest) long
 
 -- nothing after the end line
-pub over_none : (number : ℕ) (told : Told) (rest : List ℕ) → length rest ≡ 0 → told_by_parts number (Whole told) (parts_of rest) ≡ Ok told
+pub over_none : (number : ℕ) (told : Told) (rest : List ℕ) → length rest ≡ 0
+    → told_by_parts number (Whole told) (parts_of rest) ≡ Ok told
 over_none number told [] none = refl
 over_none number told (byte ∷ rest) none = absurd (omega (arith, none))
 
@@ -232,7 +258,8 @@ entry_here number told line text rest cut adds = record {
 }
 
 -- an entry that is read on a later line
-pub entry_later : (at number later : ℕ) (text rest : List ℕ) (heard more : Heard) → ReadsLine number later text rest heard more
+pub entry_later : (at number later : ℕ) (text rest : List ℕ) (heard more : Heard)
+    → ReadsLine number later text rest heard more
     → ReadsEntry at later more (parts_of rest) → ReadsEntry at number heard (parts_of text)
 entry_later at number later text rest heard more reads entry = record {
   lines = reads.line ∷ entry.lines;
@@ -249,7 +276,8 @@ pub some_rest : (lines rest : List (List ℕ)) → (rest ≡ [] → ⊥) → lin
 some_rest [] rest some h = some h
 some_rest (line ∷ lines) rest some h = cc h
 
-fault_further : (number : ℕ) (lines : List (List ℕ)) (more : Heard) (first : TraceFault) (r : Result Heard TraceFaultKind)
+fault_further : (number : ℕ) (lines : List (List ℕ)) (more : Heard) (first : TraceFault)
+    (r : Result Heard TraceFaultKind)
     → ((next : Heard) → r ≡ Ok next → heard_along next lines ≡ Ok more → number + 1 + length lines ≤ first.line)
     → along_after lines r ≡ Ok more → number + 1 + length lines ≤ first.line
 fault_further number lines more first (Ok next) later is = later next refl is
@@ -257,18 +285,22 @@ fault_further number lines more first (Err why) later is = cc is
 
 -- A fault is told after the lines that are read.
 fault_after : (number : ℕ) (heard more : Heard) (lines rest : List (List ℕ)) (first : TraceFault) → (rest ≡ [] → ⊥)
-    → heard_along heard lines ≡ Ok more → told_by_parts number heard (lines ++ rest) ≡ Err first → number + length lines ≤ first.line
-fault_after number heard more [] rest first some is h = let later = fault_later number heard rest first h in omega (arith, later)
+    → heard_along heard lines ≡ Ok more → told_by_parts number heard (lines ++ rest) ≡ Err first
+    → number + length lines ≤ first.line
+fault_after number heard more [] rest first some is h = let later = fault_later number heard rest first h in
+    omega (arith, later)
 fault_after number heard more (line ∷ lines) rest first some is h =
     let later = fault_further number lines more first (line_result heard line) (λ (next : Heard) here along.
     fault_after (number + 1) next more lines rest first some along
     (sym (goes_on number heard next line (lines ++ rest) (some_rest lines rest some) here) ∙ h)) is in
     omega (arith, later)
 
-pub fault_after_entry : (at number : ℕ) (heard : Heard) (parts : List (List ℕ)) (first : TraceFault) → ReadsEntry at number heard parts
+pub fault_after_entry : (at number : ℕ) (heard : Heard) (parts : List (List ℕ)) (first : TraceFault)
+    → ReadsEntry at number heard parts
     → told_by_parts number heard parts ≡ Err first → at < first.line
 fault_after_entry at number heard parts first entry h =
-    let told : told_by_parts number heard (entry.lines ++ entry.rest) ≡ Err first = ap (told_by_parts number heard) (sym entry.cut) ∙ h in
+    let told : told_by_parts number heard (entry.lines ++ entry.rest) ≡ Err first =
+    ap (told_by_parts number heard) (sym entry.cut) ∙ h in
     let later = fault_after number heard (Entries entry.told) entry.lines entry.rest first entry.ended entry.is told in
     let place = entry.place in
     omega (arith, later, place)

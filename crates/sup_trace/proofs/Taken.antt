@@ -44,7 +44,8 @@ are_taken-AreTaken past (event ∷ events) h =
     each_true (is_event event) (takes past event) (are_taken (Then past event) events)
     (IsEvent-is_event event h.0) h.1 (are_taken-AreTaken (Then past event) events h.2)
 
-pub are_taken-more : (past : History) (events : List Event) (event : Event) → are_taken past events ≡ true → IsEvent event
+pub are_taken-more : (past : History) (events : List Event) (event : Event) → are_taken past events ≡ true
+    → IsEvent event
     → takes (followed_by past events) event ≡ true → are_taken past (events ++ event ∷ []) ≡ true
 are_taken-more past events event h condition taken =
     are_taken-AreTaken past (events ++ event ∷ [])

@@ -7,7 +7,8 @@ pub extended-none : {A : Type 0} (kept : Option (List A)) → ExtendedWhileKept 
 extended-none None = tt
 extended-none (Some xs) = sym (append-nil xs)
 
-pub extended-append : {A : Type 0} (a b c : Option (List A)) (xs ys : List A) → ExtendedWhileKept a b xs → ExtendedWhileKept b c ys → ExtendedWhileKept a c (xs ++ ys)
+pub extended-append : {A : Type 0} (a b c : Option (List A)) (xs ys : List A) → ExtendedWhileKept a b xs
+    → ExtendedWhileKept b c ys → ExtendedWhileKept a c (xs ++ ys)
 extended-append a b None xs ys h k = tt
 extended-append a None (Some z) xs ys h k = absurd k
 extended-append None (Some y) (Some z) xs ys h k = absurd h

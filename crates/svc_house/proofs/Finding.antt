@@ -1,5 +1,6 @@
 -- What a look makes of the facts of a house.
-use Rattle.std.proofs.Common.{◌≡◌, ◌≢◌, ℕ, ◌<◌, true, List, [], ◌∷◌, ◌++◌, Option, Some, None, IfSome, refl, sym, ap, ◌∙◌, subst, arith}
+use Rattle.std.proofs.Common.{◌≡◌, ◌≢◌, ℕ, ◌<◌, true, List, [], ◌∷◌, ◌++◌, Option, Some, None, IfSome, refl, sym, ap}
+use Rattle.std.proofs.Common.{◌∙◌, subst, arith}
 use Rattle.std.proofs.lemmas.List.{append-nil}
 use Rattle.tai_status.specs.Label.{Tai64n}
 use Rattle.sup_core.specs.declared.event.Event.{Event}
@@ -14,7 +15,8 @@ use Rattle.svc_house.specs.declared.call.Call.{Call}
 use Rattle.svc_house.specs.declared.call.Call.TheVariants.{NoStart, NoDeath, Read}
 use Rattle.svc_house.specs.declared.pending.Pending.{Pending}
 use Rattle.svc_house.specs.declared.pending.Pending.TheVariants.{Empty, One, ByteThenDeath}
-use Rattle.svc_house.specs.Calls.{ExtendedWhileKept, answers_in, bytes_in, outcomes_in, polls_before, polls_for, readings_in, IsLastReading}
+use Rattle.svc_house.specs.Calls.{ExtendedWhileKept, answers_in, bytes_in, outcomes_in, polls_before, polls_for}
+use Rattle.svc_house.specs.Calls.{readings_in, IsLastReading}
 use Rattle.svc_house.specs.Find.{IsReady}
 use Rattle.svc_house.specs.Pending.{events_in}
 use Rattle.svc_house.specs.Standing.{HoldsLastReading}
@@ -70,10 +72,12 @@ polls-vain phase.Down until old new events vain known = same_answers old new eve
 polls-vain phase.Gone until old new events vain known = same_answers old new events vain known
 
 found_outcomes : (events : List Event) (found : Pending) (phase : Phase) (old new : Option (List Call))
-    → IfSome old (λ calls. outcomes_in (events ++ []) ≡ answers_in calls) → ExtendedWhileKept old new (polls_before found phase)
+    → IfSome old (λ calls. outcomes_in (events ++ []) ≡ answers_in calls)
+    → ExtendedWhileKept old new (polls_before found phase)
     → IfSome new (λ calls. outcomes_in (events ++ events_in found) ≡ answers_in calls)
 found_outcomes events found phase old new known polls =
-    answers-extended old new (polls_before found phase) (outcomes_in (events ++ [])) (outcomes_in (events ++ events_in found)) polls known
+    answers-extended old new (polls_before found phase) (outcomes_in (events ++ []))
+    (outcomes_in (events ++ events_in found)) polls known
     (outcomes_in-append events (events_in found)
     ∙ ap (λ l. l ++ outcomes_in (events_in found)) (ap outcomes_in (sym (append-nil events)))
     ∙ ap (λ l. outcomes_in (events ++ []) ++ l) (polls-found found phase))
@@ -84,9 +88,11 @@ one-some event e = grind (arith, e)
 both-some : (byte : ℕ) (label : Tai64n) → ByteThenDeath byte label ≢ Empty
 both-some byte label e = grind (arith, e)
 
-pub look_outcomes : (events : List Event) (found : Pending) (phase : Phase) (until : Option Tai64n) (old new : Option (List Call))
+pub look_outcomes : (events : List Event) (found : Pending) (phase : Phase) (until : Option Tai64n)
+    (old new : Option (List Call))
     → IfSome old (λ calls. outcomes_in (events ++ []) ≡ answers_in calls)
-    → (found ≢ Empty → ExtendedWhileKept old new (polls_before found phase)) → (found ≡ Empty → PolledInVain phase until old new)
+    → (found ≢ Empty → ExtendedWhileKept old new (polls_before found phase))
+    → (found ≡ Empty → PolledInVain phase until old new)
     → IfSome new (λ calls. outcomes_in (events ++ events_in found) ≡ answers_in calls)
 look_outcomes events Empty phase until old new known polls vain =
     polls-vain phase until old new (outcomes_in (events ++ [])) (vain refl) known
@@ -116,11 +122,13 @@ look_ready past state Empty same ready = tt
 look_ready past state (One event) same ready =
     (ready.0, subst (λ (s : State). is_taken s.phase s.until event ≡ true) same ready.1, tt)
 look_ready past state (ByteThenDeath byte label) same ready =
-    both-taken past byte label (subst (λ (s : State). 0 < s.status.pid) same ready.1) (ap (λ s. s.phase) (sym same) ∙ ready.0)
+    both-taken past byte label (subst (λ (s : State). 0 < s.status.pid) same ready.1) (ap (λ s. s.phase) (sym same)
+    ∙ ready.0)
 
 -- Readings
 
-last_reading : (event : Event) (phase : Phase) (old new : Option (List Call)) → ExtendedWhileKept old new (polls_for event phase)
+last_reading : (event : Event) (phase : Phase) (old new : Option (List Call))
+    → ExtendedWhileKept old new (polls_for event phase)
     → IfSome new (IsLastReading event)
 last_reading event phase old None found = tt
 last_reading event phase None (Some new) found = absurd found

@@ -1,5 +1,6 @@
 -- A turn, of its two halves: what was pending, or was found, and its publication.
-use Rattle.std.proofs.Common.{◌≡◌, ◌≢◌, ℕ, Option, [], ◌∷◌, ◌++◌, Result, Ok, Err, IfSome, IfOk, OnOk, OnErr, refl, sym, ap, ◌∙◌, subst, arith}
+use Rattle.std.proofs.Common.{◌≡◌, ◌≢◌, ℕ, Option, [], ◌∷◌, ◌++◌, Result, Ok, Err, IfSome, IfOk, OnOk, OnErr, refl, sym}
+use Rattle.std.proofs.Common.{ap, ◌∙◌, subst, arith}
 use Rattle.tai_status.specs.Counted.{Rose}
 use Rattle.sup_core.specs.declared.event.Event.{Event}
 use Rattle.sup_core.specs.History.{History, Opened}
@@ -13,11 +14,13 @@ use Rattle.svc_house.specs.declared.turned.HouseFault.{HouseFault}
 use Rattle.svc_house.specs.Calls.{ExtendedWhileKept, told, IsLastReading}
 use Rattle.svc_house.specs.Pending.{events_in, rest_of}
 use Rattle.svc_house.specs.Standing.{Standing, past_of}
-use Rattle.svc_house.specs.Turn.{phase_in, polls_of, IsAbout, IsRefused, IsSameHouse, IsTurn, Listens, PassesGate, Takes}
+use Rattle.svc_house.specs.Turn.{phase_in, polls_of, IsAbout, IsRefused, IsSameHouse, IsTurn, Listens, PassesGate}
+use Rattle.svc_house.specs.Turn.{Takes}
 use Rattle.svc_house.proofs.Extended.{extended-append}
 
 -- what is known once the next event of those pending was published, or there was no memory for it
-pub record Published {I : Type 0} (mid : Standing I) (event : Event) (result : Result Turned HouseFault) (new : Standing I) : Type 0 where
+pub record Published {I : Type 0} (mid : Standing I) (event : Event) (result : Result Turned HouseFault)
+    (new : Standing I) : Type 0 where
   pub took : IfOk result (λ turned. turned ≡ Took event)
   pub events : OnOk result (new.events ≡ mid.events ++ event ∷ [])
   pub told : OnOk result (ExtendedWhileKept mid.calls new.calls (told (asks_of (past_of mid) event)))
@@ -37,7 +40,8 @@ pub record Found {I : Type 0} (old : Standing I) (event : Event) (mid : Standing
   pub listens : Listens old mid.pending mid
   pub gate : PassesGate Empty (phase_in old) old.passes mid.passes
 
-some-pending : (pending : Pending) (event : Event) → events_in pending ≡ event ∷ events_in (rest_of pending) → pending ≢ Empty
+some-pending : (pending : Pending) (event : Event) → events_in pending ≡ event ∷ events_in (rest_of pending)
+    → pending ≢ Empty
 some-pending Empty event next = λ e. grind (arith, next)
 some-pending (One one) event next = λ e. grind (arith, e)
 some-pending (ByteThenDeath byte label) event next = λ e. grind (arith, e)
@@ -50,23 +54,29 @@ module _ {I : Type 0} where
   same_past old mid same events = λ i. followed_by (Opened (same.opening i)) (events i)
 
   -- An event that was found was published.
-  takes-found : (old mid new : Standing I) (event : Event) → Found old event mid → Published mid event (Ok (Took event)) new
+  takes-found : (old mid new : Standing I) (event : Event) → Found old event mid
+      → Published mid event (Ok (Took event)) new
       → Takes old event new
   takes-found old mid new event found done =
       let asks : ExtendedWhileKept mid.calls new.calls (told (asks_of (past_of old) event)) =
-      subst (λ (past : History). ExtendedWhileKept mid.calls new.calls (told (asks_of past event))) (same_past old mid found.same found.events) done.told in record {
+      subst (λ (past : History). ExtendedWhileKept mid.calls new.calls (told (asks_of past event)))
+      (same_past old mid found.same found.events) done.told in record {
         pending = mid.pending;
         about = about-empty old.pending mid.pending found.none;
         next = found.next ∙ ap (λ h. event ∷ events_in h) (sym done.pending);
-        listens = λ none bytes without. subst (λ n. Rose old.nones n) (sym done.nones) (found.listens none bytes without);
-        gate = subst (λ (t : Pending × Option ℕ). PassesGate t.0 (phase_in old) old.passes t.1) (λ i. (sym found.none i, sym done.gate i)) found.gate;
+        listens = λ none bytes without.
+            subst (λ n. Rose old.nones n) (sym done.nones) (found.listens none bytes without);
+        gate = subst (λ (t : Pending × Option ℕ). PassesGate t.0 (phase_in old) old.passes t.1)
+            (λ i. (sym found.none i, sym done.gate i)) found.gate;
         events = done.events ∙ ap (λ l. l ++ event ∷ []) found.events;
-        calls = extended-append old.calls mid.calls new.calls (polls_of old mid.pending) (told (asks_of (past_of old) event))
+        calls = extended-append old.calls mid.calls new.calls (polls_of old mid.pending)
+            (told (asks_of (past_of old) event))
             (found.polls (some-pending mid.pending event found.next)) asks;
         reading = done.reading;
       }
 
-  pub turned-found : (old mid new : Standing I) (event : Event) (result : Result Turned HouseFault) → Found old event mid
+  pub turned-found : (old mid new : Standing I) (event : Event) (result : Result Turned HouseFault)
+      → Found old event mid
       → Published mid event result new → IfOk result (λ turned. IsTurn old turned new)
   turned-found old mid new event (Err fault) found done = tt
   turned-found old mid new event (Ok turned) found done =
@@ -83,7 +93,8 @@ module _ {I : Type 0} where
       }))
 
   -- There was no memory for it.
-  pub refused-found : (old mid new : Standing I) (event : Event) (result : Result Turned HouseFault) → Found old event mid
+  pub refused-found : (old mid new : Standing I) (event : Event) (result : Result Turned HouseFault)
+      → Found old event mid
       → Published mid event result new → OnErr result (IsRefused old new)
   refused-found old mid new event (Ok turned) found done = tt
   refused-found old mid new event (Err fault) found done =

@@ -4,7 +4,7 @@ use Rattle.sup_core.specs.declared.asks.Ask.{Ask}
 use Rattle.sup_core.specs.declared.event.Event.{Event}
 use Rattle.sup_core.specs.declared.event.Event.TheVariants.{Byte, Started, StartFailed, Death, Clock}
 use Rattle.svc_house.specs.declared.call.Call.{Call}
-use Rattle.svc_house.specs.declared.call.Call.TheVariants.{Asked, Answered, NoStart, NoDeath, Read}
+use Rattle.svc_house.specs.declared.call.Call.TheVariants.{Requested, Answered, NoStart, NoDeath, Read}
 use Rattle.svc_house.specs.Calls.{ExtendedWhileKept, told, answers_in, bytes_in, outcomes_in, readings_in}
 
 pub bytes_in-append : (xs ys : List Event) → bytes_in (xs ++ ys) ≡ bytes_in xs ++ bytes_in ys
@@ -25,7 +25,7 @@ outcomes_in-append (Clock label ∷ xs) ys = outcomes_in-append xs ys
 
 pub answers_in-append : (xs ys : List Call) → answers_in (xs ++ ys) ≡ answers_in xs ++ answers_in ys
 answers_in-append [] ys = refl
-answers_in-append (Asked ask ∷ xs) ys = answers_in-append xs ys
+answers_in-append (Requested ask ∷ xs) ys = answers_in-append xs ys
 answers_in-append (Answered event ∷ xs) ys = ap (λ l. event ∷ l) (answers_in-append xs ys)
 answers_in-append (NoStart ∷ xs) ys = answers_in-append xs ys
 answers_in-append (NoDeath ∷ xs) ys = answers_in-append xs ys
@@ -37,7 +37,7 @@ answers_in-told (ask ∷ asks) = answers_in-told asks
 
 pub readings_in-append : (xs ys : List Call) → readings_in (xs ++ ys) ≡ readings_in xs ++ readings_in ys
 readings_in-append [] ys = refl
-readings_in-append (Asked ask ∷ xs) ys = readings_in-append xs ys
+readings_in-append (Requested ask ∷ xs) ys = readings_in-append xs ys
 readings_in-append (Answered event ∷ xs) ys = readings_in-append xs ys
 readings_in-append (NoStart ∷ xs) ys = readings_in-append xs ys
 readings_in-append (NoDeath ∷ xs) ys = readings_in-append xs ys
@@ -48,7 +48,8 @@ readings_in-told [] = refl
 readings_in-told (ask ∷ asks) = readings_in-told asks
 
 -- What is known of the world's answers goes on with its calls.
-pub answers-extended : (old new : Option (List Call)) (more : List Call) (events others : List Event) → ExtendedWhileKept old new more
+pub answers-extended : (old new : Option (List Call)) (more : List Call) (events others : List Event)
+    → ExtendedWhileKept old new more
     → IfSome old (λ calls. events ≡ answers_in calls) → others ≡ events ++ answers_in more
     → IfSome new (λ calls. others ≡ answers_in calls)
 answers-extended old None more events others extended known same = tt

@@ -1,5 +1,6 @@
 -- What a publication makes of the facts of a house.
-use Rattle.std.proofs.Common.{◌≡◌, ℕ, List, [], ◌∷◌, ◌++◌, Option, Some, None, IfSome, sym, ap, ◌∙◌, subst, append_assoc, arith}
+use Rattle.std.proofs.Common.{◌≡◌, ℕ, List, [], ◌∷◌, ◌++◌, Option, Some, None, IfSome, sym, ap, ◌∙◌, subst}
+use Rattle.std.proofs.Common.{append_assoc, arith}
 use Rattle.std.proofs.lemmas.List.{append-nil}
 use Rattle.sup_core.specs.declared.asks.Ask.{Ask}
 use Rattle.sup_core.specs.declared.event.Event.{Event}
@@ -17,7 +18,8 @@ use Rattle.svc_house.specs.Standing.{HoldsLastReading}
 use Rattle.svc_house.proofs.Lists.{answers-extended, answers_in-told, readings_in-append, readings_in-told}
 
 -- What was published, and then what is pending, stays.
-pub found-same : (events : List Event) (event : Event) (pending : Pending) → events_in pending ≡ event ∷ events_in (rest_of pending)
+pub found-same : (events : List Event) (event : Event) (pending : Pending)
+    → events_in pending ≡ event ∷ events_in (rest_of pending)
     → (events ++ event ∷ []) ++ events_in (rest_of pending) ≡ events ++ events_in pending
 found-same events event pending next =
     append_assoc events (event ∷ []) (events_in (rest_of pending)) ∙ ap (λ l. events ++ l) (sym next)
@@ -27,18 +29,23 @@ pub publish_outcomes : (events after : List Event) (asks : List Ask) (old new : 
     → IfSome new (λ calls. outcomes_in after ≡ answers_in calls)
 publish_outcomes events after asks old new same extended known =
     answers-extended old new (told asks) (outcomes_in events) (outcomes_in after) extended known
-    (ap outcomes_in same ∙ sym (append-nil (outcomes_in events)) ∙ ap (λ l. outcomes_in events ++ l) (sym (answers_in-told asks)))
+    (ap outcomes_in same ∙ sym (append-nil (outcomes_in events))
+    ∙ ap (λ l. outcomes_in events ++ l) (sym (answers_in-told asks)))
 
 -- What is left pending is taken after the event.
 left_taken : (opening : State) (events : List Event) (event : Event) (pending : Pending)
-    → events_in pending ≡ event ∷ events_in (rest_of pending) → AreTaken (followed_by (Opened opening) events) (events_in pending)
+    → events_in pending ≡ event ∷ events_in (rest_of pending)
+    → AreTaken (followed_by (Opened opening) events) (events_in pending)
     → AreTaken (followed_by (Opened opening) (events ++ event ∷ [])) (events_in (rest_of pending))
 left_taken opening events event pending next taken =
     let past = followed_by (Opened opening) events in
-    let all : AreTaken past (event ∷ events_in (rest_of pending)) = subst (λ (l : List Event). AreTaken past l) next taken in
-    subst (λ (h : History). AreTaken h (events_in (rest_of pending))) (sym (followed_by-append (Opened opening) events (event ∷ []))) all.2
+    let all : AreTaken past (event ∷ events_in (rest_of pending)) =
+    subst (λ (l : List Event). AreTaken past l) next taken in
+    subst (λ (h : History). AreTaken h (events_in (rest_of pending)))
+    (sym (followed_by-append (Opened opening) events (event ∷ []))) all.2
 
-pub publish_ready : (opening other : State) (events after : List Event) (event : Event) (pending rest : Pending) → other ≡ opening
+pub publish_ready : (opening other : State) (events after : List Event) (event : Event) (pending rest : Pending)
+    → other ≡ opening
     → after ≡ events ++ event ∷ [] → rest ≡ rest_of pending → events_in pending ≡ event ∷ events_in (rest_of pending)
     → AreTaken (followed_by (Opened opening) events) (events_in pending)
     → AreTaken (followed_by (Opened other) after) (events_in rest)
@@ -61,13 +68,15 @@ same_readings (Started pid label) old new same last = tt
 same_readings (StartFailed label) old new same last = tt
 same_readings (Death label) old new same last = tt
 
-published_reading : (event : Event) (asks : List Ask) (old new : Option (List Call)) → ExtendedWhileKept old new (told asks)
+published_reading : (event : Event) (asks : List Ask) (old new : Option (List Call))
+    → ExtendedWhileKept old new (told asks)
     → IfSome old (IsLastReading event) → IfSome new (IsLastReading event)
 published_reading event asks old None extended known = tt
 published_reading event asks None (Some new) extended known = absurd extended
 published_reading event asks (Some old) (Some new) extended known =
     same_readings event old new
-    (ap readings_in extended ∙ readings_in-append old (told asks) ∙ ap (λ l. readings_in old ++ l) (readings_in-told asks) ∙ append-nil (readings_in old)) known
+    (ap readings_in extended ∙ readings_in-append old (told asks)
+    ∙ ap (λ l. readings_in old ++ l) (readings_in-told asks) ∙ append-nil (readings_in old)) known
 
 -- the first of two lists that are the same
 first-same : (a b : Event) (xs ys : List Event) → ◌≡◌ {A = List Event} (a ∷ xs) (b ∷ ys) → a ≡ b
@@ -81,7 +90,8 @@ byte_reading byte None = tt
 byte_reading byte (Some calls) = tt
 
 pub publish_reading : (pending : Pending) (event : Event) (asks : List Ask) (old new : Option (List Call))
-    → events_in pending ≡ event ∷ events_in (rest_of pending) → ExtendedWhileKept old new (told asks) → HoldsLastReading pending old
+    → events_in pending ≡ event ∷ events_in (rest_of pending) → ExtendedWhileKept old new (told asks)
+    → HoldsLastReading pending old
     → IfSome new (IsLastReading event)
 publish_reading Empty event asks old new next extended known = absurd (none-first event [] next)
 publish_reading (One one) event asks old new next extended known =

@@ -7,10 +7,12 @@ use Rattle.sup_core.specs.Runs.{followed_by}
 use Rattle.sup_trace.specs.Trace.{are_taken}
 use Rattle.svc_station.specs.declared.note.Note.{Note}
 use Rattle.svc_station.specs.declared.reader.Reader.{Reader}
-use Rattle.svc_station.specs.Ends.{history_at, history_in, known_to, note_station, reader_opening, reader_station, told_by}
+use Rattle.svc_station.specs.Ends.{history_at, history_in, known_to, note_station, reader_opening, reader_station}
+use Rattle.svc_station.specs.Ends.{told_by}
 use Rattle.svc_station.proofs.Ended.{ended}
 
-opening-same : (note : Note) (reader : Reader) → note_station note ≡ reader_station reader → note.opening ≡ reader_opening reader
+opening-same : (note : Note) (reader : Reader) → note_station note ≡ reader_station reader
+    → note.opening ≡ reader_opening reader
 opening-same note reader same = ap (λ v. v.opening) same
 
 -- It knows just what the note told.

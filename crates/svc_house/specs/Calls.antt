@@ -8,7 +8,7 @@ use Rattle.sup_core.specs.declared.event.Event.TheVariants.{Byte, Started, Start
 use Rattle.tai_status.specs.declared.phase.Phase.{Phase}
 use Rattle.tai_status.specs.declared.phase.Phase.TheVariants as phase
 use Rattle.svc_house.specs.declared.call.Call.{Call}
-use Rattle.svc_house.specs.declared.call.Call.TheVariants.{Asked, Answered, NoStart, NoDeath, Read}
+use Rattle.svc_house.specs.declared.call.Call.TheVariants.{Requested, Answered, NoStart, NoDeath, Read}
 use Rattle.svc_house.specs.declared.call.StartAnswer.{StartAnswer}
 use Rattle.svc_house.specs.declared.call.StartAnswer.TheVariants as start
 use Rattle.svc_house.specs.declared.pending.Pending.{Pending}
@@ -66,7 +66,7 @@ death_poll (Some label) = Answered (Death label) ∷ []
 
 -- the calls that tell these asks
 abbrev pub told : List Ask → List Call
-told asks = map Asked asks
+told asks = map Requested asks
 
 -- the starts, failed starts and deaths that were answered in these calls
 abbrev pub answers_in : List Call → List Event

@@ -6,7 +6,7 @@ use tai_status::Label;
 #[derive(Clone, Copy, Debug, PartialEq, Eq)]
 pub enum Call {
     /// It was told this ask.
-    Asked(Ask),
+    Requested(Ask),
     /// It answered this start, failed start or death.
     Answered(Event),
     /// It was polled for the answer to a start, and had none.

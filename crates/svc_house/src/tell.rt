@@ -8,7 +8,7 @@ use sup_core::Ask;
 
 fn tell_one<W: World>(world: &mut W, ask: &Ask)
     requires { IsAsk ask.now }
-    ensures { ExtendedWhileKept (W.calls world.old) (W.calls world.new) (Call.Asked ask.now ∷ []) }
+    ensures { ExtendedWhileKept (W.calls world.old) (W.calls world.new) (Call.Requested ask.now ∷ []) }
 {
     match ask {
         Ask::Signal(sig, pid) => world.signal(*sig, *pid),

@@ -17,15 +17,15 @@ pub trait World {
     /// Sends a signal to the process of this number, which is at least 1.
     fn signal(&mut self, sig: Sig, pid: u32)
         requires { 0 < pid }
-        ensures { ExtendedWhileKept (calls self.old) (calls self.new) (Call.Asked (Ask.Signal sig pid) ∷ []) };
+        ensures { ExtendedWhileKept (calls self.old) (calls self.new) (Call.Requested (Ask.Signal sig pid) ∷ []) };
 
     /// Starts the service. `poll_start` answers how that ended.
     fn start(&mut self)
-        ensures { ExtendedWhileKept (calls self.old) (calls self.new) (Call.Asked Ask.Start ∷ []) };
+        ensures { ExtendedWhileKept (calls self.old) (calls self.new) (Call.Requested Ask.Start ∷ []) };
 
     /// Writes the status record.
     fn write(&mut self, bytes: &[u8; 20])
-        ensures { ExtendedWhileKept (calls self.old) (calls self.new) (Call.Asked (Ask.Write bytes.now) ∷ []) };
+        ensures { ExtendedWhileKept (calls self.old) (calls self.new) (Call.Requested (Ask.Write bytes.now) ∷ []) };
 
     /// How the start that was asked for ended, once it has.
     fn poll_start(&mut self) -> Option<StartAnswer>

@@ -1,10 +1,13 @@
 -- A number in front of a space.
-use Rattle.std.proofs.Common.{◌≡◌, ℕ, ◌==◌, ◌<◌, ◌^◌, ◌+◌, Bool, true, false, not, List, [], ◌∷◌, ◌++◌, suc, length, take, drop, refl, sym, ap, ◌∙◌, arith, decimal, position, Some, Option, ◌-◌, length-append, length-drop}
+use Rattle.std.proofs.Common.{◌≡◌, ℕ, ◌==◌, ◌<◌, ◌^◌, ◌+◌, Bool, true, false, not, List, [], ◌∷◌, ◌++◌, suc, length}
+use Rattle.std.proofs.Common.{take, drop, refl, sym, ap, ◌∙◌, arith, decimal, position, Some, Option, ◌-◌}
+use Rattle.std.proofs.Common.{length-append, length-drop}
 use Rattle.std.proofs.Math.Seq.{take-length}
 use Rattle.std.specs.List.{list_all, position_or_len}
 use Rattle.sup_core.proofs.Lines.{avoids, avoids-solid, decimal-solid}
 
-stops : (word rest : List ℕ) → avoids 32 word ≡ true → position_or_len (λ byte. byte == 32) (word ++ 32 ∷ rest) ≡ length word
+stops : (word rest : List ℕ) → avoids 32 word ≡ true → position_or_len (λ byte. byte == 32) (word ++ 32 ∷ rest)
+    ≡ length word
 stops [] rest h = refl
 stops (x ∷ xs) rest h = grind (arith, stops xs rest, h)
 

@@ -22,8 +22,8 @@ abbrev pub IsLiving : Found → Type 0
 IsLiving (Lives process) = 0 < process.pid
 IsLiving other = ⊤
 
--- What became of the process that was recorded. It lives exactly where this is the boot in which it began, and a process
--- of its number began at its tick. A process of another boot says nothing, and so does none.
+-- What became of the process that was recorded. It lives exactly where this is the boot in which it began, and a
+-- process of its number began at its tick. A process of another boot says nothing, and so does none.
 abbrev pub IsFound : (recorded : Option ProcessId) (boot : List ℕ) (tick : Option ℕ) → Found → Type 0
 IsFound None boot tick found = found ≡ Unknown
 IsFound (Some process) boot tick (Lives found) = (process.boot ≡ boot) × (tick ≡ Some process.tick) × (found ≡ process)

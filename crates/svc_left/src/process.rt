@@ -1,5 +1,6 @@
 //! The process of a service that was started last, in a line.
-ghost use Rattle.std.specs.Prelude.{◌≡◌, ◌<◌, ◌≤◌, ◌+◌, ◌^◌, ◌++◌, ◌∷◌, ◌==◌, ℕ, List, codes, decimal, length, position};
+ghost use Rattle.std.specs.Prelude.{◌≡◌, ◌<◌, ◌≤◌, ◌+◌, ◌^◌, ◌++◌, ◌∷◌, ◌==◌, ℕ, List, codes, decimal, length};
+ghost use Rattle.std.specs.Prelude.{position};
 ghost use Rattle.std.specs.Prelude.{Some, IfSome, IsSomeAnd};
 ghost use Rattle.arrayvec.specs.ArrayVec.{array_vec_len};
 ghost use Rattle.svc_left.specs.Process.{IsFound, IsProcess, process_line};

@@ -1,5 +1,6 @@
 -- What the whole history says of its letters, one by one.
-use Rattle.std.proofs.Common.{◌≡◌, ◌≢◌, ℕ, zero, suc, ◌+◌, ◌≤◌, ◌<◌, eq-eqb, ne_eqb, cond, List, [], ◌∷◌, sym, refl, ap, ◌∙◌, subst, Some, arith}
+use Rattle.std.proofs.Common.{◌≡◌, ◌≢◌, ℕ, zero, suc, ◌+◌, ◌≤◌, ◌<◌, eq-eqb, ne_eqb, cond, List, [], ◌∷◌, sym, refl, ap}
+use Rattle.std.proofs.Common.{◌∙◌, subst, Some, arith}
 use Rattle.std.specs.Prelude.{slice_get}
 use mathlib.Core.Logic.{dite}
 use native.Mathlib.Decide.{ℕ_discrete}
@@ -11,7 +12,8 @@ use Rattle.svc_mail.proofs.Lengths.{sender_below, among_rest}
 module _ {T : Type 0} where
   pub names : (all : ℕ) (log : List (Letter T)) → IsAmong all log → NamesASender all log
   names all [] h i l e = absurd cc
-  names all (x ∷ log) h zero l e = let s : x ≡ l = cc in subst (λ (y : Letter T). y.sender < all) s (sender_below all x log h)
+  names all (x ∷ log) h zero l e = let s : x ≡ l = cc in
+      subst (λ (y : Letter T). y.sender < all) s (sender_below all x log h)
   names all (x ∷ log) h (suc i) l e = names all log (among_rest all x log h) i l e
 
   cons_same : (k : ℕ) (x : Letter T) (l : List (Letter T)) → x.sender ≡ k → of_sender k (x ∷ l) ≡ x ∷ of_sender k l
@@ -24,18 +26,21 @@ module _ {T : Type 0} where
   abbrev RunsFrom : ℕ → ℕ → List (Letter T) → Type 0
   RunsFrom k p log = (row : List T) × (of_sender k log ≡ letters k p row)
 
-  first_place : (k p : ℕ) (x : Letter T) (l : List (Letter T)) → x.sender ≡ k → RunsFrom k p (x ∷ l) → (x.place ≡ p) × RunsFrom k (p + 1) l
+  first_place : (k p : ℕ) (x : Letter T) (l : List (Letter T)) → x.sender ≡ k → RunsFrom k p (x ∷ l) → (x.place ≡ p)
+      × RunsFrom k (p + 1) l
   first_place k p x l e h = step h.0 (sym (cons_same k x l e) ∙ h.1)
     where
       step : (row : List T) → x ∷ of_sender k l ≡ letters k p row → (x.place ≡ p) × RunsFrom k (p + 1) l
       step [] q = absurd cc
-      step (y ∷ ys) q = let s : x ≡ letter k p y = cc in let t : of_sender k l ≡ letters k (p + 1) ys = cc in (ap (λ (z : Letter T). z.place) s, (ys, t))
+      step (y ∷ ys) q = let s : x ≡ letter k p y = cc in let t : of_sender k l ≡ letters k (p + 1) ys = cc in
+          (ap (λ (z : Letter T). z.place) s, (ys, t))
 
   runs_past : (k p : ℕ) (x : Letter T) (l : List (Letter T)) → x.sender ≢ k → RunsFrom k p (x ∷ l) → RunsFrom k p l
   runs_past k p x l ne h = (h.0, sym (cons_other k x l ne) ∙ h.1)
 
   -- a letter that comes later has no lower place
-  from_place : (k p : ℕ) (l : List (Letter T)) → RunsFrom k p l → (j : ℕ) (b : Letter T) → slice_get l j ≡ Some b → b.sender ≡ k → p ≤ b.place
+  from_place : (k p : ℕ) (l : List (Letter T)) → RunsFrom k p l → (j : ℕ) (b : Letter T) → slice_get l j ≡ Some b
+      → b.sender ≡ k → p ≤ b.place
   from_place k p [] h j b e is = absurd cc
   from_place k p (x ∷ l) h zero b e is =
       let s : x ≡ b = cc in
@@ -57,7 +62,8 @@ module _ {T : Type 0} where
       (λ ne. ((h k).0, runs_past k (h k).0 x l ne (h k).1))
 
   -- so no later letter is the first one again
-  not_again : (x : Letter T) (l : List (Letter T)) → AllRun (x ∷ l) → (j : ℕ) (b : Letter T) → slice_get l j ≡ Some b → b.sender ≡ x.sender → b.place ≢ x.place
+  not_again : (x : Letter T) (l : List (Letter T)) → AllRun (x ∷ l) → (j : ℕ) (b : Letter T) → slice_get l j ≡ Some b
+      → b.sender ≡ x.sender → b.place ≢ x.place
   not_again x l h j b e same place =
       let k : ℕ = x.sender in
       let first = first_place k (h k).0 x l refl (h k).1 in
@@ -69,10 +75,12 @@ module _ {T : Type 0} where
   once (x ∷ l) h zero zero a b ea eb s p = refl
   once (x ∷ l) h zero (suc j) a b ea eb s p =
       let is : x ≡ a = cc in
-      absurd (not_again x l h j b eb (sym s ∙ sym (ap (λ (z : Letter T). z.sender) is)) (sym p ∙ sym (ap (λ (z : Letter T). z.place) is)))
+      absurd (not_again x l h j b eb (sym s ∙ sym (ap (λ (z : Letter T). z.sender) is)) (sym p
+      ∙ sym (ap (λ (z : Letter T). z.place) is)))
   once (x ∷ l) h (suc i) zero a b ea eb s p =
       let is : x ≡ b = cc in
-      absurd (not_again x l h i a ea (s ∙ sym (ap (λ (z : Letter T). z.sender) is)) (p ∙ sym (ap (λ (z : Letter T). z.place) is)))
+      absurd (not_again x l h i a ea (s ∙ sym (ap (λ (z : Letter T). z.sender) is)) (p
+      ∙ sym (ap (λ (z : Letter T). z.place) is)))
   once (x ∷ l) h (suc i) (suc j) a b ea eb s p = ap suc (once l (all_run_rest x l h) i j a b ea eb s p)
 
   pub each_once : (log : List (Letter T)) → IsHistory log → IsEachOnce log

@@ -26,7 +26,8 @@ pub struct Sender<T: Copy, A: Allocator = Global> {
 }
 
 impl<T: Copy, A: Allocator + Clone> Sender<T, A> {
-    ghost use Rattle.std.specs.Prelude.{◌≡◌, ◌+◌, ◌<◌, ◌≤◌, ◌^◌, ◌∷◌, ◌++◌, [], true, length, MatchResult, OnOk, IfOk, IfErr};
+    ghost use Rattle.std.specs.Prelude.{◌≡◌, ◌+◌, ◌<◌, ◌≤◌, ◌^◌, ◌∷◌, ◌++◌, [], true, length, MatchResult, OnOk, IfOk};
+    ghost use Rattle.std.specs.Prelude.{IfErr};
     ghost use Rattle.std.specs.Arc.{arc_value};
     ghost use Rattle.crossbeam_queue.specs.Passes.{view, IsPassOf};
     ghost use Rattle.svc_mail.specs.Kept.{IsPoster, next_sender, with_made};

@@ -1,5 +1,6 @@
 -- How what a relay counts goes on.
-use Rattle.std.proofs.Common.{◌≡◌, ℕ, ◌+◌, ◌<◌, ◌≤◌, List, [], ◌∷◌, ◌++◌, length, take, drop, Option, Some, None, IfSome, refl, sym, ap, ◌∙◌, subst, arith, length-append, length-drop, append_assoc}
+use Rattle.std.proofs.Common.{◌≡◌, ℕ, ◌+◌, ◌<◌, ◌≤◌, List, [], ◌∷◌, ◌++◌, length, take, drop, Option, Some, None}
+use Rattle.std.proofs.Common.{IfSome, refl, sym, ap, ◌∙◌, subst, arith, length-append, length-drop, append_assoc}
 use Rattle.std.proofs.lemmas.List.{append-nil, drop-drop, drop-append-le, take-append-le, take-append-drop}
 use Rattle.std.proofs.Math.Seq.{take-add, drop-length, length-take-le}
 use Rattle.std.specs.Io.KnownBytes.{append_known}
@@ -17,30 +18,42 @@ use Rattle.svc_relay.specs.Passing.{Passing, IsBroken, IsCounted, IsRelay, IsRel
 use Rattle.svc_relay.proofs.Joined.{bytes_in-one}
 
 -- what holds of every relay
-pub relay_facts : (receiver : Receiver Piece Global) (earlier here : ℕ) (waiting : List ℕ) (put : ℕ) (told : Option (List ℕ)) (failures : ℕ)
-    → IsCounted receiver earlier here waiting put told → IsRelay (passing receiver earlier here waiting put told failures)
+pub relay_facts : (receiver : Receiver Piece Global) (earlier here : ℕ) (waiting : List ℕ) (put : ℕ)
+    (told : Option (List ℕ)) (failures : ℕ)
+    → IsCounted receiver earlier here waiting put told
+    → IsRelay (passing receiver earlier here waiting put told failures)
 relay_facts receiver earlier here waiting put told failures counted =
     let taken = bytes_in (taken_by receiver) in record {
-      taken = sym (take-append-drop (earlier + here) taken) ∙ ap (λ l. l ++ drop (earlier + here) taken) (take-add earlier here taken)
+      taken = sym (take-append-drop (earlier + here) taken)
+          ∙ ap (λ l. l ++ drop (earlier + here) taken) (take-add earlier here taken)
           ∙ ap (λ l. (take earlier taken ++ take here (drop earlier taken)) ++ l) counted.kept;
       told = counted.life;
     }
 
 -- more was taken
 
-pub gathers_one : (first old new : Receiver Piece Global) (start before after bytes : List ℕ) (letter : Letter Piece) → Gathers first old start before
-    → taken_by new ≡ taken_by old ++ letter ∷ [] → after ≡ before ++ bytes → bytes ≡ bytes_of letter.item → Gathers first new start after
+pub gathers_one : (first old new : Receiver Piece Global) (start before after bytes : List ℕ) (letter : Letter Piece)
+    → Gathers first old start before
+    → taken_by new ≡ taken_by old ++ letter ∷ [] → after ≡ before ++ bytes → bytes ≡ bytes_of letter.item
+    → Gathers first new start after
 gathers_one first old new start before after bytes letter h taken waits is = record {
   bytes = h.bytes ++ bytes_of letter.item;
   taken = ap (λ l. bytes_in l) taken ∙ bytes_in-one (taken_by old) letter ∙ ap (λ l. l ++ bytes_of letter.item) h.taken
       ∙ append_assoc (bytes_in (taken_by first)) h.bytes (bytes_of letter.item);
-  waits = waits ∙ ap (λ l. before ++ l) is ∙ ap (λ l. l ++ bytes_of letter.item) h.waits ∙ append_assoc start h.bytes (bytes_of letter.item);
+  waits = waits ∙ ap (λ l. before ++ l) is ∙ ap (λ l. l ++ bytes_of letter.item) h.waits
+      ∙ append_assoc start h.bytes (bytes_of letter.item);
 }
 
 pub gathers_none : (receiver : Receiver Piece Global) (waiting : List ℕ) → Gathers receiver receiver waiting waiting
-gathers_none receiver waiting = record { bytes = []; taken = sym (append-nil (bytes_in (taken_by receiver))); waits = sym (append-nil waiting) }
+gathers_none receiver waiting = record {
+  bytes = [];
+  taken = sym (append-nil (bytes_in (taken_by receiver)));
+  waits =
+      sym (append-nil waiting);
+}
 
-pub gathers_then : (first old new : Receiver Piece Global) (start before after : List ℕ) → Gathers first old start before → Gathers old new before after
+pub gathers_then : (first old new : Receiver Piece Global) (start before after : List ℕ)
+    → Gathers first old start before → Gathers old new before after
     → Gathers first new start after
 gathers_then first old new start before after h k = record {
   bytes = h.bytes ++ k.bytes;
@@ -48,67 +61,89 @@ gathers_then first old new start before after h k = record {
   waits = k.waits ∙ ap (λ l. l ++ k.bytes) h.waits ∙ append_assoc start h.bytes k.bytes;
 }
 
-same_fronts : (earlier here : ℕ) (taken bytes : List ℕ) → earlier + here ≤ length taken → take here (drop earlier (taken ++ bytes)) ≡ take here (drop earlier taken)
+same_fronts : (earlier here : ℕ) (taken bytes : List ℕ) → earlier + here ≤ length taken
+    → take here (drop earlier (taken ++ bytes)) ≡ take here (drop earlier taken)
 same_fronts earlier here taken bytes within =
     let first : earlier ≤ length taken = omega (arith, within) in
     let enough : here ≤ length (drop earlier taken) = omega (arith, within, length-drop earlier taken) in
-    ap (λ l. take here l) (drop-append-le earlier taken bytes first) ∙ take-append-le here (drop earlier taken) bytes enough
+    ap (λ l. take here l) (drop-append-le earlier taken bytes first)
+    ∙ take-append-le here (drop earlier taken) bytes enough
 
-pub filled_earlier : (earlier here : ℕ) (taken more bytes : List ℕ) → earlier + here ≤ length taken → more ≡ taken ++ bytes → take earlier more ≡ take earlier taken
-filled_earlier earlier here taken more bytes within is = ap (λ l. take earlier l) is ∙ take-append-le earlier taken bytes (omega (arith, within))
+pub filled_earlier : (earlier here : ℕ) (taken more bytes : List ℕ) → earlier + here ≤ length taken
+    → more ≡ taken ++ bytes → take earlier more ≡ take earlier taken
+filled_earlier earlier here taken more bytes within is = ap (λ l. take earlier l) is
+    ∙ take-append-le earlier taken bytes (omega (arith, within))
 
 pub filled_here : (earlier here : ℕ) (taken more bytes : List ℕ) → earlier + here ≤ length taken → more ≡ taken ++ bytes
     → take here (drop earlier more) ≡ take here (drop earlier taken)
-filled_here earlier here taken more bytes within is = ap (λ l. take here (drop earlier l)) is ∙ same_fronts earlier here taken bytes within
+filled_here earlier here taken more bytes within is = ap (λ l. take here (drop earlier l)) is
+    ∙ same_fronts earlier here taken bytes within
 
-pub filled : (old new : Receiver Piece Global) (earlier here : ℕ) (waiting after : List ℕ) (put : ℕ) (told : Option (List ℕ))
-    → drop put waiting ≡ [] → Gathers old new [] after → IsCounted old earlier here waiting put told → IsCounted new earlier here after 0 told
+pub filled : (old new : Receiver Piece Global) (earlier here : ℕ) (waiting after : List ℕ) (put : ℕ)
+    (told : Option (List ℕ))
+    → drop put waiting ≡ [] → Gathers old new [] after → IsCounted old earlier here waiting put told
+    → IsCounted new earlier here after 0 told
 filled old new earlier here waiting after put told none gathers counted =
     let taken = bytes_in (taken_by old) in
     let bytes = gathers.bytes in
     let same = gathers.taken in record {
       within = omega (arith, ap length same, length-append taken bytes, counted.within);
       front = omega arith;
-      kept = ap (λ l. drop (earlier + here) l) same ∙ drop-append-le (earlier + here) taken bytes counted.within ∙ ap (λ l. l ++ bytes) (counted.kept ∙ none) ∙ sym gathers.waits;
-      life = subst (λ (l : List ℕ). IfSome told (λ b. b ≡ l)) (sym (filled_here earlier here taken (bytes_in (taken_by new)) bytes counted.within same)) counted.life;
+      kept = ap (λ l. drop (earlier + here) l) same ∙ drop-append-le (earlier + here) taken bytes counted.within
+          ∙ ap (λ l. l ++ bytes) (counted.kept ∙ none) ∙ sym gathers.waits;
+      life = subst (λ (l : List ℕ). IfSome told (λ b. b ≡ l))
+          (sym (filled_here earlier here taken (bytes_in (taken_by new)) bytes counted.within same)) counted.life;
     }
 
 -- bytes are put
 
-put_life : (here count : ℕ) (from rest : List ℕ) (old new : Option (List ℕ)) → drop here from ≡ rest → new ≡ append_known old (take count rest)
+put_life : (here count : ℕ) (from rest : List ℕ) (old new : Option (List ℕ)) → drop here from ≡ rest
+    → new ≡ append_known old (take count rest)
     → IfSome old (λ b. b ≡ take here from) → IfSome new (λ b. b ≡ take (here + count) from)
-put_life here count from rest None new is extended known = subst (λ (o : Option (List ℕ)). IfSome o (λ b. b ≡ take (here + count) from)) (sym extended) tt
+put_life here count from rest None new is extended known =
+    subst (λ (o : Option (List ℕ)). IfSome o (λ b. b ≡ take (here + count) from)) (sym extended) tt
 put_life here count from rest (Some old) new is extended known =
     let all : old ++ take count rest ≡ take (here + count) from =
-    ap (λ l. l ++ take count rest) known ∙ ap (λ l. take here from ++ take count l) (sym is) ∙ sym (take-add here count from) in
+    ap (λ l. l ++ take count rest) known ∙ ap (λ l. take here from ++ take count l) (sym is)
+    ∙ sym (take-add here count from) in
     subst (λ (o : Option (List ℕ)). IfSome o (λ b. b ≡ take (here + count) from)) (sym extended) all
 
 -- what is kept, as a part of what was taken
 kept_part : (earlier here : ℕ) (taken : List ℕ) → drop here (drop earlier taken) ≡ drop (earlier + here) taken
 kept_part earlier here taken = drop-drop here earlier taken
 
-pub puts_here : (receiver : Receiver Piece Global) (earlier here : ℕ) (waiting : List ℕ) (put : ℕ) (told : Option (List ℕ)) (count : ℕ)
+pub puts_here : (receiver : Receiver Piece Global) (earlier here : ℕ) (waiting : List ℕ) (put : ℕ)
+    (told : Option (List ℕ)) (count : ℕ)
     → IsCounted receiver earlier here waiting put told
-    → take (here + count) (drop earlier (bytes_in (taken_by receiver))) ≡ take here (drop earlier (bytes_in (taken_by receiver))) ++ take count (drop put waiting)
+    → take (here + count) (drop earlier (bytes_in (taken_by receiver)))
+    ≡ take here (drop earlier (bytes_in (taken_by receiver))) ++ take count (drop put waiting)
 puts_here receiver earlier here waiting put told count counted =
     let taken = bytes_in (taken_by receiver) in
-    take-add here count (drop earlier taken) ∙ ap (λ l. take here (drop earlier taken) ++ take count l) (kept_part earlier here taken ∙ counted.kept)
+    take-add here count (drop earlier taken)
+    ∙ ap (λ l. take here (drop earlier taken) ++ take count l) (kept_part earlier here taken ∙ counted.kept)
 
-pub puts : (receiver : Receiver Piece Global) (earlier here : ℕ) (waiting : List ℕ) (put : ℕ) (told after : Option (List ℕ)) (count : ℕ)
+pub puts : (receiver : Receiver Piece Global) (earlier here : ℕ) (waiting : List ℕ) (put : ℕ)
+    (told after : Option (List ℕ)) (count : ℕ)
     → count ≤ length (drop put waiting) → after ≡ append_known told (take count (drop put waiting))
-    → IsCounted receiver earlier here waiting put told → IsCounted receiver earlier (here + count) waiting (put + count) after
+    → IsCounted receiver earlier here waiting put told
+    → IsCounted receiver earlier (here + count) waiting (put + count) after
 puts receiver earlier here waiting put told after count few extended counted =
     let taken = bytes_in (taken_by receiver) in
     let sum : earlier + (here + count) ≡ earlier + here + count = omega arith in record {
       within = omega (arith, few, ap length counted.kept, length-drop (earlier + here) taken, counted.within);
       front = omega (arith, few, length-drop put waiting, counted.front);
-      kept = ap (λ n. drop n taken) sum ∙ sym (drop-drop count (earlier + here) taken) ∙ ap (λ l. drop count l) counted.kept ∙ drop-drop count put waiting;
-      life = put_life here count (drop earlier taken) (drop put waiting) told after (kept_part earlier here taken ∙ counted.kept) extended counted.life;
+      kept = ap (λ n. drop n taken) sum ∙ sym (drop-drop count (earlier + here) taken)
+          ∙ ap (λ l. drop count l) counted.kept ∙ drop-drop count put waiting;
+      life = put_life here count (drop earlier taken) (drop put waiting) told after (kept_part earlier here taken
+          ∙ counted.kept) extended counted.life;
     }
 
-pub puts_more : (receiver : Receiver Piece Global) (earlier here : ℕ) (waiting : List ℕ) (put : ℕ) (told after : Option (List ℕ)) (failures failed count : ℕ)
-    → count ≤ length (drop put waiting) → after ≡ append_known told (take count (drop put waiting)) → IsCounted receiver earlier here waiting put told
-    → PutsMore (passing receiver earlier here waiting put told failures) count (passing receiver earlier (here + count) waiting (put + count) after failed)
+pub puts_more : (receiver : Receiver Piece Global) (earlier here : ℕ) (waiting : List ℕ) (put : ℕ)
+    (told after : Option (List ℕ)) (failures failed count : ℕ)
+    → count ≤ length (drop put waiting) → after ≡ append_known told (take count (drop put waiting))
+    → IsCounted receiver earlier here waiting put told
+    → PutsMore (passing receiver earlier here waiting put told failures) count
+    (passing receiver earlier (here + count) waiting (put + count) after failed)
 puts_more receiver earlier here waiting put told after failures failed count few extended counted = record {
   bytes = take count (drop put waiting);
   here = puts_here receiver earlier here waiting put told count counted;
@@ -116,39 +151,51 @@ puts_more receiver earlier here waiting put told after failures failed count few
   told = extended;
 }
 
-pub puts_all : (receiver : Receiver Piece Global) (earlier here : ℕ) (waiting : List ℕ) (put : ℕ) (told after : Option (List ℕ)) (failures failed count : ℕ)
-    → count ≡ length (drop put waiting) → 0 < length (drop put waiting) → failed ≡ failures → after ≡ append_known told (take count (drop put waiting)) → IsCounted receiver earlier here waiting put told
-    → PutsAll (passing receiver earlier here waiting put told failures) count (passing receiver earlier (here + count) waiting (put + count) after failed)
+pub puts_all : (receiver : Receiver Piece Global) (earlier here : ℕ) (waiting : List ℕ) (put : ℕ)
+    (told after : Option (List ℕ)) (failures failed count : ℕ)
+    → count ≡ length (drop put waiting) → 0 < length (drop put waiting) → failed ≡ failures
+    → after ≡ append_known told (take count (drop put waiting)) → IsCounted receiver earlier here waiting put told
+    → PutsAll (passing receiver earlier here waiting put told failures) count
+    (passing receiver earlier (here + count) waiting (put + count) after failed)
 puts_all receiver earlier here waiting put told after failures failed count all some works extended counted = record {
-  put = puts_more receiver earlier here waiting put told after failures failed count (omega (arith, all)) extended counted;
+  put = puts_more receiver earlier here waiting put told after failures failed count (omega (arith, all)) extended
+      counted;
   some = omega (arith, all, some);
   kept = sym (drop-drop count put waiting) ∙ ap (λ n. drop n (drop put waiting)) all ∙ drop-length (drop put waiting);
   works = works;
 }
 
-pub breaks : (receiver : Receiver Piece Global) (earlier here : ℕ) (waiting : List ℕ) (put : ℕ) (told after : Option (List ℕ)) (failures failed count : ℕ)
-    → count < length (drop put waiting) → Rose failures failed → after ≡ append_known told (take count (drop put waiting)) → IsCounted receiver earlier here waiting put told
-    → IsBroken (passing receiver earlier here waiting put told failures) (passing receiver earlier (here + count) waiting (put + count) after failed)
+pub breaks : (receiver : Receiver Piece Global) (earlier here : ℕ) (waiting : List ℕ) (put : ℕ)
+    (told after : Option (List ℕ)) (failures failed count : ℕ)
+    → count < length (drop put waiting) → Rose failures failed
+    → after ≡ append_known told (take count (drop put waiting)) → IsCounted receiver earlier here waiting put told
+    → IsBroken (passing receiver earlier here waiting put told failures)
+    (passing receiver earlier (here + count) waiting (put + count) after failed)
 breaks receiver earlier here waiting put told after failures failed count part rose extended counted = record {
   count = count;
-  put = puts_more receiver earlier here waiting put told after failures failed count (omega (arith, part)) extended counted;
+  put = puts_more receiver earlier here waiting put told after failures failed count (omega (arith, part)) extended
+      counted;
   kept = omega (arith, part, length-drop put waiting, length-drop (put + count) waiting);
   failed = rose;
 }
 
 -- what an outlet tells, when it took bytes and then more of them
-pub known_more : (first old new : Option (List ℕ)) (bytes : List ℕ) (at count : ℕ) → old ≡ append_known first (take at bytes)
+pub known_more : (first old new : Option (List ℕ)) (bytes : List ℕ) (at count : ℕ)
+    → old ≡ append_known first (take at bytes)
     → new ≡ append_known old (take count (drop at bytes)) → new ≡ append_known first (take (at + count) bytes)
 known_more first old new bytes at count h k =
-    k ∙ ap (λ o. append_known o (take count (drop at bytes))) h ∙ twice first (take at bytes) (take count (drop at bytes))
+    k ∙ ap (λ o. append_known o (take count (drop at bytes))) h
+    ∙ twice first (take at bytes) (take count (drop at bytes))
     ∙ ap (λ l. append_known first l) (sym (take-add at count bytes))
   where
-    twice : (known : Option (List ℕ)) (xs ys : List ℕ) → append_known (append_known known xs) ys ≡ append_known known (xs ++ ys)
+    twice : (known : Option (List ℕ)) (xs ys : List ℕ) → append_known (append_known known xs) ys
+        ≡ append_known known (xs ++ ys)
     twice None xs ys = refl
     twice (Some zs) xs ys = ap (λ l. Some l) (append_assoc zs xs ys)
 
 -- a turn is a step that puts nothing, and one that puts what that step keeps
-more : (old mid new : Passing) (count : ℕ) → mid.here ≡ old.here → mid.told ≡ old.told → PutsMore mid count new → PutsMore old count new
+more : (old mid new : Passing) (count : ℕ) → mid.here ≡ old.here → mid.told ≡ old.told → PutsMore mid count new
+    → PutsMore old count new
 more old mid new count here told h = record {
   bytes = h.bytes;
   many = h.many;
@@ -156,7 +203,8 @@ more old mid new count here told h = record {
   told = h.told ∙ ap (λ o. append_known o h.bytes) told;
 }
 
-pub puts_kept : (old mid new : Passing) (turned : RelayTurn) → mid.here ≡ old.here → mid.told ≡ old.told → mid.failures ≡ old.failures → 0 < length mid.kept
+pub puts_kept : (old mid new : Passing) (turned : RelayTurn) → mid.here ≡ old.here → mid.told ≡ old.told
+    → mid.failures ≡ old.failures → 0 < length mid.kept
     → IsRelayTurn mid turned new → IsRelayTurn old turned new
 puts_kept old mid new (Moved count) here told failures some h = record {
   put = more old mid new count here told h.put;
@@ -174,8 +222,10 @@ puts_kept old mid new Broken here told failures some h = record {
 
 -- the next life begins
 
-pub replaced : (receiver : Receiver Piece Global) (earlier here : ℕ) (waiting : List ℕ) (put : ℕ) (told after : Option (List ℕ))
-    → IfSome after (λ b. b ≡ []) → IsCounted receiver earlier here waiting put told → IsCounted receiver (earlier + here) 0 waiting put after
+pub replaced : (receiver : Receiver Piece Global) (earlier here : ℕ) (waiting : List ℕ) (put : ℕ)
+    (told after : Option (List ℕ))
+    → IfSome after (λ b. b ≡ []) → IsCounted receiver earlier here waiting put told
+    → IsCounted receiver (earlier + here) 0 waiting put after
 replaced receiver earlier here waiting put told after none counted =
     let taken = bytes_in (taken_by receiver) in
     let sum : earlier + here + 0 ≡ earlier + here = omega arith in record {

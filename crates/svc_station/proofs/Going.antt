@@ -16,10 +16,13 @@ pub GoesOn-then : (one two three : Writer) → GoesOn one two → GoesOn two thr
 GoesOn-then one two three first second =
     (second.0 ∙ first.0, prefix_trans (published one) (published two) (published three) first.1 second.1)
 
-prefix_if : (b : Bool) (log new : List Event) (event : Event) → new ≡ (if b then log ++ event ∷ [] else log) → IsPrefix log new
+prefix_if : (b : Bool) (log new : List Event) (event : Event) → new ≡ (if b then log ++ event ∷ [] else log)
+    → IsPrefix log new
 prefix_if true log new event is = (event ∷ [], sym is)
 prefix_if false log new event is = ([], append-nil log ∙ sym is)
 
 -- whatever was published
-pub GoesOn-published : (old new : Writer) (event : Event) → station new ≡ station old → published new ≡ with_if_taken old event → GoesOn old new
-GoesOn-published old new event same is = (same, prefix_if (takes (history_of old) event) (published old) (published new) event is)
+pub GoesOn-published : (old new : Writer) (event : Event) → station new ≡ station old
+    → published new ≡ with_if_taken old event → GoesOn old new
+GoesOn-published old new event same is =
+    (same, prefix_if (takes (history_of old) event) (published old) (published new) event is)

@@ -1,5 +1,6 @@
 -- Beginnings of one list.
-use Rattle.std.proofs.Common.{◌≡◌, ◌≤◌, ℕ, nat_le, Bool, true, false, List, [], ◌∷◌, ◌++◌, length, ◌+◌, refl, ap, sym, subst, take, ◌∙◌, arith, append_assoc}
+use Rattle.std.proofs.Common.{◌≡◌, ◌≤◌, ℕ, nat_le, Bool, true, false, List, [], ◌∷◌, ◌++◌, length, ◌+◌, refl, ap, sym}
+use Rattle.std.proofs.Common.{subst, take, ◌∙◌, arith, append_assoc}
 use Rattle.std.proofs.lemmas.List.{take_all}
 use mathlib.Core.List.{IsPrefix}
 use Rattle.std.specs.Prelude.{MatchBool}
@@ -13,7 +14,8 @@ pub prefix_trans : {A : Type 0} (xs ys zs : List A) → IsPrefix xs ys → IsPre
 prefix_trans xs ys zs p q = (p.0 ++ q.0, sym (append_assoc xs p.0 q.0) ∙ (ap (λ w. w ++ q.0) p.1 ∙ q.1))
 
 -- of two beginnings of one list the shorter begins the longer
-pub prefix_shorter : {A : Type 0} (xs ys zs : List A) → IsPrefix xs zs → IsPrefix ys zs → length xs ≤ length ys → IsPrefix xs ys
+pub prefix_shorter : {A : Type 0} (xs ys zs : List A) → IsPrefix xs zs → IsPrefix ys zs → length xs ≤ length ys
+    → IsPrefix xs ys
 prefix_shorter [] ys zs p q le = (ys, refl)
 prefix_shorter (x ∷ xs) [] zs p q le = absurd (omega arith)
 prefix_shorter (x ∷ xs) (y ∷ ys) [] p q le = absurd (cc (p.1))
@@ -31,16 +33,21 @@ prefix_whole (x ∷ xs) (y ∷ ys) p le =
     let rest = prefix_whole xs ys (p.0, cc (p.1)) (omega arith) in cc (p.1, rest)
 
 -- What begins a list of which no more than this prefix is there begins this prefix.
-pub begins_all : {A : Type 0} (mine other both all : List A) (key : ℕ) → IsPrefix mine both → IsPrefix other both → IsPrefix both all
+pub begins_all : {A : Type 0} (mine other both all : List A) (key : ℕ) → IsPrefix mine both → IsPrefix other both
+    → IsPrefix both all
     → length all + 2 ≤ key → key ≡ length mine + 2 → IsPrefix other mine
 begins_all mine other both all key own theirs goes_on few is =
-    subst (λ l. IsPrefix other l) (sym (prefix_whole mine all (prefix_trans mine both all own goes_on) (omega (arith, few, is))))
+    subst (λ l. IsPrefix other l)
+    (sym (prefix_whole mine all (prefix_trans mine both all own goes_on) (omega (arith, few, is))))
     (prefix_trans other both all theirs goes_on)
 
 -- Of two prefixes of one list the one that is not longer begins the other.
-pub begins_by_length : {A : Type 0} (mine theirs whole : List A) (a b : ℕ) (answer : Bool) → a ≡ length mine → b ≡ length theirs → nat_le a b ≡ answer
+pub begins_by_length : {A : Type 0} (mine theirs whole : List A) (a b : ℕ) (answer : Bool) → a ≡ length mine
+    → b ≡ length theirs → nat_le a b ≡ answer
     → IsPrefix mine whole → IsPrefix theirs whole → MatchBool answer (IsPrefix mine theirs) (IsPrefix theirs mine)
 begins_by_length mine theirs whole a b true long other is own learnt =
-    let less : length mine ≤ length theirs = grind (arith, long, other, is) in prefix_shorter mine theirs whole own learnt less
+    let less : length mine ≤ length theirs = grind (arith, long, other, is) in
+    prefix_shorter mine theirs whole own learnt less
 begins_by_length mine theirs whole a b false long other is own learnt =
-    let less : length theirs ≤ length mine = grind (arith, long, other, is) in prefix_shorter theirs mine whole learnt own less
+    let less : length theirs ≤ length mine = grind (arith, long, other, is) in
+    prefix_shorter theirs mine whole learnt own less

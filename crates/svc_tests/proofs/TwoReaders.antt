@@ -1,11 +1,13 @@
 -- The two readers of a station, for the tests.
-use Rattle.std.proofs.Common.{◌≡◌, ℕ, zero, suc, ◌<◌, List, [], ◌∷◌, ◌++◌, length, refl, sym, ap, subst, Some, length-append, arith}
+use Rattle.std.proofs.Common.{◌≡◌, ℕ, zero, suc, ◌<◌, List, [], ◌∷◌, ◌++◌, length, refl, sym, ap, subst, Some}
+use Rattle.std.proofs.Common.{length-append, arith}
 use Rattle.std.specs.Prelude.{slice_get, All}
 use Rattle.svc_station.specs.declared.reader.Reader.{Reader}
 use Rattle.svc_station.specs.declared.rule.Origin.{Origin}
 use Rattle.svc_station.specs.Ends.{AreAllReaders, AreNewReaders, IsNewReader, number_of, reader_station}
 
-pub all_two : (s : Origin) (rs : List Reader) (a b : Reader) → rs ≡ a ∷ b ∷ [] → (reader_station a ≡ s) × (number_of a ≡ 0)
+pub all_two : (s : Origin) (rs : List Reader) (a b : Reader) → rs ≡ a ∷ b ∷ [] → (reader_station a ≡ s)
+    × (number_of a ≡ 0)
     → (reader_station b ≡ s) × (number_of b ≡ 1) → s.readers ≡ 2 → AreAllReaders s rs
 all_two s rs a b is first second n = subst (λ l. AreAllReaders s l) (sym is) (each, number)
   where
@@ -20,7 +22,8 @@ all_two s rs a b is first second n = subst (λ l. AreAllReaders s l) (sym is) (e
     number (suc (suc k)) lt = absurd (omega arith)
 
 -- the two that were opened, taken off the back
-pub opened_two : (s : Origin) (rs l : List Reader) (a b : Reader) → length rs ≡ 2 → AreNewReaders s rs → rs ≡ (l ++ a ∷ []) ++ b ∷ []
+pub opened_two : (s : Origin) (rs l : List Reader) (a b : Reader) → length rs ≡ 2 → AreNewReaders s rs
+    → rs ≡ (l ++ a ∷ []) ++ b ∷ []
     → IsNewReader s 0 a × IsNewReader s 1 b
 opened_two s rs [] a b n h e = let h' = subst (AreNewReaders s) e h in (h' 0 a refl, h' 1 b refl)
 opened_two s rs (x ∷ []) a b n h e = absurd (omega (arith, ap length e))

@@ -1,5 +1,6 @@
 -- What is known of the bytes of a device, over several calls.
-use Rattle.std.proofs.Common.{◌≡◌, ℕ, ◌+◌, ◌-◌, min, List, [], ◌++◌, length, take, drop, Option, Some, None, refl, sym, subst, ap, ◌∙◌, rules, arith, append_assoc, append-nil}
+use Rattle.std.proofs.Common.{◌≡◌, ℕ, ◌+◌, ◌-◌, min, List, [], ◌++◌, length, take, drop, Option, Some, None, refl, sym}
+use Rattle.std.proofs.Common.{subst, ap, ◌∙◌, rules, arith, append_assoc, append-nil}
 use Rattle.std.proofs.Math.Seq.{take-add, take-append-add, take-length}
 use Rattle.std.proofs.lemmas.List.{take_rest, take_min, take-append-le, take-append-drop}
 use Rattle.std.specs.Io.KnownBytes.{Keeps, Appends, Consumes}
@@ -56,16 +57,20 @@ Appends-further a b c xs at n k l =
     let both = Appends-then a b c _ _ k (subst (λ (t : List ℕ). Appends b c t) rest l) in
     subst (λ (t : List ℕ). Appends a c t) (sym (take-add at n xs)) both
 
-pub AppendsFront-more : {a b : Option (List ℕ)} {xs : List ℕ} (ys : List ℕ) → AppendsFront a b xs → AppendsFront a b (xs ++ ys)
+pub AppendsFront-more : {a b : Option (List ℕ)} {xs : List ℕ} (ys : List ℕ) → AppendsFront a b xs
+    → AppendsFront a b (xs ++ ys)
 AppendsFront-more {a} {b} {xs} ys f = record {
   count = min f.count (length xs);
-  front = subst (λ (t : List ℕ). Appends a b t) (sym (take_min f.count xs) ∙ sym (take-append-le (min f.count (length xs)) xs ys (omega arith))) f.front;
+  front = subst (λ (t : List ℕ). Appends a b t) (sym (take_min f.count xs)
+      ∙ sym (take-append-le (min f.count (length xs)) xs ys (omega arith))) f.front;
 }
 
 pub Emits-none : (a b : Option (List ℕ)) (pending : List ℕ) → Keeps a b → Emits a b pending pending []
-Emits-none a b pending kept = record { written = []; wrote = Appends-nothing a b kept; whole = sym (append-nil pending) }
+Emits-none a b pending kept =
+    record { written = []; wrote = Appends-nothing a b kept; whole = sym (append-nil pending) }
 
-pub Emits-then : {a b c : Option (List ℕ)} {p q r xs ys : List ℕ} → Emits a b p q xs → Emits b c q r ys → Emits a c p r (xs ++ ys)
+pub Emits-then : {a b c : Option (List ℕ)} {p q r xs ys : List ℕ} → Emits a b p q xs → Emits b c q r ys
+    → Emits a c p r (xs ++ ys)
 Emits-then {a} {b} {c} {p} {q} {r} {xs} {ys} e f = record {
   written = e.written ++ f.written;
   wrote = Appends-then a b c e.written f.written e.wrote f.wrote;
@@ -73,7 +78,8 @@ Emits-then {a} {b} {c} {p} {q} {r} {xs} {ys} e f = record {
       ∙ sym (append_assoc e.written q ys) ∙ ap (λ (t : List ℕ). t ++ ys) e.whole ∙ append_assoc p xs ys;
 }
 
-pub Emits-front : {a b c : Option (List ℕ)} {p q xs : List ℕ} (zs : List ℕ) → Emits a b p q xs → AppendsFront b c (q ++ zs) → AppendsFront a c (p ++ (xs ++ zs))
+pub Emits-front : {a b c : Option (List ℕ)} {p q xs : List ℕ} (zs : List ℕ) → Emits a b p q xs
+    → AppendsFront b c (q ++ zs) → AppendsFront a c (p ++ (xs ++ zs))
 Emits-front {a} {b} {c} {p} {q} {xs} zs e f =
     let whole : e.written ++ (q ++ zs) ≡ p ++ (xs ++ zs) =
     sym (append_assoc e.written q zs) ∙ ap (λ (t : List ℕ). t ++ zs) e.whole ∙ append_assoc p xs zs in
@@ -94,11 +100,15 @@ Emits-further {a} {b} {c} {p} {q} {r} xs at n e f =
 pub Emits-failed : {a b c : Option (List ℕ)} {p q : List ℕ} (xs : List ℕ) (at : ℕ) → Emits a b p q (take at xs)
     → AppendsFront b c q → AppendsFront a c (p ++ xs)
 Emits-failed {a} {b} {c} {p} {q} xs at e f =
-    subst (λ (t : List ℕ). AppendsFront a c (p ++ t)) (take-append-drop at xs) (Emits-front (drop at xs) e (AppendsFront-more (drop at xs) f))
+    subst (λ (t : List ℕ). AppendsFront a c (p ++ t)) (take-append-drop at xs)
+    (Emits-front (drop at xs) e (AppendsFront-more (drop at xs) f))
 
-pub AppendsFront-first : {a b : Option (List ℕ)} (p xs ys : List ℕ) → AppendsFront a b (p ++ xs) → AppendsFront a b (p ++ (xs ++ ys))
-AppendsFront-first {a} {b} p xs ys f = subst (λ (t : List ℕ). AppendsFront a b t) (append_assoc p xs ys) (AppendsFront-more ys f)
+pub AppendsFront-first : {a b : Option (List ℕ)} (p xs ys : List ℕ) → AppendsFront a b (p ++ xs)
+    → AppendsFront a b (p ++ (xs ++ ys))
+AppendsFront-first {a} {b} p xs ys f =
+    subst (λ (t : List ℕ). AppendsFront a b t) (append_assoc p xs ys) (AppendsFront-more ys f)
 
 -- A piece is a front of itself.
 pub AppendsFront-whole : (a b : Option (List ℕ)) (xs : List ℕ) → Appends a b xs → AppendsFront a b xs
-AppendsFront-whole a b xs k = record { count = length xs; front = subst (λ (t : List ℕ). Appends a b t) (sym (take-length xs)) k }
+AppendsFront-whole a b xs k =
+    record { count = length xs; front = subst (λ (t : List ℕ). Appends a b t) (sym (take-length xs)) k }

@@ -1,5 +1,6 @@
 -- A label and its packed form.
-use Rattle.std.proofs.Common.{◌≡◌, ℕ, zero, suc, ◌+◌, List, [], ◌∷◌, ◌++◌, length, take, drop, Ok, sym, ap, ◌∙◌, arith, length-drop}
+use Rattle.std.proofs.Common.{◌≡◌, ℕ, zero, suc, ◌+◌, List, [], ◌∷◌, ◌++◌, length, take, drop, Ok, sym, ap, ◌∙◌, arith}
+use Rattle.std.proofs.Common.{length-drop}
 use Rattle.std.specs.Int.{w32, w64, to_be_bytes, from_be_bytes}
 use Rattle.std.proofs.lemmas.List.{take-append-drop, length-take-le, get_or-drop}
 use Rattle.std.proofs.lemmas.Nat.{be_bytes_4, be_bytes_8, from_be_bytes-to_be_bytes_4, from_be_bytes-to_be_bytes_8}
@@ -49,8 +50,14 @@ pub packed-from_packed : (bytes : List ℕ) (l : Tai64n) → IsBytes bytes → f
     → IsLabel l × (bytes ≡ packed l)
 packed-from_packed bytes l fits h =
     let parts = from_packed-parts bytes l h in
-    let is : HasParts l (from_be_bytes w64 (take 8 bytes)) (from_be_bytes w32 (drop 8 bytes)) = parts-label _ _ l parts.1 in
+    let is : HasParts l (from_be_bytes w64 (take 8 bytes)) (from_be_bytes w32 (drop 8 bytes)) =
+    parts-label _ _ l parts.1 in
     let len = parts.0 in
-    let front = be_bytes_8 (take 8 bytes) l.sec (length-take-le 8 bytes (omega (arith, len))) (IsBytes-take 8 bytes fits) is.sec in
-    let back = be_bytes_4 (drop 8 bytes) l.nano (rw length-drop (omega (arith, len))) (IsBytes-drop 8 bytes fits) is.nano in
-    (is.label, sym (ap (λ (xs : List ℕ). xs ++ to_be_bytes w32 l.nano) front ∙ ap (λ (ys : List ℕ). take 8 bytes ++ ys) back ∙ take-append-drop 8 bytes))
+    let front = be_bytes_8 (take 8 bytes) l.sec (length-take-le 8 bytes (omega (arith, len)))
+    (IsBytes-take 8 bytes fits) is.sec in
+    let back = be_bytes_4 (drop 8 bytes) l.nano (rw length-drop (omega (arith, len))) (IsBytes-drop 8 bytes fits)
+    is.nano in (
+      is.label,
+      sym (ap (λ (xs : List ℕ). xs ++ to_be_bytes w32 l.nano) front
+          ∙ ap (λ (ys : List ℕ). take 8 bytes ++ ys) back ∙ take-append-drop 8 bytes),
+    )

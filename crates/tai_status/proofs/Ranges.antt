@@ -1,5 +1,6 @@
 -- Parts of a buffer, from one place to another.
-use Rattle.std.proofs.Common.{◌≡◌, ℕ, suc, ◌+◌, ◌-◌, ◌<◌, ◌≤◌, ◌==◌, Bool, true, false, List, [], ◌∷◌, ◌++◌, length, take, drop, get_or, refl, sym, ap, ◌∙◌, arith, length-drop, drop-cons}
+use Rattle.std.proofs.Common.{◌≡◌, ℕ, suc, ◌+◌, ◌-◌, ◌<◌, ◌≤◌, ◌==◌, Bool, true, false, List, [], ◌∷◌, ◌++◌, length}
+use Rattle.std.proofs.Common.{take, drop, get_or, refl, sym, ap, ◌∙◌, arith, length-drop, drop-cons}
 use Rattle.std.specs.List.{slice_range}
 use Rattle.std.proofs.Math.Seq.{take-add, take-length}
 use Rattle.std.proofs.lemmas.List.{take-append-le, drop-take, drop-drop, length-take-le, get_or-drop, get_or-take}
@@ -8,13 +9,15 @@ use Rattle.memchr.specs.Find.{NoneBefore, Nowhere, Passes, is_byte}
 use Rattle.tai_status.specs.LineReader.{IsPlain}
 
 -- A part, and the part right after it.
-pub ranges_join : (xs : List ℕ) (s m e : ℕ) → s ≤ m → m ≤ e → slice_range xs s e ≡ slice_range xs s m ++ slice_range xs m e
+pub ranges_join : (xs : List ℕ) (s m e : ℕ) → s ≤ m → m ≤ e
+    → slice_range xs s e ≡ slice_range xs s m ++ slice_range xs m e
 ranges_join xs s m e below above =
     let size : e - s ≡ (m - s) + (e - m) = omega arith in
     let place : s + (m - s) ≡ m = omega arith in
     ap (λ (n : ℕ). take n (drop s xs)) size
     ∙ take-add (m - s) (e - m) (drop s xs)
-    ∙ ap (λ (ys : List ℕ). take (m - s) (drop s xs) ++ take (e - m) ys) (drop-drop (m - s) s xs ∙ ap (λ (n : ℕ). drop n xs) place)
+    ∙ ap (λ (ys : List ℕ). take (m - s) (drop s xs) ++ take (e - m) ys) (drop-drop (m - s) s xs
+    ∙ ap (λ (n : ℕ). drop n xs) place)
 
 range_by_front : (xs : List ℕ) (s e : ℕ) → s ≤ e → slice_range xs s e ≡ drop s (take e xs)
 range_by_front xs s e below =
@@ -56,12 +59,14 @@ none_found xs none = plain_where_none xs (λ j h. none j (omega arith) h)
 pub line_found : (b : List ℕ) (s e at : ℕ) → s ≤ e → e ≤ length b
     → NoneBefore (Passes (is_byte 10) (slice_range b s e)) 0 (length (slice_range b s e)) at
     → Passes (is_byte 10) (slice_range b s e) at
-    → (slice_range b s e ≡ slice_range b s (s + at) ++ 10 ∷ slice_range b (s + at + 1) e) × IsPlain (slice_range b s (s + at))
+    → (slice_range b s e ≡ slice_range b s (s + at) ++ 10 ∷ slice_range b (s + at + 1) e)
+    × IsPlain (slice_range b s (s + at))
 line_found b s e at below within first is =
     let size = range-length b s e below within in
     let high : at < e - s = let h = first.high in omega (arith, h, size) in
     let ten : get_or b (s + at) 0 ≡ 10 = sym (range-get b s e at high) ∙ eqb-true _ _ is in
-    let one : slice_range b (s + at) (s + at + 1) ≡ 10 ∷ [] = range-one b (s + at) (omega (arith, high)) ∙ ap (λ (x : ℕ). x ∷ []) ten in
+    let one : slice_range b (s + at) (s + at + 1) ≡ 10 ∷ [] = range-one b (s + at) (omega (arith, high))
+    ∙ ap (λ (x : ℕ). x ∷ []) ten in
     let front = range-length b s (s + at) (omega arith) (omega (arith, high)) in (
       ranges_join b s (s + at) e (omega arith) (omega (arith, high))
           ∙ ap (λ (ys : List ℕ). slice_range b s (s + at) ++ ys)
@@ -75,7 +80,8 @@ line_found b s e at below within first is =
     )
 
 -- Bytes that were moved to the front, and those that were read behind them.
-pub read_behind : (old moved new : List ℕ) (s e n : ℕ) → take (e - s) moved ≡ slice_range old s e → take (e - s) new ≡ take (e - s) moved
+pub read_behind : (old moved new : List ℕ) (s e n : ℕ) → take (e - s) moved ≡ slice_range old s e
+    → take (e - s) new ≡ take (e - s) moved
     → slice_range new 0 (e - s + n) ≡ slice_range old s e ++ slice_range new (e - s) (e - s + n)
 read_behind old moved new s e n m r =
     let front : slice_range new 0 (e - s) ≡ take (e - s) new = ap (λ (k : ℕ). take k new) (omega arith) in
@@ -85,4 +91,5 @@ read_behind old moved new s e n m r =
 -- a buffer that was written whole
 pub written_whole : (new rest : List ℕ) (n : ℕ) → length new ≡ n → take n (new ++ rest) ≡ new
 written_whole new rest n size =
-    ap (λ (k : ℕ). take k (new ++ rest)) (sym size) ∙ take-append-le (length new) new rest (omega arith) ∙ take-length new
+    ap (λ (k : ℕ). take k (new ++ rest)) (sym size) ∙ take-append-le (length new) new rest (omega arith)
+    ∙ take-length new

@@ -1,5 +1,7 @@
 -- Stamped bytes, part by part.
-use Rattle.std.proofs.Common.{◌≡◌, ℕ, zero, suc, ◌+◌, ◌-◌, ◌<◌, ◌==◌, Bool, true, false, not, List, [], ◌∷◌, ◌++◌, length, take, get_or, Option, Some, None, refl, sym, subst, ap, ◌∙◌, arith, add-one, append_assoc, append-nil, length-append}
+use Rattle.std.proofs.Common.{◌≡◌, ℕ, zero, suc, ◌+◌, ◌-◌, ◌<◌, ◌==◌, Bool, true, false, not, List, [], ◌∷◌, ◌++◌}
+use Rattle.std.proofs.Common.{length, take, get_or, Option, Some, None, refl, sym, subst, ap, ◌∙◌, arith, add-one}
+use Rattle.std.proofs.Common.{append_assoc, append-nil, length-append}
 use Rattle.std.specs.List.{onto_first}
 use Rattle.std.specs.Io.BufRead.{take_through}
 use Rattle.std.specs.Io.KnownBytes.{Keeps, Appends, Consumes}
@@ -29,7 +31,8 @@ inside_by labels x [] false e = grind (arith, e)
 inside_by labels x (y ∷ ys) false e = let rest = inside_by labels y ys (y == 10) refl in grind (arith, e, rest)
 
 -- bytes of a line that has begun
-pub stamped_on-inside : (labels : List Tai64n) (xs : List ℕ) → stamped_on true labels (take_through 10 xs) ≡ take_through 10 xs
+pub stamped_on-inside : (labels : List Tai64n) (xs : List ℕ) → stamped_on true labels (take_through 10 xs)
+    ≡ take_through 10 xs
 stamped_on-inside labels [] = refl
 stamped_on-inside labels (x ∷ xs) = inside_by labels x xs (x == 10) refl
 
@@ -63,11 +66,13 @@ begun-start (x ∷ xs) some = begun_start_by x xs (x == 10) refl
 
 -- One after another
 
-pub is_inside-append : (inside : Bool) (xs ys : List ℕ) → is_inside inside (xs ++ ys) ≡ is_inside (is_inside inside xs) ys
+pub is_inside-append : (inside : Bool) (xs ys : List ℕ) → is_inside inside (xs ++ ys)
+    ≡ is_inside (is_inside inside xs) ys
 is_inside-append inside [] ys = refl
 is_inside-append inside (x ∷ xs) ys = is_inside-append (not (x == 10)) xs ys
 
-pub begun-append : (inside : Bool) (xs ys : List ℕ) → begun inside (xs ++ ys) ≡ begun inside xs + begun (is_inside inside xs) ys
+pub begun-append : (inside : Bool) (xs ys : List ℕ) → begun inside (xs ++ ys) ≡ begun inside xs
+    + begun (is_inside inside xs) ys
 begun-append inside [] ys = omega arith
 begun-append true (x ∷ xs) ys = begun-append (not (x == 10)) xs ys
 begun-append false (x ∷ xs) ys = let rest = begun-append (not (x == 10)) xs ys in omega (arith, rest)
@@ -76,7 +81,8 @@ pub stamped_on-append : (inside : Bool) (gs hs : List Tai64n) (xs ys : List ℕ)
     → stamped_on inside (gs ++ hs) (xs ++ ys) ≡ stamped_on inside gs xs ++ stamped_on (is_inside inside xs) hs ys
 stamped_on-append inside [] hs [] ys e = refl
 stamped_on-append inside (g ∷ gs) hs [] ys e = absurd (omega (arith, e))
-stamped_on-append true gs hs (x ∷ xs) ys e = ap (λ (t : List ℕ). x ∷ t) (stamped_on-append (not (x == 10)) gs hs xs ys e)
+stamped_on-append true gs hs (x ∷ xs) ys e =
+    ap (λ (t : List ℕ). x ∷ t) (stamped_on-append (not (x == 10)) gs hs xs ys e)
 stamped_on-append false [] hs (x ∷ xs) ys e = absurd (omega (arith, e))
 stamped_on-append false (g ∷ gs) hs (x ∷ xs) ys e =
     let rest = stamped_on-append (not (x == 10)) gs hs xs ys (omega (arith, e)) in
@@ -89,8 +95,11 @@ stamped_on-front true gs (x ∷ xs) ys =
     let more = stamped_on-front (not (x == 10)) gs xs ys in (more.0, ap (λ (t : List ℕ). x ∷ t) more.1)
 stamped_on-front false [] (x ∷ xs) ys = ([], refl)
 stamped_on-front false (g ∷ gs) (x ∷ xs) ys =
-    let more = stamped_on-front (not (x == 10)) gs xs ys in
-    (more.0, ap (λ (t : List ℕ). stamp g ++ x ∷ t) more.1 ∙ sym (append_assoc (stamp g) (x ∷ stamped_on (not (x == 10)) gs xs) more.0))
+    let more = stamped_on-front (not (x == 10)) gs xs ys in (
+      more.0,
+      ap (λ (t : List ℕ). stamp g ++ x ∷ t) more.1
+          ∙ sym (append_assoc (stamp g) (x ∷ stamped_on (not (x == 10)) gs xs) more.0),
+    )
 
 -- Whole lines
 
@@ -142,9 +151,11 @@ new_after : (g : Tai64n) (gs : List Tai64n) (b : ℕ) (bs : List ℕ) (ends : Bo
     → stamped (g ∷ gs) (lines_of (b ∷ bs)) ≡ stamp g ++ continued gs (lines_of (b ∷ bs))
 unfolding continued
 new_after g gs b bs true e r = rw (lines_of-end b bs e) (append_assoc (stamp g) (10 ∷ []) (stamped gs (lines_of bs)))
-new_after g gs b bs false e r = rw (lines_of-on b bs e, stamped-onto g gs b (lines_of bs), continued-onto gs b (lines_of bs)) refl
+new_after g gs b bs false e r =
+    rw (lines_of-on b bs e, stamped-onto g gs b (lines_of bs), continued-onto gs b (lines_of bs)) refl
 
-new_by : (gs : List Tai64n) (b : ℕ) (bs : List ℕ) → Reads bs → stamped_on false gs (b ∷ bs) ≡ stamped gs (lines_of (b ∷ bs))
+new_by : (gs : List Tai64n) (b : ℕ) (bs : List ℕ) → Reads bs → stamped_on false gs (b ∷ bs)
+    ≡ stamped gs (lines_of (b ∷ bs))
 new_by [] b bs r = sym (stamped-no_labels (lines_of (b ∷ bs)))
 new_by (g ∷ gs) b bs r =
     ap (λ (t : List ℕ). stamp g ++ t) (on_after gs b bs (b == 10) refl r) ∙ sym (new_after g gs b bs (b == 10) refl r)
@@ -152,7 +163,8 @@ new_by (g ∷ gs) b bs r =
 counts_by : (b : ℕ) (bs : List ℕ) (ends : Bool) → (b == 10) ≡ ends → Reads bs
     → begun (not (b == 10)) bs + 1 ≡ length (lines_of (b ∷ bs))
 counts_by b bs true e r = let l = r.count_new in rw (lines_of-end b bs e, e) (omega (arith, l))
-counts_by b bs false e r = let l = r.count_on in let o = length-onto b (lines_of bs) in rw (lines_of-on b bs e, e) (omega (arith, l, o))
+counts_by b bs false e r = let l = r.count_on in let o = length-onto b (lines_of bs) in
+    rw (lines_of-on b bs e, e) (omega (arith, l, o))
 
 reads : (text : List ℕ) → Reads text
 unfolding continued
@@ -173,7 +185,8 @@ length-lines text = sym (reads text).count_new
 
 -- Readings
 
-pub Extended-then : (a b c : Option (List Tai64n)) (gs hs : List Tai64n) → Extended a b gs → Extended b c hs → Extended a c (gs ++ hs)
+pub Extended-then : (a b c : Option (List Tai64n)) (gs hs : List Tai64n) → Extended a b gs → Extended b c hs
+    → Extended a c (gs ++ hs)
 Extended-then None b c gs hs k l = tt
 Extended-then (Some xs) None c gs hs k l = absurd k
 Extended-then (Some xs) (Some ys) None gs hs k l = absurd l
@@ -185,7 +198,8 @@ Extended-none (Some xs) = sym (append-nil xs)
 
 -- Stamped so far
 
-pub StampsPart-none : (inside : Bool) (past : Option (List Tai64n)) (held : Option (List ℕ)) (pending : List ℕ) → Emits held held pending pending []
+pub StampsPart-none : (inside : Bool) (past : Option (List Tai64n)) (held : Option (List ℕ)) (pending : List ℕ)
+    → Emits held held pending pending []
     → StampsPart inside [] past past held held pending pending
 StampsPart-none inside past held pending e = record {
   labels = [];
@@ -194,8 +208,10 @@ StampsPart-none inside past held pending e = record {
   text = e;
 }
 
-pub StampsPart-then : {i j : Bool} {xs ys : List ℕ} {a b c : Option (List Tai64n)} {d e f : Option (List ℕ)} {p q r : List ℕ}
-    → j ≡ is_inside i xs → StampsPart i xs a b d e p q → StampsPart j ys b c e f q r → StampsPart i (xs ++ ys) a c d f p r
+pub StampsPart-then : {i j : Bool} {xs ys : List ℕ} {a b c : Option (List Tai64n)} {d e f : Option (List ℕ)}
+    {p q r : List ℕ}
+    → j ≡ is_inside i xs → StampsPart i xs a b d e p q → StampsPart j ys b c e f q r
+    → StampsPart i (xs ++ ys) a c d f p r
 StampsPart-then {i} {j} {xs} {ys} {a} {b} {c} {d} {e} {f} {p} {q} {r} after s t =
     let then : begun (is_inside i xs) ys ≡ begun j ys = ap (λ (v : Bool). begun v ys) (sym after) in
     let text = stamped_on-append i s.labels t.labels xs ys s.each in
@@ -204,27 +220,37 @@ StampsPart-then {i} {j} {xs} {ys} {a} {b} {c} {d} {e} {f} {p} {q} {r} after s t 
     record {
       labels = s.labels ++ t.labels;
       gave = Extended-then a b c s.labels t.labels s.gave t.gave;
-      each = let l = s.each in let o = t.each in let h = begun-append i xs ys in let w = length-append s.labels t.labels in omega (arith, l, o, h, w, then);
+      each = let l = s.each in let o = t.each in let h = begun-append i xs ys in
+          let w = length-append s.labels t.labels in omega (arith, l, o, h, w, then);
       text = subst (λ (v : List ℕ). Emits d f p r v) (sym same) (Emits-then s.text t.text);
     }
 
-pub inside-then : (i : Bool) {j k : Bool} (xs ys : List ℕ) → j ≡ is_inside i xs → k ≡ is_inside j ys → k ≡ is_inside i (xs ++ ys)
+pub inside-then : (i : Bool) {j k : Bool} (xs ys : List ℕ) → j ≡ is_inside i xs → k ≡ is_inside j ys
+    → k ≡ is_inside i (xs ++ ys)
 inside-then i {j} {k} xs ys after next = next ∙ ap (λ (v : Bool). is_inside v ys) after ∙ sym (is_inside-append i xs ys)
 
-pub begun-then : (i : Bool) {j : Bool} (xs ys : List ℕ) {m n : ℕ} → j ≡ is_inside i xs → m ≡ begun i xs → n ≡ begun j ys → m + n ≡ begun i (xs ++ ys)
+pub begun-then : (i : Bool) {j : Bool} (xs ys : List ℕ) {m n : ℕ} → j ≡ is_inside i xs → m ≡ begun i xs → n ≡ begun j ys
+    → m + n ≡ begun i (xs ++ ys)
 begun-then i {j} xs ys {m} {n} after l o =
     let then : begun (is_inside i xs) ys ≡ begun j ys = ap (λ (v : Bool). begun v ys) (sym after) in
     let h = begun-append i xs ys in omega (arith, l, o, h, then)
 
-pub StampsUpTo-more : {i : Bool} {xs : List ℕ} {a b : Option (List Tai64n)} {d e : Option (List ℕ)} {p : List ℕ} (ys : List ℕ)
+pub StampsUpTo-more : {i : Bool} {xs : List ℕ} {a b : Option (List Tai64n)} {d e : Option (List ℕ)} {p : List ℕ}
+    (ys : List ℕ)
     → StampsUpTo i xs a b d e p → StampsUpTo i (xs ++ ys) a b d e p
 StampsUpTo-more {i} {xs} {a} {b} {d} {e} {p} ys s =
     let more = stamped_on-front i s.labels xs ys in
     let same : p ++ stamped_on i s.labels (xs ++ ys) ≡ (p ++ stamped_on i s.labels xs) ++ more.0 =
     ap (λ (v : List ℕ). p ++ v) more.1 ∙ sym (append_assoc p (stamped_on i s.labels xs) more.0) in
-    record { labels = s.labels; gave = s.gave; text = subst (λ (v : List ℕ). AppendsFront d e v) (sym same) (AppendsFront-more more.0 s.text) }
+    record {
+      labels = s.labels;
+      gave = s.gave;
+      text =
+          subst (λ (v : List ℕ). AppendsFront d e v) (sym same) (AppendsFront-more more.0 s.text);
+    }
 
-pub StampsPart-failed : {i j : Bool} {xs ys : List ℕ} {a b c : Option (List Tai64n)} {d e f : Option (List ℕ)} {p q : List ℕ}
+pub StampsPart-failed : {i j : Bool} {xs ys : List ℕ} {a b c : Option (List Tai64n)} {d e f : Option (List ℕ)}
+    {p q : List ℕ}
     → j ≡ is_inside i xs → StampsPart i xs a b d e p q → StampsUpTo j ys b c e f q → StampsUpTo i (xs ++ ys) a c d f p
 StampsPart-failed {i} {j} {xs} {ys} {a} {b} {c} {d} {e} {f} {p} {q} after s t =
     let same : stamped_on i (s.labels ++ t.labels) (xs ++ ys) ≡ stamped_on i s.labels xs ++ stamped_on j t.labels ys =
@@ -233,12 +259,14 @@ StampsPart-failed {i} {j} {xs} {ys} {a} {b} {c} {d} {e} {f} {p} {q} after s t =
     record {
       labels = s.labels ++ t.labels;
       gave = Extended-then a b c s.labels t.labels s.gave t.gave;
-      text = subst (λ (v : List ℕ). AppendsFront d f (p ++ v)) (sym same) (Emits-front (stamped_on j t.labels ys) s.text t.text);
+      text = subst (λ (v : List ℕ). AppendsFront d f (p ++ v)) (sym same)
+          (Emits-front (stamped_on j t.labels ys) s.text t.text);
     }
 
 -- A part
 
-pub StampsPart-inside : (xs : List ℕ) (past : Option (List Tai64n)) {d e : Option (List ℕ)} {p q : List ℕ} → Emits d e p q (take_through 10 xs)
+pub StampsPart-inside : (xs : List ℕ) (past : Option (List Tai64n)) {d e : Option (List ℕ)} {p q : List ℕ}
+    → Emits d e p q (take_through 10 xs)
     → StampsPart true (take_through 10 xs) past past d e p q
 StampsPart-inside xs past {d} {e} {p} {q} m = record {
   labels = [];
@@ -247,7 +275,8 @@ StampsPart-inside xs past {d} {e} {p} {q} m = record {
   text = subst (λ (v : List ℕ). Emits d e p q v) (sym (stamped_on-inside [] xs)) m;
 }
 
-pub StampsPart-start : (label : Tai64n) (xs : List ℕ) {a b : Option (List Tai64n)} {d e : Option (List ℕ)} {p q : List ℕ} → 0 < length xs
+pub StampsPart-start : (label : Tai64n) (xs : List ℕ) {a b : Option (List Tai64n)} {d e : Option (List ℕ)}
+    {p q : List ℕ} → 0 < length xs
     → Extended a b (label ∷ []) → Emits d e p q (stamp label ++ take_through 10 xs)
     → StampsPart false (take_through 10 xs) a b d e p q
 StampsPart-start label xs {a} {b} {d} {e} {p} {q} some g m = record {
@@ -257,7 +286,8 @@ StampsPart-start label xs {a} {b} {d} {e} {p} {q} some g m = record {
   text = subst (λ (v : List ℕ). Emits d e p q v) (sym (stamped_on-start label xs some)) m;
 }
 
-pub StampsUpTo-inside : (xs : List ℕ) (past : Option (List Tai64n)) {d e : Option (List ℕ)} {p : List ℕ} → AppendsFront d e (p ++ take_through 10 xs)
+pub StampsUpTo-inside : (xs : List ℕ) (past : Option (List Tai64n)) {d e : Option (List ℕ)} {p : List ℕ}
+    → AppendsFront d e (p ++ take_through 10 xs)
     → StampsUpTo true (take_through 10 xs) past past d e p
 StampsUpTo-inside xs past {d} {e} {p} m = record {
   labels = [];
@@ -265,7 +295,8 @@ StampsUpTo-inside xs past {d} {e} {p} m = record {
   text = subst (λ (v : List ℕ). AppendsFront d e (p ++ v)) (sym (stamped_on-inside [] xs)) m;
 }
 
-pub StampsUpTo-start : (label : Tai64n) (xs : List ℕ) {a b : Option (List Tai64n)} {d e : Option (List ℕ)} {p : List ℕ} → 0 < length xs
+pub StampsUpTo-start : (label : Tai64n) (xs : List ℕ) {a b : Option (List Tai64n)} {d e : Option (List ℕ)} {p : List ℕ}
+    → 0 < length xs
     → Extended a b (label ∷ []) → AppendsFront d e (p ++ (stamp label ++ take_through 10 xs))
     → StampsUpTo false (take_through 10 xs) a b d e p
 StampsUpTo-start label xs {a} {b} {d} {e} {p} some g m = record {
@@ -292,17 +323,20 @@ is_inside-found inside [] k within is none = absurd (omega (arith, within))
 is_inside-found inside (x ∷ xs) zero within is none = grind (arith, is)
 is_inside-found inside (x ∷ xs) (suc k) within is none =
     let apart : (x == 10) ≡ false = not_true (x == 10) (none 0 (omega arith)) in
-    let rest = is_inside-found (not (x == 10)) xs k (omega (arith, within)) is (λ j h. none (suc j) (omega (arith, h))) in
+    let rest = is_inside-found (not (x == 10)) xs k (omega (arith, within)) is
+    (λ j h. none (suc j) (omega (arith, h))) in
     rw (take_through-on x xs apart) rest
 
-take_through-none : (xs : List ℕ) → ((j : ℕ) → j < length xs → ¬ ((get_or xs j 0 == 10) ≡ true)) → xs ≡ take_through 10 xs
+take_through-none : (xs : List ℕ) → ((j : ℕ) → j < length xs → ¬ ((get_or xs j 0 == 10) ≡ true))
+    → xs ≡ take_through 10 xs
 take_through-none [] none = refl
 take_through-none (x ∷ xs) none =
     let apart : (x == 10) ≡ false = not_true (x == 10) (none 0 (omega arith)) in
     let rest = take_through-none xs (λ j h. none (suc j) (omega (arith, h))) in
     rw (take_through-on x xs apart) (ap (λ (t : List ℕ). x ∷ t) rest)
 
-is_inside-none : (inside : Bool) (x : ℕ) (xs : List ℕ) → ((j : ℕ) → j < length (x ∷ xs) → ¬ ((get_or (x ∷ xs) j 0 == 10) ≡ true))
+is_inside-none : (inside : Bool) (x : ℕ) (xs : List ℕ)
+    → ((j : ℕ) → j < length (x ∷ xs) → ¬ ((get_or (x ∷ xs) j 0 == 10) ≡ true))
     → is_inside inside (x ∷ xs) ≡ true
 is_inside-none inside x [] none =
     let apart : (x == 10) ≡ false = not_true (x == 10) (none 0 (omega arith)) in rw apart refl
@@ -317,15 +351,18 @@ part_found xs k first is = (
 )
 
 pub part_whole : (xs : List ℕ) → Nowhere (Passes (is_byte 10) xs) 0 (length xs)
-    → (take (length xs) xs ≡ take_through 10 xs) × (0 < length xs → (inside : Bool) → is_inside inside (take_through 10 xs) ≡ true)
+    → (take (length xs) xs ≡ take_through 10 xs)
+    × (0 < length xs → (inside : Bool) → is_inside inside (take_through 10 xs) ≡ true)
 part_whole [] none = (refl, λ some. absurd (omega (arith, some)))
 part_whole (x ∷ xs) none =
     let same = take_through-none (x ∷ xs) (λ j h. none j (omega arith) h) in (
       take-length (x ∷ xs) ∙ same,
-      λ some inside. subst (λ (t : List ℕ). is_inside inside t ≡ true) same (is_inside-none inside x xs (λ j h. none j (omega arith) h)),
+      λ some inside. subst (λ (t : List ℕ). is_inside inside t ≡ true) same
+          (is_inside-none inside x xs (λ j h. none j (omega arith) h)),
     )
 
-take_through_twice_by : (x : ℕ) (xs : List ℕ) (ends : Bool) → (x == 10) ≡ ends → take_through 10 (take_through 10 xs) ≡ take_through 10 xs
+take_through_twice_by : (x : ℕ) (xs : List ℕ) (ends : Bool) → (x == 10) ≡ ends → take_through 10 (take_through 10 xs)
+    ≡ take_through 10 xs
     → take_through 10 (take_through 10 (x ∷ xs)) ≡ take_through 10 (x ∷ xs)
 take_through_twice_by x xs true e rest = grind (arith, e)
 take_through_twice_by x xs false e rest =
@@ -337,7 +374,8 @@ take_through-twice (x ∷ xs) = take_through_twice_by x xs (x == 10) refl (take_
 
 -- All that was read so far
 
-pub Consumes-then : (a b c : Option (List ℕ)) (bs cs : List ℕ) → Consumes a b bs → Consumes b c cs → Consumes a c (bs ++ cs)
+pub Consumes-then : (a b c : Option (List ℕ)) (bs cs : List ℕ) → Consumes a b bs → Consumes b c cs
+    → Consumes a c (bs ++ cs)
 Consumes-then None b c bs cs k l = tt
 Consumes-then (Some xs) None c bs cs k l = absurd k
 Consumes-then (Some xs) (Some ys) None bs cs k l = absurd l
@@ -357,13 +395,15 @@ pub SoFar-none : (d : StampState) → SoFar d d false 0
 SoFar-none d = record {
   bytes = [];
   read = Consumes-none d.reader.bytes;
-  stamps = StampsPart-none false d.readings d.writer.bytes [] (Emits-none d.writer.bytes d.writer.bytes [] (Keeps-same d.writer.bytes));
+  stamps = StampsPart-none false d.readings d.writer.bytes []
+      (Emits-none d.writer.bytes d.writer.bytes [] (Keeps-same d.writer.bytes));
   inside_is = refl;
   count_is = refl;
 }
 
 pub SoFar-then : {a b c : StampState} {i j : Bool} {m n : ℕ} {xs : List ℕ} → SoFar a b i m → Gives b.reader c.reader xs
-    → StampsPart i xs b.readings c.readings b.writer.bytes c.writer.bytes [] [] → j ≡ is_inside i xs → n ≡ begun i xs → SoFar a c j (m + n)
+    → StampsPart i xs b.readings c.readings b.writer.bytes c.writer.bytes [] [] → j ≡ is_inside i xs → n ≡ begun i xs
+    → SoFar a c j (m + n)
 SoFar-then {a} {b} {c} {i} {j} {m} {n} {xs} s k t inside count = record {
   bytes = s.bytes ++ xs;
   read = Consumes-then a.reader.bytes b.reader.bytes c.reader.bytes s.bytes xs s.read k;
@@ -373,20 +413,24 @@ SoFar-then {a} {b} {c} {i} {j} {m} {n} {xs} s k t inside count = record {
 }
 
 wrote_all : {held holds : Option (List ℕ)} {bytes : List ℕ} → Emits held holds [] [] bytes → Appends held holds bytes
-wrote_all {held} {holds} {bytes} e = subst (λ (t : List ℕ). Appends held holds t) (sym (append-nil e.written) ∙ e.whole) e.wrote
+wrote_all {held} {holds} {bytes} e =
+    subst (λ (t : List ℕ). Appends held holds t) (sym (append-nil e.written) ∙ e.whole) e.wrote
 
 -- A read gave no byte.
-pub SoFar-nothing : {a b : StampState} {i : Bool} {n : ℕ} (reads : Device) → SoFar a b i n → Gives b.reader reads [] → SoFar a (stamp_state reads b.writer b.readings) i n
+pub SoFar-nothing : {a b : StampState} {i : Bool} {n : ℕ} (reads : Device) → SoFar a b i n → Gives b.reader reads []
+    → SoFar a (stamp_state reads b.writer b.readings) i n
 SoFar-nothing {a} {b} reads s k = record {
   bytes = s.bytes;
-  read = subst (λ (t : List ℕ). Consumes a.reader.bytes reads.bytes t) (append-nil s.bytes) (Consumes-then a.reader.bytes b.reader.bytes reads.bytes s.bytes [] s.read k);
+  read = subst (λ (t : List ℕ). Consumes a.reader.bytes reads.bytes t) (append-nil s.bytes)
+      (Consumes-then a.reader.bytes b.reader.bytes reads.bytes s.bytes [] s.read k);
   stamps = s.stamps;
   inside_is = s.inside_is;
   count_is = s.count_is;
 }
 
 -- A read failed.
-pub SoFar-unread : {a b : StampState} {i : Bool} {n : ℕ} (reads : Device) → SoFar a b i n → GivesNothing b.reader reads → SoFar a (stamp_state reads b.writer b.readings) i n
+pub SoFar-unread : {a b : StampState} {i : Bool} {n : ℕ} (reads : Device) → SoFar a b i n → GivesNothing b.reader reads
+    → SoFar a (stamp_state reads b.writer b.readings) i n
 SoFar-unread {a} {b} reads s k = record {
   bytes = s.bytes;
   read = Consumes-Keeps a.reader.bytes b.reader.bytes reads.bytes s.bytes s.read k;
@@ -403,7 +447,8 @@ SoFar-all {a} {b} {i} {n} s =
       read = s.read;
       gave = s.stamps.gave;
       each = s.stamps.each ∙ sym counted;
-      text = subst (λ (t : List ℕ). Appends a.writer.bytes b.writer.bytes t) (sym (stamped-lines s.stamps.labels s.bytes)) (wrote_all s.stamps.text);
+      text = subst (λ (t : List ℕ). Appends a.writer.bytes b.writer.bytes t)
+          (sym (stamped-lines s.stamps.labels s.bytes)) (wrote_all s.stamps.text);
       count_is = s.count_is ∙ sym counted;
     }
 
@@ -415,5 +460,6 @@ SoFar-unwritten {a} {b} {c} {i} {n} {xs} s k t =
       labels = all.labels;
       read = Consumes-then a.reader.bytes b.reader.bytes c.reader.bytes s.bytes xs s.read k;
       gave = all.gave;
-      text = subst (λ (v : List ℕ). AppendsFront a.writer.bytes c.writer.bytes v) (sym (stamped-lines all.labels (s.bytes ++ xs))) all.text;
+      text = subst (λ (v : List ℕ). AppendsFront a.writer.bytes c.writer.bytes v)
+          (sym (stamped-lines all.labels (s.bytes ++ xs))) all.text;
     }

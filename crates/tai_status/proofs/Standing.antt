@@ -50,13 +50,16 @@ four : {A B C D : Type 0} (a b c d : Bool) → A ↔ (a ≡ true) → B ↔ (b �
     → (A × B × C × D) ↔ ((a && b && c && d) ≡ true)
 four a b c d p q r s = (
   λ h. both_true ((three a b c p q r).0 (h.0, h.1, h.2)) (s.0 h.3),
-  λ h. let parts = and_parts (a && b && c) d h in let front = (three a b c p q r).1 parts.0 in (front.0, front.1, front.2, s.1 parts.1),
+  λ h. let parts = and_parts (a && b && c) d h in let front = (three a b c p q r).1 parts.0 in
+      (front.0, front.1, front.2, s.1 parts.1),
 )
 
 -- the test decides where a service can stand
-pub stands_in-decides : (phase : Phase) (s : Status) (exiting : Bool) → StandsIn phase s exiting ↔ (stands_in phase s exiting ≡ true)
+pub stands_in-decides : (phase : Phase) (s : Status) (exiting : Bool)
+    → StandsIn phase s exiting ↔ (stands_in phase s exiting ≡ true)
 stands_in-decides phase.Starting s exiting = three _ _ _ (zero_pid s.pid) (not_want s.want want.Down) (no exiting)
-stands_in-decides phase.Settling s exiting = four _ _ _ _ (some_pid s.pid) (no s.paused) (not_want s.want want.Down) (no exiting)
+stands_in-decides phase.Settling s exiting =
+    four _ _ _ _ (some_pid s.pid) (no s.paused) (not_want s.want want.Down) (no exiting)
 stands_in-decides phase.Resting s exiting = three _ _ _ (zero_pid s.pid) (not_want s.want want.Down) (no exiting)
 stands_in-decides phase.Up s exiting = some_pid s.pid
 stands_in-decides phase.Down s exiting = three _ _ _ (zero_pid s.pid) (not_want s.want want.Up) (no exiting)

@@ -27,7 +27,8 @@ texts_of-last (x ∷ y ∷ ys) some plain =
     let parts = plain_parts x (y ∷ ys) plain in
     texts_of-on x (y ∷ ys) parts.0 ∙ ap (onto_first x) (texts_of-last (y ∷ ys) (omega arith) parts.1)
 
-joined-onto : (x : ℕ) (lines : List (List ℕ)) → flat_map (λ (l : List ℕ). l) (onto_first x lines) ≡ x ∷ flat_map (λ (l : List ℕ). l) lines
+joined-onto : (x : ℕ) (lines : List (List ℕ)) → flat_map (λ (l : List ℕ). l) (onto_first x lines)
+    ≡ x ∷ flat_map (λ (l : List ℕ). l) lines
 joined-onto x [] = refl
 joined-onto x (line ∷ lines) = refl
 
@@ -45,7 +46,8 @@ lines_of-on : (x : ℕ) (xs : List ℕ) → (x == 10) ≡ false → lines_of (x 
 lines_of-on x xs apart = grind (arith, apart)
 
 -- The first line of a text, with its newline, and the lines after it.
-pub lines_of-line : (line rest : List ℕ) → IsPlain line → lines_of (line ++ 10 ∷ rest) ≡ (line ++ 10 ∷ []) ∷ lines_of rest
+pub lines_of-line : (line rest : List ℕ) → IsPlain line → lines_of (line ++ 10 ∷ rest) ≡ (line ++ 10 ∷ [])
+    ∷ lines_of rest
 lines_of-line [] rest plain = refl
 lines_of-line (x ∷ xs) rest plain =
     let parts = plain_parts x xs plain in
@@ -62,7 +64,8 @@ lines_of-last (x ∷ y ∷ ys) some plain =
 kept : (x : ℕ) (line : List ℕ) → (x == 10) ≡ false → without_newline (x ∷ line) ≡ x ∷ without_newline line
 kept x line apart = rw apart refl
 
-texts-onto : (x : ℕ) (lines : List (List ℕ)) → (x == 10) ≡ false → map without_newline (onto_first x lines) ≡ onto_first x (map without_newline lines)
+texts-onto : (x : ℕ) (lines : List (List ℕ)) → (x == 10) ≡ false → map without_newline (onto_first x lines)
+    ≡ onto_first x (map without_newline lines)
 texts-onto x [] apart = ap (λ (t : List ℕ). t ∷ []) (kept x [] apart)
 texts-onto x (line ∷ lines) apart = ap (λ (t : List ℕ). t ∷ map without_newline lines) (kept x line apart)
 

@@ -92,8 +92,8 @@ unsafe impl<B: Allocator> Allocator for Scarce<B> {
 /// How many growths a call makes at most.
 const MOST_GROWTHS: u64 = 10_000;
 
-/// Makes a trial with no growth, with one, with two, and so on, up to the first that meets no refusal. A trial is handed
-/// memory, and how many growths its call is given; it answers whether one was refused.
+/// Makes a trial with no growth, with one, with two, and so on, up to the first that meets no refusal. A trial is
+/// handed memory, and how many growths its call is given; it answers whether one was refused.
 pub fn refuse_in_turn<F: Fn(&Scarce<Global>, u64) -> Result<bool, Fail>>(
     alloc: Global,
     trial: F,

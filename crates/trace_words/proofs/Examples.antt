@@ -8,11 +8,13 @@ pub file_alone : asked_of (codes "t" ∷ []) ≡ asking (codes "t") None false
 unfolding clap_on_literals asked_of
 file_alone = refl
 
-pub break_behind_file : asked_of (codes "t" ∷ codes "--break" ∷ codes "byte:d" ∷ []) ≡ asking (codes "t") (Some (codes "byte:d")) false
+pub break_behind_file : asked_of (codes "t" ∷ codes "--break" ∷ codes "byte:d" ∷ [])
+    ≡ asking (codes "t") (Some (codes "byte:d")) false
 unfolding clap_on_literals asked_of
 break_behind_file = refl
 
-pub break_before_file : asked_of (codes "--break=byte:d" ∷ codes "t" ∷ []) ≡ asking (codes "t") (Some (codes "byte:d")) false
+pub break_before_file : asked_of (codes "--break=byte:d" ∷ codes "t" ∷ [])
+    ≡ asking (codes "t") (Some (codes "byte:d")) false
 unfolding clap_on_literals asked_of
 break_before_file = refl
 
@@ -24,7 +26,8 @@ pub local_before_file : asked_of (codes "--local" ∷ codes "t" ∷ []) ≡ aski
 unfolding clap_on_literals asked_of
 local_before_file = refl
 
-pub local_behind_break : asked_of (codes "t" ∷ codes "--break" ∷ codes "byte:d" ∷ codes "--local" ∷ []) ≡ asking (codes "t") (Some (codes "byte:d")) true
+pub local_behind_break : asked_of (codes "t" ∷ codes "--break" ∷ codes "byte:d" ∷ codes "--local" ∷ [])
+    ≡ asking (codes "t") (Some (codes "byte:d")) true
 unfolding clap_on_literals asked_of
 local_behind_break = refl
 

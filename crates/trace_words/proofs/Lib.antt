@@ -1,3 +1,3 @@
 pub mod Line
-pub mod Asked
+pub mod Requests
 pub mod Examples

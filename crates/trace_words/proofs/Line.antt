@@ -18,7 +18,8 @@ pub line-without_extras : (made named helped versioned : Command) (line : App) �
 line-without_extras made named helped versioned line is e1 e2 e3 =
     ap app_of_fields e3
     ∙ ap (λ (f : Command-F Command). app_of_fields (record f { disable_version_flag = true })) e2
-    ∙ ap (λ (f : Command-F Command). app_of_fields (record f { disable_version_flag = true; disable_help_flag = true })) e1
+    ∙ ap (λ (f : Command-F Command). app_of_fields (record f { disable_version_flag = true; disable_help_flag = true }))
+    e1
     ∙ ap without_extras is
 
 -- clap's specification is exact of such a line

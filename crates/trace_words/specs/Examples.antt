@@ -1,9 +1,9 @@
 -- What some command lines ask for, each computed from the definition.
 use Rattle.std.specs.Prelude.{◌≡◌, List, ℕ, [], ◌∷◌, Bool, true, false, codes, Option, Some, None}
-use Rattle.trace_words.specs.Words.{Asked, asked_of}
+use Rattle.trace_words.specs.Words.{Request, asked_of}
 
 -- They ask for this.
-abbrev pub asking : List ℕ → Option (List ℕ) → Bool → Option Asked
+abbrev pub asking : List ℕ → Option (List ℕ) → Bool → Option Request
 asking file at local = Some (record { file = file; at = at; local = local })
 
 -- Lines that are taken: `t`, `t --break byte:d`, `--break=byte:d t`, `-- --break`, `--local t`,

@@ -6,7 +6,7 @@ use Rattle.clap.specs.Words.{App, Row, Rule, fault_of, first_of, matches_of, new
 use Rattle.clap.specs.declared.builder.action.ArgAction.TheVariants.{Set, SetTrue}
 
 -- What words ask for: a file; what to break at, where that is asked; and whether local times are.
-pub record Asked : Type 0 where
+pub record Request : Type 0 where
   pub file : List ℕ
   pub at : Option (List ℕ)
   pub local : Bool
@@ -40,20 +40,20 @@ is_set (Some text) = bytes_eq text (codes "true")
 is_set None = false
 
 -- what words ask for that name this file, by what their arguments got
-abbrev pub asked_with : List Row → (file : List ℕ) → Asked
+abbrev pub asked_with : List Row → (file : List ℕ) → Request
 asked_with rows file =
     record { file = file; at = first_of (codes "break") rows; local = is_set (first_of (codes "local") rows) }
 
 -- the file that words name, what they break at, and whether they want local times
-abbrev pub given_by : List (List ℕ) → Option Asked
+abbrev pub given_by : List (List ℕ) → Option Request
 given_by words =
     option_map (asked_with (matches_of trace_line words)) (first_of (codes "FILE") (matches_of trace_line words))
 
 -- The same where a parse of the words has no fault, and nothing where it has one.
-abbrev pub where_faultless : Kinds → List (List ℕ) → Option Asked
+abbrev pub where_faultless : Kinds → List (List ℕ) → Option Request
 where_faultless [] words = given_by words
 where_faultless (fault ∷ faults) words = None
 
 -- what words ask for
-unfoldable pub asked_of : List (List ℕ) → Option Asked
+unfoldable pub asked_of : List (List ℕ) → Option Request
 asked_of words = where_faultless (fault_of trace_line words) words

@@ -1,7 +1,7 @@
 //! The words of the command `trace`: a file, what to break at, and whether to tell local times.
 //!
-//! [`parse_words`] reads them with `clap`, as the command line `FILE [--break SPEC] [--local]`. It is a crate of its own, so
-//! that no crate above it is checked with the code of a parser of command lines.
+//! [`parse_words`] reads them with `clap`, as the command line `FILE [--break SPEC] [--local]`. It is a crate of its
+//! own, so that no crate above it is checked with the code of a parser of command lines.
 #![tactic(auto)]
 
 ghost use Rattle.std.specs.Prelude.{◌≡◌, map, IfOk, IfErr, Some, None, option_map};

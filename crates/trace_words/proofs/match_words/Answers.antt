@@ -12,7 +12,8 @@ line c =
     let file_is : rule_of c.action-file.result ≡ file_rule = search rules in
     let break_is : rule_of c.action-at.result ≡ break_rule = search rules in
     let local_is : rule_of c.action-local.result ≡ local_rule = search rules in
-    let bare = line-without_extras c.new-4.result c.no_binary_name.result c.disable_help_flag.result c.disable_version_flag.result _
+    let bare = line-without_extras c.new-4.result c.no_binary_name.result c.disable_help_flag.result
+    c.disable_version_flag.result _
     c.new-4.ensures.app (search rules) (search rules) (search rules) in
     c.in_ok-arg-3.ensures.shape (search rules)
     ∙ ap₂ with_rule (c.in_ok-arg-2.ensures.shape (search rules)
@@ -27,4 +28,5 @@ returns-clause-kinds c =
 pub returns-clause-matches : goal.returns-clause-matches
 returns-clause-matches c =
     let parse = c.try_get_matches_from in
-    IfOk-weaker parse.result _ _ (λ m h. (h (ap is_simple (line c) ∙ trace_line-simple)).0 ∙ ap (λ (a : App). matches_of a (map (λ word. word.now) c.args.words.now)) (line c)) parse.ensures.matches
+    IfOk-weaker parse.result _ _ (λ m h. (h (ap is_simple (line c) ∙ trace_line-simple)).0
+    ∙ ap (λ (a : App). matches_of a (map (λ word. word.now) c.args.words.now)) (line c)) parse.ensures.matches

@@ -2,7 +2,7 @@ use Rattle.std.proofs.Common.{◌∙◌, ap, rules, codes, inl, inr}
 use Rattle.clap.specs.Words.{found_of, rows_of}
 use Rattle.clap.proofs.WalkLemmas.{first_value-rows}
 use Rattle.trace_words.specs.Words.{is_set}
-use Rattle.trace_words.proofs.Asked.{asked-found, asked-refused, asked-without_file}
+use Rattle.trace_words.proofs.Requests.{asked-found, asked-refused, asked-without_file}
 use Rattle.trace_words.proofs.parse_words.Goals as goal
 
 -- src/lib.rt:38:19

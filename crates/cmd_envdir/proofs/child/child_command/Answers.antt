@@ -19,7 +19,8 @@ returns g c =
           ∙ ap (λ (vs : List Binding). said_after_set vs name (command_var c.remove_variables.new.command name)) same
           ∙ ap (said_after_set env name) (
           c.in_ok-remove_variables.ensures.variables name
-          ∙ ap (said_after_files files name) (c.in_ok-add_arguments.ensures.variables.1 name ∙ c.in_ok-command.ensures.vars name)
+          ∙ ap (said_after_files files name) (c.in_ok-add_arguments.ensures.variables.1 name
+          ∙ c.in_ok-command.ensures.vars name)
           )
           ∙ said_whole files env name distinct;
       others_stay = search rules;

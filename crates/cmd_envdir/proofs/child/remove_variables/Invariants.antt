@@ -7,6 +7,7 @@ use Rattle.cmd_envdir.proofs.child.remove_variables.Given as goal
 abbrev pub invariant-loop-file : goal.invariant-loop-file
 invariant-loop-file g l = record {
   call : SameProgramAndArgs l.fn.command l.command;
-  variables : (name : List ℕ) → said_after_files (drop l.file-index l.files) name (command_var l.command name) ≡ said_after_files l.files name (command_var l.fn.command name);
+  variables : (name : List ℕ) → said_after_files (drop l.file-index l.files) name (command_var l.command name)
+      ≡ said_after_files l.files name (command_var l.fn.command name);
   others : clears_env l.command ≡ false;
 }

@@ -13,13 +13,15 @@ pub returns-in-NotRun-clause-told : goal.returns-in-NotRun-clause-told
 returns-in-NotRun-clause-told g c =
     rw c.in-NotRun.is
     (subst (λ (t : List ℕ). Tells c.args.faults.now c.report_parts-in-NotRun.new.faults
-    (codes "envdir: unable to run " ++ (t ++ 10 ∷ []))) c.as_bytes-in-NotRun.ensures.value c.report_parts-in-NotRun.ensures.told)
+    (codes "envdir: unable to run " ++ (t ++ 10 ∷ []))) c.as_bytes-in-NotRun.ensures.value
+    c.report_parts-in-NotRun.ensures.told)
 
 pub returns-in-NameHasEquals-clause-told : goal.returns-in-NameHasEquals-clause-told
 returns-in-NameHasEquals-clause-told g c =
     rw c.in-NameHasEquals.is
     (subst (λ (t : List ℕ). Tells c.args.faults.now c.report_parts-in-NameHasEquals.new.faults
-    (codes "envdir: " ++ (t ++ (codes ": NameHasEquals" ++ 10 ∷ [])))) c.as_bytes-in-NameHasEquals.ensures.value c.report_parts-in-NameHasEquals.ensures.told)
+    (codes "envdir: " ++ (t ++ (codes ": NameHasEquals" ++ 10 ∷ [])))) c.as_bytes-in-NameHasEquals.ensures.value
+    c.report_parts-in-NameHasEquals.ensures.told)
 
 pub returns-in-OutOfMemory-clause-told : goal.returns-in-OutOfMemory-clause-told
 returns-in-OutOfMemory-clause-told g c = rw c.in-OutOfMemory.is c.report.ensures.told

@@ -14,7 +14,8 @@ returns-in-Err g c =
         cause = cause;
         files = [];
         why = record {
-          read = not_read c.in-Err.error cause folder [] c.fault_of.ensures.memory c.fault_of.ensures.either c.in-Err.ensures.missing;
+          read = not_read c.in-Err.error cause folder [] c.fault_of.ensures.memory c.fault_of.ensures.either
+              c.in-Err.ensures.missing;
           first = of_none.0;
           status_is = c.report_fault.ensures.status;
           told_why = subst (λ (name : List ℕ). Tells c.args.faults.now c.report_fault.new.faults
@@ -44,11 +45,13 @@ returns g c =
         cause = c.in-Err-run_with.fault;
         files = c.deref-in-Err-run_with.result.now;
         why = record {
-          read = is_read c.in-Err-run_with.fault folder c.deref-in-Err-run_with.result.now (search rules) (search rules);
+          read = is_read c.in-Err-run_with.fault folder c.deref-in-Err-run_with.result.now (search rules)
+              (search rules);
           first = search rules;
           status_is = c.report_fault-in-Err-run_with.ensures.status;
           told_why = subst (λ (name : List ℕ). Tells c.args.faults.now c.report_fault-in-Err-run_with.new.faults
-              (envdir_told c.args.dir.now c.args.program.now name c.in-Err-run_with.fault)) c.refused_name.ensures c.report_fault-in-Err-run_with.ensures.told;
+              (envdir_told c.args.dir.now c.args.program.now name c.in-Err-run_with.fault)) c.refused_name.ensures
+              c.report_fault-in-Err-run_with.ensures.told;
         };
         none = search rules;
         unwritten = refl;

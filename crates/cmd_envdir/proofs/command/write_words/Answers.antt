@@ -14,7 +14,8 @@ returns-in-Err g c =
         cause = cause;
         files = [];
         why = record {
-          read = not_read c.in-Err.error cause folder [] c.fault_of.ensures.memory c.fault_of.ensures.either c.in-Err.ensures.missing;
+          read = not_read c.in-Err.error cause folder [] c.fault_of.ensures.memory c.fault_of.ensures.either
+              c.in-Err.ensures.missing;
           first = of_none.0;
           status_is = c.report_fault.ensures.status;
           told_why = subst (λ (name : List ℕ). Tells c.args.faults.now c.report_fault.new.faults
@@ -40,7 +41,8 @@ returns g c =
           first = search rules;
           status_is = c.report_fault-in-Err-folder_words.ensures.status;
           told_why = subst (λ (name : List ℕ). Tells c.args.faults.now c.report_fault-in-Err-folder_words.new.faults
-              (envdir_told c.args.dir.now [] name cause)) c.refused_name.ensures c.report_fault-in-Err-folder_words.ensures.told;
+              (envdir_told c.args.dir.now [] name cause)) c.refused_name.ensures
+              c.report_fault-in-Err-folder_words.ensures.told;
         };
         ran = neither.1;
         unwritten = refl;

@@ -31,4 +31,5 @@ returns c =
     let day = simp to_z-of_z at c.div_euclid.ensures in
     let is = simp to_z-of_z at c.in-Ok.ensures.value in
     let second = simp to_z-of_z at c.second_of_day.ensures in
-    ap Some (c.date_time_text.ensures ∙ ap (time_text (plain c.in-Ok.date)) second) ∙ sym (civil_text-late c.in-Ok.date c.args.second (is ∙ day) (grind (arith, ints, c.if-date-lt1900.false)))
+    ap Some (c.date_time_text.ensures ∙ ap (time_text (plain c.in-Ok.date)) second)
+    ∙ sym (civil_text-late c.in-Ok.date c.args.second (is ∙ day) (grind (arith, ints, c.if-date-lt1900.false)))

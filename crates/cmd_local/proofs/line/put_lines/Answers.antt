@@ -11,19 +11,27 @@ pub returns-in_err-put_part-clause-err : goal.returns-in_err-put_part-clause-err
 returns-in_err-put_part-clause-err g c =
     let xs = c.args.bytes.now in
     let part = c.first_part-part in
-    let makes = Makes-next (g.Z.Zone.ahead_at c.args.zone.now) c.loop-at.inside xs c.loop-at.at part.result.len part.result.ends
-    (grind (arith, c.loop-at-test.true)) part.ensures.within part.ensures.some part.ensures.part part.ensures.rest (sym c.waits.ensures ∙ c.if-waits.false) in
+    let makes = Makes-next (g.Z.Zone.ahead_at c.args.zone.now) c.loop-at.inside xs c.loop-at.at part.result.len
+    part.result.ends
+    (grind (arith, c.loop-at-test.true)) part.ensures.within part.ensures.some part.ensures.part part.ensures.rest
+    (sym c.waits.ensures ∙ c.if-waits.false) in
     let p = err_from_is_err_and c.from_residual.result c.from_residual.ensures.1 in
-    rw (p.1) (Passes-failed xs c.loop-at.at part.result.len (made (g.Z.Zone.ahead_at c.args.zone.now) c.loop-at.inside (take part.result.len (take (length xs - c.loop-at.at) (drop c.loop-at.at xs))))
+    rw (p.1) (Passes-failed xs c.loop-at.at part.result.len
+    (made (g.Z.Zone.ahead_at c.args.zone.now) c.loop-at.inside
+    (take part.result.len (take (length xs - c.loop-at.at) (drop c.loop-at.at xs))))
     c.loop-at.invariant.0 makes c.in_err-put_part.ensures.err)
 
 pub loop-at-preserved : goal.loop-at-preserved
 loop-at-preserved g c =
     let xs = c.args.bytes.now in
     let part = c.first_part-part in
-    let makes = Makes-next (g.Z.Zone.ahead_at c.args.zone.now) c.loop-at.inside xs c.loop-at.at part.result.len part.result.ends
-    (grind (arith, c.loop-at-test.true)) part.ensures.within part.ensures.some part.ensures.part part.ensures.rest (sym c.waits.ensures ∙ c.if-waits.false) in (
-      Passes-further xs c.loop-at.at part.result.len (made (g.Z.Zone.ahead_at c.args.zone.now) c.loop-at.inside (take part.result.len (take (length xs - c.loop-at.at) (drop c.loop-at.at xs))))
+    let makes = Makes-next (g.Z.Zone.ahead_at c.args.zone.now) c.loop-at.inside xs c.loop-at.at part.result.len
+    part.result.ends
+    (grind (arith, c.loop-at-test.true)) part.ensures.within part.ensures.some part.ensures.part part.ensures.rest
+    (sym c.waits.ensures ∙ c.if-waits.false) in (
+      Passes-further xs c.loop-at.at part.result.len
+          (made (g.Z.Zone.ahead_at c.args.zone.now) c.loop-at.inside
+          (take part.result.len (take (length xs - c.loop-at.at) (drop c.loop-at.at xs))))
           c.loop-at.invariant.0 makes c.in_ok-put_part.ensures.ok,
       grind (arith, common_steps),
       grind (arith, common_steps),

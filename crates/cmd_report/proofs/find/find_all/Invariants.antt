@@ -5,6 +5,7 @@ use Rattle.cmd_report.proofs.find.find_all.Given as goal
 
 -- the services so far are found
 abbrev pub invariant-loop-folder : goal.invariant-loop-folder
-invariant-loop-folder g l = FindsWords (g.F.CountFiles.counts_at l.files) (map (λ word. word.now) (take l.folder-index l.folders))
+invariant-loop-folder g l =
+    FindsWords (g.F.CountFiles.counts_at l.files) (map (λ word. word.now) (take l.folder-index l.folders))
     l.founds.items (sight (g.S.Services.calls l.fn.services) (g.C.TimeSource.readings l.fn.clock))
     (sight (g.S.Services.calls l.services) (g.C.TimeSource.readings l.clock))

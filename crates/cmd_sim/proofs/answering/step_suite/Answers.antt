@@ -19,7 +19,8 @@ returns-in_err-event-clause-refused g c = λ why is.
     let passed = err_from_is_err_and c.from_residual-in_err-event.result c.from_residual-in_err-event.ensures.1 in
     let whole = sym passed.1 ∙ is in
     let why_is : passed.0 ≡ none.Refused why = cc whole in
-    unread_so c.args.suite.now (suite_event_from {A = g.row.A.Denot} (fields c.args.line.now)) c.in_err-event.field-0.0 why
+    unread_so c.args.suite.now (suite_event_from {A = g.row.A.Denot} (fields c.args.line.now)) c.in_err-event.field-0.0
+    why
     c.in_err-event.ensures.exact (sym passed.2 ∙ why_is)
 
 pub returns-in_err-step-clause-refused : goal.returns-in_err-step-clause-refused
@@ -27,14 +28,18 @@ returns-in_err-step-clause-refused g c = λ why is.
     let passed = err_from_is_err_and c.from_residual-in_err-step.result c.from_residual-in_err-step.ensures.1 in
     let whole = sym passed.1 ∙ is in
     let why_is : passed.0 ≡ none.Refused why = cc whole in
-    let told = read_told (suite_event_from {A = g.row.A.Denot} (fields c.args.line.now)) (Ok c.in_ok-event.event) c.in_ok-event.event c.in_ok-event.ensures.exact refl in
+    let told = read_told (suite_event_from {A = g.row.A.Denot} (fields c.args.line.now)) (Ok c.in_ok-event.event)
+    c.in_ok-event.event c.in_ok-event.ensures.exact refl in
     ap (stepping c.args.suite.now) told
-    ∙ unstepped_so c.args.suite.now c.in_ok-event.event c.in_err-step.field-0.0 why c.in_err-step.ensures.cause (sym passed.2 ∙ why_is)
+    ∙ unstepped_so c.args.suite.now c.in_ok-event.event c.in_err-step.field-0.0 why c.in_err-step.ensures.cause
+    (sym passed.2 ∙ why_is)
 
 pub returns-clause-ok : goal.returns-clause-ok
 returns-clause-ok g c =
-    let told = read_told (suite_event_from {A = g.row.A.Denot} (fields c.args.line.now)) (Ok c.in_ok-event.event) c.in_ok-event.event c.in_ok-event.ensures.exact refl in
-    stepped_so c.args.suite.now c.step.new.self (suite_event_from {A = g.row.A.Denot} (fields c.args.line.now)) c.in_ok-event.event
+    let told = read_told (suite_event_from {A = g.row.A.Denot} (fields c.args.line.now)) (Ok c.in_ok-event.event)
+    c.in_ok-event.event c.in_ok-event.ensures.exact refl in
+    stepped_so c.args.suite.now c.step.new.self (suite_event_from {A = g.row.A.Denot} (fields c.args.line.now))
+    c.in_ok-event.event
     c.in_ok-lines_of.field-0 told c.in_ok-step.ensures.taken c.in_ok-step.ensures.ok
     (c.in_ok-lines_of.ensures ∙ ap (flat_map step_lines) (c.deref.ensures.value ∙ c.in_ok-step.ensures.outs
     ∙ ap (λ outs. outs ++ outs_of c.args.suite.now c.in_ok-event.event) c.new-outs.ensures.items))

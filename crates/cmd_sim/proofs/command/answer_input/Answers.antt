@@ -9,5 +9,6 @@ returns-in-Err g c = record {
       (console c.answer_lines.new.reader c.answer_lines.new.writer c.report_fault.new.faults) c.in-Err.fault
       c.report_fault.ensures.status c.report_fault.ensures.told
       (λ line why e. (c.in-Err.ensures.refused line why (ap Err e), c.in-Err.ensures.refused_works line why (ap Err e)))
-      (λ e. c.in-Err.ensures.memory (ap Err e)) (λ e. c.in-Err.ensures.read (ap Err e)) (λ e. c.in-Err.ensures.write (ap Err e));
+      (λ e. c.in-Err.ensures.memory (ap Err e)) (λ e. c.in-Err.ensures.read (ap Err e))
+      (λ e. c.in-Err.ensures.write (ap Err e));
 }

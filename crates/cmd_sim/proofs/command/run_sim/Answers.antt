@@ -5,7 +5,9 @@ use Rattle.cmd_sim.proofs.command.run_sim.Goals as goal
 
 pub returns-in-len1 : goal.returns-in-len1
 returns-in-len1 g c = record {
-  ends = wrong_word (λ word. word.now) c.args.words.now _ c.usage.result (console c.args.reader.now c.args.writer.now c.args.faults.now)
-      (console c.args.reader.now c.args.writer.now c.usage.new.faults) c.in-len1.len_below c.in-len1.len_at_least c.in_default.not-table
+  ends = wrong_word (λ word. word.now) c.args.words.now _ c.usage.result
+      (console c.args.reader.now c.args.writer.now c.args.faults.now)
+      (console c.args.reader.now c.args.writer.now c.usage.new.faults) c.in-len1.len_below c.in-len1.len_at_least
+      c.in_default.not-table
       (record { status_is = c.usage.ensures.status; unread = refl; unwritten = refl; told = c.usage.ensures.told });
 }

@@ -6,5 +6,6 @@ pub loop-byte-preserved : goal.loop-byte-preserved
 loop-byte-preserved c = (
   two_rows _ _ c.push_row.ensures.text c.push_row-in-loop-byte.ensures.text c.loop-byte.invariant.0
       ∙ sym (rows_further c.args.bytes.now c.loop-byte.byte-index c.loop-byte-test.true),
-  (let a = c.push_row.ensures.len in let b = c.push_row-in-loop-byte.ensures.len in let i = c.loop-byte.invariant.1 in omega (arith, a, b, i)),
+  (let a = c.push_row.ensures.len in let b = c.push_row-in-loop-byte.ensures.len in let i = c.loop-byte.invariant.1 in
+      omega (arith, a, b, i)),
 )

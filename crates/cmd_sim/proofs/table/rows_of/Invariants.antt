@@ -7,4 +7,5 @@ use Rattle.cmd_sim.proofs.table.rows_of.Given as goal
 
 abbrev pub invariant-loop-byte : goal.invariant-loop-byte
 invariant-loop-byte l =
-    (l.out.bytes ≡ printed (flat_map both_sides (take l.byte-index l.bytes))) × (array_string_len l.out ≤ 98 * l.byte-index)
+    (l.out.bytes ≡ printed (flat_map both_sides (take l.byte-index l.bytes)))
+    × (array_string_len l.out ≤ 98 * l.byte-index)

@@ -12,7 +12,8 @@ returns-in-Err-UnknownLetter g c =
     let status = c.report_letter.result in
     let letter = c.in-Err-UnknownLetter.letter in
     letter-refused (first_unknown (option_letters words)) c.assemble.result letter
-    (ServesWords c.args.missed_status words status old new ⊎ LacksMemory words status old new) (λ first. RefusesLetter first status old new)
+    (ServesWords c.args.missed_status words status old new ⊎ LacksMemory words status old new)
+    (λ first. RefusesLetter first status old new)
     c.assemble.ensures.refuses
     (rw c.in-Err-UnknownLetter.field-0-is at c.in-Err-UnknownLetter.is)
     (record { status_is = c.report_letter.ensures.status; unsent = refl; told = c.report_letter.ensures.told })
@@ -24,7 +25,8 @@ returns-in-Err-OutOfMemory g c =
     let new = effects (g.S.Services.calls c.args.services.now) c.report.new.faults in
     let status = c.report.result in
     memory-lacks (first_unknown (option_letters words)) c.assemble.result
-    (ServesWords c.args.missed_status words status old new ⊎ LacksMemory words status old new) (λ first. RefusesLetter first status old new)
+    (ServesWords c.args.missed_status words status old new ⊎ LacksMemory words status old new)
+    (λ first. RefusesLetter first status old new)
     c.assemble.ensures.refuses
     (rw c.in-Err-OutOfMemory.field-0-is at c.in-Err-OutOfMemory.is)
     (inr (record {

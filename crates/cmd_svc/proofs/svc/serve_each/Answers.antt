@@ -12,7 +12,8 @@ loop-name-preserved g c =
     let bytes = c.args.bytes.now in
     let old = sending (effects (g.S.Services.calls c.args.services.now) c.args.faults.now) false in
     let middle = sending (effects (g.S.Services.calls c.loop-name.services) c.loop-name.faults) c.loop-name.missed in
-    let new = sending (effects (g.S.Services.calls c.serve-missed.new.services) c.serve-missed.new.faults) c.serve-missed.result in
+    let new = sending (effects (g.S.Services.calls c.serve-missed.new.services) c.serve-missed.new.faults)
+    c.serve-missed.result in
     let name = c.as_str.result.now in
     let within : i < length names = search rules in
     let is : take (i + 1) names ≡ take i names ++ name ∷ [] =

@@ -1,7 +1,7 @@
 use Rattle.std.proofs.Common.{rules, [], ◌∷◌, None, Some, ap, ◌∙◌}
 use Rattle.tai_status.specs.Extended.{Extended}
 use Rattle.tai_status.specs.Loading.{loaded_from}
-use Rattle.cmd_svc.specs.Calls.{Asked, ReadStatus}
+use Rattle.cmd_svc.specs.Calls.{Reached, ReadStatus}
 use Rattle.cmd_svc.proofs.Turns.{extended-then}
 use Rattle.cmd_wait.specs.Finding.{Absent, Shown, record_finding}
 use Rattle.cmd_wait.proofs.finding.look.Goals as goal
@@ -16,10 +16,11 @@ returns-in-Ok g c =
     let read = g.S.Services.calls c.read_status.new.self in
     let folder = c.args.folder.now in
     let bytes = c.in-Ok.front.items in
-    let first : Extended past asked (Asked folder None ∷ []) = search rules in
+    let first : Extended past asked (Reached folder None ∷ []) = search rules in
     let second : Extended asked read (ReadStatus folder (Some bytes) ∷ []) = search rules in record {
       sighting = Shown bytes;
       is = c.record_finding.ensures
           ∙ ap (record_finding c.args.goal) (c.decode_front.ensures.read ∙ ap loaded_from c.as_slice.ensures.value);
-      calls = extended-then past asked read (Asked folder None ∷ []) (ReadStatus folder (Some bytes) ∷ []) first second;
+      calls = extended-then past asked read (Reached folder None ∷ []) (ReadStatus folder (Some bytes) ∷ []) first
+          second;
     }

@@ -18,7 +18,8 @@ loop-at-preserved-in-Reached g c =
     let is : folder ≡ get_or items i folder = c.index-folder.ensures in
     let found : Finds c.args.goal folder.now Reached (calls c.loop-at.services) (calls c.look.new.services) =
     rw c.in-Reached.is at c.look.ensures in (
-      looks-reached c.args.goal (texts c.args.left.now.items) items c.remove.new.self.items i folder (calls c.args.services.now) (calls c.loop-at.services) (calls c.look.new.services)
+      looks-reached c.args.goal (texts c.args.left.now.items) items c.remove.new.self.items i folder
+          (calls c.args.services.now) (calls c.loop-at.services) (calls c.look.new.services)
           within is c.remove.ensures.by_index.2 c.loop-at.invariant.0 found,
       search rules,
     )
@@ -33,7 +34,8 @@ loop-at-preserved g c =
     let is : folder ≡ get_or items i folder = c.index-folder.ensures in
     let found : Finds c.args.goal folder.now Waiting (calls c.loop-at.services) (calls c.look.new.services) =
     rw c.in-Waiting.is at c.look.ensures in (
-      looks-waiting c.args.goal (texts c.args.left.now.items) items i folder (calls c.args.services.now) (calls c.loop-at.services) (calls c.look.new.services)
+      looks-waiting c.args.goal (texts c.args.left.now.items) items i folder (calls c.args.services.now)
+          (calls c.loop-at.services) (calls c.look.new.services)
           within is c.loop-at.invariant.0 found,
       search rules,
     )
@@ -50,7 +52,8 @@ returns-in-Failed-clause-err g c =
       left = texts (take i items);
       after = texts (drop (i + 1) items);
       middle = calls c.loop-at.services;
-      looked = looks-here c.args.goal (texts c.args.left.now.items) items i folder (calls c.args.services.now) (calls c.loop-at.services) within is c.loop-at.invariant.0;
+      looked = looks-here c.args.goal (texts c.args.left.now.items) items i folder (calls c.args.services.now)
+          (calls c.loop-at.services) within is c.loop-at.invariant.0;
       fails = rw c.in-Failed.is at c.look.ensures;
     }
 
@@ -59,4 +62,5 @@ returns-clause-ok g c =
     let calls = g.S.Services.calls in
     let items = c.loop-at.left.items in
     let all : c.loop-at.at ≡ length items = search rules in
-    looks-all c.args.goal (texts c.args.left.now.items) items c.loop-at.at (calls c.args.services.now) (calls c.loop-at.services) all c.loop-at.invariant.0
+    looks-all c.args.goal (texts c.args.left.now.items) items c.loop-at.at (calls c.args.services.now)
+    (calls c.loop-at.services) all c.loop-at.invariant.0

@@ -23,6 +23,8 @@ loop-folder-preserved g c =
     let note : c.over_note.result.now ≡ over_note c.args.goal = search rules in
     let told : Tells middle new (told_of folder (over_note c.args.goal)) =
     subst (λ (bytes : List ℕ). Tells middle new (told_of folder bytes)) note
-    (subst (λ (bytes : List ℕ). Tells middle new (told_of bytes c.over_note.result.now)) text c.report_parts.ensures.told) in
-    subst (λ (done : List (List ℕ)). InTurn (TellsOver c.args.goal) done old new) (sym (taken-one now left i nowhere within))
+    (subst (λ (bytes : List ℕ). Tells middle new (told_of bytes c.over_note.result.now)) text
+    c.report_parts.ensures.told) in
+    subst (λ (done : List (List ℕ)). InTurn (TellsOver c.args.goal) done old new)
+    (sym (taken-one now left i nowhere within))
     (in_turn-then (TellsOver c.args.goal) (map now (take i left)) folder old middle new c.loop-folder.invariant told)

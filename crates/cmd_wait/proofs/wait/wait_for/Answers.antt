@@ -20,9 +20,12 @@ loop-init g c =
     let old : Sight = sight calls (steps c.args.pace.now) in
     let now : Sight = sight calls (steps c.now-begin.new.self) in
     let begins : IsUnderWay o c.now-begin.result old (texts c.args.names.items) (watched first_watch now) =
-    subst (λ (items : List (Bor (List ℕ))). IsUnderWay o c.now-begin.result old (texts items) (watched first_watch now)) (sym c.requires)
-    (way-begins o c.now-begin.result calls (steps c.args.pace.now) (steps c.now-begin.new.self) c.now-begin.ensures.read) in (
-      subst (λ (watch : Watch). IsUnderWay o c.now-begin.result old (texts c.args.names.items) (watched watch now)) (sym c.new-watch.ensures) begins,
+    subst (λ (items : List (Bor (List ℕ))). IsUnderWay o c.now-begin.result old (texts items) (watched first_watch now))
+    (sym c.requires)
+    (way-begins o c.now-begin.result calls (steps c.args.pace.now) (steps c.now-begin.new.self)
+    c.now-begin.ensures.read) in (
+      subst (λ (watch : Watch). IsUnderWay o c.now-begin.result old (texts c.args.names.items) (watched watch now))
+          (sym c.new-watch.ensures) begins,
       refl,
     )
 
@@ -32,9 +35,12 @@ returns-in-Err g c =
     let calls = g.S.Services.calls in
     let steps = g.P.Pace.steps in
     let failure = c.in-Err.failure in
-    let told : Tells c.args.faults.now c.report_failure.new.faults (told_of failure.folder.now (fault_note failure.fault)) =
-    subst (λ (d : Device). Tells d c.report_failure.new.faults (told_of failure.folder.now (fault_note failure.fault))) c.loop.invariant.1 c.report_failure.ensures.told in
-    way-ends o c.now-begin.result c.report_failure.result (sight (calls c.args.services.now) (steps c.args.pace.now)) (watched c.loop.watch (sight (calls c.loop.services) (steps c.loop.pace)))
+    let told : Tells c.args.faults.now c.report_failure.new.faults
+    (told_of failure.folder.now (fault_note failure.fault)) =
+    subst (λ (d : Device). Tells d c.report_failure.new.faults (told_of failure.folder.now (fault_note failure.fault)))
+    c.loop.invariant.1 c.report_failure.ensures.told in
+    way-ends o c.now-begin.result c.report_failure.result (sight (calls c.args.services.now) (steps c.args.pace.now))
+    (watched c.loop.watch (sight (calls c.loop.services) (steps c.loop.pace)))
     (texts c.loop.left.items) c.args.faults.now
     (scene (sight (calls c.look_at_each.new.services) (steps c.now-now.new.self)) c.report_failure.new.faults)
     c.loop.invariant.0
@@ -55,11 +61,15 @@ returns-then-is_empty g c =
     let steps = g.P.Pace.steps in
     let items = c.look_at_each.new.left.items in
     let empty : length items ≡ 0 = search rules in
-    let looked : LooksAt o.goal (texts c.loop.left.items) (texts items) [] (calls c.loop.services) (calls c.look_at_each.new.services) = c.in_default.ensures.ok in
-    let nothing : LooksAt o.goal (texts c.loop.left.items) [] [] (calls c.loop.services) (calls c.look_at_each.new.services) =
-    subst (λ (left : List (List ℕ)). LooksAt o.goal (texts c.loop.left.items) left [] (calls c.loop.services) (calls c.look_at_each.new.services))
+    let looked : LooksAt o.goal (texts c.loop.left.items) (texts items) [] (calls c.loop.services)
+    (calls c.look_at_each.new.services) = c.in_default.ensures.ok in
+    let nothing : LooksAt o.goal (texts c.loop.left.items) [] [] (calls c.loop.services)
+    (calls c.look_at_each.new.services) =
+    subst (λ (left : List (List ℕ)). LooksAt o.goal (texts c.loop.left.items) left [] (calls c.loop.services)
+    (calls c.look_at_each.new.services))
     (texts-empty items empty) looked in
-    way-ends o c.now-begin.result 0 (sight (calls c.args.services.now) (steps c.args.pace.now)) (watched c.loop.watch (sight (calls c.loop.services) (steps c.loop.pace)))
+    way-ends o c.now-begin.result 0 (sight (calls c.args.services.now) (steps c.args.pace.now))
+    (watched c.loop.watch (sight (calls c.loop.services) (steps c.loop.pace)))
     (texts c.loop.left.items) c.args.faults.now
     (scene (sight (calls c.look_at_each.new.services) (steps c.now-now.new.self)) c.loop.faults)
     c.loop.invariant.0
@@ -85,8 +95,10 @@ returns-then-is_over g c =
     let all : c.deref.result.now ≡ items = search rules in
     let told : InTurn (TellsOver o.goal) (texts items) c.args.faults.now c.report_over.new.faults =
     subst (λ (d : Device). InTurn (TellsOver o.goal) (texts items) d c.report_over.new.faults) c.loop.invariant.1
-    (subst (λ (left : List (Bor (List ℕ))). InTurn (TellsOver o.goal) (texts left) c.loop.faults c.report_over.new.faults) all c.report_over.ensures) in
-    way-ends o c.now-begin.result 99 (sight (calls c.args.services.now) (steps c.args.pace.now)) (watched c.loop.watch (sight (calls c.loop.services) (steps c.loop.pace)))
+    (subst (λ (left : List (Bor (List ℕ))).
+    InTurn (TellsOver o.goal) (texts left) c.loop.faults c.report_over.new.faults) all c.report_over.ensures) in
+    way-ends o c.now-begin.result 99 (sight (calls c.args.services.now) (steps c.args.pace.now))
+    (watched c.loop.watch (sight (calls c.loop.services) (steps c.loop.pace)))
     (texts c.loop.left.items) c.args.faults.now
     (scene (sight (calls c.look_at_each.new.services) (steps c.now-now.new.self)) c.report_over.new.faults)
     c.loop.invariant.0
@@ -110,11 +122,14 @@ loop-preserved g c =
     let in_time : IsOver o.limit c.now-begin.result c.now-now.result → ⊥ = search rules in
     let all : c.deref-in-loop.result.now ≡ items = search rules in
     let was : Watched = watched c.loop.watch (sight (calls c.loop.services) (steps c.loop.pace)) in
-    let middle : Watched = watched c.loop.watch (sight (calls c.look_at_each.new.services) (steps c.now-now.new.self)) in
+    let middle : Watched =
+    watched c.loop.watch (sight (calls c.look_at_each.new.services) (steps c.now-now.new.self)) in
     let new : Watched = watched c.pause.new.watch (sight (calls c.pause.new.services) (steps c.pause.new.pace)) in
     let pauses : Pauses o.limit c.now-begin.result (texts items) middle new =
-    subst (λ (left : List (Bor (List ℕ))). Pauses o.limit c.now-begin.result (texts left) middle new) all c.pause.ensures in (
-      way-more o c.now-begin.result c.now-now.result (sight (calls c.args.services.now) (steps c.args.pace.now)) (texts c.loop.left.items) (texts items)
+    subst (λ (left : List (Bor (List ℕ))). Pauses o.limit c.now-begin.result (texts left) middle new) all
+    c.pause.ensures in (
+      way-more o c.now-begin.result c.now-now.result (sight (calls c.args.services.now) (steps c.args.pace.now))
+          (texts c.loop.left.items) (texts items)
           was new (calls c.look_at_each.new.services) (steps c.now-now.new.self)
           c.loop.invariant.0 c.now-now.ensures.read c.in_default.ensures.ok (texts-some items some) in_time pauses,
       c.loop.invariant.1,

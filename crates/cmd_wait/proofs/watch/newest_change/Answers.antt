@@ -19,6 +19,7 @@ loop-folder-preserved g c =
     let middle : Learnt = learnt c.loop-folder.newest (calls c.loop-folder.services) in
     let new : Learnt = learnt c.newer-newest.result (calls c.changed_at.new.self) in
     let folder = now (get_or folders i nowhere) in
-    let one : Learns folder middle new = record { at = c.changed_at.result; newest = c.newer-newest.ensures; calls = search rules } in
+    let one : Learns folder middle new =
+    record { at = c.changed_at.result; newest = c.newer-newest.ensures; calls = search rules } in
     subst (λ (done : List (List ℕ)). InTurn Learns done old new) (sym (taken-one now folders i nowhere within))
     (in_turn-then Learns (map now (take i folders)) folder old middle new c.loop-folder.invariant one)

@@ -6,5 +6,6 @@ use Rattle.cmd_wait.proofs.watch.pause.Given as goal
 -- so many rests, behind none of which a round was due
 abbrev pub invariant-loop : goal.invariant-loop
 invariant-loop g l =
-    RestsOn l.limit l.begin (texts l.left) (watched l.fn.watch (sight (g.S.Services.calls l.fn.services) (g.P.Pace.steps l.fn.pace))) l.counter
+    RestsOn l.limit l.begin (texts l.left)
+    (watched l.fn.watch (sight (g.S.Services.calls l.fn.services) (g.P.Pace.steps l.fn.pace))) l.counter
     (watched l.watch (sight (g.S.Services.calls l.services) (g.P.Pace.steps l.pace)))

@@ -14,6 +14,24 @@ loop-place-preserved c =
     let next = behind-next (is_of c.args.kind) es i e c.loop-place-test.true in
     let rest : drop i es ≡ get_or es i e ∷ drop (i + 1) es = rw add-one (drop-cons es i e c.loop-place-test.true) in
     elim c.if-is_of.branch [
-      | then-is_of w ↦ grind (arith, common_steps, next, w.if-is_of, w.behind-is, c.index-entries-place.is, c.is_of.ensures)
-      | else-is_of w ↦ grind (arith, common_steps, next, rest, w.if-is_of, w.behind-is, c.index-entries-place.is, c.is_of.ensures, c.loop-place.invariant)
+      | then-is_of w ↦ grind (
+        arith,
+        common_steps,
+        next,
+        w.if-is_of,
+        w.behind-is,
+        c.index-entries-place.is,
+        c.is_of.ensures,
+      )
+      | else-is_of w ↦ grind (
+        arith,
+        common_steps,
+        next,
+        rest,
+        w.if-is_of,
+        w.behind-is,
+        c.index-entries-place.is,
+        c.is_of.ensures,
+        c.loop-place.invariant,
+      )
     ]

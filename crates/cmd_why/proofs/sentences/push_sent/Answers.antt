@@ -9,5 +9,6 @@ returns-in_ok-push_str-in-Some g c =
     let old = string_bytes c.args.out.now in
     let end = signal_end c.in-Some.byte in
     let pushed = c.in_ok-push_str-in-Some.ensures.bytes in
-    on_ok_weaker c.push_signal.result (λ e. e ∙ ap (λ (t : List ℕ). t ++ end) pushed ∙ append_assoc old (codes " It was sent ") end
+    on_ok_weaker c.push_signal.result (λ e. e ∙ ap (λ (t : List ℕ). t ++ end) pushed
+    ∙ append_assoc old (codes " It was sent ") end
     ∙ ap (λ (s : _). old ++ sent_sentence s) (sym c.in-Some.is)) c.push_signal.ensures

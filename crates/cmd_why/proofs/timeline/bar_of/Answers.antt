@@ -18,9 +18,12 @@ returns g c =
     let now = c.args.now.now in
     let from : c.nanos-from.result ≡ nanos (left_end told now) = cc (c.nanos-from.ensures.value, c.left_end.ensures) in
     let until : c.nanos-until.result ≡ nanos now = c.nanos-until.ensures.value in
-    let wide : c.width-width.result ≡ width (nanos (left_end told now)) (nanos now) = cc (from, until, c.width-width.ensures.value) in
-    let shown : c.shown_before.result ≡ shown_before told.base.status = cc (c.shown_before.ensures, c.view.ensures.view, c.base-base.ensures) in
+    let wide : c.width-width.result ≡ width (nanos (left_end told now)) (nanos now) =
+    cc (from, until, c.width-width.ensures.value) in
+    let shown : c.shown_before.result ≡ shown_before told.base.status =
+    cc (c.shown_before.ensures, c.view.ensures.view, c.base-base.ensures) in
     let drawn : c.in_ok-drawn.drawn.items ≡ stretches_of told c.args.leads (nanos (left_end told now)) (nanos now) =
     cc (c.in_ok-drawn.ensures, from, until, wide, shown, c.base-base.ensures, c.entries.ensures.entries) in
-    let all : c.bar.result.bytes ≡ bar_of told c.args.leads now = cc (c.bar.ensures, from, wide, drawn, c.deref.ensures.value) in
+    let all : c.bar.result.bytes ≡ bar_of told c.args.leads now =
+    cc (c.bar.ensures, from, wide, drawn, c.deref.ensures.value) in
     all

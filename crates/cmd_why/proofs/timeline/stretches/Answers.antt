@@ -13,11 +13,15 @@ loop-event-preserved g c =
     let e = c.event-item.result in
     let now = c.args.now in
     let l = c.loop-event in
-    let rest : drop i entries ≡ get_or entries i e ∷ drop (i + 1) entries = rw add-one (drop-cons entries i e c.loop-event-test.true) in
+    let rest : drop i entries ≡ get_or entries i e ∷ drop (i + 1) entries =
+    rw add-one (drop-cons entries i e c.loop-event-test.true) in
     let here : drop i entries ≡ e ∷ drop (i + 1) entries = cc (rest, c.event-item.is) in
     let state : c.step.new.self ≡ stepped l.machine e = c.step.ensures.state (Opened l.machine) refl in
-    let more : c.behind-next.result ≡ behind now l.last (label_in e) c.step.new.self = cc (c.behind-next.ensures, c.label_in-label.ensures) in
-    let grown : c.end_stretch.new.drawn.items ≡ l.drawn.items ++ ended_with now l.last (label_in e) = cc (c.in_ok-end_stretch.ensures, c.label_in-label.ensures) in
+    let more : c.behind-next.result ≡ behind now l.last (label_in e) c.step.new.self =
+    cc (c.behind-next.ensures, c.label_in-label.ensures) in
+    let grown : c.end_stretch.new.drawn.items ≡ l.drawn.items ++ ended_with now l.last (label_in e) =
+    cc (c.in_ok-end_stretch.ensures, c.label_in-label.ensures) in
     l.invariant ∙ ap (λ (es : List Event). l.drawn.items ++ stretches now c.args.leads l.machine l.last es) here
-    ∙ entry-drawn now c.args.leads l.machine c.step.new.self l.last c.behind-next.result e (drop (i + 1) entries) l.drawn.items
+    ∙ entry-drawn now c.args.leads l.machine c.step.new.self l.last c.behind-next.result e (drop (i + 1) entries)
+    l.drawn.items
     c.end_stretch.new.drawn.items state more grown

@@ -10,19 +10,22 @@ nowhere = record { ref_ptr = (0, 0); now = [] }
 pub returns-in_err-unread-clause-err : goal.returns-in_err-unread-clause-err
 unfolding nowhere
 returns-in_err-unread-clause-err g c =
-    let k = knowledge (g.F.ServiceFiles.trace_at c.args.files.now) (g.F.ServiceFiles.exit_at c.args.files.now) (g.F.ServiceFiles.fault_at c.args.files.now) (g.T.LocalTimes.text_at c.args.times.now) in
+    let k = knowledge (g.F.ServiceFiles.texts c.args.files.now) (g.T.LocalTimes.text_at c.args.times.now) in
     let folders = c.args.folders.now in
     let i = c.loop-folder.folder-index in
     let now : Bor (List ℕ) → List ℕ = λ word. word.now in
     let within : i < length folders = search rules in
-    let old = scene (g.S.Services.calls c.args.services.now) (g.C.TimeSource.readings c.args.clock.now) c.args.writer.now false in
-    let new = scene (g.S.Services.calls c.show.new.services) (g.C.TimeSource.readings c.show.new.clock) c.show.new.writer false in
+    let old = scene (g.S.Services.calls c.args.services.now) (g.C.TimeSource.readings c.args.clock.now)
+    c.args.writer.now false in
+    let new = scene (g.S.Services.calls c.show.new.services) (g.C.TimeSource.readings c.show.new.clock)
+    c.show.new.writer false in
     let stops : ShowsUpTo k c.args.timeline (map now folders) c.in_err-unread.field-0.0 old new = record {
       before = map now (take i folders);
       folder = now (get_or folders i nowhere);
       after = map now (drop (i + 1) folders);
       words_are = parts-at now folders i nowhere within;
-      middle = scene (g.S.Services.calls c.loop-folder.services) (g.C.TimeSource.readings c.loop-folder.clock) c.loop-folder.writer c.loop-folder.unread;
+      middle = scene (g.S.Services.calls c.loop-folder.services) (g.C.TimeSource.readings c.loop-folder.clock)
+          c.loop-folder.writer c.loop-folder.unread;
       shown = c.loop-folder.invariant;
       fails = c.in_err-unread.ensures.err;
     } in
@@ -31,14 +34,19 @@ returns-in_err-unread-clause-err g c =
 pub loop-folder-preserved : goal.loop-folder-preserved
 unfolding nowhere
 loop-folder-preserved g c =
-    let k = knowledge (g.F.ServiceFiles.trace_at c.args.files.now) (g.F.ServiceFiles.exit_at c.args.files.now) (g.F.ServiceFiles.fault_at c.args.files.now) (g.T.LocalTimes.text_at c.args.times.now) in
+    let k = knowledge (g.F.ServiceFiles.texts c.args.files.now) (g.T.LocalTimes.text_at c.args.times.now) in
     let folders = c.args.folders.now in
     let i = c.loop-folder.folder-index in
     let now : Bor (List ℕ) → List ℕ = λ word. word.now in
     let within : i < length folders = search rules in
-    let old = scene (g.S.Services.calls c.args.services.now) (g.C.TimeSource.readings c.args.clock.now) c.args.writer.now false in
-    let middle = scene (g.S.Services.calls c.loop-folder.services) (g.C.TimeSource.readings c.loop-folder.clock) c.loop-folder.writer c.loop-folder.unread in
-    let new = scene (g.S.Services.calls c.show.new.services) (g.C.TimeSource.readings c.show.new.clock) c.show.new.writer c.in_ok-unread.unread in
-    subst (λ (done : List (List ℕ)). InTurn (Shows k c.args.timeline) done old new) (sym (taken-one now folders i nowhere within))
-    (in_turn-then (Shows k c.args.timeline) (map now (take i folders)) (now (get_or folders i nowhere)) old middle new c.loop-folder.invariant
+    let old = scene (g.S.Services.calls c.args.services.now) (g.C.TimeSource.readings c.args.clock.now)
+    c.args.writer.now false in
+    let middle = scene (g.S.Services.calls c.loop-folder.services) (g.C.TimeSource.readings c.loop-folder.clock)
+    c.loop-folder.writer c.loop-folder.unread in
+    let new = scene (g.S.Services.calls c.show.new.services) (g.C.TimeSource.readings c.show.new.clock)
+    c.show.new.writer c.in_ok-unread.unread in
+    subst (λ (done : List (List ℕ)). InTurn (Shows k c.args.timeline) done old new)
+    (sym (taken-one now folders i nowhere within))
+    (in_turn-then (Shows k c.args.timeline) (map now (take i folders)) (now (get_or folders i nowhere)) old middle new
+    c.loop-folder.invariant
     c.in_ok-unread.ensures.ok)

@@ -6,7 +6,7 @@ use Rattle.cmd_why.proofs.why.show_all.Given as goal
 -- the services so far are shown
 abbrev pub invariant-loop-folder : goal.invariant-loop-folder
 invariant-loop-folder g l =
-    InTurn (Shows (knowledge (g.F.ServiceFiles.trace_at l.files) (g.F.ServiceFiles.exit_at l.files) (g.F.ServiceFiles.fault_at l.files) (g.T.LocalTimes.text_at l.times)) l.timeline)
+    InTurn (Shows (knowledge (g.F.ServiceFiles.texts l.files) (g.T.LocalTimes.text_at l.times)) l.timeline)
     (map (λ word. word.now) (take l.folder-index l.folders))
     (scene (g.S.Services.calls l.fn.services) (g.C.TimeSource.readings l.fn.clock) l.fn.writer false)
     (scene (g.S.Services.calls l.services) (g.C.TimeSource.readings l.clock) l.writer l.unread)

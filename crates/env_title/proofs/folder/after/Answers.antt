@@ -18,7 +18,8 @@ loop-file-preserved g c =
       environment = elim c.if-not-is_hidden.branch [
         | then-not-is_hidden+in_ok-put_file w ↦
             let visible : is_hidden c.file-item.result ≡ false = search rules in
-            rw w.new-is (rw w.in_ok-put_file.ensures (sym (env_after-visible c.file-item.result rest c.loop-file.new visible) ∙ before))
+            rw w.new-is (rw w.in_ok-put_file.ensures
+            (sym (env_after-visible c.file-item.result rest c.loop-file.new visible) ∙ before))
         | else-not-is_hidden w ↦
             let hidden : is_hidden c.file-item.result ≡ true = search rules in
             rw w.new-is (sym (env_after-hidden c.file-item.result rest c.loop-file.new hidden) ∙ before)
@@ -28,4 +29,5 @@ loop-file-preserved g c =
 pub returns-clause-ok : goal.returns-clause-ok
 returns-clause-ok g c =
     let end = drop_all c.loop-file.file-index c.args.files.now c.loop-file-test.false in
-    sym (env_after-nothing c.loop-file.new) ∙ ap (λ files. env_after files c.loop-file.new) (sym end) ∙ c.loop-file.invariant.environment
+    sym (env_after-nothing c.loop-file.new) ∙ ap (λ files. env_after files c.loop-file.new) (sym end)
+    ∙ c.loop-file.invariant.environment

@@ -10,7 +10,8 @@ invariant-loop-low g l = record {
   order : l.low ≤ l.high;
   bound : l.high ≤ length l.index;
   below : (k : ℕ) → k < l.low → name_order (name_at (names_of l.slots) l.index k) l.name ≡ Less;
-  above : (k : ℕ) → l.high ≤ k → k < length l.index → name_order (name_at (names_of l.slots) l.index k) l.name ≡ Greater;
+  above : (k : ℕ) → l.high ≤ k → k < length l.index → name_order (name_at (names_of l.slots) l.index k) l.name
+      ≡ Greater;
 }
 
 abbrev pub decreases-loop-low : goal.decreases-loop-low

@@ -8,4 +8,5 @@ returns-in-Ok g c =
 
 pub returns-in-Err : goal.returns-in-Err
 returns-in-Err g c =
-    named-none c.args.slots.now c.args.index.now c.args.name.now c.in-Err.field-0 c.requires.index c.requires.whole c.in-Err.ensures
+    named-none c.args.slots.now c.args.index.now c.args.name.now c.in-Err.field-0 c.requires.index c.requires.whole
+    c.in-Err.ensures

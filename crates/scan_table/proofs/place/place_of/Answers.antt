@@ -10,7 +10,8 @@ loop-low-preserved-then-here-number-2 g c =
       order = omega arith;
       bound = c.loop-low.invariant.bound;
       below = number-below c.args.slots.now middle c.args.number c.number-here.result c.requires within
-          (number-read c.args.slots.now middle c.index-slots-middle.result c.number-here.result within c.index-slots-middle.is c.number-here.ensures) c.if-here-number-2.true;
+          (number-read c.args.slots.now middle c.index-slots-middle.result c.number-here.result within
+          c.index-slots-middle.is c.number-here.ensures) c.if-here-number-2.true;
       above = c.loop-low.invariant.above;
     }
 
@@ -23,5 +24,6 @@ loop-low-preserved g c =
       bound = omega arith;
       below = c.loop-low.invariant.below;
       above = number-above c.args.slots.now middle c.args.number c.number-here.result c.requires
-          (number-read c.args.slots.now middle c.index-slots-middle.result c.number-here.result within c.index-slots-middle.is c.number-here.ensures) (omega arith);
+          (number-read c.args.slots.now middle c.index-slots-middle.result c.number-here.result within
+          c.index-slots-middle.is c.number-here.ensures) (omega arith);
     }

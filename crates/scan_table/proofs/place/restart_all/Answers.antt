@@ -14,9 +14,12 @@ pub loop-part-preserved : goal.loop-part-preserved
 loop-part-preserved g c =
     record {
       rising = subst (λ slots. AllPairs IsBefore slots) (sym c.restart.ensures)
-          (renewed-rising (get_or c.args.parts.now c.loop-part.part-index past ∷ []) c.loop-part.slots c.loop-part.invariant.rising);
-      left = renewed-next c.args.parts.now c.loop-part.part-index past c.loop-part.slots c.restart.new.slots _ c.loop-part-test.true c.restart.ensures c.loop-part.invariant.left;
+          (renewed-rising (get_or c.args.parts.now c.loop-part.part-index past ∷ []) c.loop-part.slots
+          c.loop-part.invariant.rising);
+      left = renewed-next c.args.parts.now c.loop-part.part-index past c.loop-part.slots c.restart.new.slots _
+          c.loop-part-test.true c.restart.ensures c.loop-part.invariant.left;
     }
 
 pub returns : goal.returns
-returns g c = renewed-last c.args.parts.now c.loop-part.part-index c.loop-part.slots _ c.loop-part-test.false c.loop-part.invariant.left
+returns g c = renewed-last c.args.parts.now c.loop-part.part-index c.loop-part.slots _ c.loop-part-test.false
+    c.loop-part.invariant.left

@@ -10,5 +10,6 @@ abbrev pub invariant-loop-place : goal.invariant-loop-place
 invariant-loop-place g l = record {
   above : 0 < l.place;
   rising : AllAdjacentBelow IsBelow l.rows l.place;
-  left : (d : Row) → 0 < length l.rows → order_fault l.rows ≡ order_fault_after l.place (get_or l.rows (l.place - 1) d).name (drop l.place l.rows);
+  left : (d : Row) → 0 < length l.rows
+      → order_fault l.rows ≡ order_fault_after l.place (get_or l.rows (l.place - 1) d).name (drop l.place l.rows);
 }

@@ -11,7 +11,8 @@ loop-low-preserved-in-Less g c =
       order = omega arith;
       bound = c.loop-low.invariant.bound;
       below = rows-below c.args.rows.now middle c.args.name.now c.requires within
-          (row-read c.args.rows.now middle c.index-rows-middle.result c.name.result.now c.args.name.now c.args.name.now c.cmp.result Less
+          (row-read c.args.rows.now middle c.index-rows-middle.result c.name.result.now c.args.name.now c.args.name.now
+          c.cmp.result Less
           within c.index-rows-middle.is c.name.ensures refl c.cmp.ensures c.in-Less.is);
       above = c.loop-low.invariant.above;
     }
@@ -22,7 +23,8 @@ returns-in-Equal g c =
     let within : middle < length c.args.rows.now = omega arith in
     record {
       within = within;
-      here = row-read c.args.rows.now middle c.index-rows-middle.result c.name.result.now c.args.name.now c.args.name.now c.cmp.result Equal
+      here = row-read c.args.rows.now middle c.index-rows-middle.result c.name.result.now c.args.name.now
+          c.args.name.now c.cmp.result Equal
           within c.index-rows-middle.is c.name.ensures refl c.cmp.ensures c.in-Equal.is;
     }
 
@@ -35,10 +37,12 @@ loop-low-preserved g c =
       bound = omega arith;
       below = c.loop-low.invariant.below;
       above = rows-above c.args.rows.now middle c.args.name.now c.requires
-          (row-read c.args.rows.now middle c.index-rows-middle.result c.name.result.now c.args.name.now c.args.name.now c.cmp.result Greater
+          (row-read c.args.rows.now middle c.index-rows-middle.result c.name.result.now c.args.name.now c.args.name.now
+          c.cmp.result Greater
           within c.index-rows-middle.is c.name.ensures refl c.cmp.ensures c.in-Greater.is);
     }
 
 pub returns : goal.returns
 returns g c =
-    row-nowhere c.args.rows.now c.args.name.now c.loop-low.low c.loop-low.high c.loop-low-test.false c.loop-low.invariant.below c.loop-low.invariant.above
+    row-nowhere c.args.rows.now c.args.name.now c.loop-low.low c.loop-low.high c.loop-low-test.false
+    c.loop-low.invariant.below c.loop-low.invariant.above

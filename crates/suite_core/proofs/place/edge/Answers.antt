@@ -10,7 +10,8 @@ loop-low-preserved-then-is_before g c =
       order = omega arith;
       bound = c.loop-low.invariant.bound;
       before = before-edge c.args.parts.now c.args.id middle c.requires within
-          (read-before c.args.parts.now middle c.index-parts-middle.result c.args.id c.id.result c.is_before.result within c.index-parts-middle.is c.id.ensures c.is_before.ensures c.if-is_before.true);
+          (read-before c.args.parts.now middle c.index-parts-middle.result c.args.id c.id.result c.is_before.result
+          within c.index-parts-middle.is c.id.ensures c.is_before.ensures c.if-is_before.true);
       after = c.loop-low.invariant.after;
     }
 
@@ -23,5 +24,6 @@ loop-low-preserved g c =
       bound = omega arith;
       before = c.loop-low.invariant.before;
       after = after-edge c.args.parts.now c.args.id middle c.requires
-          (read-after c.args.parts.now middle c.index-parts-middle.result c.args.id c.id.result c.is_before.result within c.index-parts-middle.is c.id.ensures c.is_before.ensures c.if-is_before.false);
+          (read-after c.args.parts.now middle c.index-parts-middle.result c.args.id c.id.result c.is_before.result
+          within c.index-parts-middle.is c.id.ensures c.is_before.ensures c.if-is_before.false);
     }

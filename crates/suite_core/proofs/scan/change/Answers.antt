@@ -7,4 +7,5 @@ use Rattle.suite_core.proofs.scan.change.Goals as goal
 pub restart_in-requires : goal.restart_in-requires
 restart_in-requires g c =
     subst (λ parts. AreRising parts) (sym c.keep.ensures.items)
-    (AllPairs-filter (λ (a : PartState) (b : PartState). rank a.id < rank b.id) (λ part. not (is_of c.args.dropped.now part)) c.args.parts.now.items c.requires.rising)
+    (AllPairs-filter (λ (a : PartState) (b : PartState). rank a.id < rank b.id)
+    (λ part. not (is_of c.args.dropped.now part)) c.args.parts.now.items c.requires.rising)

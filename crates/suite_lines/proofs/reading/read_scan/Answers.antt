@@ -10,4 +10,5 @@ returns-in_err-own_rows g c =
     let passed = err_from_is_err_and c.from_residual-in_err-own_rows.result c.from_residual-in_err-own_rows.ensures.1 in
     let left = ap (λ (o : Option (Bor (List ℕ))). fields_after (option_copied o)) c.in_ok-ok_or.ensures.ok_part in
     IsRead-unread _ _ _ c.in_ok-label.label c.from_residual-in_err-own_rows.result (left ∙ c.split_field.ensures)
-    (sym c.read_label.ensures.exact ∙ c.in_ok-label.ensures.ok_part) (sym c.if-not-are_rows.ensures) (passed.1 ∙ ap Err passed.2)
+    (sym c.read_label.ensures.exact ∙ c.in_ok-label.ensures.ok_part) (sym c.if-not-are_rows.ensures) (passed.1
+    ∙ ap Err passed.2)

@@ -5,4 +5,5 @@ pub returns-clause-found : goal.returns-clause-found
 returns-clause-found g c = read-found c.args.line.now c.tell_suite_event.result c.tell_suite_event.ensures
 
 pub returns-clause-only : goal.returns-clause-only
-returns-clause-only g c = λ event so is. read-only c.args.line.now c.tell_suite_event.result event so is c.tell_suite_event.ensures
+returns-clause-only g c =
+    λ event so is. read-only c.args.line.now c.tell_suite_event.result event so is c.tell_suite_event.ensures

@@ -8,7 +8,8 @@ pub returns-in_err-byte-clause-exact : goal.returns-in_err-byte-clause-exact
 returns-in_err-byte-clause-exact c =
     let text = c.args.text.now in
     let none : None ≡ byte_of_text text =
-    none_told (TellsByte text) _ (byte_of_text-found text) λ byte h. let e = c.in_err-byte.ensures byte h.below h.is in cc e in
+    none_told (TellsByte text) _ (byte_of_text-found text) λ byte h. let e = c.in_err-byte.ensures byte h.below h.is in
+    cc e in
     cc none
 
 pub returns-then-is_byte_text-clause-exact : goal.returns-then-is_byte_text-clause-exact

@@ -16,7 +16,8 @@ returns-in_err-folded c =
 
 pub returns-then-folded-le-LAST_COUNT : goal.returns-then-folded-le-LAST_COUNT
 returns-then-folded-le-LAST_COUNT c =
-    sym (folded_of_text-only c.args.text.now c.in_ok-folded.folded (record { limit = omega arith; is = c.in_ok-folded.ensures.found }))
+    sym (folded_of_text-only c.args.text.now c.in_ok-folded.folded
+    (record { limit = omega arith; is = c.in_ok-folded.ensures.found }))
 
 pub returns-else-folded-le-LAST_COUNT : goal.returns-else-folded-le-LAST_COUNT
 returns-else-folded-le-LAST_COUNT c =

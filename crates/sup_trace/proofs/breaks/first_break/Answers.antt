@@ -9,7 +9,8 @@ use Rattle.sup_trace.proofs.breaks.first_break.Goals as goal
 pub step-reply-requires : goal.step-reply-requires
 step-reply-requires g c =
     let items = c.entries-event-items in
-    (entry_at c.args.told.now items.result.now c.loop-place.place c.event-item.result items.ensures.bounds items.ensures.entries
+    (entry_at c.args.told.now items.result.now c.loop-place.place c.event-item.result items.ensures.bounds
+    items.ensures.entries
     c.loop-place-test.true c.event-item.is).condition
 
 pub returns-then-is_met : goal.returns-then-is_met
@@ -18,7 +19,8 @@ returns-then-is_met g c =
     let items = c.entries-event-items in
     let place = c.loop-place.place in
     let event = c.event-item.result in
-    let entry = entry_at told items.result.now place event items.ensures.bounds items.ensures.entries c.loop-place-test.true c.event-item.is in
+    let entry = entry_at told items.result.now place event items.ensures.bounds items.ensures.entries
+    c.loop-place-test.true c.event-item.is in
     let past = before told place in
     let stands = sym c.loop-place.invariant.machine in
     let phase = c.phase.ensures ∙ ap (λ (s : State). s.phase) (c.step-reply.ensures.state past stands) in
@@ -31,7 +33,8 @@ loop-place-preserved g c =
     let items = c.entries-event-items in
     let place = c.loop-place.place in
     let event = c.event-item.result in
-    let entry = entry_at told items.result.now place event items.ensures.bounds items.ensures.entries c.loop-place-test.true c.event-item.is in
+    let entry = entry_at told items.result.now place event items.ensures.bounds items.ensures.entries
+    c.loop-place-test.true c.event-item.is in
     let past = before told place in
     let stands = sym c.loop-place.invariant.machine in
     let state = c.step-reply.ensures.state past stands in
@@ -46,4 +49,5 @@ loop-place-preserved g c =
 pub returns : goal.returns
 returns g c =
     let items = c.entries-event-items in
-    no_break_at_all c.args.told.now c.args.at c.loop-place.place (omega (arith, ap length items.ensures.entries)) c.loop-place.invariant.none
+    no_break_at_all c.args.told.now c.args.at c.loop-place.place (omega (arith, ap length items.ensures.entries))
+    c.loop-place.invariant.none

@@ -17,22 +17,27 @@ err_so P Q (Err e) so h = so e h
 
 pub returns-clause-ok : goal.returns-clause-ok
 returns-clause-ok c =
-    let first = line_read c.args.lines.now.number c.take_header.new.lines.number c.args.lines.now.rest.now c.take_header.new.lines.rest.now
+    let first = line_read c.args.lines.now.number c.take_header.new.lines.number c.args.lines.now.rest.now
+    c.take_header.new.lines.rest.now
     Nothing Header c.in_ok-take_header.ensures.ok in
     ok_so _ _ c.take_base.result (λ (opening : ℕ × State) reads.
-    first ∙ line_read c.take_header.new.lines.number c.take_base.new.lines.number c.take_header.new.lines.rest.now c.take_base.new.lines.rest.now
+    first ∙ line_read c.take_header.new.lines.number c.take_base.new.lines.number c.take_header.new.lines.rest.now
+    c.take_base.new.lines.rest.now
     Header (Entries (told_of opening.1 opening.0 [])) reads) c.take_base.ensures.ok
 
 pub returns-clause-entry : goal.returns-clause-entry
 returns-clause-entry c =
     ok_so _ _ c.take_base.result (λ (opening : ℕ × State) reads at entry.
-    entry_later at c.args.lines.now.number c.take_header.new.lines.number c.args.lines.now.rest.now c.take_header.new.lines.rest.now Nothing Header
+    entry_later at c.args.lines.now.number c.take_header.new.lines.number c.args.lines.now.rest.now
+    c.take_header.new.lines.rest.now Nothing Header
     c.in_ok-take_header.ensures.ok
-    (entry_later at c.take_header.new.lines.number c.take_base.new.lines.number c.take_header.new.lines.rest.now c.take_base.new.lines.rest.now
+    (entry_later at c.take_header.new.lines.number c.take_base.new.lines.number c.take_header.new.lines.rest.now
+    c.take_base.new.lines.rest.now
     Header (Entries (told_of opening.1 opening.0 [])) reads entry)) c.take_base.ensures.ok
 
 pub returns-clause-fault : goal.returns-clause-fault
 returns-clause-fault c =
-    let first = line_read c.args.lines.now.number c.take_header.new.lines.number c.args.lines.now.rest.now c.take_header.new.lines.rest.now
+    let first = line_read c.args.lines.now.number c.take_header.new.lines.number c.args.lines.now.rest.now
+    c.take_header.new.lines.rest.now
     Nothing Header c.in_ok-take_header.ensures.ok in
     err_so _ _ c.take_base.result (λ (fault : TraceFault) is. first ∙ is) c.take_base.ensures.fault

@@ -15,7 +15,15 @@ push_entries-requires-2 g c = AllByRecursion-right IsEvent c.args.first.now c.ar
 pub returns-clause-text : goal.returns-clause-text
 unfolding header
 returns-clause-text g c =
-    rw (c.in_ok-push_end.ensures, c.in_ok-push_entries-2.ensures.text, c.in_ok-push_entries.ensures.text, c.in_ok-push_base.ensures.text, c.in_ok-extend_from_slice.ensures.items, c.in_ok-out.ensures.items, length-append c.args.first.now c.args.second.now)
+    rw (
+      c.in_ok-push_end.ensures,
+      c.in_ok-push_entries-2.ensures.text,
+      c.in_ok-push_entries.ensures.text,
+      c.in_ok-push_base.ensures.text,
+      c.in_ok-extend_from_slice.ensures.items,
+      c.in_ok-out.ensures.items,
+      length-append c.args.first.now c.args.second.now,
+    )
     (lines-written header (base_text c.args.folded c.args.base.now) (end_text _) c.args.first.now c.args.second.now)
 
 pub returns-clause-state : goal.returns-clause-state
@@ -29,4 +37,5 @@ returns-clause-until g c = c.in_ok-push_base.ensures.until
 
 pub returns-clause-entries : goal.returns-clause-entries
 returns-clause-entries g c =
-    AllByRecursion-joined IsInRange c.args.first.now c.args.second.now c.in_ok-push_entries.ensures.range c.in_ok-push_entries-2.ensures.range
+    AllByRecursion-joined IsInRange c.args.first.now c.args.second.now c.in_ok-push_entries.ensures.range
+    c.in_ok-push_entries-2.ensures.range

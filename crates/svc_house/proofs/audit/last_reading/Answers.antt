@@ -12,7 +12,8 @@ same_station g c = c.requires.station ∙ sym c.last_machine-machine.ensures.sam
 whole : (g : given.Over) (c : goal.In_ok-trace g) → known_to c.trace.new.self ≡ told_by c.args.note
 whole g c =
     whole-known c.args.note c.trace.new.self (same_station g c) c.requires.gone
-    (subst (λ l. IsPrefix l (known_to c.trace.new.self)) c.last_machine-machine.ensures.whole c.trace.ensures.own) c.trace.ensures.taken
+    (subst (λ l. IsPrefix l (known_to c.trace.new.self)) c.last_machine-machine.ensures.whole c.trace.ensures.own)
+    c.trace.ensures.taken
 
 pub returns-clause-whole : goal.returns-clause-whole
 returns-clause-whole g c = whole g c

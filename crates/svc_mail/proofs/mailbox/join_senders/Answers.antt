@@ -15,8 +15,10 @@ pub loop-sender-preserved : goal.loop-sender-preserved
 loop-sender-preserved g c =
     let own = c.into_mark.ensures in (
       (c.absorb.ensures.queue.0 ∙ c.loop-sender.invariant.0.0, c.absorb.ensures.queue.2 ∙ c.loop-sender.invariant.0.1),
-      ended_more record_of (view c.args.mark.now) (view c.loop-sender.mark) (view c.into_mark.result) (view c.absorb.new.pass) c.loop-sender.yielded
-          c.in-Some.sender c.loop-sender.invariant.1 c.absorb.ensures.rule (λ i. (own.number i, (view (own.mark i)).row, (view (own.mark i)).seen)),
+      ended_more record_of (view c.args.mark.now) (view c.loop-sender.mark) (view c.into_mark.result)
+          (view c.absorb.new.pass) c.loop-sender.yielded
+          c.in-Some.sender c.loop-sender.invariant.1 c.absorb.ensures.rule
+          (λ i. (own.number i, (view (own.mark i)).row, (view (own.mark i)).seen)),
     )
 
 pub returns-clause-pass : goal.returns-clause-pass

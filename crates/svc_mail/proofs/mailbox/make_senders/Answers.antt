@@ -23,10 +23,13 @@ loop-number-preserved g c =
       ap (λ v. v.all) is ∙ ap (λ v. v.all) old.1,
       ap ruled_capacity made.queue,
     ) in
-    let last : IsNewSender (ruled_capacity q) all q.table.shared.table_id (length c.loop-number.ends.items) s = subst (λ (k : ℕ). IsNewSender (ruled_capacity q) all q.table.shared.table_id k s) (sym old.2) new in
+    let last : IsNewSender (ruled_capacity q) all q.table.shared.table_id (length c.loop-number.ends.items) s =
+    subst (λ (k : ℕ). IsNewSender (ruled_capacity q) all q.table.shared.table_id k s) (sym old.2) new in
     let items = c.in_ok-push.ensures.items in (
       made.pass,
       made.made ∙ ap with_made old.1,
       omega (arith, ap length items, length-append c.loop-number.ends.items (s ∷ [])),
-      subst (λ l. AreNewSenders (ruled_capacity q) all q.table.shared.table_id l) (sym items) (each_more (IsNewSender (ruled_capacity q) all q.table.shared.table_id) c.loop-number.ends.items s old.3 last),
+      subst (λ l. AreNewSenders (ruled_capacity q) all q.table.shared.table_id l) (sym items)
+          (each_more (IsNewSender (ruled_capacity q) all q.table.shared.table_id) c.loop-number.ends.items s old.3
+          last),
     )

@@ -9,7 +9,8 @@ pub returns-clause-rows : goal.returns-clause-rows
 returns-clause-rows g c ss r left whole i s at = (whole.rows i s at).0 ∙ row_of-append (number_of s) (taken_by r) left
 
 pub returns-clause-places : goal.returns-clause-places
-returns-clause-places g c ss r left whole i s at = sym (of_sender-append (number_of s) (taken_by r) left) ∙ whole.places (number_of s) ∙ ap (letters (number_of s) 0) (sym (whole.rows i s at).0)
+returns-clause-places g c ss r left whole i s at = sym (of_sender-append (number_of s) (taken_by r) left)
+    ∙ whole.places (number_of s) ∙ ap (letters (number_of s) 0) (sym (whole.rows i s at).0)
 
 pub returns-clause-senders : goal.returns-clause-senders
 returns-clause-senders g c ss r left whole = names _ (taken_by r ++ left) whole.among

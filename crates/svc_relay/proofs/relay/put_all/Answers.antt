@@ -10,8 +10,10 @@ loop-at-preserved g c =
     let at = c.loop-at.at in
     let count = c.in-Ok.count in
     let old = g.O.Outlet.bytes c.loop-at.outlet in (
-      (let p : at + count ≤ length bytes = omega (arith, c.loop-at.invariant.0, c.in-Ok.ensures.within, length-drop at bytes) in p),
-      known_more (g.O.Outlet.bytes c.args.outlet.now) old (g.O.Outlet.bytes c.put.new.self) bytes at count c.loop-at.invariant.1
+      (let p : at + count ≤ length bytes =
+          omega (arith, c.loop-at.invariant.0, c.in-Ok.ensures.within, length-drop at bytes) in p),
+      known_more (g.O.Outlet.bytes c.args.outlet.now) old (g.O.Outlet.bytes c.put.new.self) bytes at count
+          c.loop-at.invariant.1
           (c.in-Ok.ensures.front ∙ ap (λ l. append_known old (take count l)) (take_rest bytes at)),
       c.in-Ok.ensures.works ∙ c.loop-at.invariant.2,
     )

@@ -10,13 +10,17 @@ stamp_part-requires-clause-line g c = line_again _ c.first_part-part.result.len 
 pub returns-in_err-stamp_part-clause-err : goal.returns-in_err-stamp_part-clause-err
 returns-in_err-stamp_part-clause-err g c =
     let p = err_from_is_err_and c.from_residual.result c.from_residual.ensures.1 in
-    rw (p.1) (parts_failed c.args.bytes.now c.loop-at.at c.first_part-part.result.len c.loop-at.invariant.1 c.loop-at.invariant.0 c.in_err-stamp_part.ensures.err)
+    rw (p.1) (parts_failed c.args.bytes.now c.loop-at.at c.first_part-part.result.len c.loop-at.invariant.1
+    c.loop-at.invariant.0 c.in_err-stamp_part.ensures.err)
 
 pub loop-at-preserved : goal.loop-at-preserved
 loop-at-preserved g c = (
-  parts_further c.args.bytes.now c.loop-at.at c.first_part-part.result.len c.loop-at.invariant.1 c.loop-at.invariant.0 c.in_ok-stamp_part.ensures.ok,
-  inside_further c.args.inside.now c.args.bytes.now c.loop-at.at c.first_part-part.result.len c.loop-at.invariant.1 c.first_part-part.ensures.front (grind (arith, common_steps)),
-  begun_further c.args.inside.now c.args.bytes.now c.loop-at.at c.first_part-part.result.len c.loop-at.invariant.1 c.loop-at.invariant.2 (grind (arith, common_steps)) c.first_part-part.ensures.front c.lines_begun-count.ensures,
+  parts_further c.args.bytes.now c.loop-at.at c.first_part-part.result.len c.loop-at.invariant.1 c.loop-at.invariant.0
+      c.in_ok-stamp_part.ensures.ok,
+  inside_further c.args.inside.now c.args.bytes.now c.loop-at.at c.first_part-part.result.len c.loop-at.invariant.1
+      c.first_part-part.ensures.front (grind (arith, common_steps)),
+  begun_further c.args.inside.now c.args.bytes.now c.loop-at.at c.first_part-part.result.len c.loop-at.invariant.1
+      c.loop-at.invariant.2 (grind (arith, common_steps)) c.first_part-part.ensures.front c.lines_begun-count.ensures,
   grind (arith, common_steps),
   grind (arith, common_steps),
   grind (arith, common_steps),

@@ -17,7 +17,8 @@ returns-in-Table c =
     let small : FitsSigned w32 c.seconds.result = search rules in
     let at = simp to_z-of_z at c.nearest-at.ensures in
     rw (c.in-Table.is) (to_z-of_z w32 c.seconds.result small ∙ c.seconds.ensures ∙ c.to_offset.ensures
-    ∙ ap (offset_at (plain_zone c.tzif.result)) at ∙ ap (λ zone. offset_at zone (nanos_of_seconds (nearest_second c.args.second))) c.tzif.ensures)
+    ∙ ap (offset_at (plain_zone c.tzif.result)) at
+    ∙ ap (λ zone. offset_at zone (nanos_of_seconds (nearest_second c.args.second))) c.tzif.ensures)
 
 pub returns-in-Rule : goal.returns-in-Rule
 unfolding zone_ahead
@@ -25,5 +26,6 @@ returns-in-Rule c =
     let fits : FitsSigned w64 c.args.second = search rules in
     let small : FitsSigned w32 c.seconds-in-Rule.result = search rules in
     let at = simp to_z-of_z at c.nearest-at.ensures in
-    rw (c.in-Rule.is) (to_z-of_z w32 c.seconds-in-Rule.result small ∙ c.seconds-in-Rule.ensures ∙ c.to_offset-in-Rule.ensures
+    rw (c.in-Rule.is) (to_z-of_z w32 c.seconds-in-Rule.result small ∙ c.seconds-in-Rule.ensures
+    ∙ c.to_offset-in-Rule.ensures
     ∙ ap (offset_at (plain_zone c.in-Rule.rule)) at)

@@ -15,7 +15,8 @@ pub returns-in-Err-clause-refused_wrote : goal.returns-in-Err-clause-refused_wro
 returns-in-Err-clause-refused_wrote g c = λ number why is.
     let same : c.give_up.result ≡ fault.Refused number why = cc is in (
       (c.give_up.ensures.told number why same).0 ∙ ap (λ (n : ℕ). n + 1) c.in-Err.ensures.count,
-      subst (λ (t : List ℕ). Wrote c.args.writer.now c.give_up.new.writer t) c.in-Err.ensures.waiting (c.give_up.ensures.told_wrote number why same).0,
+      subst (λ (t : List ℕ). Wrote c.args.writer.now c.give_up.new.writer t) c.in-Err.ensures.waiting
+          (c.give_up.ensures.told_wrote number why same).0,
     )
 
 pub returns-in-Err-clause-refused_works : goal.returns-in-Err-clause-refused_works
@@ -30,10 +31,12 @@ returns-in-Err-clause-memory g c = λ is.
 pub returns-in-Err-clause-memory_wrote : goal.returns-in-Err-clause-memory_wrote
 returns-in-Err-clause-memory_wrote g c = λ is.
     let same : c.give_up.result ≡ fault.OutOfMemory = cc is in
-    subst (λ (t : List ℕ). Wrote c.args.writer.now c.give_up.new.writer t) c.in-Err.ensures.waiting (c.give_up.ensures.memory same).1
+    subst (λ (t : List ℕ). Wrote c.args.writer.now c.give_up.new.writer t) c.in-Err.ensures.waiting
+    (c.give_up.ensures.memory same).1
 
 pub returns-in-Err-clause-write : goal.returns-in-Err-clause-write
 returns-in-Err-clause-write g c = λ is past stands.
     let same : c.give_up.result ≡ fault.Write = cc is in
     AppendsFront-more (text_said (said past c.args.line.now))
-    (subst (λ (t : List ℕ). WroteFront c.args.writer.now c.give_up.new.writer t) c.in-Err.ensures.waiting (c.give_up.ensures.write same).0)
+    (subst (λ (t : List ℕ). WroteFront c.args.writer.now c.give_up.new.writer t) c.in-Err.ensures.waiting
+    (c.give_up.ensures.write same).0)

@@ -1,6 +1,7 @@
 use Rattle.std.proofs.Common.{Err, sym, ap, ◌∙◌}
 use Rattle.std.proofs.lemmas.Result.{err_from_is_err_and, on_ok_weaker}
-use Rattle.cmd_sim.proofs.Steps.{not_nothing, rest_refused, rest_missed, rest_unwritten, rest_answered, rest_unflushed, on_err_of, SoFar-near}
+use Rattle.cmd_sim.proofs.Steps.{not_nothing, rest_refused, rest_missed, rest_unwritten, rest_answered, rest_unflushed}
+use Rattle.cmd_sim.proofs.Steps.{on_err_of, SoFar-near}
 use Rattle.cmd_sim.proofs.session.Session.answer_rest.Goals as goal
 
 pub returns-in_err-answer_line-clause-refused : goal.returns-in_err-answer_line-clause-refused
@@ -10,7 +11,8 @@ returns-in_err-answer_line-clause-refused g c = λ number why is before now held
     let told = c.in_err-answer_line.ensures.refused_wrote number why same in
     let some = not_nothing c.args.lines.now.pending c.if-not-take_rest.false c.take_rest.ensures.none in
     rest_refused c.answer_line.new.writer.bytes s why some c.requires.plain end
-    (c.line.ensures ∙ c.take_rest.ensures.taken c.if-not-take_rest.false) told.0 (c.in_err-answer_line.ensures.refused number why same s.past s.stands) told.1
+    (c.line.ensures ∙ c.take_rest.ensures.taken c.if-not-take_rest.false) told.0
+    (c.in_err-answer_line.ensures.refused number why same s.past s.stands) told.1
 
 pub returns-in_err-answer_line-clause-write : goal.returns-in_err-answer_line-clause-write
 returns-in_err-answer_line-clause-write g c = λ is before now held s.
@@ -25,7 +27,8 @@ returns-clause-all g c =
     on_ok_weaker c.flush.result
     (λ w. λ before now held s end.
     rest_answered c.flush.new.writer.bytes s some c.requires.plain end
-    (c.line.ensures ∙ c.take_rest.ensures.taken c.if-not-take_rest.false) (c.in_ok-answer_line.ensures.ok s.past s.stands) w)
+    (c.line.ensures ∙ c.take_rest.ensures.taken c.if-not-take_rest.false)
+    (c.in_ok-answer_line.ensures.ok s.past s.stands) w)
     c.flush.ensures.ok
 
 pub returns-clause-write : goal.returns-clause-write
@@ -52,4 +55,5 @@ returns-in_err-answer_line-clause-memory g c = λ is before now held s end.
     let same = ap Err (sym passed.2) ∙ sym passed.1 ∙ is in
     let some = not_nothing c.args.lines.now.pending c.if-not-take_rest.false c.take_rest.ensures.none in
     rest_missed c.answer_line.new.writer.bytes s some c.requires.plain end
-    (c.line.ensures ∙ c.take_rest.ensures.taken c.if-not-take_rest.false) (c.in_err-answer_line.ensures.memory same s.past s.stands) (c.in_err-answer_line.ensures.memory_wrote same)
+    (c.line.ensures ∙ c.take_rest.ensures.taken c.if-not-take_rest.false)
+    (c.in_err-answer_line.ensures.memory same s.past s.stands) (c.in_err-answer_line.ensures.memory_wrote same)

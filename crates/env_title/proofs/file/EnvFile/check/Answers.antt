@@ -26,5 +26,6 @@ returns-in-Err c =
     let text : is_utf8 (file_value c.args.self.now.bytes) ≡ false =
     is_utf8-swapped (without_end_blanks (first_line c.args.self.now.bytes))
     ∙ ap is_utf8 (sym line)
-    ∙ false_from_ne_true (is_utf8 c.text_of.result.now) (λ is. c.in-Err.ensures.cases.0 (IsUtf8-from_is_utf8 c.text_of.result.now is)) in
+    ∙ false_from_ne_true (is_utf8 c.text_of.result.now)
+    (λ is. c.in-Err.ensures.cases.0 (IsUtf8-from_is_utf8 c.text_of.result.now is)) in
     rw (fault_at-named c.args.place c.args.self.now visible named, text) refl

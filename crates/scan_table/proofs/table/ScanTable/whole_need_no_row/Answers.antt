@@ -9,4 +9,5 @@ pub returns : goal.returns
 returns g c =
     subst (λ (table : TableState). WholeNeedNoRow table) c.self.view_is
     (same-scan c.self.inside.slots.items c.self.inside.next
-    (slots-distinct c.self.inside.slots.items c.self.inside.index.items c.self.invariant.indexed c.self.invariant.whole))
+    (slots-distinct c.self.inside.slots.items c.self.inside.index.items c.self.invariant.indexed
+    c.self.invariant.whole))

@@ -17,30 +17,38 @@ take_event_in-answer-requires-clause-rising g c =
 
 pub returns-then-is_err-clause-cause : goal.returns-then-is_err-clause-cause
 returns-then-is_err-clause-cause g c =
-    let suite : SuiteState = record { table = c.self.inside.table; parts = c.self.inside.parts.items; capacity = c.self.inside.capacity } in
+    let suite : SuiteState =
+    record { table = c.self.inside.table; parts = c.self.inside.parts.items; capacity = c.self.inside.capacity } in
     let rising = parts-rise suite.table suite.parts c.self.invariant.rising c.self.invariant.tied in
     subst (λ s. refusal_at s c.args.id ≡ None) c.self.view_is
     (not-refused suite c.args.id c.in-Some.place c.deref.result.now rising c.deref.ensures.value c.in-Some.ensures)
 
 pub invariant_of-self : goal.invariant_of-self
 invariant_of-self g c =
-    let suite : SuiteState = record { table = c.self.inside.table; parts = c.self.inside.parts.items; capacity = c.self.inside.capacity } in
+    let suite : SuiteState =
+    record { table = c.self.inside.table; parts = c.self.inside.parts.items; capacity = c.self.inside.capacity } in
     let rising = parts-rise suite.table suite.parts c.self.invariant.rising c.self.invariant.tied in
-    subst IsSuite (sym (suite-at suite c.args.id c.args.event c.in-Some.place c.deref.result.now c.take_event_in-answer.new.parts.items c.tell_end.new.table c.take_event_in-answer.result.1
-    rising c.deref.ensures.value c.in-Some.ensures c.take_event_in-answer.ensures.parts c.take_event_in-answer.ensures.ended c.tell_end.ensures))
+    subst IsSuite (sym (suite-at suite c.args.id c.args.event c.in-Some.place c.deref.result.now
+    c.take_event_in-answer.new.parts.items c.tell_end.new.table c.take_event_in-answer.result.1
+    rising c.deref.ensures.value c.in-Some.ensures c.take_event_in-answer.ensures.parts
+    c.take_event_in-answer.ensures.ended c.tell_end.ensures))
     (IsSuite-at suite c.args.id c.args.event c.requires c.self.invariant)
 
 pub returns-clause-ok : goal.returns-clause-ok
 returns-clause-ok g c =
-    let suite : SuiteState = record { table = c.self.inside.table; parts = c.self.inside.parts.items; capacity = c.self.inside.capacity } in
+    let suite : SuiteState =
+    record { table = c.self.inside.table; parts = c.self.inside.parts.items; capacity = c.self.inside.capacity } in
     let rising = parts-rise suite.table suite.parts c.self.invariant.rising c.self.invariant.tied in
-    suite-at suite c.args.id c.args.event c.in-Some.place c.deref.result.now c.take_event_in-answer.new.parts.items c.tell_end.new.table c.take_event_in-answer.result.1
-    rising c.deref.ensures.value c.in-Some.ensures c.take_event_in-answer.ensures.parts c.take_event_in-answer.ensures.ended c.tell_end.ensures
+    suite-at suite c.args.id c.args.event c.in-Some.place c.deref.result.now c.take_event_in-answer.new.parts.items
+    c.tell_end.new.table c.take_event_in-answer.result.1
+    rising c.deref.ensures.value c.in-Some.ensures c.take_event_in-answer.ensures.parts
+    c.take_event_in-answer.ensures.ended c.tell_end.ensures
     ∙ ap (λ s. suite_at s c.args.id c.args.event) c.self.view_is
 
 pub returns-clause-taken : goal.returns-clause-taken
 returns-clause-taken g c =
-    let suite : SuiteState = record { table = c.self.inside.table; parts = c.self.inside.parts.items; capacity = c.self.inside.capacity } in
+    let suite : SuiteState =
+    record { table = c.self.inside.table; parts = c.self.inside.parts.items; capacity = c.self.inside.capacity } in
     let rising = parts-rise suite.table suite.parts c.self.invariant.rising c.self.invariant.tied in
     subst (λ s. refusal_at s c.args.id ≡ None) c.self.view_is
     (not-refused suite c.args.id c.in-Some.place c.deref.result.now rising c.deref.ensures.value c.in-Some.ensures)

@@ -15,8 +15,10 @@ pub invariant_of-self-2 : goal.invariant_of-self-2
 invariant_of-self-2 g c =
     let suite = c.args.self.now in
     subst IsSuite
-    (sym (suite-scanned suite c.args.rows.now c.args.label c.self.inside.capacity c.in-Ok.plan.table c.as_slice.result.now c.in-Ok.plan.started.items c.in-Ok.plan.restarted.items
+    (sym (suite-scanned suite c.args.rows.now c.args.label c.self.inside.capacity c.in-Ok.plan.table
+    c.as_slice.result.now c.in-Ok.plan.started.items c.in-Ok.plan.restarted.items
     c.reserve.new.parts.items c.change.new.parts.items (ap (λ (s : SuiteState). s.capacity) c.self.view_is)
-    c.in-Ok.ensures.table (c.as_slice.ensures ∙ ap (λ o. o.drops) c.in-Ok.ensures.scan) c.in-Ok.ensures.started c.in-Ok.ensures.restarted
+    c.in-Ok.ensures.table (c.as_slice.ensures ∙ ap (λ o. o.drops) c.in-Ok.ensures.scan) c.in-Ok.ensures.started
+    c.in-Ok.ensures.restarted
     (c.in-Ok-reserve.ensures.parts ∙ ap (λ (s : SuiteState). s.parts) c.self.view_is) c.change.ensures))
     (IsSuite-scanned suite c.args.rows.now c.args.label (subst IsSuite c.self.view_is c.self.invariant))

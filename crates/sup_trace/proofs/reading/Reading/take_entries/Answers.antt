@@ -7,7 +7,8 @@ pub returns-then-branch-clause-ok : goal.returns-then-branch-clause-ok
 returns-then-branch-clause-ok g c =
     let reads = rw c.if-branch.true at c.in_ok-take_next.ensures.ok in
     c.entries.invariant.told
-    ∙ line_read c.entries.lines.number c.take_next.new.lines.number c.entries.lines.rest.now c.take_next.new.lines.rest.now
+    ∙ line_read c.entries.lines.number c.take_next.new.lines.number c.entries.lines.rest.now
+    c.take_next.new.lines.rest.now
     (Entries c.entries.self) (Whole c.take_next.new.self) reads
 
 pub entries-preserved : goal.entries-preserved

@@ -15,5 +15,6 @@ trace_text-requires-clause-events g c =
 pub returns-clause-text : goal.returns-clause-text
 returns-clause-text g c =
     subst (λ told. IfOk c.trace_text.result (λ bytes. bytes.items ≡ trace_text told)) c.self.view_is
-    (subst (λ entries. IfOk c.trace_text.result (λ bytes. bytes.items ≡ trace_text (told_of c.self.inside.base c.self.inside.folded entries)))
+    (subst (λ entries. IfOk c.trace_text.result (λ bytes. bytes.items
+    ≡ trace_text (told_of c.self.inside.base c.self.inside.folded entries)))
     c.deref.ensures.value c.trace_text.ensures.text)

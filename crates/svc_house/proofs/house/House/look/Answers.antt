@@ -20,7 +20,8 @@ invariant_of-self g c =
       bytes = look_bytes events pending (g.I.Inbox.given inside.inbox) (g.I.Inbox.given c.find-self-inside.new.inbox)
           (ap (λ h. bytes_in (events ++ events_in h)) (sym none) ∙ c.self.invariant.bytes) found.given;
       outcomes = look_outcomes events pending machine.phase machine.until old new
-          (subst (λ (h : Pending). IfSome old (λ calls. outcomes_in (events ++ events_in h) ≡ answers_in calls)) none c.self.invariant.outcomes) found.polls found.vain;
+          (subst (λ (h : Pending). IfSome old (λ calls. outcomes_in (events ++ events_in h) ≡ answers_in calls)) none
+          c.self.invariant.outcomes) found.polls found.vain;
       ready = look_ready (history_of inside.writer) machine pending c.machine-machine.ensures found.ready;
       reading = look_reading pending machine.phase old new found.polls;
     }

@@ -20,14 +20,19 @@ invariant_of-self g c =
     let old = g.W.World.calls inside.world in
     let new = g.W.World.calls c.publish_and_tell.new.world in
     let next : events_in pending ≡ event ∷ events_in (rest_of pending) =
-    subst (λ (h : Pending). events_in h ≡ event ∷ events_in (rest_of h)) (sym (ap (λ s. s.pending) c.self.view_is)) c.requires in
+    subst (λ (h : Pending). events_in h ≡ event ∷ events_in (rest_of h)) (sym (ap (λ s. s.pending) c.self.view_is))
+    c.requires in
     let same : after ++ events_in rest ≡ events ++ events_in pending =
-    ap (λ h. after ++ events_in h) is ∙ ap (λ l. l ++ events_in (rest_of pending)) c.in-Ok.ensures.published ∙ found-same events event pending next in record {
+    ap (λ h. after ++ events_in h) is ∙ ap (λ l. l ++ events_in (rest_of pending)) c.in-Ok.ensures.published
+    ∙ found-same events event pending next in record {
       bytes = ap bytes_in same ∙ c.self.invariant.bytes;
-      outcomes = publish_outcomes (events ++ events_in pending) (after ++ events_in rest) (asks_of (history_of inside.writer) event) old new same
+      outcomes = publish_outcomes (events ++ events_in pending) (after ++ events_in rest)
+          (asks_of (history_of inside.writer) event) old new same
           c.in-Ok.ensures.told c.self.invariant.outcomes;
-      ready = publish_ready (opening_of inside.writer) (opening_of c.publish_and_tell.new.writer) events after event pending rest
-          (ap (λ v. v.opening) c.publish_and_tell.ensures.same) c.in-Ok.ensures.published is next c.self.invariant.ready;
+      ready = publish_ready (opening_of inside.writer) (opening_of c.publish_and_tell.new.writer) events after event
+          pending rest
+          (ap (λ v. v.opening) c.publish_and_tell.ensures.same) c.in-Ok.ensures.published is next
+          c.self.invariant.ready;
       reading = subst (λ (h : Pending). HoldsLastReading h new) (sym is) (rest_reading pending new);
     }
 
@@ -37,12 +42,15 @@ returns-in-Ok-clause-reading g c =
     let event = c.args.event in
     let pending = inside.pending in
     let next : events_in pending ≡ event ∷ events_in (rest_of pending) =
-    subst (λ (h : Pending). events_in h ≡ event ∷ events_in (rest_of h)) (sym (ap (λ s. s.pending) c.self.view_is)) c.requires in
-    publish_reading pending event (asks_of (history_of inside.writer) event) (g.W.World.calls inside.world) (g.W.World.calls c.publish_and_tell.new.world) next
+    subst (λ (h : Pending). events_in h ≡ event ∷ events_in (rest_of h)) (sym (ap (λ s. s.pending) c.self.view_is))
+    c.requires in
+    publish_reading pending event (asks_of (history_of inside.writer) event) (g.W.World.calls inside.world)
+    (g.W.World.calls c.publish_and_tell.new.world) next
     c.in-Ok.ensures.told c.self.invariant.reading
 
 pub returns-in-Ok-clause-told : goal.returns-in-Ok-clause-told
 returns-in-Ok-clause-told g c =
     let inside = c.self.inside in
-    subst (λ (s : Standing g.row.I.Denot). ExtendedWhileKept s.calls (g.W.World.calls c.publish_and_tell.new.world) (told (asks_of (past_of s) c.args.event))) c.self.view_is
+    subst (λ (s : Standing g.row.I.Denot). ExtendedWhileKept s.calls (g.W.World.calls c.publish_and_tell.new.world)
+    (told (asks_of (past_of s) c.args.event))) c.self.view_is
     c.in-Ok.ensures.told

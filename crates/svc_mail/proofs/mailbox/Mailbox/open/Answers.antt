@@ -15,7 +15,8 @@ returns g c =
       ap ruled_capacity (sym mine) ∙ room,
       refl,
       ends.count,
-      subst (λ (y : ℕ × TableId). AreNewSenders y.0 c.args.senders y.1 c.in_ok-ends.ends.items) (λ i. (room i, (mine i).table.shared.table_id)) ends.new,
+      subst (λ (y : ℕ × TableId). AreNewSenders y.0 c.args.senders y.1 c.in_ok-ends.ends.items)
+          (λ i. (room i, (mine i).table.shared.table_id)) ends.new,
       (ap (λ m. m.table_id) mark ∙ ends.pass.0 ∙ ap (λ q. q.table.shared.table_id) mine, ap (λ v. v.all) knows),
       ap (λ v. v.taken) knows,
       ap (λ v. v.seen) knows,

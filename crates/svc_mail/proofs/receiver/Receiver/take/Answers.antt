@@ -11,7 +11,8 @@ pop_as-requires-clause-rule g c =
     (takes _ _ may, looks _ _ may)
 
 pub returns-in-Some-pop_as-clause-same : goal.returns-in-Some-pop_as-clause-same
-returns-in-Some-pop_as-clause-same g c = (c.in-Some-pop_as.ensures.queue.0, ap (λ v. v.all) c.in-Some-pop_as.ensures.rule.0)
+returns-in-Some-pop_as-clause-same g c =
+    (c.in-Some-pop_as.ensures.queue.0, ap (λ v. v.all) c.in-Some-pop_as.ensures.rule.0)
 
 pub returns-in-Some-pop_as-clause-taken : goal.returns-in-Some-pop_as-clause-taken
 returns-in-Some-pop_as-clause-taken g c = ap (λ v. v.taken) c.in-Some-pop_as.ensures.rule.0
@@ -20,7 +21,8 @@ pub returns-in-Some-pop_as-clause-history : goal.returns-in-Some-pop_as-clause-h
 returns-in-Some-pop_as-clause-history g c = (
   c.in-Some-pop_as.ensures.rule.1,
   c.in-Some-pop_as.ensures.rule.2,
-  subst (StartsWith (view c.pop_as.new.pass).seen) (sym (ap (λ v. v.taken) c.in-Some-pop_as.ensures.rule.0)) c.in-Some-pop_as.ensures.rule.3,
+  subst (StartsWith (view c.pop_as.new.pass).seen) (sym (ap (λ v. v.taken) c.in-Some-pop_as.ensures.rule.0))
+      c.in-Some-pop_as.ensures.rule.3,
   c.in-Some-pop_as.ensures.rule.4,
 )
 
@@ -30,10 +32,16 @@ returns-in-Some-pop_as-clause-heard g c = ap (λ v. v.heard) c.in-Some-pop_as.en
 pub returns-in-Some-pop_as-clause-within : goal.returns-in-Some-pop_as-clause-within
 returns-in-Some-pop_as-clause-within g c =
     let s = c.args.self.now in
-    omega (arith, s.counted, ap (λ v. length v.taken) c.in-Some-pop_as.ensures.rule.0, length-append (view s.mark).taken (c.in-Some-pop_as.letter ∷ []))
+    omega (
+      arith,
+      s.counted,
+      ap (λ v. length v.taken) c.in-Some-pop_as.ensures.rule.0,
+      length-append (view s.mark).taken (c.in-Some-pop_as.letter ∷ []),
+    )
 
 pub returns-in-None-pop_as-clause-same : goal.returns-in-None-pop_as-clause-same
-returns-in-None-pop_as-clause-same g c = (c.in-None-pop_as.ensures.queue.0, ap (λ v. v.all) c.in-None-pop_as.ensures.rule.0)
+returns-in-None-pop_as-clause-same g c =
+    (c.in-None-pop_as.ensures.queue.0, ap (λ v. v.all) c.in-None-pop_as.ensures.rule.0)
 
 pub returns-in-None-pop_as-clause-taken : goal.returns-in-None-pop_as-clause-taken
 returns-in-None-pop_as-clause-taken g c = ap (λ v. v.taken) c.in-None-pop_as.ensures.rule.0

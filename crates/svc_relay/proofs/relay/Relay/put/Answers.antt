@@ -14,9 +14,11 @@ overflow_add-self-2 g c =
     let receiver = inside.receiver in
     let count = c.put_all-count.result.0 in
     let part = take_rest c.as_slice.result.now inside.put ∙ ap (λ l. drop inside.put l) c.as_slice.ensures in
-    let few : count ≤ length (drop inside.put inside.waiting) = omega (arith, c.put_all-count.ensures.within, ap length part) in
+    let few : count ≤ length (drop inside.put inside.waiting) =
+    omega (arith, c.put_all-count.ensures.within, ap length part) in
     let old = g.O.Outlet.bytes inside.outlet in
-    let counted = puts receiver inside.earlier inside.here inside.waiting inside.put old (append_known old (take count (drop inside.put inside.waiting))) count few refl c.self.invariant in
+    let counted = puts receiver inside.earlier inside.here inside.waiting inside.put old
+    (append_known old (take count (drop inside.put inside.waiting))) count few refl c.self.invariant in
     let letters : length (taken_by receiver) ≤ 2 ^ 62 = omega (arith, receiver.counted, receiver.within) in
     omega (arith, in_range (taken_by receiver) _ letters counted.within)
 
@@ -25,9 +27,11 @@ invariant_of-self g c =
     let inside = c.self.inside in
     let count = c.put_all-count.result.0 in
     let part = take_rest c.as_slice.result.now inside.put ∙ ap (λ l. drop inside.put l) c.as_slice.ensures in
-    let few : count ≤ length (drop inside.put inside.waiting) = omega (arith, c.put_all-count.ensures.within, ap length part) in
+    let few : count ≤ length (drop inside.put inside.waiting) =
+    omega (arith, c.put_all-count.ensures.within, ap length part) in
     let old = g.O.Outlet.bytes inside.outlet in
-    puts inside.receiver inside.earlier inside.here inside.waiting inside.put old (g.O.Outlet.bytes c.put_all-count.new.outlet) count few
+    puts inside.receiver inside.earlier inside.here inside.waiting inside.put old
+    (g.O.Outlet.bytes c.put_all-count.new.outlet) count few
     (c.put_all-count.ensures.front ∙ ap (λ l. append_known old (take count l)) part) c.self.invariant
 
 pub returns-clause-bytes : goal.returns-clause-bytes
@@ -35,10 +39,12 @@ returns-clause-bytes g c =
     let inside = c.self.inside in
     let count = c.put_all-count.result.0 in
     let part = take_rest c.as_slice.result.now inside.put ∙ ap (λ l. drop inside.put l) c.as_slice.ensures in
-    let few : count ≤ length (drop inside.put inside.waiting) = omega (arith, c.put_all-count.ensures.within, ap length part) in
+    let few : count ≤ length (drop inside.put inside.waiting) =
+    omega (arith, c.put_all-count.ensures.within, ap length part) in
     let old = g.O.Outlet.bytes inside.outlet in
     let new = g.O.Outlet.bytes c.put_all-count.new.outlet in
-    relay_facts inside.receiver inside.earlier (inside.here + count) inside.waiting (inside.put + count) new (g.O.Outlet.failures c.put_all-count.new.outlet)
+    relay_facts inside.receiver inside.earlier (inside.here + count) inside.waiting (inside.put + count) new
+    (g.O.Outlet.failures c.put_all-count.new.outlet)
     (puts inside.receiver inside.earlier inside.here inside.waiting inside.put old new count few
     (c.put_all-count.ensures.front ∙ ap (λ l. append_known old (take count l)) part) c.self.invariant)
 
@@ -63,10 +69,12 @@ returns-clause-turned g c =
           let part_put = c.put_all-count.ensures.broken w.if-broken.true in
           let less : count < length (drop at waiting) = omega (arith, part_put, ap length part) in
           subst (λ t. IsRelayTurn (passing receiver earlier here waiting at old failures) t after) (sym w.result-is)
-          (breaks receiver earlier here waiting at old new failures failed count less (c.put_all-count.ensures.failed w.if-broken.true) extended c.self.invariant)
+          (breaks receiver earlier here waiting at old new failures failed count less
+          (c.put_all-count.ensures.failed w.if-broken.true) extended c.self.invariant)
       | else-broken w ↦
           let all : count ≡ length (drop at waiting) = c.put_all-count.ensures.all w.if-broken.false ∙ ap length part in
           let some : 0 < length (drop at waiting) = omega (arith, c.requires, ap (λ s. length s.kept) c.self.view_is) in
           subst (λ t. IsRelayTurn (passing receiver earlier here waiting at old failures) t after) (sym w.result-is)
-          (puts_all receiver earlier here waiting at old new failures failed count all some (c.put_all-count.ensures.works w.if-broken.false) extended c.self.invariant)
+          (puts_all receiver earlier here waiting at old new failures failed count all some
+          (c.put_all-count.ensures.works w.if-broken.false) extended c.self.invariant)
     ])

@@ -18,7 +18,8 @@ returns-clause-next g c =
     let inside = c.self.inside in
     let told = g.O.Outlet.bytes c.args.outlet in
     let failures = g.O.Outlet.failures c.args.outlet in
-    ap (λ o. passing inside.receiver (inside.earlier + inside.here) 0 inside.waiting inside.put (g.O.Outlet.bytes o) (g.O.Outlet.failures o)) c.replace.ensures.after
+    ap (λ o. passing inside.receiver (inside.earlier + inside.here) 0 inside.waiting inside.put (g.O.Outlet.bytes o)
+    (g.O.Outlet.failures o)) c.replace.ensures.after
     ∙ ap (λ earlier. record {
       receiver = inside.receiver;
       earlier = earlier;

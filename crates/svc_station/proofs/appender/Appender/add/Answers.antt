@@ -8,7 +8,8 @@ compare_exchange-found-requires c =
     let seen = c.again-seen.ensures in
     let offer = c.plain-offer.ensures in
     let home = sym (ap (λ w. w.book) self.head_is) in
-    let key : self.pen.nib.key ≡ length c.again-seen.result.log + 2 = self.pen_next ∙ ap (λ s. length s.log + 2) (sym seen) in (
+    let key : self.pen.nib.key ≡ length c.again-seen.result.log + 2 = self.pen_next
+    ∙ ap (λ s. length s.log + 2) (sym seen) in (
       ap (λ w. w.tracked) self.head_is,
       ap (λ s. s.book) seen ∙ home,
       self.pen_book ∙ home,

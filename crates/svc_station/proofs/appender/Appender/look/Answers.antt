@@ -13,5 +13,8 @@ compare_exchange-found-requires c =
       c.learn.ensures.0 ∙ ap (λ s. s.book) seen ∙ home,
       self.pen_book ∙ home,
       offer.0,
-      rw (ap (λ w. w.key) self.head_is, offer.3) (looks_moves c.learn.new.self.log (Byte 0) self.pen.nib self.pen_right),
+      rw (
+        ap (λ w. w.key) self.head_is,
+        offer.3,
+      ) (looks_moves c.learn.new.self.log (Byte 0) self.pen.nib self.pen_right),
     )

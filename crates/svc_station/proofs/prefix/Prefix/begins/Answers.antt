@@ -8,5 +8,8 @@ pub returns : goal.returns
 returns c =
     let me = c.args.self.now in
     let other = c.args.other.now in
-    let own : IsPrefix me.seen.log c.learn.new.self.log = subst (λ (l : List Event). IsPrefix l c.learn.new.self.log) (ap (λ s. s.log) c.again-both.ensures) c.learn.ensures.2 in
-    begins_by_length me.seen.log other.seen.log c.learn.new.self.log me.count other.count (nat_le me.count other.count) me.counted other.counted refl own c.learn.ensures.3
+    let own : IsPrefix me.seen.log c.learn.new.self.log =
+    subst (λ (l : List Event). IsPrefix l c.learn.new.self.log) (ap (λ s. s.log) c.again-both.ensures)
+    c.learn.ensures.2 in
+    begins_by_length me.seen.log other.seen.log c.learn.new.self.log me.count other.count (nat_le me.count other.count)
+    me.counted other.counted refl own c.learn.ensures.3

@@ -27,5 +27,6 @@ loop-number-preserved g c =
       };
       count = omega (arith, ap length items, length-append c.loop-number.ends.items (reader ∷ []));
       room = omega (arith, c.push_reserved.ensures.capacity, i.room);
-      each = λ k x at. subst (λ s. IsNewReader s k x) (sym (ap origin_of made.same.1)) (each k x (ap (λ l. slice_get l k) (sym items) ∙ at));
+      each = λ k x at. subst (λ s. IsNewReader s k x) (sym (ap origin_of made.same.1))
+          (each k x (ap (λ l. slice_get l k) (sym items) ∙ at));
     }

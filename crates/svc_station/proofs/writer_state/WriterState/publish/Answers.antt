@@ -22,7 +22,8 @@ show-requires-clause-pending g c =
       adds = c.of-operation.ensures.event;
       ends = c.of-operation.ensures.prefix ∙ c.again.ensures;
       log = ap (λ f. f.seen.log) c.again-next.ensures ∙ log ∙ ap (λ f. f.seen.log ++ event ∷ []) (sym prefix);
-      book = ap (λ f. f.seen.book) c.again-next.ensures ∙ c.in-Ok.ensures.book ∙ self.book ∙ ap (λ f. f.seen.book) (sym prefix);
+      book = ap (λ f. f.seen.book) c.again-next.ensures ∙ c.in-Ok.ensures.book ∙ self.book
+          ∙ ap (λ f. f.seen.book) (sym prefix);
       fit = IsEvent-is_event event c.requires.event;
       taken = ap (λ d. takes (history_of d.shown.value.trace) event) state
           ∙ ap (λ t. takes (history_of t) event) self.shown.0

@@ -11,4 +11,5 @@ pub returns-clause-ok : goal.returns-clause-ok
 returns-clause-ok g c = on_ok_weaker c.put-2.result (λ e. Emits-then c.in_ok-put.ensures.ok e) c.put-2.ensures.ok
 
 pub returns-clause-err : goal.returns-clause-err
-returns-clause-err g c = on_err_weaker c.put-2.result (λ e. Emits-front c.args.second.now c.in_ok-put.ensures.ok e) c.put-2.ensures.err
+returns-clause-err g c =
+    on_err_weaker c.put-2.result (λ e. Emits-front c.args.second.now c.in_ok-put.ensures.ok e) c.put-2.ensures.err

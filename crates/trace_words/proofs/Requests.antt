@@ -22,7 +22,8 @@ pub asked-without_file : (words : List (List ℕ)) (rows : List Row) → fault_o
 asked-without_file words rows none is found = asked-given words none ∙ rw (← is, ← found) refl
 
 -- where a step of it fails, they ask for nothing
-pub asked-refused : (words : List (List ℕ)) (kind : ErrorKind) → IsAmong kind (fault_of trace_line words) → asked_of words ≡ None
+pub asked-refused : (words : List (List ℕ)) (kind : ErrorKind) → IsAmong kind (fault_of trace_line words)
+    → asked_of words ≡ None
 unfolding asked_of
 asked-refused words kind among = go (fault_of trace_line words) refl among
   where

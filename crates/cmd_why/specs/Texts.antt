@@ -1,0 +1,14 @@
+-- What is known of the files of services.
+use Rattle.std.specs.Prelude.{ℕ, List, Option, None}
+use Rattle.std.specs.declared.io.ErrorKind.{ErrorKind}
+
+-- Of the service in each folder, where it is known: the bytes of its trace; the line of how its last process ended; and
+-- why the folder can't be looked at, where it can't.
+pub record ServiceTexts : Type 0 where
+  pub traces : List ℕ → Option (List ℕ)
+  pub exits : List ℕ → Option (List ℕ)
+  pub looks : List ℕ → Option (Option ErrorKind)
+
+-- Nothing of it is known.
+abbrev pub unknown_texts : ServiceTexts
+unknown_texts = record { traces = λ folder. None; exits = λ folder. None; looks = λ folder. None }
