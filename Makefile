@@ -42,7 +42,9 @@ test:
 	.ci/run
 
 check:
-	for script in cases system multilog commands svscan survive faults install manual package; do tests/$$script.sh $(PROGRAM) || exit 1; done
+	for script in cases system multilog commands svscan survive faults install manual package; do \
+	  env --default-signal=HUP,INT,QUIT tests/$$script.sh $(PROGRAM) || exit 1; \
+	done
 
 package tarball:
 	packaging/build $(PROGRAM) packages

@@ -13,7 +13,15 @@ import sys
 from concurrent.futures import FIRST_COMPLETED, ThreadPoolExecutor, wait
 
 # Processor seconds of each crate's proof, by one job; of one that is not here its lines tell.
-SECONDS = {}
+SECONDS = {
+    "tai_status": 142, "sup_core": 204, "star_match": 40, "mlog_script": 163, "mlog_files": 81,
+    "mlog_line": 82, "mlog_core": 119, "svc_mail": 91, "sup_trace": 142, "svc_station": 171, "svc_house": 117,
+    "env_title": 101, "scan_table": 281, "suite_lines": 115, "suite_core": 184, "svc_relay": 43,
+    "trace_words": 40, "cmd_base": 23, "svc_exit": 47, "svc_left": 61, "svc_world": 265, "svc_door": 98,
+    "svc_host": 449, "svc_maker": 150, "cmd_sim": 109, "cmd_trace": 100, "cmd_filters": 30, "cmd_help": 27,
+    "cmd_envdir": 181, "cmd_multilog": 278, "cmd_svc": 159, "cmd_local": 113, "cmd_why": 339,
+    "cmd_report": 152, "cmd_wait": 63, "cmd_svscan": 177, "dtools": 240,
+}
 
 
 def load(path):
@@ -48,7 +56,7 @@ def in_lanes(tasks):
                 idle = processors - sum(jobs for _, _, jobs in running.values())
                 room = memory - sum(held for _, held, _ in running.values())
                 if idle > 0 and (not running or needs <= room):
-                    jobs = min(idle, 4, max(1, round(processors * behind[key] / work)))
+                    jobs = min(idle, 4, max(1, round(1.5 * processors * behind[key] / work)))
                     while jobs > 1 and needs * (1 + 0.6 * (jobs - 1)) > room:
                         jobs -= 1
                     left.remove(key)
