@@ -1,3 +1,4 @@
 pub mod Children
 pub mod Quoting
 pub mod Making
+pub mod Puts

@@ -1,16 +1,16 @@
 -- Words in single quotes are read as they are.
-use Rattle.std.proofs.Common.{◌≡◌, ℕ, ◌==◌, Bool, true, false, List, [], ◌∷◌, ◌++◌, refl, sym, ◌∙◌, ap, cond}
-use Rattle.std.specs.Prelude.{Option, Some, None, option_map, map, flat_map, filter, not, if◌then◌else◌, codes}
+use Rattle.std.proofs.Common.{◌≡◌, ℕ, ◌==◌, true, false, List, [], ◌∷◌, ◌++◌, refl, sym, ◌∙◌, ap, cond}
+use Rattle.std.specs.Prelude.{Option, Some, option_map, map, flat_map, filter, not, codes}
 use Rattle.std.proofs.lemmas.List.{append_assoc, append-nil}
 use Rattle.std.proofs.lemmas.List.Folds.{flat_map-map}
 use Rattle.std.proofs.lemmas.Grind.{flat_map-append}
 use Rattle.std.proofs.lemmas.Bool.Decides.{Decides-eqb}
 use Rattle.env_title.specs.Env.{Binding}
 use Rattle.env_title.specs.Files.{File, is_hidden}
-use Rattle.cmd_envdir.specs.Shell.{Position, words_from, shell_words}
-use Rattle.cmd_envdir.specs.Shell.Position.{Between, Inside, Quoted, Escaped}
+use Rattle.cmd_envdir.specs.Shell.{words_from, shell_words}
+use Rattle.cmd_envdir.specs.Shell.Position.{Between, Inside, Quoted}
 use Rattle.cmd_envdir.specs.Words.{removal, assignment, env_words}
-use Rattle.cmd_envdir.specs.Quoting.{escaped, escaped_byte, quoted, removed_text, removals_text, set_text, words_text}
+use Rattle.cmd_envdir.specs.Quoting.{escaped, quoted, removals_text, set_text, words_text}
 
 -- the names of the files that are not hidden
 abbrev pub names : List File → List (List ℕ)

@@ -1,13 +1,17 @@
 -- What `envdir` reads of the system, and the commands that it hands over.
-use Rattle.std.specs.Prelude.{ℕ, Bool, List, Option, None, Result, map}
+use Rattle.std.specs.Prelude.{ℕ, nat_lt, ◌==◌, ◌&&◌, Bool, if◌then◌else◌, List, ◌∷◌, ◌++◌, length, All, map}
+use Rattle.std.specs.Prelude.{Option, None, Result}
+use Rattle.std.specs.List.{position_or_len, before_first, after_first}
+use Rattle.std.specs.Str.{is_utf8}
 use Rattle.std.specs.Borrow.{Bor}
 use Rattle.std.specs.Process.{command_program, command_args, command_var, clears_env}
 use Rattle.std.specs.declared.process.command.Command.{Command}
 use Rattle.std.specs.declared.process.status.ExitStatus.{ExitStatus}
 use Rattle.std.specs.declared.io.Error.{Error}
-use Rattle.env_title.specs.Env.{Binding}
+use Rattle.env_title.specs.Env.{Binding, put}
 use Rattle.env_title.specs.Files.{File}
 use Rattle.tai_status.specs.Counted.{Device}
+use Rattle.cmd_base.specs.Known.{IsKnown}
 
 -- The files of each folder, and the variables of the process, where they are known.
 pub record SystemState : Type 0 where
@@ -17,6 +21,22 @@ pub record SystemState : Type 0 where
 -- Nothing of it is known.
 abbrev pub unknown_state : SystemState
 unknown_state = record { folder = λ dir. None; variables = None }
+
+-- Each of these files of a folder has the bytes of the file at its path, where those are known.
+abbrev pub AreHeld : (file_at : List ℕ → Option (List ℕ)) (dir : List ℕ) → List File → Type 0
+AreHeld file_at dir files = All (λ (file : File). IsKnown (file_at (dir ++ 47 ∷ file.name)) file.bytes) files
+
+-- where the first `=` of an entry stands, or its length
+abbrev pub equals_in : List ℕ → ℕ
+equals_in entry = position_or_len (λ b. b == 61) entry
+
+-- What an entry `NAME=VALUE` makes of variables: the one of that name becomes the last, with that value. One that is no
+-- text, has no `=` or an empty name makes nothing.
+abbrev pub entry_put : List Binding → List ℕ → List Binding
+entry_put variables entry =
+    if is_utf8 entry && (nat_lt 0 (equals_in entry) && nat_lt (equals_in entry) (length entry))
+    then put variables (before_first (λ b. b == 61) entry) (after_first (λ b. b == 61) entry)
+    else variables
 
 -- the bytes of words
 abbrev pub texts : List (Bor (List ℕ)) → List (List ℕ)

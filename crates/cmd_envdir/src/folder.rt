@@ -3,6 +3,7 @@ ghost use Rattle.std.specs.Prelude.{◌≡◌, [], ◌∷◌, ◌++◌, map, str
 ghost use Rattle.std.specs.String.{string_cmp};
 ghost use Rattle.std.specs.Option.{option_map_or};
 ghost use Rattle.cmd_envdir.specs.Child.{AreInByteOrder};
+ghost use Rattle.cmd_envdir.specs.System.{AreHeld};
 
 use cmd_base::FileSource;
 use env_title::EnvFile;
@@ -34,6 +35,7 @@ pub fn folder_files<R: Files + FileSource, A: Allocator + Clone>(
     dir: &str,
 ) -> io::Result<Vec<FolderFile<A>, A>>
     ensures order { IfOk result (λ files. AreInByteOrder (map (λ file. file.name) files.items)) }
+    ensures held { IfOk result (λ files. AreHeld (R.file_at rt.now) dir.now files.items) }
 {
     let mut files = Vec::new(alloc.clone()?);
     for name in visible_names(rt, alloc, dir)? {

@@ -1,4 +1,7 @@
 //! The environment of this process.
+ghost use Rattle.std.specs.Prelude.{◌≡◌, OnOk};
+ghost use Rattle.cmd_envdir.specs.System.{entry_put};
+
 use env_title::Env;
 use std::alloc::{AllocError, Allocator};
 use std::env::FillError;
@@ -46,7 +49,9 @@ fn put_entry<A: Allocator + Clone>(
     variables: &mut Env<A>,
     alloc: &A,
     entry: &[u8],
-) -> Result<(), AllocError> {
+) -> Result<(), AllocError>
+    ensures { OnOk result (variables.new ≡ entry_put variables.old entry.now) }
+{
     let Ok(text) = str::from_utf8(entry) else {
         return Ok(());
     };

@@ -1,4 +1,4 @@
-use Rattle.std.proofs.Common.{ℕ, List, [], inl, inr, refl, rules, subst, sym}
+use Rattle.std.proofs.Common.{ℕ, List, [], inr, refl, rules, subst, sym}
 use Rattle.tai_status.specs.Counted.{Tells}
 use Rattle.cmd_envdir.specs.Ends.{envdir_told}
 use Rattle.cmd_envdir.proofs.Children.{is_read, not_read, of_no_file}
