@@ -2,7 +2,7 @@
 
 `rt ci` goes by the lines of the crates. Here it goes by the seconds that each took, measured, so that what the most work
 waits for comes first; and that crate gets as many processors as its share of all that is left: the others have the rest.
-Where the kit's scheduler is not as it was, `rt ci` goes by its own.
+Of the two compilers only the one runs whose program is installed. Where the kit is not as it was, `rt ci` goes by its own.
 """
 
 import importlib.machinery
@@ -20,7 +20,7 @@ SECONDS = {
     "trace_words": 40, "cmd_base": 23, "svc_exit": 47, "svc_left": 61, "svc_world": 265, "svc_door": 98,
     "svc_host": 449, "svc_maker": 150, "cmd_sim": 109, "cmd_trace": 100, "cmd_filters": 30, "cmd_help": 27,
     "cmd_envdir": 181, "cmd_multilog": 278, "cmd_svc": 159, "cmd_local": 113, "cmd_why": 339,
-    "cmd_report": 152, "cmd_wait": 63, "cmd_svscan": 370, "dtools": 330,
+    "cmd_report": 152, "cmd_wait": 63, "cmd_svscan": 370, "dtools": 280,
 }
 
 
@@ -56,7 +56,7 @@ def in_lanes(tasks):
                 idle = processors - sum(jobs for _, _, jobs in running.values())
                 room = memory - sum(held for _, held, _ in running.values())
                 if idle > 0 and (not running or needs <= room):
-                    jobs = min(idle, 4, max(1, round(1.5 * processors * behind[key] / work)))
+                    jobs = min(idle, 4, max(1, round(1.2 * processors * behind[key] / work)))
                     while jobs > 1 and needs * (1 + 0.6 * (jobs - 1)) > room:
                         jobs -= 1
                     left.remove(key)
@@ -66,7 +66,14 @@ def in_lanes(tasks):
     return given
 
 
+def compile_once(compile_by):
+    """Compiling a program by LLVM, and leaving out the gate's second compiler."""
+    return lambda crate, backend, words, to: compile_by(crate, backend, words, to) if backend == "llvm" else 0
+
+
 rt = load(os.path.realpath(shutil.which("rt")))
-if all(hasattr(rt, name) for name in ("in_lanes", "processors", "free", "main")):
+if all(hasattr(rt, name) for name in ("in_lanes", "processors", "free")):
     rt.in_lanes = in_lanes
+if hasattr(rt.Crate, "compile_by"):
+    rt.Crate.compile_by = compile_once(rt.Crate.compile_by)
 sys.exit(rt.main(["ci"]))
