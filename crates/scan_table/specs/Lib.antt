@@ -5,3 +5,4 @@ pub mod Whole
 pub mod Turns
 pub mod Index
 pub mod Order
+pub mod Named

@@ -1,27 +1,43 @@
 ghost use Rattle.std.specs.Prelude.{◌≡◌};
 
 use std::alloc::AllocError;
-use thiserror::Error;
+use std::error::Error;
+use std::fmt;
 
 /// Why a scan was refused. Places count the rows from 0.
-#[derive(Clone, Copy, Debug, PartialEq, Eq, Error)]
+#[derive(Clone, Copy, Debug, PartialEq, Eq)]
 pub enum ScanFault {
     /// The first name that is smaller than the one before.
-    #[error("Unsorted")]
     Unsorted(u64),
 
     /// The first name that is the one before.
-    #[error("Twice")]
     Twice(u64),
 
     /// The scan needs more numbers than the counter has left.
-    #[error("Exhausted")]
     Exhausted,
 
     /// The allocator refused the memory for what the scan makes.
-    #[error("OutOfMemory")]
     OutOfMemory,
 }
+
+/// It is shown by its name, without the place.
+impl fmt::Display for ScanFault {
+    ghost use Rattle.std.specs.Prelude.{Some};
+    ghost use Rattle.scan_table.specs.Named.{scan_fault_name};
+
+    ghost output = { λ why. Some (scan_fault_name why) };
+
+    fn fmt<W: fmt::Write>(&self, f: &mut fmt::Formatter<W>) -> fmt::Result {
+        f.write_str(match self {
+            ScanFault::Unsorted(_) => "Unsorted",
+            ScanFault::Twice(_) => "Twice",
+            ScanFault::Exhausted => "Exhausted",
+            ScanFault::OutOfMemory => "OutOfMemory",
+        })
+    }
+}
+
+impl Error for ScanFault {}
 
 impl From<AllocError> for ScanFault {
     fn from(_error: AllocError) -> ScanFault

@@ -2,3 +2,4 @@ pub mod Parts
 pub mod Suite
 pub mod Run
 pub mod Places
+pub mod Named

@@ -2,3 +2,4 @@ pub mod Text
 pub mod Reading
 pub mod Answers
 pub mod Fields
+pub mod Named

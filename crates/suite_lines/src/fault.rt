@@ -3,32 +3,47 @@ ghost use Rattle.std.specs.Prelude.{◌≡◌};
 ghost use Rattle.suite_lines.specs.Answers.{line_fault};
 
 use std::alloc::AllocError;
+use std::error::Error;
+use std::fmt;
 use sup_core::EventFault;
-use thiserror::Error;
 
 /// Why a line is the text of no event of a suite. The first of these that applies is told.
-#[derive(Clone, Copy, Debug, PartialEq, Eq, Error)]
+#[derive(Clone, Copy, Debug, PartialEq, Eq)]
 pub enum SuiteLineFault {
     /// A first word that is not known: the line's, or that of its event at a part.
-    #[error("UnknownEvent")]
     UnknownEvent,
 
     /// The number of fields is wrong, or a field that is neither a number nor a label.
-    #[error("Line")]
     Line,
 
     /// A number is wrong: a slot's, a life's or a process's.
-    #[error("Number")]
     Number,
 
     /// A label is wrong.
-    #[error("Label")]
     Label,
 
     /// The allocator refused the memory for the rows of a scan whose line is right.
-    #[error("OutOfMemory")]
     OutOfMemory,
 }
+
+impl fmt::Display for SuiteLineFault {
+    ghost use Rattle.std.specs.Prelude.{Some};
+    ghost use Rattle.suite_lines.specs.Named.{line_fault_name};
+
+    ghost output = { λ why. Some (line_fault_name why) };
+
+    fn fmt<W: fmt::Write>(&self, f: &mut fmt::Formatter<W>) -> fmt::Result {
+        f.write_str(match self {
+            SuiteLineFault::UnknownEvent => "UnknownEvent",
+            SuiteLineFault::Line => "Line",
+            SuiteLineFault::Number => "Number",
+            SuiteLineFault::Label => "Label",
+            SuiteLineFault::OutOfMemory => "OutOfMemory",
+        })
+    }
+}
+
+impl Error for SuiteLineFault {}
 
 impl From<EventFault> for SuiteLineFault {
     ghost from_gives = { λ fault told. told ≡ line_fault fault };
