@@ -12,11 +12,11 @@ from_first-append c (x ∷ part) text clean =
 from_first-cons : (c x : ℕ) (text : List ℕ) → (x == c) ≡ true → from_first c (x ∷ text) ≡ x ∷ text
 from_first-cons c x text is = rw is refl
 
-abbrev HasFront : ℕ → List ℕ → Type 0
+abbrev pub HasFront : ℕ → List ℕ → Type 0
 HasFront c text = (front : List ℕ) × IsWithout c front × (text ≡ front ++ from_first c text)
 
 -- what stands before the first c
-front_of : (c : ℕ) (text : List ℕ) → HasFront c text
+pub front_of : (c : ℕ) (text : List ℕ) → HasFront c text
 front_of c [] = ([], refl, refl)
 front_of c (x ∷ text) =
     elim (x == c) as (λ b. (x == c) ≡ b → HasFront c (x ∷ text)) [
@@ -27,7 +27,7 @@ front_of c (x ∷ text) =
     ] refl
 
 -- A text that a plain byte and a rest match begins with that byte.
-begins : (byte : ℕ) (rest text : List ℕ) → is_star byte ≡ false → star_matches (byte ∷ rest) text ≡ true
+pub begins : (byte : ℕ) (rest text : List ℕ) → is_star byte ≡ false → star_matches (byte ∷ rest) text ≡ true
     → (after : List ℕ) × (text ≡ byte ∷ after) × (star_matches rest after ≡ true)
 begins byte rest [] other m = absurd (false≢true (rw (other, star_matches) at m))
 begins byte rest (x ∷ after) other m =

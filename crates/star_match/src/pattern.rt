@@ -55,13 +55,14 @@ impl<A: Allocator + Clone> Pattern<A> {
         Ok(Pattern { bytes: own })
     }
 
-    /// Whether the pattern matches the whole text. It takes one scan of the text, and no memory.
+    /// Whether the pattern matches the whole text. It takes one scan of the text at most, and no memory: a text that
+    /// has another last byte than a pattern that doesn't end in a star is not scanned.
     #[tactic(auto, using(crate::proofs::Computed::computes, crate::proofs::Computed::finds))]
     pub fn matches(&self, text: &[u8]) -> bool
         ensures relation { IsTrue result ↔ Matches self.now text.now }
         ensures answer { result ≡ star_matches self.now text.now }
     {
-        is_match(&self.bytes, text)
+        has_end(&self.bytes, text) && is_match(&self.bytes, text)
     }
 }
 
@@ -77,6 +78,19 @@ pub fn has_adjacent_stars(bytes: &[u8]) -> bool
         rest = tail;
     }
     false
+}
+
+/// Whether the text ends as the pattern does: where the pattern's last byte is no star, that is the text's last byte.
+fn has_end(pattern: &[u8], text: &[u8]) -> bool
+    ensures { star_matches pattern.now text.now ≡ true → result ≡ true }
+{
+    let Some(byte) = pattern.last() else {
+        return true;
+    };
+    if *byte == b'*' {
+        return true;
+    }
+    text.last() == Some(byte)
 }
 
 /// The text from its first `byte` on, and nothing where it has none.
