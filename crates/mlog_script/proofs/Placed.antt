@@ -24,3 +24,23 @@ pub given_next : {X Y : Type 0} (f : X → Option Y) (xs : List X) (x : X) (d : 
     → unwrap_or (last_given f (xs ++ x ∷ [])) d ≡ unwrap_or (f x) (unwrap_or (last_given f xs) d)
 given_next f xs x d =
     ap (λ ys. unwrap_or (last_or None ys) d) (filter_map-append f xs (x ∷ [])) ∙ last_or-given None (filter_map f xs) (f x) d
+
+last_or-then : {Y : Type 0} (o : Option Y) (xs ys : List Y) → last_or o (xs ++ ys) ≡ last_or (last_or o xs) ys
+last_or-then o [] ys = refl
+last_or-then o (x ∷ xs) ys = last_or-then (Some x) xs ys
+
+last_or-some : {Y : Type 0} (y : Y) (ys : List Y) (d e : Y) → unwrap_or (last_or (Some y) ys) d ≡ unwrap_or (last_or (Some y) ys) e
+last_or-some y [] d e = refl
+last_or-some y (z ∷ ys) d e = last_or-some z ys d e
+
+last_or-else : {Y : Type 0} (o : Option Y) (ys : List Y) (d : Y) → unwrap_or (last_or o ys) d ≡ unwrap_or (last_or None ys) (unwrap_or o d)
+last_or-else o [] d = refl
+last_or-else o (y ∷ ys) d = last_or-some y ys d (unwrap_or o d)
+
+-- The last that is given of some items and further ones: that of the further ones, or else that of the first ones.
+pub given_then : {X Y : Type 0} (f : X → Option Y) (xs ys : List X) (d : Y)
+    → unwrap_or (last_given f (xs ++ ys)) d ≡ unwrap_or (last_given f ys) (unwrap_or (last_given f xs) d)
+given_then f xs ys d =
+    ap (λ zs. unwrap_or (last_or None zs) d) (filter_map-append f xs ys)
+    ∙ ap (λ o. unwrap_or o d) (last_or-then None (filter_map f xs) (filter_map f ys))
+    ∙ last_or-else (last_or None (filter_map f xs)) (filter_map f ys) d

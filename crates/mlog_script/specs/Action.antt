@@ -1,5 +1,7 @@
 -- Actions with bytes of their own, as the code holds them.
+use Rattle.std.specs.Prelude.{◌≡◌, false}
 use Rattle.mlog_script.specs.Script.{Act, Stamp, Alert, Size, Keep, Select, Deselect, Status, Log}
+use Rattle.mlog_script.specs.Script.{is_alert, is_log, is_file}
 use Rattle.mlog_script.specs.declared.action.Action.{Action}
 use Rattle.mlog_script.specs.declared.action.Action.TheVariants as code
 
@@ -12,3 +14,7 @@ act (code.Select pattern) = Select pattern
 act (code.Deselect pattern) = Deselect pattern
 act (code.Status path) = Status path.items
 act (code.Log folder) = Log folder.items
+
+-- No line goes out at the action, neither to an alert nor to a log nor to a status file.
+abbrev pub HasNoOutput : Act → Type 0
+HasNoOutput a = (is_alert a ≡ false) × (is_log a ≡ false) × (is_file a ≡ false)

@@ -1,4 +1,5 @@
 pub mod Action
+pub mod Choices
 pub mod Placed
 pub mod Script
 pub mod Selection

@@ -1,9 +1,9 @@
 //! Actions, with bytes of their own.
-ghost use Rattle.std.specs.Prelude.{◌≡◌, Ok, false, unwrap_or, is_ok, IsTrue, IfOk, IsOkUnless};
+ghost use Rattle.std.specs.Prelude.{◌≡◌, Ok, false, is_ok, IsTrue, IfOk, IsOkUnless};
 ghost use Rattle.star_match.specs.Star.{has_adjacent_stars};
 ghost use Rattle.mlog_script.specs.Script.{said, is_stamp, is_alert, is_pattern, is_log, is_file, size_set, keep_set};
 ghost use Rattle.mlog_script.specs.Selection.{decision};
-ghost use Rattle.mlog_script.specs.Action.{act};
+ghost use Rattle.mlog_script.specs.Action.{act, HasNoOutput};
 
 use crate::fault::ScriptFaultKind;
 use crate::word::{Said, read_word};
@@ -42,15 +42,22 @@ impl<A: Allocator + Clone> Action<A> {
         }
     }
 
-    /// Whether a line with this front is selected behind the action, where it was selected before it or not.
-    pub(crate) fn decide(&self, front: &[u8], chosen: bool) -> bool
-        ensures { result ≡ unwrap_or (decision front.now (act self.now)) chosen }
+    /// Whether a line with this front is selected behind the action, where its pattern decides that.
+    pub(crate) fn decision(&self, front: &[u8]) -> Option<bool>
+        ensures { result ≡ decision front.now (act self.now) }
     {
         match self {
-            Action::Select(pattern) => chosen || pattern.matches(front),
-            Action::Deselect(pattern) => chosen && !pattern.matches(front),
-            _ => chosen,
+            Action::Select(pattern) if pattern.matches(front) => Some(true),
+            Action::Deselect(pattern) if pattern.matches(front) => Some(false),
+            _ => None,
         }
+    }
+
+    /// Whether lines go out at the action: to an alert, a log or a status file.
+    pub(crate) fn is_output(&self) -> bool
+        ensures none { result ≡ false → HasNoOutput (act self.now) }
+    {
+        matches!(self, Action::Alert | Action::Log(_) | Action::Status(_))
     }
 
     /// The size that the action sets.

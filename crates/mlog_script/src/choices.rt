@@ -1,7 +1,8 @@
 ghost use Rattle.std.specs.Prelude.{◌≡◌, ◌<◌, ◌≤◌, ◌++◌, ◌∷◌, [], true, if◌then◌else◌, map, length, count_by};
-ghost use Rattle.std.specs.Prelude.{vec_capacity, IsErr, IfOk};
+ghost use Rattle.std.specs.Prelude.{vec_capacity, unwrap_or, IsErr, IfOk};
 ghost use Rattle.mlog_script.specs.Script.{is_alert, is_log, is_file};
-ghost use Rattle.mlog_script.specs.Selection.{chosen, choices, Fits};
+ghost use Rattle.mlog_script.specs.Placed.{last_given};
+ghost use Rattle.mlog_script.specs.Selection.{decision, chosen, choices, Fits};
 ghost use Rattle.mlog_script.specs.Action.{act};
 
 use crate::action::Action;
@@ -13,10 +14,14 @@ use std::marker::Model;
 #[derive(Debug, Drop)]
 pub struct Choices<A: Allocator + Clone = Global> {
     marks: Marks<A>,
+    // Whether they are all set. So they stay, as long as no pattern decides.
+    all_set: bool,
 }
 
 impl<A: Allocator + Clone> Model for Choices<A> {
+    ghost use Rattle.std.specs.Prelude.{◌≡◌, true};
     ghost use Rattle.mlog_script.specs.Selection.{Chosen};
+    ghost use Rattle.mlog_script.specs.Choices.{AreAllSet};
 
     ghost Value = { Chosen };
 
@@ -25,6 +30,9 @@ impl<A: Allocator + Clone> Model for Choices<A> {
       logs = choices.marks.logs.items;
       files = choices.marks.files.items;
     } };
+
+    ghost invariant = { λ choices. choices.all_set ≡ true
+        → AreAllSet choices.marks.alerts.items choices.marks.logs.items choices.marks.files.items };
 }
 
 impl<A: Allocator + Clone> Choices<A> {
@@ -43,19 +51,26 @@ impl<A: Allocator + Clone> Choices<A> {
                 logs,
                 files,
             },
+            all_set: false,
         })
     }
 
     /// Decides where a line with this front is selected: at each action as the last `-` or `+` before it says, whose
     /// pattern matches the front, or else it is. Patterns see at most the first 1000 bytes of a line: it is they that
-    /// are given, without the newline, and behind a stamp where the script has one. It takes no memory.
+    /// are given, without the newline, and behind a stamp where the script has one. It takes no memory. Where no pattern
+    /// decides nothing is asked: each line is selected everywhere.
     pub fn choose<B: Allocator + Clone>(&mut self, script: &Script<B>, front: &[u8])
         requires { Fits self.old script.now }
         ensures chosen { self.new ≡ chosen script.now front.now }
         ensures fits { Fits self.new script.now }
     {
+        let decides = script.has_patterns();
+        if self.all_set && !decides {
+            return;
+        }
         self.marks.clear();
         mark(script.actions(), front, &mut self.marks);
+        self.all_set = !decides;
     }
 
     /// Whether the line is selected at each alert, in the order of the script.
@@ -128,7 +143,23 @@ impl<A: Allocator + Clone> Marks<A> {
     }
 }
 
-/// Notes for each action whether a line with this front is selected there.
+/// Whether a line with this front is selected behind the actions: as the last of them says whose pattern matches it, or
+/// else as it was before them. They are asked from the last one on, up to the first that decides.
+fn is_chosen_behind<B: Allocator + Clone>(actions: &[Action<B>], front: &[u8], before: bool) -> bool
+    ensures { result ≡ unwrap_or (last_given (decision front.now) (map act actions.now)) before }
+{
+    let mut rest = actions;
+    while let [earlier @ .., last] = rest {
+        if let Some(chosen) = last.decision(front) {
+            return chosen;
+        }
+        rest = earlier;
+    }
+    before
+}
+
+/// Notes for each action at which lines go out whether a line with this front is selected there. So each pattern is asked
+/// once at most.
 fn mark<A: Allocator + Clone, B: Allocator + Clone>(
     actions: &[Action<B>],
     front: &[u8],
@@ -143,8 +174,13 @@ fn mark<A: Allocator + Clone, B: Allocator + Clone>(
     ensures files { marks.new.files.items ≡ choices is_file (map act actions.now) front.now }
 {
     let mut chosen = true;
-    for action in actions {
+    let mut asked = 0;
+    for (place, action) in actions.iter().enumerate() {
+        if !action.is_output() {
+            continue;
+        }
+        chosen = is_chosen_behind(&actions[asked..place], front, chosen);
+        asked = place;
         marks.note(action, chosen);
-        chosen = action.decide(front, chosen);
     }
 }

@@ -18,19 +18,23 @@ use std::marker::Model;
 #[derive(Debug, Drop)]
 pub struct Script<A: Allocator + Clone = Global> {
     actions: Vec<Action<A>, A>,
+    stamps: bool,
+    has_patterns: bool,
 }
 
 impl<A: Allocator + Clone> Model for Script<A> {
     ghost use Rattle.std.specs.Prelude.{◌≡◌, true, List, map};
-    ghost use Rattle.std.specs.List.{list_all};
-    ghost use Rattle.mlog_script.specs.Script.{Act, is_within_limits};
+    ghost use Rattle.std.specs.List.{list_all, list_any};
+    ghost use Rattle.mlog_script.specs.Script.{Act, is_within_limits, is_stamp, is_pattern};
     ghost use Rattle.mlog_script.specs.Action.{act};
 
     ghost Value = { List Act };
 
     ghost view = { λ script. map act script.actions.items };
 
-    ghost invariant = { λ script. list_all is_within_limits (map act script.actions.items) ≡ true };
+    ghost invariant = { λ script. (list_all is_within_limits (map act script.actions.items) ≡ true)
+        × (script.stamps ≡ list_any is_stamp (map act script.actions.items))
+        × (script.has_patterns ≡ list_any is_pattern (map act script.actions.items)) };
 }
 
 impl<A: Allocator + Clone> Script<A> {
@@ -49,7 +53,13 @@ impl<A: Allocator + Clone> Script<A> {
     {
         check(words)?;
         let actions = read_actions(alloc, words)?;
-        Ok(Script { actions })
+        let stamps = any_stamp(&actions);
+        let has_patterns = any_pattern(&actions);
+        Ok(Script {
+            actions,
+            stamps,
+            has_patterns,
+        })
     }
 
     /// The actions, in order.
@@ -64,14 +74,14 @@ impl<A: Allocator + Clone> Script<A> {
     pub fn stamps(&self) -> bool
         ensures { result ≡ stamps self.now }
     {
-        any_stamp(self.actions())
+        self.stamps
     }
 
     /// Whether a pattern selects or deselects lines. Else every line is selected at each action.
     pub fn has_patterns(&self) -> bool
         ensures { result ≡ list_any is_pattern self.now }
     {
-        any_pattern(self.actions())
+        self.has_patterns
     }
 
     /// How many alerts the script has.

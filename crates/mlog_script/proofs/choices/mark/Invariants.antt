@@ -5,12 +5,13 @@ use Rattle.mlog_script.specs.Selection.{is_chosen, choices}
 use Rattle.mlog_script.specs.Action.{act}
 use Rattle.mlog_script.proofs.choices.mark.Given as goal
 
-abbrev pub invariant-loop-action : goal.invariant-loop-action
-invariant-loop-action g l = record {
-  chosen_is : l.chosen ≡ is_chosen (map act (take l.action-index l.actions)) l.front;
-  alerts_are : l.marks.alerts.items ≡ choices is_alert (map act (take l.action-index l.actions)) l.front;
-  logs_are : l.marks.logs.items ≡ choices is_log (map act (take l.action-index l.actions)) l.front;
-  files_are : l.marks.files.items ≡ choices is_file (map act (take l.action-index l.actions)) l.front;
+abbrev pub invariant-loop-place : goal.invariant-loop-place
+invariant-loop-place g l = record {
+  asked_before : l.asked ≤ l.place;
+  chosen_is : l.chosen ≡ is_chosen (map act (take l.asked l.actions)) l.front;
+  alerts_are : l.marks.alerts.items ≡ choices is_alert (map act (take l.place l.actions)) l.front;
+  logs_are : l.marks.logs.items ≡ choices is_log (map act (take l.place l.actions)) l.front;
+  files_are : l.marks.files.items ≡ choices is_file (map act (take l.place l.actions)) l.front;
   alerts_fit : count_by is_alert (map act l.actions) ≤ vec_capacity l.marks.alerts;
   logs_fit : count_by is_log (map act l.actions) ≤ vec_capacity l.marks.logs;
   files_fit : count_by is_file (map act l.actions) ≤ vec_capacity l.marks.files;

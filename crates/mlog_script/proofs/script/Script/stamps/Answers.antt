@@ -1,9 +1,0 @@
-use Rattle.std.proofs.Common.{◌∙◌, sym, ap}
-use Rattle.std.specs.List.{list_any}
-use Rattle.mlog_script.specs.Script.{is_stamp}
-use Rattle.mlog_script.specs.Action.{act}
-use Rattle.mlog_script.proofs.Maps.{list_any-map}
-use Rattle.mlog_script.proofs.script.Script.stamps.Goals as goal
-
-pub returns : goal.returns
-returns g c = c.any_stamp.ensures ∙ sym (list_any-map is_stamp act c.actions.result.now) ∙ ap (list_any is_stamp) c.actions.ensures.actions
