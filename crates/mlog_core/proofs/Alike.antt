@@ -1,7 +1,7 @@
--- Lines that go to all logs alone.
+-- Lines that go to all logs alone, or to none.
 use Rattle.std.proofs.Common.{◌≡◌, ℕ, zero, suc, ◌+◌, ◌-◌, ◌<◌, ◌≤◌, nat_lt, if◌then◌else◌, Bool, true, false, List, [], ◌∷◌, ◌++◌, length, take, drop, count_by, Option, None, refl, sym, subst, ap, ◌∙◌, arith, append-nil, length-append}
 use Rattle.std.specs.Prelude.{Result, Ok, Err, IfOk}
-use Rattle.std.specs.List.{list_all}
+use Rattle.std.specs.List.{list_all, list_any}
 use Rattle.std.proofs.lemmas.List.{map-append, take_all, take_rest, take-append-drop, length-take}
 use Rattle.std.proofs.Math.Seq.{take-add}
 use Rattle.tai_status.specs.Label.{Tai64n}
@@ -21,7 +21,11 @@ use Rattle.mlog_line.specs.Given.{Given, nothing, joined, of_line, of_text, to_f
 use Rattle.mlog_line.specs.Outputs.{outputs, Takes, Stops, SameGiven, StopsAt}
 use Rattle.mlog_line.proofs.Taking.{Takes-same, Stops-same, if_err_weaker}
 use Rattle.mlog_line.proofs.Growing.{Same-then, Same-joined, Same-behind, StopsAt-more}
-use Rattle.mlog_core.specs.Scene.{Scene, scene, IsIn, Went, WentUpTo, AreAlike, Feeds}
+use Rattle.mlog_line.specs.Reach.{Reaches, AllOrNone, logs_in}
+use Rattle.mlog_line.specs.declared.line_router.Reach.{Reach}
+use Rattle.mlog_line.specs.declared.line_router.Reach.TheVariants as code
+use Rattle.mlog_core.specs.Scene.{Scene, scene, IsIn, Went, WentUpTo, GoesOn, AreAlike, Feeds}
+use Rattle.mlog_core.specs.declared.feed.Lines.{Lines}
 use Rattle.mlog_core.specs.declared.feed.Fed.{Fed}
 use Rattle.mlog_core.proofs.Going.{Went-then, WentUpTo-then}
 use Rattle.mlog_core.proofs.Lines.{whole_end, whole_both, cut_one, first_line, text_turn}
@@ -30,8 +34,11 @@ none_of : {X : Type 0} (b : Bool) → ◌≡◌ {A = List X} (if b then [] else 
 none_of true = refl
 none_of false = refl
 
-pub alike_none : (script : List Act) (r : Option (List Tai64n)) → AreAlike script r r [] 0
-alike_none script r = record {
+none_given : (script : List Act) (n : ℕ) → SameGiven (to_first n []) (of_text script [] [])
+none_given script n = record { logs = λ log. none_of (nat_lt log n); alerts = refl; files = λ file. refl }
+
+pub alike_none : (script : List Act) (reach : Reach) (r : Option (List Tai64n)) → AreAlike script reach r r [] 0
+alike_none script reach r = record {
   labels = [];
   gave = Extended-none r;
   count_is = refl;
@@ -39,8 +46,38 @@ alike_none script r = record {
   each = refl;
   text = [];
   bytes_are = refl;
-  same = record { logs = λ log. none_of (nat_lt log (count_by is_log script)); alerts = refl; files = λ file. refl };
+  same = none_given script (logs_in reach (count_by is_log script));
 }
+
+no_items : {X : Type 0} (xs : List X) → length xs ≡ 0 → xs ≡ []
+no_items [] e = refl
+no_items (x ∷ xs) e = absurd (omega (arith, e))
+
+no_bytes_of : (text : List Sent) (bytes : List ℕ) → bytes_of text ≡ bytes → bytes ≡ [] → text ≡ []
+no_bytes_of [] bytes e none = refl
+no_bytes_of (s ∷ text) bytes e none = absurd cc
+
+-- Where there are no lines yet, they are of each reach.
+reach_of_none : (script : List Act) (was reach : Reach) (a b : Option (List Tai64n)) (bytes : List ℕ) → bytes ≡ [] → AreAlike script was a b bytes 0
+    → AreAlike script reach a b bytes 0
+reach_of_none script was reach a b bytes none k =
+    let labels : k.labels ≡ [] = no_items k.labels (sym k.count_is) in
+    record {
+      labels = k.labels;
+      gave = k.gave;
+      count_is = k.count_is;
+      lines = k.lines;
+      each = k.each;
+      text = [];
+      bytes_are = sym none;
+      same = rw (labels, none) (none_given script (logs_in reach (count_by is_log script)));
+    }
+
+turned : (script : List Act) (was reach : Reach) (a b : Option (List Tai64n)) (bytes : List ℕ) (m : ℕ) → (m ≡ 0 → bytes ≡ []) → (0 < m → reach ≡ was)
+    → AreAlike script was a b bytes m → AreAlike script reach a b bytes m
+turned script was reach a b bytes zero none same k = reach_of_none script was reach a b bytes (none refl) k
+turned script was reach a b bytes (suc m) none same k =
+    subst (λ (r : Reach). AreAlike script r a b bytes (suc m)) (sym (same (omega arith))) k
 
 -- One line
 
@@ -50,9 +87,18 @@ all_flags (true ∷ flags) zero all = (let e : nat_lt 0 (suc (length flags)) ≡
 all_flags (true ∷ flags) (suc n) all = all_flags flags n all ∙ (let e : nat_lt (suc n) (suc (length flags)) ≡ nat_lt n (length flags) = grind arith in sym e)
 all_flags (false ∷ flags) n all = absurd cc
 
-no_items : {X : Type 0} (xs : List X) → length xs ≡ 0 → xs ≡ []
-no_items [] e = refl
-no_items (x ∷ xs) e = absurd (omega (arith, e))
+no_flags : (flags : List Bool) (n : ℕ) → list_any (λ (flag : Bool). flag) flags ≡ false → flag_at flags n ≡ nat_lt n 0
+no_flags [] n none = (let e : nat_lt n 0 ≡ false = grind arith in sym e)
+no_flags (true ∷ flags) n none = absurd cc
+no_flags (false ∷ flags) zero none = (let e : nat_lt 0 0 ≡ false = grind arith in sym e)
+no_flags (false ∷ flags) (suc n) none =
+    no_flags flags n none ∙ (let e : nat_lt n 0 ≡ false = grind arith in let f : nat_lt (suc n) 0 ≡ false = grind arith in e ∙ sym f)
+
+-- The flags are set below a number.
+reached : (next : Reach) (flags : List Bool) (n : ℕ) → AllOrNone next → Reaches next flags → flag_at flags n ≡ nat_lt n (logs_in next (length flags))
+reached code.Everywhere flags n some at = all_flags flags n at
+reached code.Nowhere flags n some at = no_flags flags n at
+reached code.Somewhere flags n some at = absurd (some refl)
 
 shown_bare : (script : List Act) (label : Tai64n) (line : List ℕ) → stamps script ≡ false → line ≡ shown script label line
 shown_bare script label line e = rw e refl
@@ -62,27 +108,28 @@ sent_bytes label [] = refl
 sent_bytes label (b ∷ bs) = ap (λ (t : List ℕ). b ∷ t) (sent_bytes label bs)
 
 -- What a line gives, by where it is selected.
-given_by : (script : List Act) (label : Tai64n) (line : List ℕ) (c : Chosen) → Fits c script → IsBare script → list_all (λ (flag : Bool). flag) c.logs ≡ true
-    → SameGiven (to_first (count_by is_log script) (sent label (line ++ 10 ∷ [])))
+given_by : (script : List Act) (label : Tai64n) (line : List ℕ) (c : Chosen) (next : Reach) → Fits c script → IsBare script
+    → AllOrNone next → Reaches next c.logs
+    → SameGiven (to_first (logs_in next (count_by is_log script)) (sent label (line ++ 10 ∷ [])))
     (record {
       logs = λ log. if flag_at c.logs log then sent label (line ++ 10 ∷ []) else [];
       alerts = Rattle.std.specs.List.flat_map (λ (flag : Bool). if flag then alert line else []) c.alerts;
       files = λ file. if flag_at c.files file then padded line ∷ [] else [];
     })
-given_by script label line c fits bare all =
+given_by script label line c next fits bare some at =
     let alerts : c.alerts ≡ [] = no_items c.alerts (fits.alerts_fit ∙ bare.unalerted) in
     let files : c.files ≡ [] = no_items c.files (fits.files_fit ∙ bare.unfiled) in
     record {
-      logs = λ log. ap (λ (b : Bool). if b then sent label (line ++ 10 ∷ []) else []) (sym (all_flags c.logs log all ∙ ap (λ (n : ℕ). nat_lt log n) fits.logs_fit));
+      logs = λ log. ap (λ (b : Bool). if b then sent label (line ++ 10 ∷ []) else []) (sym (reached next c.logs log some at ∙ ap (λ (n : ℕ). nat_lt log (logs_in next n)) fits.logs_fit));
       alerts = rw alerts refl;
       files = λ file. rw files refl;
     }
 
-line_given : (script : List Act) (label : Tai64n) (line : List ℕ) (c : Chosen) → c ≡ chosen script (take 1000 line) → Fits c script → IsBare script
-    → list_all (λ (flag : Bool). flag) c.logs ≡ true
-    → SameGiven (to_first (count_by is_log script) (sent label (line ++ 10 ∷ []))) (of_line script label line)
-line_given script label line c is fits bare all =
-    let g = given_by script label line c fits bare all in
+line_given : (script : List Act) (label : Tai64n) (line : List ℕ) (c : Chosen) (next : Reach) → c ≡ chosen script (take 1000 line) → Fits c script → IsBare script
+    → AllOrNone next → Reaches next c.logs
+    → SameGiven (to_first (logs_in next (count_by is_log script)) (sent label (line ++ 10 ∷ []))) (of_line script label line)
+line_given script label line c next is fits bare some at =
+    let g = given_by script label line c next fits bare some at in
     let here : line ≡ shown script label line = shown_bare script label line bare.unstamped in
     let flags : c ≡ chosen_line script label line = is ∙ ap (λ (t : List ℕ). chosen script (take 1000 t)) here in
     record {
@@ -94,10 +141,10 @@ line_given script label line c is fits bare all =
           ∙ ap (λ (t : List ℕ). if flag_at (chosen_line script label line).files file then padded t ∷ [] else []) here;
     }
 
-alike_line : (script : List Act) (label : Tai64n) (r r1 : Option (List Tai64n)) (line : List ℕ) (c : Chosen) → IsPlain line → Extended r r1 (label ∷ [])
-    → c ≡ chosen script (take 1000 line) → Fits c script → IsBare script → list_all (λ (flag : Bool). flag) c.logs ≡ true
-    → AreAlike script r r1 (line ++ 10 ∷ []) 1
-alike_line script label r r1 line c plain gave is fits bare all = record {
+alike_line : (script : List Act) (label : Tai64n) (r r1 : Option (List Tai64n)) (line : List ℕ) (c : Chosen) (next : Reach) → IsPlain line → Extended r r1 (label ∷ [])
+    → c ≡ chosen script (take 1000 line) → Fits c script → IsBare script → AllOrNone next → Reaches next c.logs
+    → AreAlike script next r r1 (line ++ 10 ∷ []) 1
+alike_line script label r r1 line c next plain gave is fits bare some at = record {
   labels = label ∷ [];
   gave = gave;
   count_is = refl;
@@ -105,8 +152,8 @@ alike_line script label r r1 line c plain gave is fits bare all = record {
   each = sym (ap length (texts_of-line line [] plain));
   text = sent label (line ++ 10 ∷ []);
   bytes_are = sent_bytes label (line ++ 10 ∷ []);
-  same = Same-then (to_first (count_by is_log script) (sent label (line ++ 10 ∷ []))) (of_line script label line) (of_text script (label ∷ []) (line ++ 10 ∷ []))
-      (line_given script label line c is fits bare all) (first_line script label line [] plain);
+  same = Same-then (to_first (logs_in next (count_by is_log script)) (sent label (line ++ 10 ∷ []))) (of_line script label line) (of_text script (label ∷ []) (line ++ 10 ∷ []))
+      (line_given script label line c next is fits bare some at) (first_line script label line [] plain);
 }
 
 -- More lines
@@ -118,9 +165,10 @@ both_if false xs ys = refl
 first_both : (n : ℕ) (xs ys : List Sent) → SameGiven (to_first n (xs ++ ys)) (joined (to_first n xs) (to_first n ys))
 first_both n xs ys = record { logs = λ log. both_if (nat_lt log n) xs ys; alerts = refl; files = λ file. refl }
 
-alike_then : (script : List Act) (a b c : Option (List Tai64n)) (xs ys : List ℕ) (m n : ℕ) → AreAlike script a b xs m → AreAlike script b c ys n → AreAlike script a c (xs ++ ys) (m + n)
-alike_then script a b c xs ys m n k l =
-    let logs = count_by is_log script in
+alike_then : (script : List Act) (reach : Reach) (a b c : Option (List Tai64n)) (xs ys : List ℕ) (m n : ℕ) → AreAlike script reach a b xs m → AreAlike script reach b c ys n
+    → AreAlike script reach a c (xs ++ ys) (m + n)
+alike_then script reach a b c xs ys m n k l =
+    let logs = logs_in reach (count_by is_log script) in
     let x = of_text script k.labels xs in
     let y = of_text script l.labels ys in
     let all = of_text script (k.labels ++ l.labels) (xs ++ ys) in record {
@@ -139,27 +187,32 @@ alike_then script a b c xs ys m n k l =
     }
 
 -- One more line of some bytes.
-pub alike_further : (script : List Act) (label : Tai64n) (a b c : Option (List Tai64n)) (bytes rest : List ℕ) (at len m : ℕ) (ch : Chosen) → rest ≡ take (length bytes - at) (drop at bytes)
-    → AreAlike script a b (take at bytes) m → IsPlain (take len rest) → (len < length rest) × (rest ≡ take len rest ++ 10 ∷ drop (len + 1) rest)
-    → Extended b c (label ∷ []) → ch ≡ chosen script (take 1000 (take len rest)) → Fits ch script → IsBare script → list_all (λ (flag : Bool). flag) ch.logs ≡ true
-    → AreAlike script a c (take (at + (len + 1)) bytes) (m + 1)
-alike_further script label a b c bytes rest at len m ch rest_is k plain newline gave is fits bare all =
+pub alike_further : (script : List Act) (label : Tai64n) (a b c : Option (List Tai64n)) (bytes rest : List ℕ) (at len m : ℕ) (ch : Chosen) (lines : Lines) (next : Reach)
+    → rest ≡ take (length bytes - at) (drop at bytes) → lines.count ≡ m → (m ≡ 0 → at ≡ 0) → GoesOn lines next
+    → AreAlike script lines.reach a b (take at bytes) m → IsPlain (take len rest) → (len < length rest) × (rest ≡ take len rest ++ 10 ∷ drop (len + 1) rest)
+    → Extended b c (label ∷ []) → ch ≡ chosen script (take 1000 (take len rest)) → Fits ch script → IsBare script → Reaches next ch.logs
+    → AreAlike script next a c (take (at + len + 1) bytes) (m + 1)
+alike_further script label a b c bytes rest at len m ch lines next rest_is m_is empty on k plain newline gave is fits bare reaches =
     let one : take (len + 1) rest ≡ take len rest ++ 10 ∷ [] = cut_one rest len newline.0 newline.1 in
     let whole : take (at + (len + 1)) bytes ≡ take at bytes ++ (take len rest ++ 10 ∷ []) =
     take-add at (len + 1) bytes ∙ ap (λ (t : List ℕ). take at bytes ++ take (len + 1) t) (sym (rest_is ∙ take_rest bytes at)) ∙ ap (λ (t : List ℕ). take at bytes ++ t) one in
-    subst (λ (t : List ℕ). AreAlike script a c t (m + 1)) (sym whole)
-    (alike_then script a b c (take at bytes) (take len rest ++ 10 ∷ []) m 1 k (alike_line script label b c (take len rest) ch plain gave is fits bare all))
+    let end : at + len + 1 ≡ at + (len + 1) = omega arith in
+    let nothing_yet = λ (e : m ≡ 0). ap (λ (n : ℕ). take n bytes) (empty e) in
+    let same = λ (some : 0 < m). on.same (omega (arith, some, m_is)) in
+    subst (λ (t : List ℕ). AreAlike script next a c t (m + 1)) (sym (ap (λ (n : ℕ). take n bytes) end ∙ whole))
+    (alike_then script next a b c (take at bytes) (take len rest ++ 10 ∷ []) m 1 (turned script lines.reach next a b (take at bytes) m nothing_yet same k)
+    (alike_line script label b c (take len rest) ch next plain gave is fits bare on.alike reaches))
 
 -- They went on.
 
 same_joined : (x : Given) → SameGiven x (joined x nothing)
 same_joined x = record { logs = λ log. sym (append-nil (x.logs log)); alerts = sym (append-nil x.alerts); files = λ file. sym (append-nil (x.files file)) }
 
-pub alike_went : (script : List Act) (p0 p q : Place) (s t : StoreState) (r r1 : Option (List Tai64n)) (bytes : List ℕ) (m : ℕ) → p.tails ≡ p0.tails
-    → length p.tails ≡ count_by is_log script → AreAlike script r r1 bytes m
-    → ((text : List Sent) → bytes_of text ≡ bytes → Takes (outputs p.tails s) (outputs q.tails t) (to_first (length p.tails) text))
+pub alike_went : (script : List Act) (reach : Reach) (p0 p q : Place) (s t : StoreState) (r r1 : Option (List Tai64n)) (bytes : List ℕ) (m : ℕ) → p.tails ≡ p0.tails
+    → length p.tails ≡ count_by is_log script → AreAlike script reach r r1 bytes m
+    → ((text : List Sent) → bytes_of text ≡ bytes → Takes (outputs p.tails s) (outputs q.tails t) (to_first (logs_in reach (length p.tails)) text))
     → Went script (scene None p0 s r) (scene None q t r1) [] bytes m
-alike_went script p0 p q s t r r1 bytes m same count k takes =
+alike_went script reach p0 p q s t r r1 bytes m same count k takes =
     let x = of_text script k.labels bytes in record {
       labels = k.labels;
       gave = k.gave;
@@ -176,24 +229,24 @@ alike_went script p0 p q s t r r1 bytes m same count k takes =
         more = x;
         whole = same_joined x;
         takes = subst (λ (tails : List _). Takes (outputs tails s) (outputs q.tails t) x) same
-            (Takes-same (outputs p.tails s) (outputs q.tails t) (to_first (length p.tails) k.text) x (takes k.text k.bytes_are)
-            (subst (λ (n : ℕ). SameGiven (to_first n k.text) x) (sym count) k.same));
+            (Takes-same (outputs p.tails s) (outputs q.tails t) (to_first (logs_in reach (length p.tails)) k.text) x (takes k.text k.bytes_are)
+            (subst (λ (n : ℕ). SameGiven (to_first (logs_in reach n) k.text) x) (sym count) k.same));
       };
     }
 
 -- They did not.
-pub alike_stopped : (script : List Act) (p0 p q : Place) (s t : StoreState) (r r1 : Option (List Tai64n)) (bytes : List ℕ) (len m : ℕ) (why : LogFault) → p.tails ≡ p0.tails
-    → length p.tails ≡ count_by is_log script → AreAlike script r r1 (take len bytes) m
-    → ((text : List Sent) → bytes_of text ≡ take len bytes → Stops (outputs p.tails s) (outputs q.tails t) (to_first (length p.tails) text) why)
+pub alike_stopped : (script : List Act) (reach : Reach) (p0 p q : Place) (s t : StoreState) (r r1 : Option (List Tai64n)) (bytes : List ℕ) (len m : ℕ) (why : LogFault) → p.tails ≡ p0.tails
+    → length p.tails ≡ count_by is_log script → AreAlike script reach r r1 (take len bytes) m
+    → ((text : List Sent) → bytes_of text ≡ take len bytes → Stops (outputs p.tails s) (outputs q.tails t) (to_first (logs_in reach (length p.tails)) text) why)
     → WentUpTo script (scene None p0 s r) (scene None q t r1) [] bytes why
-alike_stopped script p0 p q s t r r1 bytes len m why same count k stops =
+alike_stopped script reach p0 p q s t r r1 bytes len m why same count k stops =
     let x = of_text script k.labels (take len bytes) in
     let rest = of_text script [] (drop len bytes) in
     let all : k.labels ++ [] ≡ k.labels = append-nil k.labels in
     let stop : Stops (outputs p0.tails s) (outputs q.tails t) x why =
     subst (λ (tails : List _). Stops (outputs tails s) (outputs q.tails t) x why) same
-    (Stops-same (outputs p.tails s) (outputs q.tails t) (to_first (length p.tails) k.text) x why (stops k.text k.bytes_are)
-    (subst (λ (n : ℕ). SameGiven (to_first n k.text) x) (sym count) k.same)) in
+    (Stops-same (outputs p.tails s) (outputs q.tails t) (to_first (logs_in reach (length p.tails)) k.text) x why (stops k.text k.bytes_are)
+    (subst (λ (n : ℕ). SameGiven (to_first (logs_in reach n) k.text) x) (sym count) k.same)) in
     record {
       labels = k.labels;
       gave = k.gave;
@@ -211,11 +264,11 @@ take_within (suc room) (suc len) [] within = refl
 take_within (suc room) (suc len) (b ∷ bytes) within = ap (λ (t : List ℕ). b ∷ t) (take_within room len bytes (omega (arith, within)))
 
 -- As many of some bytes as there is room for.
-pub alike_taken : (script : List Act) (r r1 : Option (List Tai64n)) (bytes : List ℕ) (room len m : ℕ) → len ≤ length (take room bytes)
-    → AreAlike script r r1 (take len (take room bytes)) m → AreAlike script r r1 (take len bytes) m
-alike_taken script r r1 bytes room len m within k =
+pub alike_taken : (script : List Act) (reach : Reach) (r r1 : Option (List Tai64n)) (bytes : List ℕ) (room len m : ℕ) → len ≤ length (take room bytes)
+    → AreAlike script reach r r1 (take len (take room bytes)) m → AreAlike script reach r r1 (take len bytes) m
+alike_taken script reach r r1 bytes room len m within k =
     let w = length-take room bytes in
-    subst (λ (t : List ℕ). AreAlike script r r1 t m) (take_within room len bytes (omega (arith, within, w))) k
+    subst (λ (t : List ℕ). AreAlike script reach r r1 t m) (take_within room len bytes (omega (arith, within, w))) k
 
 -- None did, and others went on.
 pub empty_then : (script : List Act) (a b c : Scene) (bytes ys : List ℕ) (len m n : ℕ) → len ≡ 0 → m ≤ len → Went script a b [] (take len bytes) m

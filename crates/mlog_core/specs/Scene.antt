@@ -12,6 +12,9 @@ use Rattle.mlog_files.specs.declared.tail.LogFault.{LogFault}
 use Rattle.mlog_line.specs.LineRouter.{Place, IsAt, Serves}
 use Rattle.mlog_line.specs.Given.{Given, nothing, joined, of_line, of_text, so_far, to_first, bytes_of}
 use Rattle.mlog_line.specs.Outputs.{Outputs, outputs, SameGiven, Grows, StopsAt}
+use Rattle.mlog_line.specs.Reach.{AllOrNone, logs_in}
+use Rattle.mlog_line.specs.declared.line_router.Reach.{Reach}
+use Rattle.mlog_core.specs.declared.feed.Lines.{Lines}
 use Rattle.mlog_core.specs.declared.feed.Taken.{Taken}
 use Rattle.mlog_core.specs.declared.feed.Fed.{Fed}
 
@@ -87,8 +90,14 @@ abbrev pub left_of : Tai64n → Bool → Option Tai64n
 left_of label true = None
 left_of label false = Some label
 
--- Whole lines that go to all logs alone, as they are, with a reading of the clock for each.
-pub record AreAlike (script : List Act) (old new : Option (List Tai64n)) (bytes : List ℕ) (count : ℕ) : Type 0 where
+-- A line of this reach goes on some lines: to all logs or to none, and where there are lines, as they do.
+pub record GoesOn (lines : Lines) (next : Reach) : Type 0 where
+  pub alike : AllOrNone next
+  pub same : 0 < lines.count → next ≡ lines.reach
+
+-- Whole lines that go to all logs alone, as they are, or to none, with a reading of the clock for each.
+pub record AreAlike (script : List Act) (reach : Reach) (old new : Option (List Tai64n)) (bytes : List ℕ) (count : ℕ)
+    : Type 0 where
   pub labels : List Tai64n
   pub gave : Extended old new labels
   pub count_is : count ≡ length labels
@@ -96,7 +105,7 @@ pub record AreAlike (script : List Act) (old new : Option (List Tai64n)) (bytes 
   pub each : length labels ≡ length (texts_of bytes)
   pub text : List Sent
   pub bytes_are : bytes_of text ≡ bytes
-  pub same : SameGiven (to_first (count_by is_log script) text) (of_text script labels bytes)
+  pub same : SameGiven (to_first (logs_in reach (count_by is_log script)) text) (of_text script labels bytes)
 
 -- What a call comes to that is given bytes of a line that has begun: it took some, and the line goes on, or has ended
 -- with the last of them; or it stopped, and why. The router serves the script as before.

@@ -1,13 +1,13 @@
 //! How bytes are fed to a router, line by line.
-ghost use Rattle.std.specs.Prelude.{◌≡◌, ◌≤◌, ◌<◌, Option, None, length, take, OnOk, IfOk};
+ghost use Rattle.std.specs.Prelude.{◌≡◌, ◌≤◌, ◌<◌, true, Option, None, length, take, OnOk, IfOk};
 ghost use Rattle.mlog_script.specs.Selection.{Fits};
 ghost use Rattle.mlog_files.specs.Store.{Stays};
 ghost use Rattle.mlog_line.specs.LineRouter.{IsBare, IsWritten, Serves};
-ghost use Rattle.mlog_core.specs.Scene.{left_of, AreAlike, FeedsLine, Feeds, EndsInput};
+ghost use Rattle.mlog_core.specs.Scene.{left_of, GoesOn, AreAlike, FeedsLine, Feeds, EndsInput};
 
 use crate::front::plain_front;
 use mlog_files::{LogFault, LogStore};
-use mlog_line::LineRouter;
+use mlog_line::{LineRouter, Reach};
 use mlog_script::Script;
 use std::alloc::Allocator;
 use tai_status::{Label, TimeSource};
@@ -99,14 +99,27 @@ fn feed_part<A: Allocator + Clone, B: Allocator + Clone, S: LogStore, C: TimeSou
     }
 }
 
-/// Some whole lines: how many bytes they have, and how many they are.
+/// Some whole lines of one reach: how many bytes they have, and how many they are.
 #[derive(Clone, Copy)]
 pub struct Lines {
     pub len: usize,
     pub count: u64,
+    pub reach: Reach,
 }
 
-/// The whole lines at the front of some bytes that are selected at all logs. The clock is read for each.
+/// Whether a line goes on some lines of one reach: it goes to all logs or to none, and where there are lines already, so
+/// do they.
+fn goes_on(lines: &Lines, next: Reach) -> bool
+    ensures { result ≡ true → GoesOn lines.now next }
+{
+    match next {
+        Reach::Somewhere => false,
+        _ => lines.count == 0 || next == lines.reach,
+    }
+}
+
+/// The whole lines at the front of some bytes that are selected at all logs, or those that are selected at none. The clock
+/// is read for each.
 fn read_alike<A: Allocator + Clone, B: Allocator + Clone, C: TimeSource>(
     router: &mut LineRouter<A>,
     script: &Script<B>,
@@ -117,31 +130,38 @@ fn read_alike<A: Allocator + Clone, B: Allocator + Clone, C: TimeSource>(
     requires bare { 0 < length bytes.now → IsBare script.now }
     ensures within { result.len ≤ length bytes.now }
     ensures count { result.count ≤ result.len }
-    ensures alike { AreAlike script.now (C.readings clock.old) (C.readings clock.new)
+    ensures alike { AreAlike script.now result.reach (C.readings clock.old) (C.readings clock.new)
         (take result.len bytes.now) result.count }
     ensures tails { router.new.tails ≡ router.old.tails }
     ensures fits { Fits router.new.chosen script.now }
 {
-    let mut len = 0;
-    let mut count = 0;
-    while len < bytes.len() {
-        let rest = &bytes[len..];
+    let mut lines = Lines {
+        len: 0,
+        count: 0,
+        reach: Reach::Everywhere,
+    };
+    'lines: while lines.len < bytes.len() {
+        let rest = &bytes[lines.len..];
         let front = plain_front(rest);
         if !front.ends {
-            return Lines { len, count };
+            return lines;
         }
-        if !router.is_for_all(script, &rest[..front.len]) {
-            return Lines { len, count };
+        let reach = router.reach(script, &rest[..front.len]);
+        if !goes_on(&lines, reach) {
+            return lines;
         }
         clock.now();
-        len += front.len + 1;
-        count += 1;
+        lines = Lines {
+            len: lines.len + front.len + 1,
+            count: lines.count + 1,
+            reach,
+        };
     }
-    Lines { len, count }
+    lines
 }
 
-/// Feeds the whole lines at the front of some bytes that go to all logs alone, as one piece: as many as can fill no
-/// file.
+/// Feeds the whole lines at the front of some bytes that go to all logs alone, or to none, as one piece: as many as can
+/// fill no file.
 fn feed_alike<A: Allocator + Clone, B: Allocator + Clone, S: LogStore, C: TimeSource>(
     router: &mut LineRouter<A>,
     script: &Script<B>,
@@ -156,7 +176,7 @@ fn feed_alike<A: Allocator + Clone, B: Allocator + Clone, S: LogStore, C: TimeSo
 {
     let room = router.room(script).min(bytes.len());
     let lines = read_alike(router, script, clock, &bytes[..room]);
-    router.put_for_all(store, &bytes[..lines.len])?;
+    router.put_alike(store, lines.reach, &bytes[..lines.len])?;
     Ok(Fed {
         len: lines.len,
         inside: None,
@@ -164,8 +184,8 @@ fn feed_alike<A: Allocator + Clone, B: Allocator + Clone, S: LogStore, C: TimeSo
     })
 }
 
-/// Feeds bytes, as many as go on at once: where no line has begun, whole lines that go to all logs alone; or else bytes
-/// of one line.
+/// Feeds bytes, as many as go on at once: where no line has begun, whole lines that go to all logs alone, or to none; or
+/// else bytes of one line.
 fn feed_some<A: Allocator + Clone, B: Allocator + Clone, S: LogStore, C: TimeSource>(
     router: &mut LineRouter<A>,
     script: &Script<B>,

@@ -12,4 +12,4 @@ mod line_router;
 mod logs;
 mod statuses;
 
-pub use line_router::LineRouter;
+pub use line_router::{LineRouter, Reach};

@@ -1,12 +1,13 @@
 //! Where a line is handed out.
 ghost use Rattle.std.specs.Prelude.{◌≡◌, ◌≤◌, ◌<◌, [], true, false, length, take, count_by, OnOk, IfOk};
-ghost use Rattle.std.specs.List.{list_all};
+ghost use Rattle.std.specs.List.{list_all, list_any};
 ghost use Rattle.mlog_script.specs.Script.{is_log, is_file};
 ghost use Rattle.mlog_script.specs.Selection.{chosen, Fits};
 ghost use Rattle.mlog_line.specs.Given.{nothing, to_first};
 ghost use Rattle.mlog_line.specs.Outputs.{Hands, HandsText};
 ghost use Rattle.mlog_line.specs.LineRouter.{AreOpened, IsAt, IsWritten, IsBare, HaveRoom, Serves, SamePlace};
 ghost use Rattle.mlog_line.specs.LineRouter.{PutsLine, EndsLine, Decides, total_finished, total_removed};
+ghost use Rattle.mlog_line.specs.Reach.{Reaches, logs_in};
 
 use crate::alerts::alert_chosen;
 use crate::logs::{flush_all, open_all, put_all_within, put_chosen, room_in_all};
@@ -25,6 +26,37 @@ fn are_all_set(flags: &[bool]) -> bool
     ensures { result ≡ list_all (λ flag. flag) flags.now }
 {
     flags.iter().all(|is_set| *is_set)
+}
+
+/// Whether a flag is set.
+fn is_any_set(flags: &[bool]) -> bool
+    ensures { result ≡ list_any (λ flag. flag) flags.now }
+{
+    flags.iter().any(|is_set| *is_set)
+}
+
+/// At which logs a line is selected.
+#[derive(Clone, Copy, Debug, PartialEq, Eq)]
+pub enum Reach {
+    /// At all logs.
+    Everywhere,
+    /// At no log.
+    Nowhere,
+    /// At some logs, and not at others.
+    Somewhere,
+}
+
+/// The reach of a line that is selected at these logs.
+fn reach_of(flags: &[bool]) -> Reach
+    ensures { Reaches result flags.now }
+{
+    if are_all_set(flags) {
+        Reach::Everywhere
+    } else if is_any_set(flags) {
+        Reach::Somewhere
+    } else {
+        Reach::Nowhere
+    }
 }
 
 /// Where the lines of an input are handed out to the logs, alerts and status files of a script.
@@ -209,7 +241,7 @@ impl<A: Allocator + Clone> LineRouter<A> {
         self.decide(script, store, label, b"\n")
     }
 
-    /// How many bytes of whole lines [`LineRouter::put_for_all`] takes: none where lines are stamped, alerted or put
+    /// How many bytes of whole lines [`LineRouter::put_alike`] takes: none where lines are stamped, alerted or put
     /// into status files, and else as many as can fill no file of a log, whatever they are, but at most a block.
     pub fn room<B: Allocator + Clone>(&self, script: &Script<B>) -> usize
         ensures bare { 0 < result → IsBare script.now }
@@ -221,31 +253,39 @@ impl<A: Allocator + Clone> LineRouter<A> {
         room_in_all(&self.tails)
     }
 
-    /// Whether a line, which is without its newline, is selected at all logs.
-    pub fn is_for_all<B: Allocator + Clone>(&mut self, script: &Script<B>, line: &[u8]) -> bool
+    /// At which logs a line is selected, which is without its newline.
+    pub fn reach<B: Allocator + Clone>(&mut self, script: &Script<B>, line: &[u8]) -> Reach
         requires { Fits self.old.chosen script.now }
         ensures chosen { self.new.chosen ≡ chosen script.now (take 1000 line.now) }
-        ensures all { result ≡ list_all (λ flag. flag) self.new.chosen.logs }
+        ensures reach { Reaches result self.new.chosen.logs }
         ensures tails { self.new.tails ≡ self.old.tails }
         ensures same { (self.new.front ≡ self.old.front) × (self.new.decided ≡ self.old.decided) }
         ensures fits { Fits self.new.chosen script.now }
     {
         let len = line.len().min(FRONT);
         self.choices.choose(script, &line[..len]);
-        are_all_set(self.choices.logs())
+        reach_of(self.choices.logs())
     }
 
-    /// Puts whole lines that are selected at all logs into all logs, as they are. Up to a block of them may wait.
+    /// Puts whole lines of one reach, as they are: into all logs, or into none. Up to a block of them may wait.
     ///
     /// After a fault the router goes no further.
-    pub fn put_for_all<S: LogStore>(&mut self, store: &mut S, bytes: &[u8]) -> Result<(), LogFault>
+    pub fn put_alike<S: LogStore>(
+        &mut self,
+        store: &mut S,
+        reach: Reach,
+        bytes: &[u8],
+    ) -> Result<(), LogFault>
         requires room { HaveRoom (length bytes.now) self.old.tails }
         requires logs { length self.old.tails ≤ (S.state store.old).logs }
         ensures hands { HandsText result self.old.tails self.new.tails (S.state store.old) (S.state store.new)
-            bytes.now (to_first (length self.old.tails)) }
+            bytes.now (to_first (logs_in reach (length self.old.tails))) }
         ensures same { SamePlace self.old self.new }
     {
-        put_all_within(&mut self.tails, store, bytes)
+        match reach {
+            Reach::Everywhere => put_all_within(&mut self.tails, store, bytes),
+            Reach::Nowhere | Reach::Somewhere => Ok(()),
+        }
     }
 
     /// Appends what waits in memory.

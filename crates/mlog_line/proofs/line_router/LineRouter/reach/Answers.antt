@@ -1,7 +1,7 @@
 use Rattle.std.proofs.Common.{ap, ◌∙◌}
 use Rattle.mlog_script.specs.Selection.{chosen}
 use Rattle.mlog_line.proofs.Alerted.{front_taken}
-use Rattle.mlog_line.proofs.line_router.LineRouter.is_for_all.Goals as goal
+use Rattle.mlog_line.proofs.line_router.LineRouter.reach.Goals as goal
 
 pub returns-clause-chosen : goal.returns-clause-chosen
 returns-clause-chosen g c =
