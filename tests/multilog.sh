@@ -425,4 +425,42 @@ DTOOLS_STOP_FD=3 timeout 20 "$program" multilog ./named <in 3< <(:)
 is 'the end is a stop' '0 9' "$? $(wc -l <named/current)"
 is 'another command has no channel' 1 "$(DTOOLS_STOP_FD=3 timeout 20 "$program" tai64n <in 3< <(:) | wc -l)"
 
+# Stamps: the clock is read once a read, and lines that were read together differ by a nanosecond each; so they rise, also
+# where the clock goes back.
+# nanos LINE: the time of a stamp in nanoseconds of Unix time, and ten seconds
+nanos() {
+  local label=${1:1:24}
+  echo $((16#${label:8:8} * 1000000000 + 16#${label:16:8}))
+}
+# apart FILE FIRST SECOND: how many nanoseconds lie between the stamps of two lines
+apart() {
+  echo $(($(nanos "$(sed -n "$3p" "$1")") - $(nanos "$(sed -n "$2p" "$1")")))
+}
+seq 100000 >in
+ended 'stamps' 0 '' t s16777215 ./times
+is 'stamps: each line has one' 100000 "$(grep -c -E '^@[0-9a-f]{24} [0-9]+$' times/current)"
+is 'stamps: they rise' yes "$(cut -c 1-25 times/current | LC_ALL=C sort -cu 2>/dev/null && echo yes)"
+is 'stamps: lines of one read' 99 "$(apart times/current 1 100)"
+is 'stamps: they are of now' true "$([ $(($(date +%s) + 10 - $(nanos "$(tail -n 1 times/current)") / 1000000000)) -lt 60 ] && echo true)"
+(echo one; sleep 0.3; echo two) | "$program" multilog t ./waited
+is 'stamps: the clock is read anew after a wait' true "$([ "$(apart waited/current 1 2)" -ge 250000000 ] && echo true)"
+exec 9< <(sleep 0.5; printf a; sleep 0.3)
+DTOOLS_STOP_FD=3 timeout 20 "$program" multilog t ./idled 3<&9 9<&- < <(echo line; sleep 2)
+exec 9<&-
+is 'stamps: a rotation has its own time' true \
+  "$([ $(($(nanos "$(basename idled/@*)") - $(nanos "$(cat idled/@*)"))) -ge 250000000 ] && echo true)"
+cat >back.c <<'END'
+#include <time.h>
+static long gone;
+int clock_gettime(clockid_t which, struct timespec *at) {
+  at->tv_sec = 1000000000 - (which == CLOCK_REALTIME ? ++gone : 0);
+  at->tv_nsec = 5;
+  return 0;
+}
+END
+if command -v cc >/dev/null && cc -shared -fPIC -o back.so back.c 2>/dev/null; then
+  (for line in one two three; do echo $line; sleep 0.1; done) | LD_PRELOAD=./back.so "$program" multilog t ./back
+  is 'a clock that goes back: stamps rise' '1 1' "$(apart back/current 1 2) $(apart back/current 2 3)"
+fi
+
 counts multilog

@@ -5,3 +5,4 @@ pub mod Sayings
 pub mod Opening
 pub mod Ends
 pub mod Stop
+pub mod Rising

@@ -1,10 +1,12 @@
 //! The system's own input, and the pipe by which a logger is told to stop or to rotate its logs.
+use crate::line_clock::LineLabels;
 use crate::stop::{Heard, LoggerInput};
 use libc::net::{POLLIN, POLLNVAL, poll};
 use libc::types::pollfd;
 use std::io::{Error, ErrorKind, Read};
 use std::os::unix::fs::FileTypeExt;
 use std::{env, fs, io};
+use tai_status::TimeSource;
 
 /// The environment's variable that has the number of the channel's descriptor.
 const CHANNEL: &str = "DTOOLS_STOP_FD";
@@ -33,11 +35,14 @@ enum Word {
     Nothing,
 }
 
-/// The standard input, and the channel where there is one. It tells contracts nothing.
+/// The standard input, and the channel where there is one. After each read, and where a rotation is heard, the clock is
+/// read for the labels of the lines. It tells contracts nothing.
 #[derive(Drop)]
-pub struct SystemInput<R: Read + Drop> {
+pub struct SystemInput<'l, R: Read + Drop, C: TimeSource + Drop> {
     input: R,
     channel: Option<i32>,
+    clock: C,
+    labels: &'l LineLabels,
 }
 
 /// The descriptor of the pipe that the environment names as the channel, where there is one. It is to be asked before
@@ -95,14 +100,31 @@ fn read_word(channel: i32) -> Word {
     Word::Stop
 }
 
-impl<R: Read + Drop> SystemInput<R> {
-    /// This input, which is descriptor 0, and the channel under this descriptor.
-    pub fn new(input: R, channel: Option<i32>) -> SystemInput<R> {
-        SystemInput { input, channel }
+impl<'l, R: Read + Drop, C: TimeSource + Drop> SystemInput<'l, R, C> {
+    /// This input, which is descriptor 0, the channel under this descriptor, and the labels that go on from readings of
+    /// this clock.
+    pub fn new(
+        input: R,
+        channel: Option<i32>,
+        clock: C,
+        labels: &'l LineLabels,
+    ) -> SystemInput<'l, R, C> {
+        SystemInput {
+            input,
+            channel,
+            clock,
+            labels,
+        }
+    }
+
+    /// Reads the clock for the lines that came.
+    fn renew(&mut self) {
+        let reading = self.clock.now();
+        self.labels.renew(reading);
     }
 }
 
-impl<R: Read + Drop> LoggerInput for SystemInput<R> {
+impl<'l, R: Read + Drop, C: TimeSource + Drop> LoggerInput for SystemInput<'l, R, C> {
     fn wait(&mut self) -> io::Result<Heard> {
         for _ in 0..TRIES {
             let Some(channel) = self.channel else {
@@ -113,7 +135,10 @@ impl<R: Read + Drop> LoggerInput for SystemInput<R> {
                 Ready::Channel => {
                     match read_word(channel) {
                         Word::Stop => return Ok(Heard::Stop),
-                        Word::Rotate => return Ok(Heard::Rotate),
+                        Word::Rotate => {
+                            self.renew();
+                            return Ok(Heard::Rotate);
+                        }
                         Word::Nothing => {}
                     }
                 }
@@ -127,7 +152,10 @@ impl<R: Read + Drop> LoggerInput for SystemInput<R> {
     fn read_once(&mut self, into: &mut [u8]) -> io::Result<usize> {
         for _ in 0..TRIES {
             match self.input.read(into) {
-                Ok(count) => return Ok(count),
+                Ok(count) => {
+                    self.renew();
+                    return Ok(count);
+                }
                 Err(fault) => {
                     if fault.kind() != ErrorKind::Interrupted {
                         return Err(fault);

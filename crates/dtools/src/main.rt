@@ -8,7 +8,9 @@ mod devices;
 use cmd_base::{SystemClock, TROUBLE, report, usage};
 use cmd_envdir::SystemLauncher;
 use cmd_local::{LocalZone, system_zone};
-use cmd_multilog::{FolderStore, Stoppable, SystemInput, SystemLogs, stop_channel};
+use cmd_multilog::{
+    FolderStore, LineClock, LineLabels, Stoppable, SystemInput, SystemLogs, stop_channel,
+};
 use cmd_svc::SystemServices;
 use cmd_svscan::{FolderServices, Request, ServiceSet, SystemHost, handle};
 use cmd_wait::SystemPace;
@@ -22,12 +24,19 @@ use std::sync::Wait;
 use tai_status::{Counted, Output, TimeSource};
 
 fn main(rt: HostRuntime) -> ExitCode {
-    let mut lines = Stoppable::new(SystemInput::new(rt.stdin(), logger_channel(&rt)));
+    let labels = LineLabels::new();
+    let input = SystemInput::new(
+        rt.stdin(),
+        logger_channel(&rt),
+        SystemClock::new(rt),
+        &labels,
+    );
+    let mut lines = Stoppable::new(input);
     let mut devices = Devices {
         reader: Counted::new(rt.stdin()),
         writer: Counted::new(rt.stdout()),
         faults: Counted::new(rt.stderr()),
-        clock: SystemClock::new(rt),
+        clock: LineClock::new(SystemClock::new(rt), &labels),
     };
     let alloc = rt.alloc();
     let mut host: Option<SystemHost<HostRuntime>> = None;

@@ -1,0 +1,64 @@
+//! The clock of a logger, which is read once a read.
+use crate::rising::RisingLabels;
+use std::cell::Cell;
+use tai_status::{Label, TimeSource};
+
+/// The labels of a logger's lines, as its input and its clock share them: the input tells when bytes came or a word was
+/// heard, and the clock gives a label for each line. They tell contracts nothing.
+#[derive(Drop)]
+pub struct LineLabels {
+    labels: Cell<Option<RisingLabels>>,
+}
+
+impl LineLabels {
+    /// No bytes came yet.
+    pub fn new() -> LineLabels {
+        LineLabels {
+            labels: Cell::new(None),
+        }
+    }
+
+    /// Goes on from this reading of the clock.
+    pub(crate) fn renew(&self, reading: Label) {
+        let labels = match self.labels.get() {
+            Some(mut labels) => {
+                labels.renew(reading);
+                labels
+            }
+            None => RisingLabels::new(reading),
+        };
+        self.labels.set(Some(labels));
+    }
+
+    /// The label of the next line, where bytes came.
+    fn give(&self) -> Option<Label> {
+        let mut labels = self.labels.get()?;
+        let label = labels.give();
+        self.labels.set(Some(labels));
+        Some(label)
+    }
+}
+
+/// A clock that a logger's input renews: of lines that were read together each has a label of a nanosecond past the one
+/// before. Where no logger's input was read it is the clock that it stands on.
+#[derive(Drop)]
+pub struct LineClock<'l, C: TimeSource + Drop> {
+    clock: C,
+    labels: &'l LineLabels,
+}
+
+impl<'l, C: TimeSource + Drop> LineClock<'l, C> {
+    /// The clock of the lines that this input reads.
+    pub fn new(clock: C, labels: &'l LineLabels) -> LineClock<'l, C> {
+        LineClock { clock, labels }
+    }
+}
+
+impl<'l, C: TimeSource + Drop> TimeSource for LineClock<'l, C> {
+    fn now(&mut self) -> Label {
+        match self.labels.give() {
+            Some(label) => label,
+            None => self.clock.now(),
+        }
+    }
+}
