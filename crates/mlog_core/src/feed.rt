@@ -175,6 +175,13 @@ fn feed_alike<A: Allocator + Clone, B: Allocator + Clone, S: LogStore, C: TimeSo
     ensures none { IfOk result (λ fed. fed.inside ≡ None) }
 {
     let room = router.room(script).min(bytes.len());
+    if room == 0 {
+        return Ok(Fed {
+            len: 0,
+            inside: None,
+            begun: 0,
+        });
+    }
     let lines = read_alike(router, script, clock, &bytes[..room]);
     router.put_alike(store, lines.reach, &bytes[..lines.len])?;
     Ok(Fed {

@@ -2,6 +2,8 @@ use Rattle.std.proofs.Common.{ap, ◌∙◌, length, arith, rules}
 use Rattle.std.proofs.lemmas.Grind.{common_steps}
 use Rattle.std.proofs.lemmas.Result.{err_from_is_err_and}
 use Rattle.mlog_core.proofs.Alike.{alike_taken, alike_went, alike_stopped, where_none, where_none_stopped}
+use Rattle.mlog_line.proofs.Taking.{Stays-same}
+use Rattle.mlog_core.proofs.Going.{no_bytes}
 use Rattle.mlog_core.proofs.feed.feed_alike.Goals as goal
 
 pub returns-in_err-put_alike-clause-feeds : goal.returns-in_err-put_alike-clause-feeds
@@ -21,6 +23,16 @@ returns-in_err-put_alike-clause-feeds g c =
       serves = search rules;
       stays = hands.stays;
     })
+
+pub returns-then-room-eq0-clause-feeds : goal.returns-then-room-eq0-clause-feeds
+returns-then-room-eq0-clause-feeds g c = record {
+  within = omega arith;
+  begun = omega arith;
+  went = no_bytes c.args.script.now _;
+  stopped = tt;
+  serves = c.requires.serves;
+  stays = Stays-same _;
+}
 
 pub returns-clause-feeds : goal.returns-clause-feeds
 returns-clause-feeds g c =
