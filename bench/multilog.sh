@@ -1,47 +1,144 @@
 #!/usr/bin/env bash
-# Feeds 100 MB to `dtools multilog` over folders on a tmpfs, on one core, and prints MB a second and the peak memory, with
-# `cat > file` beside it. Each line is 98 `a`, a `b` and a newline, so that a pattern `*b` reads it whole. The program is built first: make build.
+# Feeds 100 MB to `dtools multilog` over folders on a tmpfs, on one core, beside the loggers of daemontools, runit and s6, and
+# beside a program that only makes the same system calls and does none of the work (multilog.c). The programs take turns; of
+# five times the best counts. Then: how long one line takes from a pipe to `current`.
+#   multilog.sh [PROGRAM [MEGABYTES [ROW]]]    the rows are those whose names hold ROW
+# Peers that are missing are installed (apt-get) where that can be done, else passed over. Build the program first: make build.
 set -euo pipefail
-cd "$(dirname "$0")/.."
-program=${1:-$PWD/crates/dtools/out/dtools}
+here=$(cd "$(dirname "$0")" && pwd)
+program=$(realpath "${1:-$here/../crates/dtools/out/dtools}")
+megabytes=${2:-100}
+wanted=${3:-}
 [ -x "$program" ] || { echo "build the program first: make build" >&2; exit 1; }
+for peer in multilog:daemontools svlogd:runit s6-log:s6; do
+  command -v "${peer%:*}" >/dev/null ||
+    DEBIAN_FRONTEND=noninteractive apt-get install -y -qq --no-install-recommends "${peer#*:}" >/dev/null 2>&1 ||
+    echo "no ${peer%:*} here: passed over"
+done
 folder=$(mktemp -d -p /dev/shm)
 trap 'rm -rf "$folder"' EXIT
-megabytes=100
-yes "$(head -c 98 /dev/zero | tr '\0' a)b" | head -c "${megabytes}000000" > "$folder/lines" || true
-head -c "${megabytes}000000" /dev/zero | tr '\0' a > "$folder/line"
-core() { if command -v taskset >/dev/null; then taskset -c 0 "$@"; else "$@"; fi; }
+cc -O2 -o "$folder/measure" "$here/multilog.c"
+measure=$folder/measure
+cd "$folder"
+core=()
+if command -v taskset >/dev/null; then core=(taskset -c 0); fi
 
-measure() { # name, input, words..
-  local name=$1 input=$2 begin end peak=0
-  shift 2
-  rm -rf "$folder/log"
-  [ "$name" = "1,000 old files" ] && {
-    mkdir "$folder/log"
-    for i in $(seq 1000); do : > "$folder/log/@$(printf '%024x' "$i").s"; done
-  }
-  begin=$(date +%s%N)
-  core "$program" multilog "$@" < "$input"
-  end=$(date +%s%N)
-  rm -rf "$folder/log"
-  core "$program" multilog "$@" < "$input" &
-  while [ -r /proc/$!/status ] && read -r _ kilobytes _ < <(grep VmHWM /proc/$!/status 2>/dev/null); do
-    [ "${kilobytes:-0}" -gt "$peak" ] && peak=$kilobytes
-  done
-  wait
-  echo "$name: $((megabytes * 1000000000 / (end - begin))) MB a second, $peak KB"
+# Lines of 100 bytes with their newline, 98 of them `a` and then a `b`, so that a pattern `*b` reads each whole; lines of 50;
+# and one line.
+lines_of() { yes "$(head -c $(($1 - 2)) /dev/zero | tr '\0' a)b" 2>/dev/null | head -c "${megabytes}000000"; }
+lines_of 100 >lines || true
+lines_of 50 >short || true
+head -c "${megabytes}000000" /dev/zero | tr '\0' a >line
+# And lines as a program writes them.
+yes '2026-11-26 14:15:52.123 INFO worker 12: request /index.html served in 12 ms with status 200 to 10.0.0.1' 2>/dev/null |
+  head -c "${megabytes}000000" >real || true
+
+# fresh OLDS: an empty log, or one with so many old files
+fresh() {
+  rm -rf log
+  [ "$1" = 0 ] && return
+  mkdir log
+  (cd log && seq 1 "$1" | xargs printf '@4%023x.s\n' | xargs touch)
 }
 
-cd "$folder"
-begin=$(date +%s%N)
-core cat < lines > copy
-end=$(date +%s%N)
-echo "cat: $((megabytes * 1000000000 / (end - begin))) MB a second"
-rm copy
-measure "./log" lines ./log
-measure "t ./log" lines t ./log
-measure "8 patterns, none matches" lines '-*b1' '-*b2' '-*b3' '-*b4' '-*b5' '-*b6' '-*b7' '-*b8' ./log
-measure "8 patterns, one matches" lines '-*' '+*b2' '+*b3' '+*b4' '+*b5' '+*b6' '+*b7' '+*b' ./log
-measure "8 patterns, all match" lines '-*b' '+*b' '-*b' '+*b' '-*b' '+*b' '-*b' '+*b' ./log
-measure "1,000 old files" lines t s4096 n1000 ./log
-measure "one line" line ./log
+# once OLDS INPUT CONFIG PROGRAM WORDS..: nanoseconds and peak memory in KB; svlogd reads its words in the log
+once() {
+  local olds=$1 input=$2 config=$3
+  shift 3
+  fresh "$olds"
+  if [ "$1" = svlogd ]; then
+    mkdir -p log
+    printf %b "$config" >log/config
+  fi
+  "${core[@]}" "$measure" run "$@" <"$input" 2>/dev/null
+}
+
+# row NAME OLDS INPUT LEAST DTOOLS DAEMONTOOLS CONFIG SVLOGD S6: the words of each; `least` takes PER OUT FILE KEEP
+row() {
+  local name=$1 olds=$2 input=$3 config=$7 turn at time memory peak=0
+  [[ $name == *"$wanted"* ]] || return 0
+  local commands=("$measure least $4" "$program multilog $5" "multilog $6" "svlogd $8" "s6-log -- $9") best=(0 0 0 0 0)
+  for turn in 1 2 3 4 5; do
+    for at in 0 1 2 3 4; do
+      # shellcheck disable=SC2086
+      set -f && set -- ${commands[at]} && set +f
+      command -v "$1" >/dev/null || continue
+      read -r time memory < <(once "$olds" "$input" "$config" "$@") || continue
+      if [ "${best[at]}" = 0 ] || [ "$time" -lt "${best[at]}" ]; then best[at]=$time; fi
+      if [ "$at" = 1 ] && [ "$memory" -gt "$peak" ]; then peak=$memory; fi
+    done
+  done
+  awk -v name="$name" -v peak="$peak" -v all="${best[*]}" 'BEGIN {
+    split(all, t, " ")
+    for (i = 3; i <= 5; i++) if (t[i] > 0 && (fastest == 0 || t[i] < fastest)) fastest = t[i]
+    printf "| %s | %.1f | %.1f | %.1f | %.1f | %.2f | %.1f | %.2f | %d |\n", name, t[2] / 1e6, t[3] / 1e6, t[4] / 1e6,
+      t[5] / 1e6, fastest / t[2], t[1] / 1e6, fastest / t[1], peak
+  }'
+}
+
+echo "| $megabytes MB | dtools, ms | daemontools | runit | s6 | fastest peer / dtools | least, ms | fastest peer / least | peak, KB |"
+echo '|---|---|---|---|---|---|---|---|---|'
+sizes='s99999\nn10\n'
+# patterns THEM..: the lines of a config, and as regular expressions that say the same
+config_of() { printf '%s\\n' "$@"; }
+regex_of() {
+  local word
+  for word; do
+    case $word in
+    -\* | +\*) printf '%s ' "${word:0:1}" ;;
+    *\*) word=${word%\*} && printf '%s^[^%s]*%s ' "${word:0:1}" "${word:2:1}" "${word:2}" ;;
+    *) printf '%s^[^b]*%s$ ' "${word:0:1}" "${word:2}" ;;
+    esac
+  done
+}
+# pattern_row NAME INPUT LEAST WORDS..
+pattern_row() {
+  local name=$1 input=$2 least=$3
+  shift 3
+  row "$name" 0 "$input" "$least" "$* ./log" "$* ./log" "$sizes$(config_of "$@")" ./log "$(regex_of "$@")n10 s99999 ./log"
+}
+row './log' 0 lines '1 1 98000 10' ./log ./log "$sizes" ./log 'n10 s99999 ./log'
+row 't ./log' 0 lines '100 126 98028 10' 't ./log' 't ./log' "$sizes" '-t ./log' 'n10 s99999 t ./log'
+selected='1 1 98000 10'
+pattern_row 'one pattern, which matches' lines "$selected" '-*' '+*b'
+pattern_row '8 patterns, none matches' lines "$selected" '-*b1' '-*b2' '-*b3' '-*b4' '-*b5' '-*b6' '-*b7' '-*b8'
+pattern_row '8 patterns, one matches' lines "$selected" '-*' '+*b2' '+*b3' '+*b4' '+*b5' '+*b6' '+*b7' '+*b'
+pattern_row '8 patterns, all match' lines "$selected" '-*b' '+*b' '-*b' '+*b' '-*b' '+*b' '-*b' '+*b'
+pattern_row 'the same, and no line is selected' lines '1 0 0 10' '-*' '+*b1' '+*b2' '+*b3' '+*b4' '+*b5' '+*b6' '+*b7'
+pattern_row '8 words, and no line is selected' real '1 0 0 10' '-*' '+*fatal:*' '+*error:*' '+*panic*' '+*refused*' '+*timeout*' \
+  '+*full*' '+*crash*'
+row 't s4096 n1000, 1,000 old files' 1000 lines '100 126 2142 1000' 't s4096 n1000 ./log' 't s4096 n1000 ./log' \
+  's4096\nn1000\n' '-t ./log' 'n1000 s4096 t ./log'
+row 'one line' 0 line '1 1 99999 10' ./log ./log "$sizes" ./log 'n10 s99999 ./log'
+row 'lines of 50, ./log' 0 short '1 1 98000 10' ./log ./log "$sizes" ./log 'n10 s99999 ./log'
+row 'lines of 50, t ./log' 0 short '50 76 98040 10' 't ./log' 't ./log' "$sizes" '-t ./log' 'n10 s99999 t ./log'
+
+# One line from a pipe to `current`, each once the program rests: the median of 1,000 lines, the best of five.
+[[ pipe == *"$wanted"* ]] || exit 0
+echo
+echo '| one line from a pipe to `current`, microseconds | dtools | daemontools | runit | s6 |'
+echo '|---|---|---|---|---|'
+# waits NAME WORDS.. of each program
+waits() {
+  local name=$1 at turn time best=(0 0 0 0)
+  shift
+  local commands=("$@")
+  for turn in 1 2 3 4 5; do
+    for at in 0 1 2 3; do
+      fresh 0
+      mkdir log
+      : >log/config
+      # shellcheck disable=SC2086
+      set -- ${commands[at]}
+      command -v "$1" >/dev/null || continue
+      time=$("$measure" wait 1000 "$@" 2>/dev/null) || continue
+      if [ "${best[at]}" = 0 ] || [ "$time" -lt "${best[at]}" ]; then best[at]=$time; fi
+    done
+  done
+  awk -v name="$name" -v all="${best[*]}" 'BEGIN {
+    split(all, t, " ")
+    printf "| %s | %.1f | %.1f | %.1f | %.1f |\n", name, t[1] / 1e3, t[2] / 1e3, t[3] / 1e3, t[4] / 1e3
+  }'
+}
+waits './log' "$program multilog ./log" 'multilog ./log' 'svlogd ./log' 's6-log ./log'
+waits 't ./log' "$program multilog t ./log" 'multilog t ./log' 'svlogd -t ./log' 's6-log t ./log'

@@ -419,10 +419,16 @@ is 'a channel that is not open' 0 "$?"
 DTOOLS_STOP_FD=3 timeout 20 "$program" multilog ./named <in 3</dev/null
 is 'a channel that is no pipe' 0 "$?"
 is 'no channel: all is read' 9 "$(wc -l <named/current)"
-DTOOLS_STOP_FD=3 timeout 20 "$program" multilog ./named <in 3< <(printf x)
-is 'a byte is a stop' '0 9' "$? $(wc -l <named/current)"
-DTOOLS_STOP_FD=3 timeout 20 "$program" multilog ./named <in 3< <(:)
-is 'the end is a stop' '0 9' "$? $(wc -l <named/current)"
+# The word stands in the channel before the program begins, which looks at it first.
+printf x >word
+: >end
+for word in word end; do
+  exec 9< <(cat "$word")
+  wait $!
+  DTOOLS_STOP_FD=3 timeout 20 "$program" multilog ./named <in 3<&9 9<&-
+  is "a stop by a byte or the end: $word" '0 9' "$? $(wc -l <named/current)"
+  exec 9<&-
+done
 is 'another command has no channel' 1 "$(DTOOLS_STOP_FD=3 timeout 20 "$program" tai64n <in 3< <(:) | wc -l)"
 
 # Stamps: the clock is read once a read, and lines that were read together differ by a nanosecond each; so they rise, also
