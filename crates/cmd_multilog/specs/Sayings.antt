@@ -3,19 +3,9 @@ use Rattle.std.specs.Prelude.{ℕ, List, [], ◌∷◌, ◌++◌, codes, decimal
 use Rattle.mlog_script.specs.declared.fault.ScriptFaultKind.{ScriptFaultKind}
 use Rattle.mlog_script.specs.declared.fault.ScriptFaultKind.TheVariants as kind
 use Rattle.mlog_script.specs.declared.fault.ScriptFault.{ScriptFault}
+use Rattle.mlog_script.specs.Named.{kind_name}
 use Rattle.mlog_core.specs.declared.stream.RunFault.{RunFault}
 use Rattle.mlog_core.specs.declared.stream.RunFault.TheVariants as fault
-
-abbrev pub kind_name : ScriptFaultKind → List ℕ
-kind_name kind.StampNotFirst = codes "StampNotFirst"
-kind_name kind.SizeRange = codes "SizeRange"
-kind_name kind.CountRange = codes "CountRange"
-kind_name kind.BadNumber = codes "BadNumber"
-kind_name kind.Processor = codes "Processor"
-kind_name kind.UnknownAction = codes "UnknownAction"
-kind_name kind.Pattern = codes "Pattern"
-kind_name kind.SameLogTwice = codes "SameLogTwice"
-kind_name kind.OutOfMemory = codes "OutOfMemory"
 
 -- what is told of a fault of the script
 abbrev pub script_told : ScriptFault → List ℕ

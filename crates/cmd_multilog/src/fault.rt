@@ -1,11 +1,11 @@
 //! Why `multilog` ends early, and what it tells of that.
 ghost use Rattle.std.specs.Prelude.{◌≡◌};
-ghost use Rattle.cmd_multilog.specs.Sayings.{kind_name, run_told, script_told, script_status};
+ghost use Rattle.cmd_multilog.specs.Sayings.{run_told, script_told, script_status};
 
 use arrayvec::ArrayString;
 use cmd_base::{REFUSED, TROUBLE, push_number};
 use mlog_core::RunFault;
-use mlog_script::{ScriptFault, ScriptFaultKind};
+use mlog_script::{ScriptFault, ScriptFaultKind, kind_name};
 
 /// Why the logs and status files of a script are not opened.
 #[derive(Clone, Copy, Debug, PartialEq, Eq)]
@@ -22,23 +22,6 @@ pub enum NoScript {
     Refused(ScriptFault),
     /// There is no memory for the list of the words.
     OutOfMemory,
-}
-
-/// The name of what is wrong with a word.
-fn kind_name(kind: ScriptFaultKind) -> &'static str
-    ensures { result.now ≡ kind_name kind }
-{
-    match kind {
-        ScriptFaultKind::StampNotFirst => "StampNotFirst",
-        ScriptFaultKind::SizeRange => "SizeRange",
-        ScriptFaultKind::CountRange => "CountRange",
-        ScriptFaultKind::BadNumber => "BadNumber",
-        ScriptFaultKind::Processor => "Processor",
-        ScriptFaultKind::UnknownAction => "UnknownAction",
-        ScriptFaultKind::Pattern => "Pattern",
-        ScriptFaultKind::SameLogTwice => "SameLogTwice",
-        ScriptFaultKind::OutOfMemory => "OutOfMemory",
-    }
 }
 
 /// What is told of a fault of the script.

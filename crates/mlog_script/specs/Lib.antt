@@ -1,5 +1,6 @@
 pub mod Action
 pub mod Choices
+pub mod Named
 pub mod Placed
 pub mod Script
 pub mod Selection

@@ -28,6 +28,6 @@ mod script;
 mod word;
 
 pub use choices::Choices;
-pub use fault::{ScriptFault, ScriptFaultKind};
+pub use fault::{ScriptFault, ScriptFaultKind, kind_name};
 pub use plan::LogPlan;
 pub use script::Script;
