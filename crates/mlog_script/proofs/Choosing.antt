@@ -8,15 +8,10 @@ use Rattle.std.proofs.Math.Seq.{take-add}
 use Rattle.std.proofs.lemmas.List.Elements.{filter_map-append}
 use Rattle.std.proofs.lemmas.List.Sums.{sum_by-append}
 use Rattle.mlog_script.specs.Placed.{placed_behind, last_given}
-use Rattle.mlog_script.specs.Script.{Act, Stamp, Alert, Size, Keep, Select, Deselect, Status, Log, is_pattern, is_alert, is_log, is_file}
+use Rattle.mlog_script.specs.Script.{Act, Select, Deselect, is_pattern, is_alert, is_log, is_file}
 use Rattle.mlog_script.specs.Selection.{decision, is_chosen, choice, choices, Chosen, Fits, chosen}
 use Rattle.mlog_script.specs.Choices.{AreAllSet}
 use Rattle.mlog_script.proofs.Placed.{placed_behind-append, given_next, given_then}
-
--- behind one more action
-pub chosen_next : (acts : List Act) (a : Act) (front : List ℕ)
-    → is_chosen (acts ++ a ∷ []) front ≡ unwrap_or (decision front a) (is_chosen acts front)
-chosen_next acts a front = given_next (decision front) acts a true
 
 choice_of : (b chosen : Bool) → cons_option (if b then Some chosen else None) [] ≡ (if b then chosen ∷ [] else [])
 choice_of true chosen = refl
@@ -52,14 +47,6 @@ length-choices test acts front = length_behind test front [] acts
 pub acts_next : {R : Type 0} (f : R → Act) (actions : List R) (k : ℕ) (action : R) → k < length actions → action ≡ get_or actions k action
     → map f (take (k + 1) actions) ≡ map f (take k actions) ++ f action ∷ []
 acts_next f actions k action within is = map_more f actions k action within ∙ ap (λ y. map f (take k actions) ++ f y ∷ []) (sym is)
-
-pub chosen_step : {R : Type 0} (f : R → Act) (actions : List R) (front : List ℕ) (k : ℕ) (action : R) (chosen next : Bool)
-    → k < length actions → action ≡ get_or actions k action → chosen ≡ is_chosen (map f (take k actions)) front
-    → next ≡ unwrap_or (decision front (f action)) chosen
-    → next ≡ is_chosen (map f (take (k + 1) actions)) front
-chosen_step f actions front k action chosen next within is was e =
-    e ∙ ap (λ b. unwrap_or (decision front (f action)) b) was ∙ sym (chosen_next (map f (take k actions)) (f action) front)
-    ∙ ap (λ acts. is_chosen acts front) (sym (acts_next f actions k action within is))
 
 pub flags_step : {R : Type 0} (f : R → Act) (test : Act → Bool) (actions : List R) (front : List ℕ) (k : ℕ) (action : R) (chosen : Bool) (flags more : List Bool)
     → k < length actions → action ≡ get_or actions k action → chosen ≡ is_chosen (map f (take k actions)) front

@@ -1,4 +1,4 @@
-use Rattle.std.proofs.Common.{◌≡◌, ◌-◌, ◌∙◌, sym, ap, map, take, length, Option, Bool}
+use Rattle.std.proofs.Common.{◌-◌, ◌∙◌, sym, ap, map, take, length, Option, Bool}
 use Rattle.std.specs.Prelude.{unwrap_or}
 use Rattle.mlog_script.specs.Placed.{last_given}
 use Rattle.mlog_script.specs.Selection.{decision}
