@@ -2,13 +2,13 @@
  *
  * run PROGRAM ARG..: runs a program over the standard input; prints its nanoseconds and its peak memory in KB.
  *
- * least PER OUT FILE KEEP: only the system calls of `dtools multilog ./log`, and none of its work: of what they hold nothing
- * is looked at. Reads blocks of 32768 bytes, reads the clock once a block, and writes OUT bytes for each PER that came, in
- * pieces of at most 32768, into log/current; where FILE is more than 0, each FILE bytes become an old file, of which there
- * are KEEP - 1: fsync, lstat, rename, close, open, and unlink of the oldest.
+ * least PER OUT FILE KEEP: only the system calls of `dtools multilog ./log`, and none of its work: of what they hold
+ * nothing is looked at. Reads blocks of 32768 bytes, reads the clock once a block, and writes OUT bytes for each PER that
+ * came, in pieces of at most 32768, into log/current; where FILE is more than 0, each FILE bytes become an old file, of
+ * which there are KEEP - 1: fsync, lstat, rename, close, open, and unlink of the oldest.
  *
- * wait COUNT PROGRAM ARG..: runs a program over a pipe, puts COUNT lines into it, each once the program rests, and prints
- * the median of the nanoseconds until the line stands in log/current. */
+ * wait COUNT PROGRAM ARG..: runs a program over a pipe, puts COUNT lines into it, each once the program rests, and
+ * prints the median of the nanoseconds until the line stands in log/current. */
 #define _GNU_SOURCE
 #include <fcntl.h>
 #include <stdio.h>

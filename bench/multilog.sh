@@ -1,9 +1,10 @@
 #!/usr/bin/env bash
-# Feeds 100 MB to `dtools multilog` over folders on a tmpfs, on one core, beside the loggers of daemontools, runit and s6, and
-# beside a program that only makes the same system calls and does none of the work (multilog.c). The programs take turns; of
-# five times the best counts. Then: how long one line takes from a pipe to `current`.
+# Feeds 100 MB to `dtools multilog` over folders on a tmpfs, on one core, beside the loggers of daemontools, runit and s6,
+# and beside a program that only makes the same system calls and does none of the work (multilog.c). The programs take
+# turns; of five times the best counts. Then: how long one line takes from a pipe to `current`.
 #   multilog.sh [PROGRAM [MEGABYTES [ROW]]]    the rows are those whose names hold ROW
-# Peers that are missing are installed (apt-get) where that can be done, else passed over. Build the program first: make build.
+# Peers that are missing are installed (apt-get) where that can be done, else passed over. Build the program first: make
+# build.
 set -euo pipefail
 here=$(cd "$(dirname "$0")" && pwd)
 program=$(realpath "${1:-$here/../crates/dtools/out/dtools}")
@@ -23,8 +24,8 @@ cd "$folder"
 core=()
 if command -v taskset >/dev/null; then core=(taskset -c 0); fi
 
-# Lines of 100 bytes with their newline, 98 of them `a` and then a `b`, so that a pattern `*b` reads each whole; lines of 50;
-# and one line.
+# Lines of 100 bytes with their newline, 98 of them `a` and then a `b`, so that a pattern `*b` reads each whole; lines of
+# 50; and one line.
 lines_of() { yes "$(head -c $(($1 - 2)) /dev/zero | tr '\0' a)b" 2>/dev/null | head -c "${megabytes}000000"; }
 lines_of 100 >lines || true
 lines_of 50 >short || true

@@ -10,7 +10,7 @@ pub fn what_a_stop_gives()
     ensures runs { RunsToALine }
 {}
 
-/// The labels that a logger gives its lines rise up to the greatest label of all, whatever the clock gives between them.
+/// The labels that a logger gives its lines rise up to the greatest label of all, whatever the clock gives between.
 pub fn labels_rise()
     ensures { LabelsRise }
 {}

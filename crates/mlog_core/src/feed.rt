@@ -107,8 +107,8 @@ pub struct Lines {
     pub reach: Reach,
 }
 
-/// Whether a line goes on some lines of one reach: it goes to all logs or to none, and where there are lines already, so
-/// do they.
+/// Whether a line goes on some lines of one reach: it goes to all logs or to none, and where there are lines already,
+/// so do they.
 fn goes_on(lines: &Lines, next: Reach) -> bool
     ensures { result ≡ true → GoesOn lines.now next }
 {
@@ -118,8 +118,8 @@ fn goes_on(lines: &Lines, next: Reach) -> bool
     }
 }
 
-/// The whole lines at the front of some bytes that are selected at all logs, or those that are selected at none. The clock
-/// is read for each.
+/// The whole lines at the front of some bytes that are selected at all logs, or those that are selected at none. The
+/// clock is read for each.
 fn read_alike<A: Allocator + Clone, B: Allocator + Clone, C: TimeSource>(
     router: &mut LineRouter<A>,
     script: &Script<B>,
@@ -191,8 +191,8 @@ fn feed_alike<A: Allocator + Clone, B: Allocator + Clone, S: LogStore, C: TimeSo
     })
 }
 
-/// Feeds bytes, as many as go on at once: where no line has begun, whole lines that go to all logs alone, or to none; or
-/// else bytes of one line.
+/// Feeds bytes, as many as go on at once: where no line has begun, whole lines that go to all logs alone, or to none;
+/// or else bytes of one line.
 fn feed_some<A: Allocator + Clone, B: Allocator + Clone, S: LogStore, C: TimeSource>(
     router: &mut LineRouter<A>,
     script: &Script<B>,

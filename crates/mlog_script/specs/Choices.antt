@@ -5,4 +5,5 @@ use Rattle.std.specs.List.{list_all}
 -- All flags are set: of the alerts, the logs and the status files.
 abbrev pub AreAllSet : (alerts logs files : List Bool) → Type 0
 AreAllSet alerts logs files =
-    (list_all (λ flag. flag) alerts ≡ true) × (list_all (λ flag. flag) logs ≡ true) × (list_all (λ flag. flag) files ≡ true)
+    (list_all (λ flag. flag) alerts ≡ true) × (list_all (λ flag. flag) logs ≡ true)
+    × (list_all (λ flag. flag) files ≡ true)

@@ -57,8 +57,8 @@ impl<A: Allocator + Clone> Choices<A> {
 
     /// Decides where a line with this front is selected: at each action as the last `-` or `+` before it says, whose
     /// pattern matches the front, or else it is. Patterns see at most the first 1000 bytes of a line: it is they that
-    /// are given, without the newline, and behind a stamp where the script has one. It takes no memory. Where no pattern
-    /// decides nothing is asked: each line is selected everywhere.
+    /// are given, without the newline, and behind a stamp where the script has one. It takes no memory. Where no
+    /// pattern decides nothing is asked: each line is selected everywhere.
     pub fn choose<B: Allocator + Clone>(&mut self, script: &Script<B>, front: &[u8])
         requires { Fits self.old script.now }
         ensures chosen { self.new ≡ chosen script.now front.now }
@@ -158,8 +158,8 @@ fn is_chosen_behind<B: Allocator + Clone>(actions: &[Action<B>], front: &[u8], b
     before
 }
 
-/// Notes for each action at which lines go out whether a line with this front is selected there. So each pattern is asked
-/// once at most.
+/// Notes for each action at which lines go out whether a line with this front is selected there. So each pattern is
+/// asked once at most.
 fn mark<A: Allocator + Clone, B: Allocator + Clone>(
     actions: &[Action<B>],
     front: &[u8],
