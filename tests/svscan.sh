@@ -444,6 +444,8 @@ END
   soon 'one round: d was sent' 5 wants d d/web
   soon 'one round: x was sent' 5 ends ', want down, exiting' d/web
   so 'one round: svscan waits' lives "$svscan"
+  soon 'one round: that is told' 8 holds "^svscan: web: process $(process d/web) still runs$" told
+  soon 'one round: and again' 8 has_lines 2 told
   svc -k d/web
   soon 'one round: k ends both' 4 not lives "$svscan"
   is 'one round: down' 0 "$(process d/web)"
@@ -852,7 +854,7 @@ END
   is 'nothing else was told' '' "$(grep -v -e '^svscan: renamed: unable to lock$' -e '^svscan: unable to list$' told)"
 }
 
-# Two svscans over one folder, and two links to one service.
+# Two svscans over the same services, and two links to one service.
 twice() {
   mkdir d
   sleeper real
@@ -870,12 +872,15 @@ twice() {
   local before told
   before="$(process real) $(process d/pair) $(process d/pair/log)"
   told=$(count told)
+  mkdir other
+  ln -s ../real other/one
+  ln -s ../d/pair other/pair
   ended 'a second svscan' 0 "svscan: one: unable to lock
 svscan: pair: unable to lock
 svscan: pair/log: unable to lock
 svscan: one: unable to lock
 svscan: pair: unable to lock
-svscan: pair/log: unable to lock" d 2
+svscan: pair/log: unable to lock" other 2
   is 'the first is as it was' "$before" "$(process real) $(process d/pair) $(process d/pair/log)"
   is 'started once' '1 1 1' "$(count real/starts) $(count d/pair/starts) $(count d/pair/log/starts)"
   is 'still served' '0 0 0' "$(for name in one pair pair/log; do is_served d/$name; echo $?; done | paste -sd ' ')"
@@ -1118,8 +1123,10 @@ END
     ended "usage: $words" 100 'dtools: usage' $words
   done
   ended 'usage: an empty number' 100 'dtools: usage' d ''
-  ended 'no such folder' 0 'svscan: unable to list' "$room/nonexistent" 1
-  ended 'no folder' 0 'svscan: unable to list' d/web/run 1
+  ended 'no such folder' 0 'svscan: .svscan: unable to supervise
+svscan: unable to list' "$room/nonexistent" 1
+  ended 'no folder' 0 'svscan: .svscan: unable to supervise
+svscan: unable to list' d/web/run 1
   cd d || return
   start ../told.inside
   cd ..
@@ -1222,6 +1229,223 @@ untaken() {
   soon 'a trace is told' 15 holds '^svscan: other: unable to write the trace$' told
   soon 'it begins anew' 10 is_served d/other
   sleep 6
+  is 'each is told once' 2 "$(count told)"
+}
+
+# svscan is served itself: its own status, a round on demand, bytes that ask for nothing.
+own() {
+  sleeper d/web
+  # It is told each round.
+  sleeper d/file
+  echo 'no folder' >d/file/supervise
+  start told d
+  soon 'up' 5 is_settled d/web
+  is 'svok' 0 "$(is_served d/.svscan; echo $?)"
+  is 'svstat' "d/.svscan: up (pid $svscan) N seconds" "$(stat_line d/.svscan)"
+  is 'modes' '700 600 600 600 600' "$(cd d/.svscan/supervise && stat -c %a . control ok status lock | paste -sd ' ')"
+  soon 'a second round' 8 has_lines 2 told
+  python3 ../say.py d/.svscan/supervise/control 'udopchit12k' wait:1 'z*500' wait:1 'b*4096'
+  is 'bytes that ask for nothing' '2 yes' "$(count told) $(lives "$svscan" && echo yes)"
+  sleeper d/new
+  svc -a d/.svscan
+  soon 'a: a round' 1 has_lines 3 told
+  soon 'a: what is new is served' 1 is_served d/new
+  local begin=$EPOCHREALTIME
+  python3 ../say.py d/.svscan/supervise/control aa
+  soon 'a: again' 1 has_lines 5 told
+  lies 'a: tenths of a second' 0 30 $(((${EPOCHREALTIME/[.,]/} - ${begin/[.,]/}) / 100000))
+  local web
+  web=$(process d/web)
+  python3 ../say.py d/.svscan/supervise/control xq
+  soon 'x before q: svscan ends' 5 is_gone "$svscan"
+  so 'x before q: the service is gone' not lives "$web"
+  is 'its record says so' '0 1 5' "$(process d/.svscan) $(phase d/.svscan)"
+  is 'no socket is left' 0 "$(sockets d)"
+  start told2 d
+  soon 'up again' 5 is_settled d/web
+  web=$(process d/web)
+  python3 ../say.py d/.svscan/supervise/control qx
+  soon 'q before x: svscan ends' 5 is_gone "$svscan"
+  so 'q before x: the service runs on' lives "$web"
+}
+
+# The names, times, sizes and modes of all that is in a folder.
+listing() { find "$1" -printf '%p %i %T@ %C@ %s %m %y\n' | sort; }
+
+# A second svscan over a folder is refused, and changes nothing there.
+refused() {
+  sleeper d/web
+  sleeper d/pair
+  logger d/pair/log
+  start told d
+  soon 'up' 5 all_are is_settled d/web d/pair d/pair/log
+  sleep 6
+  listing d >before
+  ended 'a second svscan' 111 'svscan: unable to lock d' d
+  ended 'a second svscan, of one round' 111 'svscan: unable to lock d' d 1
+  cd d || return
+  timeout -k 1 30 "$program" svscan >../inside.out 2>../inside.told </dev/null
+  is 'in the folder itself: status' 111 "$?"
+  cd ..
+  is 'in the folder itself: told' 'svscan: unable to lock .' "$(cat inside.told)"
+  listing d >after
+  is 'nothing is changed' '' "$(diff before after)"
+  is 'the first tells nothing of it' '' "$(cat told)"
+  kill -KILL "$svscan"
+  soon 'svscan is dead' 3 is_gone "$svscan"
+  start told2 d
+  soon 'the next one is served' 5 is_served d/.svscan
+  # Where its folder can't be made, it runs without.
+  sleeper e/web
+  echo 'no folder' >e/.svscan
+  start told3 e
+  soon 'without its own folder: up' 5 is_settled e/web
+  sleep 6
+  is 'without its own folder: told once' 'svscan: .svscan: unable to supervise' "$(cat told3)"
+}
+
+# It says its last words after TERM, for 0.3 seconds.
+speaker() {
+  service "$1" <<'END'
+trap 'sleep 0.3; echo last words; exit' TERM
+echo $$ >>starts
+while :; do sleep 0.05; done
+END
+}
+
+# What services say while all end is logged: where svscan is told to end, and where its rounds are over.
+last_words() {
+  speaker d/web
+  logger d/web/log
+  # A descendant keeps its output.
+  service d/keeps <<'END'
+sleep 900 &
+trap 'sleep 0.3; echo last words; exit' TERM
+echo $$ >>starts
+while :; do sleep 0.05; done
+END
+  logger d/keeps/log
+  speaker d/alone
+  # Its logger ends by itself, and not by TERM, though that takes a second.
+  speaker d/slow
+  service d/slow/log <<'END'
+echo $$ >>starts
+trap 'echo TERM >>signals; exit' TERM
+while read -r line; do echo "$line" >>lines; done
+sleep 1
+echo done >>lines
+END
+  # One that does not end by itself gets TERM after five seconds.
+  speaker d/never
+  service d/never/log <<'END'
+echo $$ >>starts
+trap 'echo TERM >>signals; exit' TERM
+while read -r line; do echo "$line" >>lines; done
+while :; do sleep 0.1; done
+END
+  local all=(d/web d/web/log d/keeps d/keeps/log d/alone d/slow d/slow/log d/never d/never/log) name begin
+  set -m
+  "$program" svscan d </dev/null >out 2>told &
+  local job=$!
+  set +m
+  echo "$job" >>"$room/$scenario.groups"
+  soon 'up' 8 all_are is_settled "${all[@]}"
+  svc -dx d/.svscan
+  begin=$EPOCHREALTIME
+  wait "$job"
+  is 'x: status' 0 "$?"
+  lies 'x: tenths of a second' 50 90 $(((${EPOCHREALTIME/[.,]/} - ${begin/[.,]/}) / 100000))
+  for name in web keeps; do
+    is "x: $name" 'last words' "$(tail -n 1 d/$name/log/main/current)"
+  done
+  is 'x: slow' 'last words done ' "$(paste -sd ' ' d/slow/log/lines) $(cat d/slow/log/signals 2>/dev/null)"
+  is 'x: never' 'last words TERM' "$(paste -sd ' ' d/never/log/lines) $(cat d/never/log/signals)"
+  is 'x: each was started once' "$(printf '1 %.0s' "${all[@]}")" "$(for name in "${all[@]}"; do printf '%s ' "$(count "$name/starts")"; done)"
+  is 'x: no process is left' '' "$(for name in "${all[@]}"; do living "$name"; done)"
+  is 'x: what still ran is told' 'never/log' "$(sed -n 's/^svscan: \(.*\): process [0-9]* still runs$/\1/p' told | sort -u | paste -sd ' ')"
+  is 'x: no socket is left' 0 "$(sockets d)"
+  rm -r d/never d/slow d/keeps
+  timeout -k 1 40 "$program" svscan d 2 >out 2>told2 </dev/null
+  is 'two rounds: status' 0 "$?"
+  is 'two rounds: last words' 2 "$(grep -c '^last words$' d/web/log/main/current)"
+  is 'two rounds: told' '' "$(cat told2)"
+}
+
+# svscan is told to end alone, and the next one goes on: nothing is lost, and no process is another.
+upgraded() {
+  service d/flow <<'END'
+echo $$ >>starts
+i=0
+while [ $i -lt 60000 ]; do
+  i=$((i + 1))
+  echo "line $((100000000 + i)) of the stream"
+  [ $((i % 100)) = 0 ] && sleep 0.01
+done
+exec sleep 1000
+END
+  logger d/flow/log
+  sleeper d/web
+  start_session told d
+  soon 'up' 8 all_are is_settled d/flow d/flow/log d/web
+  local kept begin
+  kept="$(process d/flow) $(process d/web)"
+  for _ in 1 2 3 4 5; do
+    sleep "0.$((RANDOM % 9))"
+    svc -q d/.svscan
+    soon 'q: svscan ends' 8 is_gone "$svscan"
+    so 'q: the service runs on' live "$(process d/flow)" "$(process d/web)"
+    start_session told d
+    soon 'the next one' 8 is_served d/flow/log
+  done
+  soon 'its last line is logged' 40 holds 'line 100060000 of the stream' d/flow/log/main/current
+  seq -f 'line %.0f of the stream' 100000001 100060000 >wanted
+  is 'no line is lost, doubled or moved' same "$(cat d/flow/log/main/* 2>/dev/null | grep -a '^line' | cmp wanted - 2>&1 && echo same)"
+  is 'the same processes' "$kept" "$(process d/flow) $(process d/web)"
+  is 'nothing was told' '' "$(cat told)"
+}
+
+# A logger that doesn't read as svscan leaves: what it can't have is told, to the byte.
+unread() {
+  local name
+  for name in paused down; do
+    service d/$name <<'END'
+echo $$ >>starts
+i=0
+while [ $i -lt 8000 ]; do i=$((i + 1)); echo "line $((100000000 + i)) of the stream"; done
+: >done
+exec sleep 1000
+END
+    service d/$name/log <<'END'
+echo $$ >>starts
+exec cat >>main
+END
+    : >d/$name/down
+  done
+  start_session told d
+  soon 'up' 8 all_are is_settled d/paused/log d/down/log
+  svc -p d/paused/log
+  svc -d d/down/log
+  soon 'down' 5 is_put_down d/down/log
+  svc -u d/paused d/down
+  soon 'both have processes' 5 all_are is_settled d/paused d/down
+  # The outputs are full.
+  sleep 2
+  so 'they wait' test ! -e d/paused/done -a ! -e d/down/done
+  local cat
+  cat=$(process d/paused/log)
+  svc -q d/.svscan
+  soon 'q: svscan ends' 12 is_gone "$svscan"
+  kill -CONT "$cat"
+  soon 'the logger reads on, and ends' 5 not lives "$cat"
+  start_session told2 d
+  soon 'the next one' 8 all_are is_served d/paused/log d/down/log
+  svc -u d/down/log
+  for name in paused down; do
+    soon "$name: all is written" 10 test -e d/$name/done
+    soon "$name: its last line is logged" 10 holds 'line 100008000 of the stream' d/$name/log/main
+    is "$name: what is not logged is told" $((8000 * 29)) \
+      $(($(stat -c %s d/$name/log/main) + $(sed -n "s/^svscan: $name: \\([0-9]*\\) bytes were not logged\$/\\1/p" told) + 0))
+  done
   is 'each is told once' 2 "$(count told)"
 }
 
@@ -1425,7 +1649,7 @@ many() {
   under=()
   is 'the last one is refused' 'svscan: s1001: TooMany' "$(cat told)"
   is 'sockets' 0 "$(sockets d)"
-  is 'records' 1000 "$(find d -name status -size 20c | wc -l)"
+  is 'records' 1001 "$(find d -name status -size 20c | wc -l)"
 }
 
 # play SCENARIO: in a folder of its own
@@ -1468,7 +1692,7 @@ play_all() {
 }
 
 scenarios=(life modes_kept exits endings no_run links stubborn killed_service killed_svscan killed_early unwritten new_boot other_user earlier_record changes twice names silent
-  connections no_supervise rounds untaken ordered first_process two_services child begins_anew shortage)
+  connections no_supervise rounds untaken own refused last_words upgraded unread ordered first_process two_services child begins_anew shortage)
 # These keep every processor busy, and have the machine for themselves.
 crowds=(killed_logger late_logger last_entries given_back many)
 shift

@@ -5,10 +5,12 @@ use Rattle.cmd_svscan.specs.declared.folder_services.Request.TheVariants as requ
 use Rattle.cmd_svscan.specs.declared.folder_services.Reply.{Reply}
 use Rattle.cmd_svscan.specs.declared.folder_services.Reply.TheVariants as reply
 
--- Rows to a listing, what came of a round to a round, and nothing more to the others.
+-- To each request the reply of its kind.
 abbrev pub IsReplyTo : Request → Reply → Type 0
 IsReplyTo (request.List folder) (reply.Rows rows) = ⊤
 IsReplyTo (request.Round folder rows) (reply.Round out) = ⊤
-IsReplyTo request.Rest reply.Done = ⊤
-IsReplyTo request.Finish reply.Done = ⊤
+IsReplyTo (request.Begin folder) (reply.Begun begun) = ⊤
+IsReplyTo request.Hear (reply.Heard byte) = ⊤
+IsReplyTo request.End (reply.Ended left) = ⊤
+IsReplyTo request.Leave (reply.Left unlogged) = ⊤
 IsReplyTo request reply = ⊥

@@ -1,16 +1,23 @@
 -- What svscan does, as a list of rounds (cr.yp.to/daemontools/svscan.html).
 use Rattle.std.specs.Prelude.{◌≡◌, ⊤, ℕ, ◌+◌, ◌≤◌, ◌⊎◌, Bool, true, false, List, [], ◌∷◌, ◌++◌, map, length, flat_map}
-use Rattle.std.specs.Prelude.{codes, decimal, All, Option, Some, IfSome, Ok, Err}
+use Rattle.std.specs.Prelude.{codes, decimal, All, Option, None, Some, IfSome, Ok, Err}
 use Rattle.tai_status.specs.Counted.{Device, Tells}
 use Rattle.scan_table.specs.Slots.{Row}
 use Rattle.scan_table.specs.declared.fault.ScanFault.{ScanFault}
 use Rattle.scan_table.specs.declared.fault.ScanFault.TheVariants.{Unsorted, Twice, Exhausted, OutOfMemory}
 use Rattle.cmd_base.specs.Told.{usage_text}
+use Rattle.cmd_svscan.specs.declared.orders.Order.{Order}
+use Rattle.cmd_svscan.specs.declared.orders.Order.TheVariants as order
+use Rattle.cmd_svscan.specs.declared.service_set.Begun.{Begun}
+use Rattle.cmd_svscan.specs.declared.service_set.Begun.TheVariants.{Served, Unserved, Locked}
 use Rattle.cmd_svscan.specs.declared.service_set.ListFault.{ListFault}
 use Rattle.cmd_svscan.specs.declared.service_set.ListFault.TheVariants as list
+use Rattle.cmd_svscan.specs.declared.service_set.Remaining.{Remaining}
 use Rattle.cmd_svscan.specs.declared.service_set.RoundOut.{RoundOut}
+use Rattle.cmd_svscan.specs.declared.service_set.Unlogged.{Unlogged}
 use Rattle.cmd_svscan.specs.declared.service_set.Untaken.{Untaken}
-use Rattle.cmd_svscan.specs.Calls.{Call, Listed, Scanned, Rested, Finished}
+use Rattle.cmd_svscan.specs.Calls.{Call, Began, Listed, Scanned, Heard, Ended, Left}
+use Rattle.cmd_svscan.specs.Orders.{Rest, Decides}
 use Rattle.tai_status.specs.Extended.{Extended}
 use Rattle.cmd_svscan.specs.Words.{Asks, AskNothing}
 
@@ -109,22 +116,122 @@ pub record Makes (folder : List ℕ) (round : Round) (old new : Effects) : Type 
 abbrev pub TakesRound : (folder : List ℕ) (on : Bool) (old new : Effects) → Type 0
 TakesRound folder on old new = (round : Round) × Answers on round × Makes folder round old new
 
--- How it ends with its last round, of so many in all: with status 0 after as many as were asked for; or with status
--- 111, where that round doesn't go on.
-abbrev pub EndsBy : (limit : Option ℕ) (count : ℕ) (last : Round) (status : ℕ) → Type 0
-EndsBy limit count last status =
+-- A round, and the rest behind it.
+pub record Turn : Type 0 where
+  pub round : Round
+  pub rest : Rest
+
+-- After it comes a further round.
+abbrev pub IsFollowed : Turn → Type 0
+IsFollowed turn = GoesOn turn.round × Decides turn.rest order.Round
+
+abbrev pub calls_of_rest : Rest → List Call
+calls_of_rest rest = map (λ byte. Heard (Some byte)) rest.passed ++ Heard rest.last ∷ []
+
+abbrev pub calls_of_turn : (folder : List ℕ) → Turn → List Call
+calls_of_turn folder turn = calls_of folder turn.round ++ calls_of_rest turn.rest
+
+abbrev pub lines_of_turn : Turn → List (List ℕ)
+lines_of_turn turn = lines_of turn.round
+
+-- The end
+
+-- a process of this number still runs
+abbrev pub still_runs : ℕ → List ℕ
+still_runs pid = codes ": process " ++ (decimal pid ++ (codes " still runs" ++ 10 ∷ []))
+
+abbrev pub remaining_told : Remaining → List ℕ
+remaining_told remaining = name_told (still_runs remaining.pid) remaining.name
+
+-- so many bytes were not logged
+abbrev pub not_logged : ℕ → List ℕ
+not_logged count = codes ": " ++ (decimal count ++ (codes " bytes were not logged" ++ 10 ∷ []))
+
+abbrev pub unlogged_told : Unlogged → List ℕ
+unlogged_told unlogged = name_told (not_logged unlogged.count) unlogged.name
+
+-- How a run closes behind its last round: all services are ended, and meanwhile these still ran each five seconds; or that
+-- was asked for in a rest; or svscan's own end was. In the end it leaves the services, and these bytes were not logged.
+pub data Close : Type 0 where
+  Ends : (left : List (List Remaining)) → (unlogged : List Unlogged) → Close
+  EndsAsTold : (rest : Rest) → (left : List (List Remaining)) → (unlogged : List Unlogged) → Close
+  LeavesAsTold : (rest : Rest) → (unlogged : List Unlogged) → Close
+
+abbrev pub calls_of_end : List (List Remaining) → List Unlogged → List Call
+calls_of_end left unlogged = map (λ some. Ended (Some some)) left ++ Ended None ∷ Left unlogged ∷ []
+
+abbrev pub calls_of_close : Close → List Call
+calls_of_close (Ends left unlogged) = calls_of_end left unlogged
+calls_of_close (EndsAsTold rest left unlogged) = calls_of_rest rest ++ calls_of_end left unlogged
+calls_of_close (LeavesAsTold rest unlogged) = calls_of_rest rest ++ Left unlogged ∷ []
+
+abbrev pub lines_of_end : List (List Remaining) → List Unlogged → List (List ℕ)
+lines_of_end left unlogged = flat_map (map remaining_told) left ++ map unlogged_told unlogged
+
+abbrev pub lines_of_close : Close → List (List ℕ)
+lines_of_close (Ends left unlogged) = lines_of_end left unlogged
+lines_of_close (EndsAsTold rest left unlogged) = lines_of_end left unlogged
+lines_of_close (LeavesAsTold rest unlogged) = map unlogged_told unlogged
+
+-- A rest was taken, after which this is next.
+pub record Rests (order : Order) (old new : Option (List Call)) : Type 0 where
+  pub rest : Rest
+  pub decides : Decides rest order
+  pub calls : Extended old new (calls_of_rest rest)
+
+-- The services were left.
+pub record Leaves (old new : Effects) : Type 0 where
+  pub unlogged : List Unlogged
+  pub calls : Extended old.calls new.calls (Left unlogged ∷ [])
+  pub told : TellsAll (map unlogged_told unlogged) old.faults new.faults
+
+-- All services ended, and then they were left.
+pub record EndsAll (old new : Effects) : Type 0 where
+  pub left : List (List Remaining)
+  pub unlogged : List Unlogged
+  pub calls : Extended old.calls new.calls (calls_of_end left unlogged)
+  pub told : TellsAll (lines_of_end left unlogged) old.faults new.faults
+
+-- How it ends with its last round, of so many in all: with status 0 after as many as were asked for, or as it was told in
+-- the rest behind it; or with status 111, where that round doesn't go on.
+abbrev pub EndsBy : (limit : Option ℕ) (count : ℕ) (last : Round) (close : Close) (status : ℕ) → Type 0
+EndsBy limit count last (Ends left unlogged) status =
     ((status ≡ 0) × GoesOn last × (limit ≡ Some count))
     ⊎ ((status ≡ 111) × (GoesOn last → ⊥) × IfSome limit (λ rounds. count ≤ rounds))
+EndsBy limit count last (EndsAsTold rest left unlogged) status =
+    (status ≡ 0) × GoesOn last × Decides rest order.End
+EndsBy limit count last (LeavesAsTold rest unlogged) status =
+    (status ≡ 0) × GoesOn last × Decides rest order.Leave
 
--- Rounds that go on, each followed by a rest, and then the last one, after which all services are ended, once.
+-- Rounds that go on, each followed by a rest, and then the last one and the close.
 pub record Runs (folder : List ℕ) (limit : Option ℕ) (status : ℕ) (old new : Effects) : Type 0 where
-  pub rounds : List Round
+  pub turns : List Turn
   pub last : Round
-  pub go_on : All GoesOn rounds
+  pub close : Close
+  pub followed : All IsFollowed turns
   pub calls : Extended old.calls new.calls
-      (flat_map (λ round. calls_of folder round ++ Rested ∷ []) rounds ++ (calls_of folder last ++ Finished ∷ []))
-  pub told : TellsAll (flat_map lines_of rounds ++ lines_of last) old.faults new.faults
-  pub ends : EndsBy limit (length rounds + 1) last status
+      (flat_map (calls_of_turn folder) turns ++ (calls_of folder last ++ calls_of_close close))
+  pub told : TellsAll (flat_map lines_of_turn turns ++ (lines_of last ++ lines_of_close close)) old.faults new.faults
+  pub ends : EndsBy limit (length turns + 1) last close status
+
+-- What is told where svscan is to be served in a folder.
+abbrev pub lines_of_begun : (folder : List ℕ) → Begun → List (List ℕ)
+lines_of_begun folder Served = []
+lines_of_begun folder Unserved = (codes "svscan: .svscan: unable to supervise" ++ 10 ∷ []) ∷ []
+lines_of_begun folder Locked = (codes "svscan: unable to lock " ++ (folder ++ 10 ∷ [])) ∷ []
+
+-- It runs, unless another svscan has the folder.
+abbrev pub RunsUnlessLocked : Begun → (folder : List ℕ) (limit : Option ℕ) (status : ℕ) (old new : Effects) → Type 0
+RunsUnlessLocked Locked folder limit status old new = (status ≡ 111) × (new ≡ old)
+RunsUnlessLocked begun folder limit status old new = Runs folder limit status old new
+
+-- It begins, and runs.
+pub record BeginsAndRuns (folder : List ℕ) (limit : Option ℕ) (status : ℕ) (old new : Effects) : Type 0 where
+  pub begun : Begun
+  pub middle : Effects
+  pub calls : Extended old.calls middle.calls (Began folder begun ∷ [])
+  pub told : TellsAll (lines_of_begun folder begun) old.faults middle.faults
+  pub runs : RunsUnlessLocked begun folder limit status middle new
 
 -- Words that ask for nothing: the usage is told, and nothing is asked of the system.
 pub record RefusesWords (words : List (List ℕ)) (status : ℕ) (old new : Effects) : Type 0 where
@@ -138,7 +245,7 @@ pub record RunsWords (words : List (List ℕ)) (status : ℕ) (old new : Effects
   pub folder : List ℕ
   pub limit : Option ℕ
   pub asks : Asks words folder limit
-  pub runs : Runs folder limit status old new
+  pub runs : BeginsAndRuns folder limit status old new
 
 abbrev pub SvscanEnds : (words : List (List ℕ)) (status : ℕ) (old new : Effects) → Type 0
 SvscanEnds words status old new = RefusesWords words status old new ⊎ RunsWords words status old new

@@ -4,24 +4,29 @@ ghost use Rattle.cmd_svscan.specs.Listing.{needed};
 ghost use Rattle.cmd_svscan.specs.Requests.{IsReplyTo};
 
 use crate::listing::{list_names, list_rows};
-use crate::service_set::{ListFault, RoundOut, ServiceSet, Untaken};
+use crate::service_set::{Begun, ListFault, Remaining, RoundOut, ServiceSet, Unlogged, Untaken};
 use cmd_base::SystemClock;
-use scan_table::{DirRow, PartId, ScanFault};
+use scan_table::{DirRow, PartId, Role, ScanFault};
 use std::alloc::{AllocError, Global};
 use std::fs::Files;
-use std::io;
 use std::net::Net;
 use std::process::{Processes, SystemProcess};
 use std::sync::Wait;
 use std::thread::Threads;
 use std::time::{Clock, Duration};
+use std::{io, process, thread};
 use svc_door::Door;
 use svc_host::{Host, Maker};
-use svc_maker::{FolderHolder, FolderMaker, SystemParts, part_name};
-use tai_status::{Name, Names, TimeSource};
+use svc_house::{Inbox, MailInbox};
+use svc_maker::{FolderHolder, FolderMaker, OwnFault, SystemParts, part_name};
+use svc_world::FolderFault;
+use tai_status::{Full, Name, Names, Phase, TimeSource, View, Want, encode_full};
 
-/// How long it rests between two rounds, in seconds.
+/// How long it rests between two rounds, in seconds, and how long one look at the end of all services takes.
 const REST_SECONDS: u64 = 5;
+
+/// How many milliseconds it rests between two steps of the end.
+const STEP_MILLIS: u64 = 20;
 
 /// How many control bytes wait for a service at most, and how many pieces of its output for its logger.
 const MAIL: usize = 64;
@@ -32,25 +37,35 @@ const TRACE: usize = 256;
 /// What the services of a folder are asked for.
 #[derive(Drop)]
 pub enum Request {
+    /// That svscan itself is served in a folder.
+    Begin(String),
     /// The rows of a folder.
     List(String),
     /// One round over these rows of a folder.
     Round { folder: String, rows: Vec<DirRow> },
-    /// Five seconds of rest.
-    Rest,
+    /// The next control byte of svscan's own, before the next round is due.
+    Hear,
     /// The end of all services.
-    Finish,
+    End,
+    /// That the services are left.
+    Leave,
 }
 
 /// What came of a request: each has a reply of its kind (specs/Requests).
 #[derive(Drop)]
 pub enum Reply {
+    /// To `Begin`.
+    Begun(Begun),
     /// To `List`.
     Rows(Result<Vec<DirRow>, ListFault>),
     /// To `Round`.
     Round(Result<RoundOut, ScanFault>),
-    /// To `Rest` and `Finish`.
-    Done,
+    /// To `Hear`.
+    Heard(Option<u8>),
+    /// To `End`.
+    Ended(Option<Vec<Remaining>>),
+    /// To `Leave`.
+    Left(Vec<Unlogged>),
 }
 
 /// Those of some names of which a scan needs rows: all but those of the services of which every part runs.
@@ -72,20 +87,21 @@ fn needed<M: Maker + Drop, R: Threads + Wait + Clock + Copy + Drop + Send + 'sta
 }
 
 /// The rows of a folder of which a scan has need, after the threads of what ended are joined: what ends from now on is
-/// the next round's. The traces of what runs are kept once a round.
-fn list<S: Files, M: Maker + Drop, R: Threads + Wait + Clock + Copy + Drop + Send + 'static>(
-    files: &S,
+/// the next round's. The traces of what runs are kept once a round. A rest may begin.
+fn list<R: Files + Threads + Wait + Clock + Copy + Drop + Send + 'static, M: Maker + Drop>(
+    rt: &R,
     alloc: Global,
-    host: &mut Option<Host<M, R>>,
+    running: &mut Option<Running<M, R>>,
     folder: &str,
 ) -> Result<Vec<DirRow>, ListFault> {
-    let Some(host) = host else {
-        return list_rows(files, alloc, folder, list_names(files, alloc, folder)?);
+    let Some(running) = running else {
+        return list_rows(rt, alloc, folder, list_names(rt, alloc, folder)?);
     };
-    host.collect();
-    host.keep_traces();
-    match needed(alloc, host, list_names(files, alloc, folder)?) {
-        Ok(names) => list_rows(files, alloc, folder, names),
+    running.rests_since = rt.monotonic().ok();
+    running.host.collect();
+    running.host.keep_traces();
+    match needed(alloc, &running.host, list_names(rt, alloc, folder)?) {
+        Ok(names) => list_rows(rt, alloc, folder, names),
         Err(AllocError) => Err(ListFault::OutOfMemory),
     }
 }
@@ -151,17 +167,30 @@ fn failed_names<M: Maker + Drop, R: Threads + Wait + Clock + Copy + Drop + Send 
     Names::from_vec(names)
 }
 
-/// One scan of the rows of a folder, and what parts lost that ended before.
+/// One scan of the rows of a folder, and what parts lost that ended before. Then a rest begins.
 fn round<M: FolderHolder + Drop, R: Threads + Wait + Clock + Copy + Drop + Send + 'static>(
     rt: R,
     alloc: Global,
-    host: &mut Option<Host<M, R>>,
+    running: &mut Option<Running<M, R>>,
     folder: &str,
     rows: &[DirRow],
 ) -> Result<RoundOut, ScanFault> {
-    let Some(host) = host else {
+    let Some(running) = running else {
         return Err(ScanFault::OutOfMemory);
     };
+    let out = scan(rt, alloc, &mut running.host, folder, rows);
+    running.rests_since = rt.monotonic().ok();
+    out
+}
+
+/// One scan of the rows of a folder, and what parts lost that ended before.
+fn scan<M: FolderHolder + Drop, R: Threads + Wait + Clock + Copy + Drop + Send + 'static>(
+    rt: R,
+    alloc: Global,
+    host: &mut Host<M, R>,
+    folder: &str,
+    rows: &[DirRow],
+) -> Result<RoundOut, ScanFault> {
     // Before the scan, since that gives the slots of what ended, and with them the names, to other services.
     let Ok((untaken, untraced)) = take_losses(rt, alloc, host) else {
         return Err(ScanFault::OutOfMemory);
@@ -191,31 +220,148 @@ fn left(clock: &impl Clock, begin: Duration) -> Option<Duration> {
     if left.is_zero() { None } else { Some(left) }
 }
 
-/// Rests, and sees to each part that ends meanwhile. What ends with the rest is the next round's.
-fn rest<M: Maker + Drop, R: Threads + Wait + Clock + Copy + Drop + Send + 'static>(
+/// Rests until a byte comes or the rest is over that began then, and sees to each part that ends meanwhile. What ends
+/// with the rest is the next round's.
+fn hear<M: Maker + Drop, R: Threads + Wait + Clock + Copy + Drop + Send + 'static>(
     rt: R,
-    host: &mut Option<Host<M, R>>,
-) {
-    let Some(host) = host else {
-        return;
-    };
-    let Ok(begin) = rt.monotonic() else {
-        host.rest(Duration::from_secs(REST_SECONDS));
-        return;
+    running: &mut Running<M, R>,
+) -> Option<u8> {
+    let Some(begin) = running.rests_since else {
+        running.host.rest(Duration::from_secs(REST_SECONDS));
+        return next_byte(&rt, &mut running.inbox);
     };
     for _ in rt.forever() {
-        let Some(longest) = left(&rt, begin) else {
-            return;
-        };
-        host.rest(longest);
+        let longest = left(&rt, begin)?;
+        if let Some(byte) = next_byte(&rt, &mut running.inbox) {
+            return Some(byte);
+        }
+        running.host.rest(longest);
         if left(&rt, begin).is_some() {
-            host.collect();
+            running.host.collect();
         }
     }
+    unreachable!()
 }
 
-/// The host of the services of this system.
-pub type SystemHost<R> = Host<FolderMaker<SystemParts<R>>, R>;
+/// The next control byte of svscan's own, where there is one.
+fn next_byte<R: Wait>(rt: &R, inbox: &mut Option<MailInbox>) -> Option<u8> {
+    inbox.as_mut()?.take(rt)
+}
+
+/// The processes of parts that run: as many as there is memory for.
+fn remaining<M: Maker + Drop, R: Threads + Wait + Clock + Copy + Drop + Send + 'static>(
+    alloc: Global,
+    host: &mut Host<M, R>,
+) -> Result<Vec<Remaining>, AllocError> {
+    let mut all = Vec::new(alloc);
+    for part in host.running_parts()? {
+        if let Some(view) = host.status(part) {
+            if view.pid > 0 {
+                all.push(Remaining {
+                    name: name_of(alloc, host, part)?,
+                    pid: view.pid,
+                })?;
+            }
+        }
+    }
+    Ok(all)
+}
+
+/// Goes on with the end of all services, for five seconds at most. None: all have ended.
+fn end<M: Maker + Drop, R: Threads + Wait + Clock + Copy + Drop + Send + 'static>(
+    rt: R,
+    alloc: Global,
+    host: &mut Host<M, R>,
+) -> Option<Vec<Remaining>> {
+    let begin = rt.monotonic().ok();
+    for _ in rt.forever() {
+        if host.end_services() == 0 {
+            return None;
+        }
+        host.rest(Duration::from_millis(STEP_MILLIS));
+        if left(&rt, begin.unwrap_or(Duration::ZERO)).is_none() {
+            break;
+        }
+    }
+    Some(remaining(alloc, host).unwrap_or(Vec::new(alloc)))
+}
+
+/// What did not reach the loggers, by services: as much as there is memory for.
+fn unlogged<M: Maker + Drop, R: Threads + Wait + Clock + Copy + Drop + Send + 'static>(
+    rt: R,
+    alloc: Global,
+    host: &mut Host<M, R>,
+) -> Vec<Unlogged> {
+    let mut all = Vec::new(alloc);
+    for _ in rt.forever() {
+        let Some((slot, count)) = host.take_lost() else {
+            break;
+        };
+        if count == 0 {
+            continue;
+        }
+        let part = PartId {
+            slot,
+            role: Role::Main,
+            life: 0,
+        };
+        if let Ok(name) = name_of(alloc, host, part) {
+            if all.push(Unlogged { name, count }).is_err() {
+                break;
+            }
+        }
+    }
+    all
+}
+
+/// The services are left, once what was read of their outputs is with their loggers, or five seconds are over.
+fn leave<M: FolderHolder + Drop, R: Threads + Wait + Clock + Copy + Drop + Send + 'static>(
+    rt: R,
+    alloc: Global,
+    host: &mut Host<M, R>,
+) -> Vec<Unlogged> {
+    let begin = rt.monotonic().ok();
+    for _ in rt.forever() {
+        if host.end_outputs() || left(&rt, begin.unwrap_or(Duration::ZERO)).is_none() {
+            break;
+        }
+        host.rest(Duration::from_millis(STEP_MILLIS));
+    }
+    let all = unlogged(rt, alloc, host);
+    host.collect();
+    host.keep_traces();
+    let record = own_record(rt, 0);
+    host.ask_maker(|maker| maker.leave_own(&record));
+    all
+}
+
+/// The status record of svscan itself, whose process has this number; 0: which is gone.
+fn own_record<R: Clock + Drop>(rt: R, pid: u32) -> [u8; 20] {
+    let view = View {
+        label: SystemClock::new(rt).now(),
+        pid,
+        paused: false,
+        want: Want::Up,
+    };
+    let (phase, exiting) = if pid > 0 {
+        (Phase::Up, false)
+    } else {
+        (Phase::Gone, true)
+    };
+    encode_full(&Full::new(view, phase, exiting).unwrap())
+}
+
+/// The services of this system that run: their host, and where svscan's own control bytes come.
+#[derive(Drop)]
+pub struct Running<M: Maker + Drop, R: Threads + Wait + Clock + Copy + Drop + Send + 'static> {
+    host: Host<M, R>,
+    inbox: Option<MailInbox>,
+    // When the last round was over, by the running clock.
+    rests_since: Option<Duration>,
+}
+
+/// The services of this system that run.
+pub type SystemHost<R> = Running<FolderMaker<SystemParts<R>>, R>;
 
 /// Opens the door of this system's services, and makes their host.
 fn open_host<R>(rt: R, files: HostRuntime, alloc: Global) -> io::Result<SystemHost<R>>
@@ -225,16 +371,110 @@ where
 {
     let door = Door::open(&rt, alloc)?;
     let system = SystemParts::new(rt, files, alloc, door)?;
-    let host = Host::new(rt, alloc, FolderMaker::new(alloc, system), MAIL, TRACE)?;
-    Ok(host)
+    Ok(Running {
+        host: Host::new(rt, alloc, FolderMaker::new(alloc, system), MAIL, TRACE)?,
+        inbox: None,
+        rests_since: None,
+    })
 }
 
-/// Does what is requested. The host is made at the first round.
+/// Has svscan itself served in a folder.
+fn begin<M: FolderHolder + Drop, R: Threads + Wait + Clock + Copy + Drop + Send + 'static>(
+    rt: R,
+    files: HostRuntime,
+    alloc: Global,
+    running: &mut Running<M, R>,
+    folder: &str,
+) -> Begun {
+    let Ok(path) = format!(in alloc; "{folder}/.svscan") else {
+        return Begun::Unserved;
+    };
+    let Some((sender, inbox)) = running.host.own_mailbox(MAIL) else {
+        return Begun::Unserved;
+    };
+    let record = own_record(rt, process::id(files.process()));
+    let served = running
+        .host
+        .ask_maker(|maker| maker.serve_own(path, &record, sender));
+    match served {
+        Ok(()) => {
+            running.inbox = Some(inbox);
+            Begun::Served
+        }
+        Err(OwnFault::Unopened(FolderFault::Locked)) => Begun::Locked,
+        Err(_) => Begun::Unserved,
+    }
+}
+
+/// Makes the host, where there is none and it can be made.
+fn open<R>(rt: R, files: HostRuntime, alloc: Global, running: &mut Option<SystemHost<R>>)
+where
+    R: Files + Net + Processes<Started = SystemProcess>,
+    R: Threads + Wait + Clock + Copy + Send + Sync + Drop + 'static,
+{
+    if running.is_none() {
+        *running = open_host(rt, files, alloc).ok();
+    }
+}
+
+/// Has svscan itself served in a folder, where there is a host.
+fn try_begin<M: FolderHolder + Drop, R: Threads + Wait + Clock + Copy + Drop + Send + 'static>(
+    rt: R,
+    files: HostRuntime,
+    alloc: Global,
+    running: &mut Option<Running<M, R>>,
+    folder: &str,
+) -> Begun {
+    match running {
+        Some(running) => begin(rt, files, alloc, running, folder),
+        None => Begun::Unserved,
+    }
+}
+
+/// The next control byte of svscan's own, or none once the next round is due.
+fn hear_or_sleep<M: Maker + Drop, R: Threads + Wait + Clock + Copy + Drop + Send + 'static>(
+    rt: R,
+    running: &mut Option<Running<M, R>>,
+) -> Option<u8> {
+    match running {
+        Some(running) => hear(rt, running),
+        None => {
+            thread::sleep(&rt, Duration::from_secs(REST_SECONDS));
+            None
+        }
+    }
+}
+
+/// Goes on with the end of all services, where there is a host.
+fn try_end<M: Maker + Drop, R: Threads + Wait + Clock + Copy + Drop + Send + 'static>(
+    rt: R,
+    alloc: Global,
+    running: &mut Option<Running<M, R>>,
+) -> Option<Vec<Remaining>> {
+    match running {
+        Some(running) => end(rt, alloc, &mut running.host),
+        None => None,
+    }
+}
+
+/// The services are left, where there is a host.
+fn try_leave<M: FolderHolder + Drop, R: Threads + Wait + Clock + Copy + Drop + Send + 'static>(
+    rt: R,
+    alloc: Global,
+    running: &mut Option<Running<M, R>>,
+) -> Vec<Unlogged> {
+    match running {
+        Some(running) => leave(rt, alloc, &mut running.host),
+        None => Vec::new(alloc),
+    }
+}
+
+/// Does what is requested. The host is made at the beginning, or where that fails at the first round for which it can be.
 pub fn handle<R>(
     rt: R,
     files: HostRuntime,
     alloc: Global,
-    host: &mut Option<SystemHost<R>>,
+    running: &mut Option<SystemHost<R>>,
     request: Request,
 ) -> Reply
 where
@@ -243,23 +483,18 @@ where
     ensures { IsReplyTo request result }
 {
     match request {
-        Request::List(folder) => Reply::Rows(list(&rt, alloc, host, folder.as_str())),
+        Request::Begin(folder) => {
+            open(rt, files, alloc, running);
+            Reply::Begun(try_begin(rt, files, alloc, running, folder.as_str()))
+        }
+        Request::List(folder) => Reply::Rows(list(&rt, alloc, running, folder.as_str())),
         Request::Round { folder, rows } => {
-            if host.is_none() {
-                *host = open_host(rt, files, alloc).ok();
-            }
-            Reply::Round(round(rt, alloc, host, folder.as_str(), &rows))
+            open(rt, files, alloc, running);
+            Reply::Round(round(rt, alloc, running, folder.as_str(), &rows))
         }
-        Request::Rest => {
-            rest(rt, host);
-            Reply::Done
-        }
-        Request::Finish => {
-            if let Some(host) = host.take() {
-                host.finish();
-            }
-            Reply::Done
-        }
+        Request::Hear => Reply::Heard(hear_or_sleep(rt, running)),
+        Request::End => Reply::Ended(try_end(rt, alloc, running)),
+        Request::Leave => Reply::Left(try_leave(rt, alloc, running)),
     }
 }
 
@@ -285,13 +520,23 @@ impl<F: FnMut(Request) -> Reply + Drop> FolderServices<F> {
 impl<F: FnMut(Request) -> Reply + Drop> ServiceSet for FolderServices<F> {
     ghost ready = { λ services. F.IsAlwaysCallable services.handle };
 
+    fn begin(&mut self, folder: &str) -> Begun {
+        let Ok(folder) = String::from_str(self.alloc, folder) else {
+            return Begun::Unserved;
+        };
+        match (self.handle)(Request::Begin(folder)) {
+            Reply::Begun(begun) => begun,
+            _ => Begun::Unserved,
+        }
+    }
+
     fn list(&mut self, folder: &str) -> Result<Vec<DirRow>, ListFault> {
         let Ok(folder) = String::from_str(self.alloc, folder) else {
             return Err(ListFault::OutOfMemory);
         };
         match (self.handle)(Request::List(folder)) {
             Reply::Rows(rows) => rows,
-            Reply::Round(_) | Reply::Done => Err(ListFault::Unlisted),
+            _ => Err(ListFault::Unlisted),
         }
     }
 
@@ -301,15 +546,28 @@ impl<F: FnMut(Request) -> Reply + Drop> ServiceSet for FolderServices<F> {
         };
         match (self.handle)(Request::Round { folder, rows }) {
             Reply::Round(out) => out,
-            Reply::Rows(_) | Reply::Done => Err(ScanFault::OutOfMemory),
+            _ => Err(ScanFault::OutOfMemory),
         }
     }
 
-    fn rest(&mut self) {
-        drop((self.handle)(Request::Rest));
+    fn hear(&mut self) -> Option<u8> {
+        match (self.handle)(Request::Hear) {
+            Reply::Heard(byte) => byte,
+            _ => None,
+        }
     }
 
-    fn finish(&mut self) {
-        drop((self.handle)(Request::Finish));
+    fn end(&mut self) -> Option<Vec<Remaining>> {
+        match (self.handle)(Request::End) {
+            Reply::Ended(left) => left,
+            _ => None,
+        }
+    }
+
+    fn leave(&mut self) -> Vec<Unlogged> {
+        match (self.handle)(Request::Leave) {
+            Reply::Left(unlogged) => unlogged,
+            _ => Vec::new(self.alloc),
+        }
     }
 }

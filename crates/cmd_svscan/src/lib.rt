@@ -9,6 +9,7 @@
 
 mod folder_services;
 mod listing;
+mod orders;
 mod rounds;
 mod rows;
 mod service_set;
@@ -16,6 +17,7 @@ mod words;
 
 pub use folder_services::{FolderServices, Reply, Request, SystemHost, handle};
 pub use listing::{list_names, list_rows};
+pub use orders::Order;
 pub use rounds::run_svscan;
 pub use rows::{Entry, Folder, rows_of};
-pub use service_set::{ListFault, RoundOut, ServiceSet};
+pub use service_set::{Begun, ListFault, Remaining, RoundOut, ServiceSet, Unlogged};

@@ -1,12 +1,13 @@
 //! The command `svscan`.
 ghost use Rattle.std.specs.Prelude.{◌≡◌, ◌<◌, ◌++◌, ◌∷◌, [], ℕ, map, true, false, IfSome};
 ghost use Rattle.tai_status.specs.Counted.{Tells};
-ghost use Rattle.cmd_svscan.specs.Calls.{Finished};
 ghost use Rattle.tai_status.specs.Extended.{Extended};
 ghost use Rattle.cmd_svscan.specs.Rounds.{effects, kind_name, name_told, not_taken, unlisted, untaken_told, lines_of_out};
-ghost use Rattle.cmd_svscan.specs.Rounds.{Runs, SvscanEnds, TakesRound, TellsAll};
+ghost use Rattle.cmd_svscan.specs.Rounds.{lines_of_begun, not_logged, remaining_told, still_runs, unlogged_told};
+ghost use Rattle.cmd_svscan.specs.Rounds.{BeginsAndRuns, EndsAll, Leaves, Rests, Runs, SvscanEnds, TakesRound, TellsAll};
 
-use crate::service_set::{ListFault, RoundOut, ServiceSet, Untaken};
+use crate::orders::{Order, order_of};
+use crate::service_set::{Begun, ListFault, Remaining, RoundOut, ServiceSet, Unlogged, Untaken};
 use crate::words::read_words;
 use arrayvec::ArrayString;
 use cmd_base::{DONE, TROUBLE, print_fault, push_number, report, report_parts, usage};
@@ -113,7 +114,100 @@ fn take_round<K: ServiceSet, E: Write>(
     }
 }
 
-/// Rounds, a rest between each two, and then the end of all services.
+/// What is told of a process that still runs, behind its part's name.
+fn still_runs(pid: u32) -> ArrayString<64>
+    ensures { result.bytes ≡ still_runs pid }
+{
+    let mut text = ArrayString::new();
+    text.push_str(": process ");
+    push_number(&mut text, u64::from(pid));
+    text.push_str(" still runs\n");
+    text
+}
+
+/// Reports processes that still run, a line for each.
+fn report_remaining<E: Write>(all: &[Remaining], faults: &mut Output<E>)
+    ensures { TellsAll (map remaining_told all.now) faults.old faults.new }
+{
+    for remaining in all {
+        let text = still_runs(remaining.pid);
+        let name = remaining.name.as_str();
+        report_parts(faults, b"svscan: ", name.as_bytes(), text.as_bytes(), DONE);
+    }
+}
+
+/// What is told of so many bytes that were not logged, behind a service's name.
+fn not_logged(count: u64) -> ArrayString<64>
+    ensures { result.bytes ≡ not_logged count }
+{
+    let mut text = ArrayString::new();
+    text.push_str(": ");
+    push_number(&mut text, count);
+    text.push_str(" bytes were not logged\n");
+    text
+}
+
+/// Reports bytes that were not logged, a line for each service.
+fn report_unlogged<E: Write>(all: &[Unlogged], faults: &mut Output<E>)
+    ensures { TellsAll (map unlogged_told all.now) faults.old faults.new }
+{
+    for unlogged in all {
+        let text = not_logged(unlogged.count);
+        let name = unlogged.name.as_str();
+        report_parts(faults, b"svscan: ", name.as_bytes(), text.as_bytes(), DONE);
+    }
+}
+
+/// Rests until something is next.
+fn rest<R: Wait, K: ServiceSet>(rt: &R, services: &mut K) -> Order
+    requires ready { K.ready services.old }
+    ensures ready { K.ready services.new }
+    ensures rests { Rests result (K.calls services.old) (K.calls services.new) }
+{
+    for _ in rt.forever() {
+        match services.hear() {
+            Some(byte) => {
+                if let Some(order) = order_of(byte) {
+                    return order;
+                }
+            }
+            None => return Order::Round,
+        }
+    }
+    unreachable!()
+}
+
+/// The services are left, and what was not logged is told.
+fn leave<K: ServiceSet, E: Write>(services: &mut K, faults: &mut Output<E>)
+    requires ready { K.ready services.old }
+    ensures ready { K.ready services.new }
+    ensures leaves { Leaves
+        (effects (K.calls services.old) faults.old) (effects (K.calls services.new) faults.new) }
+{
+    let unlogged = services.leave();
+    report_unlogged(&unlogged, faults);
+}
+
+/// All services end, in order. What still runs is told each five seconds, and in the end what was not logged.
+fn end_all<R: Wait, K: ServiceSet, E: Write>(rt: &R, services: &mut K, faults: &mut Output<E>)
+    requires ready { K.ready services.old }
+    ensures ready { K.ready services.new }
+    ensures ends { EndsAll
+        (effects (K.calls services.old) faults.old) (effects (K.calls services.new) faults.new) }
+{
+    for _ in rt.forever() {
+        match services.end() {
+            Some(left) => report_remaining(&left, faults),
+            None => {
+                leave(services, faults);
+                return;
+            }
+        }
+    }
+    unreachable!()
+}
+
+/// Rounds, a rest between each two, and then the end of all services, or svscan's own.
 fn take_rounds<R: Wait, K: ServiceSet, E: Write>(
     rt: &R,
     services: &mut K,
@@ -129,33 +223,88 @@ fn take_rounds<R: Wait, K: ServiceSet, E: Write>(
     let mut left = rounds;
     for _ in rt.forever() {
         if !take_round(services, folder, faults) {
-            services.finish();
+            end_all(rt, services, faults);
             return TROUBLE;
         }
         if let Some(number) = left {
             if number == 1 {
-                services.finish();
+                end_all(rt, services, faults);
                 return DONE;
             }
             left = Some(number - 1);
         }
-        services.rest();
+        match rest(rt, services) {
+            Order::Round => {}
+            Order::End => {
+                end_all(rt, services, faults);
+                return DONE;
+            }
+            Order::Leave => {
+                leave(services, faults);
+                return DONE;
+            }
+        }
     }
     unreachable!()
 }
 
+/// Tells whether svscan itself is served in a folder.
+fn report_begun<E: Write>(folder: &str, begun: Begun, faults: &mut Output<E>)
+    ensures { TellsAll (lines_of_begun folder.now begun) faults.old faults.new }
+{
+    match begun {
+        Begun::Served => {}
+        Begun::Unserved => print_fault(faults, b"svscan: .svscan: unable to supervise\n"),
+        Begun::Locked => {
+            report_parts(
+                faults,
+                b"svscan: unable to lock ",
+                folder.as_bytes(),
+                b"\n",
+                DONE,
+            );
+        }
+    }
+}
+
+/// svscan is served in the folder, and makes its rounds, unless another svscan has the folder.
+fn begin_and_run<R: Wait, K: ServiceSet, E: Write>(
+    rt: &R,
+    services: &mut K,
+    folder: &str,
+    rounds: Option<u32>,
+    faults: &mut Output<E>,
+) -> u8
+    requires ready { K.ready services.old }
+    requires some { IfSome rounds (λ number. 0 < number) }
+    ensures { BeginsAndRuns folder.now rounds result
+        (effects (K.calls services.old) faults.old) (effects (K.calls services.new) faults.new) }
+{
+    let begun = services.begin(folder);
+    report_begun(folder, begun, faults);
+    match begun {
+        Begun::Locked => TROUBLE,
+        Begun::Served | Begun::Unserved => take_rounds(rt, services, folder, rounds, faults),
+    }
+}
+
 /// The command `svscan [DIR [N]]`: keeps the services of DIR, or of the folder that it is in, running
 /// (<https://cr.yp.to/daemontools/svscan.html>). Each round lists the folder and scans its rows; five seconds lie
-/// between two rounds. With N, which is 1 to 4294967295 without leading zeros, it ends after N rounds; else it doesn't
-/// come back, unless by a fault. In the end it ends all services.
+/// between two rounds. It is served itself, in the folder `.svscan` there, and of its control bytes `a` asks for a round
+/// now, `x` for the end of all services, in order, and `q` for its own end, at which the services run on; the first of
+/// these two counts. With N, which is 1 to 4294967295 without leading zeros, it ends all services after N rounds; else it
+/// doesn't come back, unless by these two or a fault.
 ///
-/// Told on `faults`: `svscan: unable to list`, where the folder or a name in it can't be read, and `svscan: OutOfMemory`
-/// of want of memory: the round does nothing more, and the next one tries again; `svscan: NAME: N bytes were not taken`
-/// of control bytes that came to a service which ended without them, and `svscan: NAME: unable to write the trace` of one
-/// whose last trace is not whole; `svscan: NAME: TooMany` of each name that gets no service, `svscan: NAME: unable to
-/// lock` of each that another svscan has, and `svscan: NAME: unable to supervise` of each other one that a round could
-/// not begin; `svscan: KIND` of another fault of the scan, which ends it. Answers the status: 0; 111 after such an end;
-/// 100 for wrong words: then nothing is asked of the system.
+/// Told on `faults`: `svscan: unable to lock DIR`, where another svscan has the folder; `svscan: .svscan: unable to
+/// supervise`, where it can't be served itself; `svscan: unable to list`, where the folder or a name in it can't be read,
+/// and `svscan: OutOfMemory` of want of memory: the round does nothing more, and the next one tries again; `svscan: NAME:
+/// N bytes were not taken` of control bytes that came to a service which ended without them, and `svscan: NAME: unable to
+/// write the trace` of one whose last trace is not whole; `svscan: NAME: TooMany` of each name that gets no service,
+/// `svscan: NAME: unable to lock` of each that another svscan has, and `svscan: NAME: unable to supervise` of each other
+/// one that a round could not begin; `svscan: KIND` of another fault of the scan, which ends all services; `svscan: NAME:
+/// process PID still runs`, each five seconds, of what does not end; `svscan: NAME: N bytes were not logged`, of lines that
+/// did not reach their logger. Answers the status: 0; 111 after such a fault, and where another svscan has the folder; 100
+/// for wrong words: then nothing is asked of the system.
 pub fn run_svscan<R: Wait, K: ServiceSet, E: Write>(
     rt: &R,
     services: &mut K,
@@ -167,7 +316,7 @@ pub fn run_svscan<R: Wait, K: ServiceSet, E: Write>(
         (effects (K.calls services.new) faults.new) }
 {
     match read_words(words) {
-        Some(options) => take_rounds(rt, services, options.folder, options.rounds, faults),
+        Some(options) => begin_and_run(rt, services, options.folder, options.rounds, faults),
         None => usage(faults),
     }
 }

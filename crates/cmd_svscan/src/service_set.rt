@@ -36,17 +36,53 @@ pub struct RoundOut {
     pub failed: Names,
 }
 
+/// Whether svscan itself is served in a folder.
+#[derive(Clone, Copy, Debug, PartialEq, Eq)]
+pub enum Begun {
+    /// It is, and no other svscan will be.
+    Served,
+    /// It is not, since its own folder can't be made there.
+    Unserved,
+    /// Another svscan is.
+    Locked,
+}
+
+/// A process that still runs, where all services are to end.
+#[derive(Drop)]
+pub struct Remaining {
+    /// The part: the name of its service, for a logger with `/log` behind it.
+    pub name: Name,
+    /// Its number.
+    pub pid: u32,
+}
+
+/// Bytes of a service's output that did not reach its logger.
+#[derive(Drop)]
+pub struct Unlogged {
+    /// The name of the service.
+    pub name: Name,
+    /// How many there are.
+    pub count: u64,
+}
+
 /// The services of a folder, which it keeps running. Contracts see which calls were made and what came of them, where
 /// it keeps that.
 pub trait ServiceSet {
-    ghost use Rattle.std.specs.Prelude.{◌∷◌, [], ⊤, Option, None, List, Ok, Err, IfOk, IfErr};
-    ghost use Rattle.cmd_svscan.specs.Calls.{Call, Listed, Scanned, Rested, Finished};
+    ghost use Rattle.std.specs.Prelude.{◌∷◌, [], ⊤, Option, None, List, Ok, Err, IfOk, IfErr, option_map};
+    ghost use Rattle.cmd_svscan.specs.Calls.{Call, Began, Listed, Scanned, Heard, Ended, Left};
     ghost use Rattle.tai_status.specs.Extended.{Extended};
 
     ghost calls: { Self → Option (List Call) } = { λ _. None };
 
     // Whether it may be called.
     ghost ready: { Self → Type 0 } = { λ _. ⊤ };
+
+    /// Before the first round: svscan itself is served in the folder, or is not. Nothing is changed there where another
+    /// svscan is.
+    fn begin(&mut self, folder: &str) -> Begun
+        requires { ready self.old }
+        ensures ready { ready self.new }
+        ensures began { Extended (calls self.old) (calls self.new) (Began folder.now result ∷ []) };
 
     /// The rows of a folder, in the byte order of their names. It may leave out services of which every part runs: the
     /// round after it does the same without.
@@ -64,15 +100,23 @@ pub trait ServiceSet {
         ensures ready { ready self.new }
         ensures scanned { Extended (calls self.old) (calls self.new) (Scanned folder.now rows.items result ∷ []) };
 
-    /// Five seconds of rest.
-    fn rest(&mut self)
+    /// The next control byte of svscan's own, or none once the next round is due: five seconds after the last one.
+    fn hear(&mut self) -> Option<u8>
         requires { ready self.old }
         ensures ready { ready self.new }
-        ensures rested { Extended (calls self.old) (calls self.new) (Rested ∷ []) };
+        ensures heard { Extended (calls self.old) (calls self.new) (Heard result ∷ []) };
 
-    /// Ends all services, and comes back once they have ended.
-    fn finish(&mut self)
+    /// Goes on with the end of all services, in order, for five seconds at most: none once all have ended, else the
+    /// processes that still run.
+    fn end(&mut self) -> Option<Vec<Remaining>>
         requires { ready self.old }
         ensures ready { ready self.new }
-        ensures finished { Extended (calls self.old) (calls self.new) (Finished ∷ []) };
+        ensures ended { Extended (calls self.old) (calls self.new) (Ended (option_map (λ left. left.items) result) ∷ []) };
+
+    /// The services are left: what was read of their outputs is given to their loggers first, for five seconds at most.
+    /// svscan itself is served no more. Answers what was not logged.
+    fn leave(&mut self) -> Vec<Unlogged>
+        requires { ready self.old }
+        ensures ready { ready self.new }
+        ensures left { Extended (calls self.old) (calls self.new) (Left result.items ∷ []) };
 }

@@ -134,4 +134,16 @@ impl Maker for Cast {
     fn forget(&mut self, slot: u64) {
         let _ = self.forgotten.push(slot);
     }
+
+    fn watch_outputs(&mut self) {}
+
+    fn end_output(&mut self, _slot: u64, _at_once: bool) {}
+
+    fn is_read(&mut self, _slot: u64) -> bool {
+        true
+    }
+
+    fn lost(&mut self, _slot: u64, _has_logger: bool) -> u64 {
+        0
+    }
 }

@@ -121,6 +121,21 @@ fn both_run<R: Threads + Wait + Clock + Copy + Drop + Send + 'static>(
         && host.status(one).is_some_and(|view| view.want == Want::Up)
 }
 
+/// Ends all services, in order. How many there were.
+fn finish<R: Threads + Wait + Clock + Copy + Drop + Send + 'static>(
+    rt: &R,
+    host: &mut Host<Cast, R>,
+) -> Option<u64> {
+    let count = host.running_parts().ok()?.len();
+    for _ in 0..LOOKS {
+        if host.end_services() == 0 && host.end_outputs() {
+            return Some(count as u64);
+        }
+        rest(rt);
+    }
+    None
+}
+
 /// How many services ended, of two that wait for one another at their starts. None: one of them waited in vain.
 fn run_two<R: Threads + Wait + Clock + Copy + Drop + Send + 'static>(
     rt: R,
@@ -131,7 +146,7 @@ fn run_two<R: Threads + Wait + Clock + Copy + Drop + Send + 'static>(
     let rows = rows(alloc, &["a", "b"], false).ok()?;
     let mut host = begin(rt, alloc, cast, 4, &rows, &[a, b])?;
     let ran = both_run(&rt, &mut host, a, b);
-    let count = host.finish();
+    let count = finish(&rt, &mut host)?;
     if ran { Some(count) } else { None }
 }
 
@@ -173,7 +188,7 @@ fn fill_one<R: Threads + Wait + Clock + Copy + Drop + Send + 'static>(
     let rows = rows(alloc, &["a"], false).ok()?;
     let mut host = begin(rt, alloc, cast, 1, &rows, &[part])?;
     let told = fills(&rt, &mut host, part, at_the_gate, opens);
-    let count = host.finish();
+    let count = finish(&rt, &mut host)?;
     if told { Some(count) } else { None }
 }
 
@@ -357,7 +372,7 @@ fn run_pairs<R: Threads + Wait + Clock + Copy + Drop + Send + 'static>(
     let rows = rows(alloc, &["a", "b"], true).ok()?;
     let mut host = begin(rt, alloc, cast, 4, &rows, &parts)?;
     let lived = live(&rt, alloc, &mut host, &rows, parts, taken);
-    let count = host.finish();
+    let count = finish(&rt, &mut host)?;
     if lived { Some(count) } else { None }
 }
 

@@ -6,3 +6,4 @@ pub mod OneReader
 pub mod Rows
 pub mod Tables
 pub mod LastReading
+pub mod Stepping

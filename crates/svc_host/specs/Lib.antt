@@ -1,5 +1,6 @@
 pub mod Answers
 pub mod Begun
+pub mod Ending
 pub mod Growth
 pub mod Parts
 pub mod Rests

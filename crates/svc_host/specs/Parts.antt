@@ -1,6 +1,6 @@
 -- What a host knows of the parts that are there.
 use Rattle.std.specs.Prelude.{◌≡◌, ◌≢◌, ◌<◌, ⊤, Bool, true, false, not, ◌&&◌, ◌==◌, ℕ, List, [], ◌∷◌, ◌++◌, length}
-use Rattle.std.specs.Prelude.{slice_index_or, slice_set}
+use Rattle.std.specs.Prelude.{map, slice_index_or, slice_set}
 use Rattle.std.specs.List.{filter, list_any, All}
 use mathlib.Core.List.{IsPrefix}
 use Rattle.tai_status.specs.Record.{Status}
@@ -9,6 +9,7 @@ use Rattle.tai_status.specs.declared.phase.Phase.TheVariants as phase
 use Rattle.sup_core.specs.History.{History, Opened, phase_of, status_of}
 use Rattle.sup_core.specs.Runs.{followed_by}
 use Rattle.scan_table.specs.declared.part.PartId.{PartId}
+use Rattle.scan_table.specs.declared.part.Role.TheVariants.{Main}
 use Rattle.scan_table.specs.Table.{is_at}
 use Rattle.svc_station.specs.declared.rule.Origin.{Origin}
 use Rattle.svc_mail.specs.declared.sender.Sender.{Sender}
@@ -137,6 +138,14 @@ abbrev pub stays : List ℕ → List PartId → PartId → Bool
 stays drops restarts id =
     not (list_any (λ slot. slot == id.slot) drops)
     && not (list_any (λ other. is_at other id.slot id.role) restarts)
+
+-- whether the service itself runs in a slot
+abbrev pub service_runs : (slot : ℕ) → List HostPart → Bool
+service_runs slot parts = list_any (λ (part : HostPart). is_at part.id slot Main && not part.has_ended) parts
+
+-- the parts that run
+abbrev pub running_ids : List HostPart → List PartId
+running_ids parts = map (λ (part : HostPart). part.id) (filter (λ (part : HostPart). not part.has_ended) parts)
 
 -- how many parts run
 abbrev pub count_running : List HostPart → ℕ

@@ -92,10 +92,12 @@ impl<M: Maker + Drop, R: Threads + Wait + Clock + Copy + Drop + Send + 'static> 
             reaper,
             opening,
         } = self.maker.part(name, id, outside, notifier)?;
+        let machine = opening.machine(down, label);
+        let adopted = machine.view().pid;
         let Some((writer, status_reader)) = open_station(
             &self.rt,
             self.alloc,
-            opening.machine(down, label),
+            machine,
             self.rooms.trace,
         ) else {
             self.maker.ended(id);
@@ -122,7 +124,7 @@ impl<M: Maker + Drop, R: Threads + Wait + Clock + Copy + Drop + Send + 'static> 
             self.maker.ended(id);
             return None;
         };
-        Some(Part::new(id, opening, inside, running))
+        Some(Part::new(id, opening, adopted, inside, running))
     }
 
     /// Makes a part of the table, which begins by the row of its slot or as it was left, and starts its thread, or makes
@@ -180,13 +182,14 @@ impl<M: Maker + Drop, R: Threads + Wait + Clock + Copy + Drop + Send + 'static> 
         self.maker.forget(slot);
     }
 
-    /// The threads of all pairs are to end.
-    pub(crate) fn forget_all(&mut self) {
-        for pair in &self.pairs {
-            pair.leave();
-            self.maker.forget(pair.slot);
+    /// How many milliseconds ago this was asked first of the pair in a slot; where there is none, too many to wait for.
+    pub(crate) fn wait_on(&mut self, slot: u64) -> u64 {
+        for pair in self.pairs.iter_mut() {
+            if pair.slot == slot {
+                return pair.wait_on(&self.rt);
+            }
         }
-        self.pairs.clear();
+        u64::MAX
     }
 
     /// Hands the trace of a part to the maker, where it has grown. Whether its newest trace is kept.

@@ -4,26 +4,28 @@ ghost use Rattle.std.specs.Prelude.{IfOk, OnOk, MatchBool, IfErr, OnErr, length,
 ghost use Rattle.scan_table.specs.Scan.{AreRising};
 ghost use Rattle.scan_table.specs.Order.{scan_refusal};
 ghost use Rattle.scan_table.specs.Table.{after_end, scanned};
+ghost use Rattle.svc_host.specs.Ending.{IsEndStep};
 ghost use Rattle.svc_host.specs.Parts.{GoOn, HostPart, IsStep};
 ghost use Rattle.svc_host.specs.Rounds.{AreBegun, AreCollected, IsBegunOne, IsCause, IsScan, IsScanned};
 ghost use Rattle.svc_host.specs.Rounds.{after_ends, host_of, staying};
 
+use crate::ending::{ProcessSight, may_leave};
+use crate::ends::open_box;
 use crate::factory::{PartFactory, Rooms};
 use crate::maker::Maker;
 use crate::part::{Loss, Part};
-use crate::parts::{post_end, post_to, running, status_of, stays, take_loss};
-use scan_table::{DirRow, PartId, Parts, ScanFault, ScanOut, ScanTable};
+use crate::parts::{
+    post_to, running, running_ids, service_runs, sight_at, status_of, stays, take_loss,
+};
+use scan_table::{DirRow, PartId, Parts, Role, ScanFault, ScanOut, ScanTable};
 use std::alloc::{AllocError, Global};
 use std::marker::Model;
 use std::sync::{Arc, Wait};
 use std::thread::Threads;
 use std::time::{Clock, Duration};
-use svc_house::Notifier;
+use svc_house::{ControlSender, MailInbox, Notifier};
 use tai_status::{Label, Name, View};
 use thiserror::Error;
-
-/// How long a host rests where a mailbox was full.
-const SHORT_MILLIS: u64 = 1;
 
 /// What a round did.
 #[derive(Drop)]
@@ -284,11 +286,54 @@ fn run_scan<M: Maker + Drop, R: Threads + Wait + Clock + Copy + Drop + Send + 's
     })
 }
 
+/// Posts to the part at a place what is next for it in the end of all services. Once a logger was told to end with its
+/// process, its input ends behind all that its service wrote.
+fn end_part<M: Maker + Drop, R: Threads + Wait + Clock + Copy + Drop + Send + 'static>(
+    factory: &mut PartFactory<M, R>,
+    parts: &mut Vec<Part<R>>,
+    place: usize,
+)
+    requires { place < length parts.old.items }
+    ensures { IsEndStep parts.old.items place parts.new.items }
+{
+    let id = parts[place].id();
+    let service_runs = service_runs(parts, id.slot);
+    let waited = if service_runs {
+        0
+    } else {
+        factory.wait_on(id.slot)
+    };
+    if parts[place].is_told() && id.role == Role::Log {
+        factory.maker.end_output(id.slot, false);
+    }
+    parts[place].end_next(&factory.rt, service_runs, waited);
+}
+
+/// Has the output of the pair at a place end. Whether svscan may leave it.
+fn end_pair<M: Maker + Drop, R: Threads + Wait + Clock + Copy + Drop + Send + 'static>(
+    factory: &mut PartFactory<M, R>,
+    parts: &mut Vec<Part<R>>,
+    at: usize,
+) -> bool
+    ensures { GoOn parts.old.items parts.new.items }
+{
+    let Some(pair) = factory.pairs.get(at) else {
+        return true;
+    };
+    let slot = pair.slot;
+    let is_put = pair.is_put();
+    let at_once = sight_at(parts, slot, Role::Main) == ProcessSight::Lives;
+    factory.maker.end_output(slot, at_once);
+    let is_read = factory.maker.is_read(slot);
+    may_leave(is_put, is_read, sight_at(parts, slot, Role::Log))
+}
+
 impl<M: Maker + Drop, R: Threads + Wait + Clock + Copy + Drop + Send + 'static> Host<M, R> {
     ghost use Rattle.std.specs.Prelude.{◌≡◌, ◌↔◌, ◌<◌, ◌≤◌, [], Err, IfOk, IfErr, OnErr, MatchOption};
     ghost use Rattle.std.specs.Prelude.{⊤, IfSome, option_copied, option_map};
     ghost use Rattle.scan_table.specs.Table.{name_of, new_table, slot_at};
-    ghost use Rattle.svc_host.specs.Parts.{AllTold, IsNowhere, IsPost, IsReading, IsToldLoss, count_running};
+    ghost use Rattle.svc_host.specs.Parts.{AllTold, GoOn, IsNowhere, IsPost, IsReading, IsToldLoss, count_running};
+    ghost use Rattle.svc_host.specs.Parts.{running_ids};
     ghost use Rattle.svc_host.specs.Rounds.{Collected, HostState, IsCause, IsScanned};
     ghost use Rattle.scan_table.specs.Whole.{is_whole};
 
@@ -414,33 +459,60 @@ impl<M: Maker + Drop, R: Threads + Wait + Clock + Copy + Drop + Send + 'static> 
         self.table.name(slot)
     }
 
-    /// Ends all services: each is sent `d` and `x`, and once all have ended, their threads are joined. It answers how
-    /// many there were.
-    pub fn finish(self) -> u64
-        ensures { result ≡ count_running self.parts }
+    /// A mailbox for so many control bytes, each of which ends a rest.
+    pub fn own_mailbox(&self, capacity: usize) -> Option<(ControlSender, MailInbox)>
+        requires { 0 < capacity }
     {
-        let mut host = self;
-        let count = running(&host.parts);
-        host.end_services();
-        host.factory.forget_all();
-        count as u64
+        let (sender, receiver) = open_box(self.factory.alloc, capacity)?;
+        let notifier = Arc::try_clone(&self.factory.notifier).ok()?;
+        Some((
+            ControlSender::new(sender, notifier),
+            MailInbox::new(receiver),
+        ))
     }
 
-    // Sends to each part what ends it, until all have ended.
-    fn end_services(&mut self) {
-        let rt = self.factory.rt;
-        for _ in rt.forever() {
-            let all_posted = post_end(&rt, &mut self.parts);
-            self.collect();
-            if running(&self.parts) == 0 {
-                return;
-            }
-            let longest = if all_posted {
-                None
-            } else {
-                Some(Duration::from_millis(SHORT_MILLIS))
-            };
-            self.factory.notifier.wait(&rt, longest);
+    /// The parts that run, as far as threads were joined.
+    pub fn running_parts(&self) -> Result<Vec<PartId>, AllocError>
+        ensures { IfOk result (λ ids. ids.items ≡ running_ids self.now.parts) }
+    {
+        running_ids(self.factory.alloc, &self.parts)
+    }
+
+    /// Goes on with the end of all services, in order, by what is next for each part. Answers how many parts still run.
+    pub fn end_services(&mut self) -> usize
+        ensures left { result ≡ count_running self.new.parts }
+    {
+        self.factory.maker.watch_outputs();
+        self.collect();
+        for place in 0..self.parts.len() {
+            end_part(&mut self.factory, &mut self.parts, place);
         }
+        running(&self.parts)
+    }
+
+    /// The output of each pair ends: at once, where its service has a process, and else when it has nothing for now. Whether
+    /// svscan may leave all pairs.
+    pub fn end_outputs(&mut self) -> bool {
+        self.factory.maker.watch_outputs();
+        self.collect();
+        let mut may_leave = true;
+        for at in 0..self.factory.pairs.len() {
+            may_leave = end_pair(&mut self.factory, &mut self.parts, at) && may_leave;
+        }
+        may_leave
+    }
+
+    /// Of one pair its slot, and how many bytes of its output were read and don't reach its logger. Its threads are to end.
+    /// None: all pairs are told.
+    pub fn take_lost(&mut self) -> Option<(u64, u64)>
+        ensures table { self.new.table ≡ self.old.table }
+        ensures parts { GoOn self.old.parts self.new.parts }
+    {
+        let pair = self.factory.pairs.pop()?;
+        let has_logger = sight_at(&mut self.parts, pair.slot, Role::Log) == ProcessSight::Lives;
+        self.factory.maker.end_output(pair.slot, true);
+        let count = self.factory.maker.lost(pair.slot, has_logger);
+        pair.leave();
+        Some((pair.slot, count))
     }
 }

@@ -9,6 +9,7 @@
 //! and world are joined to it and to no other, and how long anything takes. A call that may wait owes no return.
 #![tactic(auto)]
 
+mod ending;
 mod ends;
 mod factory;
 mod growth;

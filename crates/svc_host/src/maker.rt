@@ -81,4 +81,17 @@ pub trait Maker {
 
     /// A slot is dropped: the output of its pair ends, where it is one.
     fn forget(&mut self, slot: u64);
+
+    /// All outputs of pairs can be told to end from now on (`end_output`).
+    fn watch_outputs(&mut self);
+
+    /// The output of a slot's pair is to end: at once, or when it has nothing for now.
+    fn end_output(&mut self, slot: u64, at_once: bool);
+
+    /// Whether there is nothing that the logger of a slot's pair could read for now.
+    fn is_read(&mut self, slot: u64) -> bool;
+
+    /// How many bytes of the output of a slot's pair were read and don't reach its logger, once that output has ended:
+    /// those that were not put into its input, and where there is no logger those in it too.
+    fn lost(&mut self, slot: u64, has_logger: bool) -> u64;
 }

@@ -9,7 +9,7 @@ use std::alloc::{AllocError, Global};
 use std::io::{BufReader, Read};
 use std::sync::{Arc, Wait};
 use std::thread::{Builder, Threads};
-use std::time::Duration;
+use std::time::{Clock, Duration};
 use svc_mail::receiver::Receiver;
 use svc_mail::sender::Sender;
 use svc_relay::intake::Intake;
@@ -63,7 +63,10 @@ fn take_in<D: Read + Drop, R: Wait>(rt: &R, task: Taking<D>) {
                 }
                 shared.emptied.wait(rt, None);
             }
-            Ok(IntakeTurn::Ended) => return,
+            Ok(IntakeTurn::Ended) => {
+                shared.end();
+                return;
+            }
             Err(_) => {
                 if shared.leaves() {
                     return;
@@ -96,23 +99,27 @@ fn next_outlet<O: Outlet + Drop, S: Outlets<O>, R: Wait>(
     unreachable!()
 }
 
-/// Puts a pair's output into its logger, from life to life, until the pair leaves. A write that fails is tried again,
-/// where the logger has no next input yet.
-fn put_out<O: Outlet + Drop, S: Outlets<O> + Drop, R: Wait>(rt: &R, task: Putting<S>) {
-    let Putting {
-        receiver,
-        mut outlets,
-        shared,
-    } = task;
-    let Some(first) = next_outlet::<O, S, R>(rt, &mut outlets, &shared) else {
+/// Puts a pair's output into its logger, from life to life, until the pair leaves or the output has ended and all of it
+/// is put. A write that fails is tried again, where the logger has no next input yet. The logger's input ends with it.
+fn put_all<O: Outlet + Drop, S: Outlets<O> + Drop, R: Wait>(
+    rt: &R,
+    receiver: Receiver<Piece>,
+    mut outlets: S,
+    shared: &PairShared,
+)
+    requires { taken_by receiver ≡ [] }
+{
+    let Some(first) = next_outlet::<O, S, R>(rt, &mut outlets, shared) else {
         return;
     };
     let mut relay = Relay::new(receiver, first);
     for _ in rt.forever() {
+        // Before the turn, so that one that finds nothing then has taken all.
+        let is_last = shared.has_ended();
         match relay.turn(rt) {
             RelayTurn::Moved(_) => shared.emptied.notify(),
             RelayTurn::Idle => {
-                if shared.leaves() {
+                if is_last || shared.leaves() {
                     return;
                 }
                 shared.filled.wait(rt, None);
@@ -132,11 +139,24 @@ fn put_out<O: Outlet + Drop, S: Outlets<O> + Drop, R: Wait>(rt: &R, task: Puttin
     }
 }
 
+/// What the thread of a relay does.
+fn put_out<O: Outlet + Drop, S: Outlets<O> + Drop, R: Wait>(rt: &R, task: Putting<S>) {
+    let Putting {
+        receiver,
+        outlets,
+        shared,
+    } = task;
+    put_all::<O, S, R>(rt, receiver, outlets, &shared);
+    shared.put();
+}
+
 /// A pair whose threads run.
 #[derive(Drop)]
 pub(crate) struct Pair {
     pub(crate) slot: u64,
     shared: Arc<PairShared, Global>,
+    // Since when is waited for its end, by the running clock.
+    waits_since: Option<Duration>,
 }
 
 impl Pair {
@@ -164,7 +184,11 @@ impl Pair {
             outlets,
             shared: Arc::try_clone(&shared).ok()?,
         };
-        let pair = Pair { slot, shared };
+        let pair = Pair {
+            slot,
+            shared,
+            waits_since: None,
+        };
         Builder::new()
             .stack_size(STACK)
             .spawn(
@@ -185,5 +209,25 @@ impl Pair {
     /// Both threads end.
     pub(crate) fn leave(&self) {
         self.shared.leave();
+    }
+
+    /// Whether all of its output, which has ended, is put into the input of its logger.
+    pub(crate) fn is_put(&self) -> bool {
+        self.shared.is_put()
+    }
+
+    /// Its end is waited for from now on, or was before. How many milliseconds ago that began.
+    pub(crate) fn wait_on(&mut self, clock: &impl Clock) -> u64 {
+        let Ok(now) = clock.monotonic() else {
+            return u64::MAX;
+        };
+        let Some(begin) = self.waits_since else {
+            self.waits_since = Some(now);
+            return 0;
+        };
+        match now.checked_sub(begin) {
+            Some(waited) => u64::try_from(waited.as_millis()).unwrap_or(u64::MAX),
+            None => 0,
+        }
     }
 }

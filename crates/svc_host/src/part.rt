@@ -1,4 +1,5 @@
 //! A part that is there.
+use crate::ending::{EndStep, end_step};
 use crate::growth::Growth;
 use crate::part_thread::PartThread;
 use crate::running::Running;
@@ -37,6 +38,8 @@ pub(crate) struct Part<R: Wait + Drop> {
     opening: Opening,
     sender: ControlSender,
     thread: PartThread<R>,
+    // The number of the process that an earlier svscan had started for it; 0: none.
+    adopted: u32,
     // How many events the trace counted that was kept last.
     kept: Option<u64>,
     // What was lost at its end, and is not told.
@@ -67,16 +70,18 @@ impl<R: Wait + Drop> Model for Part<R> {
 }
 
 impl<R: Threads + Wait + Clock + Copy + Drop + Send + 'static> Part<R> {
-    ghost use Rattle.std.specs.Prelude.{◌≡◌, ◌≢◌, ◌++◌, ◌∷◌, [], true, false, not, MatchBool, MatchResult};
+    ghost use Rattle.std.specs.Prelude.{◌≡◌, ◌≢◌, ◌++◌, ◌∷◌, [], true, false, not, codes, MatchBool, MatchResult};
     ghost use Rattle.sup_core.specs.History.{phase_of, state_of};
     ghost use Rattle.tai_status.specs.declared.phase.Phase.{Phase};
     ghost use Rattle.svc_house.specs.Mail.{sender_in};
+    ghost use Rattle.svc_host.specs.Ending.{EndsNext, PostsOf, bytes_of};
     ghost use Rattle.svc_host.specs.Parts.{PartGoesOn, history_of, HasPosted, new_part, no_loss};
 
-    /// A part whose service runs, and began so. By `sender` the host posts to it.
+    /// A part whose service runs, and began so, with this process; 0: with none. By `sender` the host posts to it.
     pub(crate) fn new(
         id: PartId,
         opening: Opening,
+        adopted: u32,
         sender: ControlSender,
         running: Running<R>,
     ) -> Part<R>
@@ -85,6 +90,7 @@ impl<R: Threads + Wait + Clock + Copy + Drop + Send + 'static> Part<R> {
         Part {
             id,
             opening,
+            adopted,
             sender,
             thread: PartThread::Runs(running),
             kept: None,
@@ -142,15 +148,91 @@ impl<R: Threads + Wait + Clock + Copy + Drop + Send + 'static> Part<R> {
         self.sender.post(rt, byte)
     }
 
-    /// Posts those of the bytes that end a service that were not posted yet. Whether all were, or it has ended.
-    pub(crate) fn post_end(&mut self, rt: &R) -> bool {
-        if !self.posted_down {
-            self.posted_down = self.sender.post(rt, b'd').is_ok();
+    // Posts a control byte, and tells whether it was.
+    fn post_one(&mut self, rt: &R, byte: u8) -> bool
+        ensures { MatchBool result (HasPosted self.old byte self.new) (self.new ≡ self.old) }
+    {
+        self.post(rt, byte).is_ok()
+    }
+
+    // Notes whether `d` was posted.
+    fn note_down(&mut self, posted: bool)
+        ensures { self.new ≡ self.old }
+    {
+        self.posted_down = posted;
+    }
+
+    // Notes whether `x` was posted.
+    fn note_exit(&mut self, posted: bool)
+        ensures { self.new ≡ self.old }
+    {
+        self.posted_exit = posted;
+    }
+
+    // Posts `d`, unless that was posted so. Whether it was.
+    fn post_down(&mut self, rt: &R) -> bool
+        ensures { PostsOf (codes "d") self.old self.new }
+    {
+        if self.posted_down {
+            return true;
         }
-        if self.posted_down && !self.posted_exit {
-            self.posted_exit = self.sender.post(rt, b'x').is_ok();
+        let posted = self.post_one(rt, b'd');
+        self.note_down(posted);
+        posted
+    }
+
+    // Posts `x`, unless that was posted so.
+    fn post_exit(&mut self, rt: &R)
+        ensures { PostsOf (codes "x") self.old self.new }
+    {
+        if self.posted_exit {
+            return;
         }
-        self.posted_exit || self.has_ended()
+        let posted = self.post_one(rt, b'x');
+        self.note_exit(posted);
+    }
+
+    // Posts the bytes of a step that were not posted yet, as far as its mailbox has room.
+    fn post_step(&mut self, rt: &R, step: EndStep)
+        ensures { PostsOf (bytes_of step) self.old self.new }
+    {
+        match step {
+            EndStep::Stop => {
+                if self.post_down(rt) {
+                    self.post_exit(rt);
+                }
+            }
+            EndStep::Exit => self.post_exit(rt),
+            EndStep::Wait => {}
+        }
+    }
+
+    /// Whether its process is one that an earlier svscan started.
+    pub(crate) fn is_adopted(&mut self) -> bool
+        ensures same { PartGoesOn self.old self.new }
+        ensures ended { self.new.has_ended ≡ self.old.has_ended }
+        ensures loss { self.new.loss ≡ self.old.loss }
+    {
+        let pid = self.machine().view().pid;
+        pid > 0 && pid == self.adopted
+    }
+
+    /// Whether it was told to end with its process.
+    pub(crate) fn is_told(&self) -> bool {
+        self.posted_exit
+    }
+
+    /// Posts what is next for it in the end of all services, unless it has ended. Its service runs or not, and was found
+    /// gone so many milliseconds ago.
+    pub(crate) fn end_next(&mut self, rt: &R, service_runs: bool, waited: u64)
+        ensures { EndsNext service_runs waited self.old self.new }
+    {
+        if self.has_ended() {
+            return;
+        }
+        let is_adopted = self.is_adopted();
+        let step = end_step(self.id.role, service_runs, is_adopted, waited);
+        self.post_step(rt, step)
     }
 
     /// The text of its trace, where that has grown since it was kept last.

@@ -1,15 +1,18 @@
 //! The parts that are there, as a list.
-ghost use Rattle.std.specs.Prelude.{◌≡◌, ◌<◌, ◌↔◌, ⊤, Err, OnOk, OnErr, IfSome, MatchOption, length, slice_index_or};
+ghost use Rattle.std.specs.Prelude.{◌≡◌, ◌<◌, ◌↔◌, ⊤, Err, IfOk, OnOk, OnErr, IfSome, MatchOption, length, slice_index_or};
 ghost use Rattle.sup_core.specs.History.{state_of};
 ghost use Rattle.std.specs.List.{list_any};
 ghost use Rattle.scan_table.specs.Table.{is_at};
 ghost use Rattle.svc_host.specs.Parts.{AllTold, GoOn, HasLoss, IsNowhere, IsPlace, IsPost, IsReading, IsStep};
 ghost use Rattle.svc_host.specs.Parts.{HostPart, IsToldLoss};
-ghost use Rattle.svc_host.specs.Parts.{IsGoneIfEnded, count_running, history_of, stays};
+ghost use Rattle.svc_host.specs.Parts.{IsGoneIfEnded, count_running, history_of, running_ids, service_runs, stays};
+ghost use Rattle.scan_table.specs.declared.part.Role.{Role};
 
+use crate::ending::{ProcessSight, sight_of};
 use crate::host::PostFault;
 use crate::part::{Loss, Part};
 use scan_table::{PartId, Role};
+use std::alloc::{AllocError, Global};
 use std::sync::Wait;
 use std::thread::Threads;
 use std::time::Clock;
@@ -113,16 +116,90 @@ pub(crate) fn running<R: Threads + Wait + Clock + Copy + Drop + Send + 'static>(
     parts.iter().filter(|part| !part.has_ended()).count()
 }
 
-/// Posts to each part those bytes that were not posted yet and end it. Whether all were.
-pub(crate) fn post_end<R: Threads + Wait + Clock + Copy + Drop + Send + 'static>(
-    rt: &R,
-    parts: &mut [Part<R>],
-) -> bool {
-    let mut all_posted = true;
-    for part in parts.iter_mut() {
-        all_posted = part.post_end(rt) && all_posted;
+/// What is seen of the process of the part of this role in a slot.
+pub(crate) fn sight_at<R: Threads + Wait + Clock + Copy + Drop + Send + 'static>(
+    parts: &mut Vec<Part<R>>,
+    slot: u64,
+    role: Role,
+) -> ProcessSight
+    ensures { GoOn parts.old.items parts.new.items }
+{
+    match place_at(parts, slot, role) {
+        Some(place) => {
+            let is_adopted = adopted_at(parts, place);
+            sight_of(&machine_at(parts, place), role == Role::Log && is_adopted)
+        }
+        None => ProcessSight::Absent,
     }
-    all_posted
+}
+
+/// Whether the process of the part at a place is one that an earlier svscan started.
+fn adopted_at<R: Threads + Wait + Clock + Copy + Drop + Send + 'static>(
+    parts: &mut Vec<Part<R>>,
+    place: usize,
+) -> bool
+    requires { place < length parts.old.items }
+    ensures { IsStep parts.old.items place parts.new.items }
+{
+    parts[place].is_adopted()
+}
+
+/// The place of the part of this role in a slot, where it runs.
+fn place_at<R: Threads + Wait + Clock + Copy + Drop + Send + 'static>(
+    parts: &[Part<R>],
+    slot: u64,
+    role: Role,
+) -> Option<usize>
+    ensures { IfSome result (λ place. place < length parts.now) }
+{
+    for place in 0..parts.len() {
+        let id = parts[place].id();
+        if id.slot == slot && id.role == role && !parts[place].has_ended() {
+            return Some(place);
+        }
+    }
+    None
+}
+
+/// Whether the service itself runs in a slot.
+pub(crate) fn service_runs<R: Threads + Wait + Clock + Copy + Drop + Send + 'static>(
+    parts: &[Part<R>],
+    slot: u64,
+) -> bool
+    ensures { result ≡ service_runs slot parts.now }
+{
+    for part in parts {
+        if is_service(part.id(), slot) && !part.has_ended() {
+            return true;
+        }
+    }
+    false
+}
+
+/// Whether a part is the service itself of a slot.
+fn is_service(id: PartId, slot: u64) -> bool
+    ensures { result ≡ is_at id slot Role.Main }
+{
+    match id.role {
+        Role::Main => id.slot == slot,
+        Role::Log => false,
+    }
+}
+
+/// The parts that run.
+pub(crate) fn running_ids<R: Threads + Wait + Clock + Copy + Drop + Send + 'static>(
+    alloc: Global,
+    parts: &[Part<R>],
+) -> Result<Vec<PartId>, AllocError>
+    ensures { IfOk result (λ ids. ids.items ≡ running_ids parts.now) }
+{
+    let mut ids = Vec::with_capacity(alloc, parts.len())?;
+    for part in parts {
+        if !part.has_ended() {
+            ids.push(part.id())?;
+        }
+    }
+    Ok(ids)
 }
 
 /// Whether a part is of the slot and the role of another.

@@ -56,6 +56,8 @@ pub(crate) struct PairShared {
     /// Notified where there is room again.
     pub(crate) emptied: Notifier,
     leaves: AtomicBool,
+    has_ended: AtomicBool,
+    is_put: AtomicBool,
 }
 
 impl PairShared {
@@ -64,6 +66,8 @@ impl PairShared {
             filled: Arc::new(alloc, Notifier::new())?,
             emptied: Notifier::new(),
             leaves: AtomicBool::new(false),
+            has_ended: AtomicBool::new(false),
+            is_put: AtomicBool::new(false),
         })
     }
 
@@ -76,5 +80,24 @@ impl PairShared {
 
     pub(crate) fn leaves(&self) -> bool {
         self.leaves.load(Ordering::SeqCst)
+    }
+
+    /// The output has ended, and all of it is posted.
+    pub(crate) fn end(&self) {
+        self.has_ended.store(true, Ordering::SeqCst);
+        self.filled.notify();
+    }
+
+    pub(crate) fn has_ended(&self) -> bool {
+        self.has_ended.load(Ordering::SeqCst)
+    }
+
+    /// All of the output is put into the input of its logger, which ends there.
+    pub(crate) fn put(&self) {
+        self.is_put.store(true, Ordering::SeqCst);
+    }
+
+    pub(crate) fn is_put(&self) -> bool {
+        self.is_put.load(Ordering::SeqCst)
     }
 }

@@ -3,10 +3,10 @@ use Rattle.std.specs.Prelude.{ℕ, Bool, List, [], ◌∷◌, Option}
 use Rattle.std.specs.Borrow.{Bor}
 use Rattle.std.specs.Option.{option_copied}
 use Rattle.std.specs.declared.io.PipeReader.{PipeReader}
-use Rattle.std.specs.declared.io.PipeWriter.{PipeWriter}
 use Rattle.std.specs.declared.fs.File.{File}
 use Rattle.svc_house.specs.Calls.{ExtendedWhileKept}
 use Rattle.svc_world.specs.declared.output.OutputEnds.{OutputEnds}
+use Rattle.svc_world.specs.declared.flow.LoggerInput.{LoggerInput}
 use Rattle.svc_left.specs.declared.opening.Left.{Left}
 use Rattle.svc_world.specs.declared.folder.FolderFault.{FolderFault}
 
@@ -16,9 +16,11 @@ use Rattle.svc_world.specs.declared.folder.FolderFault.{FolderFault}
 -- made over the folder at a path, told by this name, of which this was left, with these ends of pipes as standard input
 -- and output; the part of this number was to be admitted to the door, with the
 -- sockets of the folder at a path; the part of this number was dismissed from the door, and the sockets of the folder
--- at a path removed; a trace was to be kept in the folder at a path, and was or not.
+-- at a path removed; a trace was to be kept in the folder at a path, and was or not; svscan's own folder at a path was to
+-- be opened and locked, and was, or this came of it; a status record was to be written in the folder at a path, and was
+-- or not; all outputs were to look after their flows.
 pub data Call : Type 0 where
-  MadePipe : (ends : Option (PipeReader × PipeWriter)) → Call
+  MadePipe : (ends : Option (PipeReader × LoggerInput)) → Call
   OpenedOutput : (path : List ℕ) → (ends : Option OutputEnds) → Call
   Opened : (path : List ℕ) → (fault : Option FolderFault) → Call
   FoundLeft : (path : List ℕ) → (left : Left) → Call
@@ -26,6 +28,9 @@ pub data Call : Type 0 where
   Admitted : (number : ℕ) → (path : List ℕ) → (admitted : Bool) → Call
   Dismissed : (number : ℕ) → (path : List ℕ) → Call
   KeptTrace : (path : List ℕ) → (text : List ℕ) → (kept : Bool) → Call
+  OpenedOwn : (path : List ℕ) → (fault : Option FolderFault) → Call
+  Recorded : (path : List ℕ) → (bytes : List ℕ) → (written : Bool) → Call
+  WatchedOutputs : Call
 
 -- A world was to be made, with copies of these ends of pipes: that is one call more, while calls are kept.
 abbrev pub MakesWorld : (old new : Option (List Call)) (path name : List ℕ) (left : Left)

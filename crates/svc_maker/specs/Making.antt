@@ -1,9 +1,8 @@
 -- The parts of services over folders, and what each call of their maker does.
 use Rattle.std.specs.Prelude.{◌≡◌, ◌≢◌, ◌<◌, ◌⊎◌, ⊤, ℕ, Bool, true, false, List, [], ◌∷◌, ◌++◌, codes, length}
-use Rattle.std.specs.Prelude.{remove, slice_index_or, Option, Some, None, MatchOption}
+use Rattle.std.specs.Prelude.{◌-◌, ◌^◌, remove, slice_index_or, Option, Some, None, MatchOption}
 use Rattle.std.specs.List.{All}
 use Rattle.std.specs.declared.io.PipeReader.{PipeReader}
-use Rattle.std.specs.declared.io.PipeWriter.{PipeWriter}
 use Rattle.std.specs.declared.fs.File.{File}
 use Rattle.scan_table.specs.declared.part.PartId.{PartId}
 use Rattle.scan_table.specs.declared.part.Role.{Role}
@@ -14,7 +13,12 @@ use Rattle.svc_left.specs.declared.opening.Left.{Left}
 use Rattle.svc_left.specs.declared.opening.Opening.{Opening}
 use Rattle.svc_left.specs.Opening.{opening_left}
 use Rattle.svc_world.specs.declared.output.OutputEnds.{OutputEnds}
+use Rattle.svc_world.specs.declared.flow.LoggerInput.{LoggerInput}
+use Rattle.svc_world.specs.declared.flow.ServiceOutput.{ServiceOutput}
 use Rattle.svc_maker.specs.Calls.{Call, MadePipe, OpenedOutput, Opened, FoundLeft, MadeWorld, Admitted, Dismissed, KeptTrace}
+use Rattle.svc_maker.specs.Calls.{OpenedOwn, Recorded, WatchedOutputs}
+use Rattle.svc_maker.specs.declared.holder.OwnFault.{OwnFault}
+use Rattle.svc_maker.specs.declared.holder.OwnFault.TheVariants as own
 use Rattle.svc_maker.specs.Pipes.{pipes_of, pipes_without, input_of, output_of}
 use Rattle.svc_maker.specs.declared.pipes.PairOutlets.{PairOutlets}
 use Rattle.svc_maker.specs.declared.pipes.PairPipes.{PairPipes}
@@ -27,14 +31,15 @@ pub record KeptPart : Type 0 where
   pub path : List ℕ
 
 -- What a maker knows: what it asked of the system, where that is kept; the path of the folder that is scanned; the
--- parts that stand, in the order of their making; the pipes of the slots that are pairs; and the names that were found
--- locked since they were last told.
+-- parts that stand, in the order of their making; the pipes of the slots that are pairs; the names that were found
+-- locked since they were last told; and the path of the folder in which svscan itself is served, where it is.
 pub record Making : Type 0 where
   pub calls : Option (List Call)
   pub folder : List ℕ
   pub kept : List KeptPart
   pub pipes : List PairPipes
   pub locked : List (List ℕ)
+  pub own : Option (List ℕ)
 
 -- Parts
 
@@ -129,17 +134,19 @@ pub record MakesPart (name : List ℕ) (part : PartId) (opening : Option Opening
 -- The output of a pair's service was opened, in the service's own folder, and the pipe of its logger made: what the
 -- service writes is read at this end, and what this outlet takes the logger reads. They stand in the place of those that
 -- the slot had.
-pub record JoinsPair (name : List ℕ) (slot : ℕ) (read : File) (outlets : PairOutlets) (old new : Making) : Type 0 where
-  pub output : File
+pub record JoinsPair (name : List ℕ) (slot : ℕ) (read : ServiceOutput) (outlets : PairOutlets) (old new : Making)
+    : Type 0 where
+  pub ends : OutputEnds
   pub input : PipeReader
-  pub written : PipeWriter
+  pub written : LoggerInput
+  pub reads : read ≡ ends.read
   pub outlet : outlets.outlet ≡ Some written
   pub calls : ExtendedWhileKept old.calls new.calls
-      (OpenedOutput (part_path old.folder name Main) (Some (record { read = read; write = output }))
-      ∷ MadePipe (Some (input, written)) ∷ [])
+      (OpenedOutput (part_path old.folder name Main) (Some ends) ∷ MadePipe (Some (input, written)) ∷ [])
   pub stands : new ≡ record old {
     calls = new.calls;
-    pipes = pipes_without slot old.pipes ++ record { slot = slot; output = output; input = input } ∷ [];
+    pipes = pipes_without slot old.pipes
+        ++ record { slot = slot; output = ends.write; input = input; flow = ends.flow } ∷ [];
   }
 
 -- An output at this path and a pipe were not made: for want of memory none was tried, or the first or the second one
@@ -158,7 +165,7 @@ pub record LacksPair (name : List ℕ) (old new : Making) : Type 0 where
   pub stands : new ≡ record old { calls = new.calls }
 
 -- The pipes of a pair were to be made.
-abbrev pub MakesPair : (name : List ℕ) (slot : ℕ) → Option (File × PairOutlets) → (old new : Making) → Type 0
+abbrev pub MakesPair : (name : List ℕ) (slot : ℕ) → Option (ServiceOutput × PairOutlets) → (old new : Making) → Type 0
 MakesPair name slot made old new =
     MatchOption made (LacksPair name old new) (λ ends. JoinsPair name slot ends.0 ends.1 old new)
 
@@ -197,3 +204,38 @@ pub record Keeps (part : PartId) (text : List ℕ) (kept : Bool) (old new : Maki
 abbrev pub KeepsTrace : PartId → (text : List ℕ) → (kept : Bool) → (old new : Making) → Type 0
 KeepsTrace part text kept old new =
     (IsNowhere part old.kept × (new ≡ old) × (kept ≡ false)) ⊎ Keeps part text kept old new
+
+-- svscan itself
+
+-- its number at the door
+abbrev pub own_number : ℕ
+own_number = 2 ^ 64 - 1
+
+-- svscan itself was to be served in the folder at a path, with this record. Its folder is opened, its record written, and
+-- then it is admitted to the door: then it stands there. Where the folder is not opened nothing more is tried; where it is
+-- not admitted it is dismissed, with its sockets.
+abbrev pub ServesOwn : (path bytes : List ℕ) → Option OwnFault → (old new : Making) → Type 0
+ServesOwn path bytes None old new =
+    ((written : Bool) × ExtendedWhileKept old.calls new.calls
+    (OpenedOwn path None ∷ Recorded path bytes written ∷ Admitted own_number path true ∷ []))
+    × (new ≡ record old { calls = new.calls; own = Some path })
+ServesOwn path bytes (Some (own.Unopened fault)) old new =
+    ExtendedWhileKept old.calls new.calls (OpenedOwn path (Some fault) ∷ [])
+    × (new ≡ record old { calls = new.calls })
+ServesOwn path bytes (Some own.NotAdmitted) old new =
+    ((written : Bool) × ExtendedWhileKept old.calls new.calls
+    (OpenedOwn path None ∷ Recorded path bytes written ∷ Admitted own_number path false
+    ∷ Dismissed own_number path ∷ []))
+    × (new ≡ record old { calls = new.calls })
+
+-- svscan itself is dismissed, with its sockets, and has this record then, where it was served.
+abbrev pub LeavesOwn : (bytes : List ℕ) → (old new : Making) → Type 0
+LeavesOwn bytes old new = MatchOption old.own (new ≡ old) (λ path.
+    ((written : Bool) × ExtendedWhileKept old.calls new.calls
+    (Dismissed own_number path ∷ Recorded path bytes written ∷ []))
+    × (new ≡ record old { calls = new.calls; own = None }))
+
+-- The outputs were told to look after their flows, and nothing else.
+pub record WatchesOutputs (old new : Making) : Type 0 where
+  pub calls : ExtendedWhileKept old.calls new.calls (WatchedOutputs ∷ [])
+  pub stands : new ≡ record old { calls = new.calls }

@@ -1,7 +1,18 @@
 //! A maker of parts over the folders of a folder.
 use std::alloc::AllocError;
 use svc_host::Maker;
+use svc_house::ControlSender;
+use svc_world::FolderFault;
 use tai_status::Names;
+
+/// Why svscan itself is not served.
+#[derive(Clone, Copy, Debug, PartialEq, Eq)]
+pub enum OwnFault {
+    /// Its folder was not opened.
+    Unopened(FolderFault),
+    /// It was not admitted to the door.
+    NotAdmitted,
+}
 
 /// A maker of parts over the folders of a folder, each with its lock.
 pub trait FolderHolder: Maker {
@@ -11,4 +22,15 @@ pub trait FolderHolder: Maker {
 
     /// The names whose folder was found locked since the last time: for a logger with `/log` behind the service's.
     fn take_locked(&mut self) -> Names;
+
+    /// Has svscan itself served in the folder at a path, with this status record: by `sender` its control bytes come.
+    fn serve_own(
+        &mut self,
+        path: String,
+        bytes: &[u8; 20],
+        sender: ControlSender,
+    ) -> Result<(), OwnFault>;
+
+    /// svscan itself is served no more, and has this status record.
+    fn leave_own(&mut self, bytes: &[u8; 20]);
 }

@@ -19,7 +19,7 @@ mod reaper;
 mod set_up;
 mod system;
 
-pub use holder::FolderHolder;
+pub use holder::{FolderHolder, OwnFault};
 pub use kept_folder::LockedFolder;
 pub use maker::FolderMaker;
 pub use part_system::PartSystem;

@@ -5,21 +5,22 @@ ghost use Rattle.svc_host.specs.Answers.{answered};
 ghost use Rattle.svc_house.specs.Calls.{ExtendedWhileKept};
 ghost use Rattle.svc_maker.specs.Making.{EndsPart, KeepsTrace, MakesPair, MakesPart, Making, SetsUp};
 
-use crate::holder::FolderHolder;
+use crate::holder::{FolderHolder, OwnFault};
 use crate::kept_folder::{KeptFolder, LockedFolder, place_of};
 use crate::part_system::PartSystem;
-use crate::pipes::{PairOutlets, PairPipes, leave_pipes};
+use crate::pipes::{PairOutlets, PairPipes, leave_pipes, pipes_of};
 use crate::set_up::{MakeFault, PartSetup, part_name, part_path, set_up};
 use scan_table::PartId;
 use std::alloc::{AllocError, Global};
-use std::fs::File;
-use std::io::PipeWriter;
 use std::marker::Model;
 use std::sync::Arc;
 use svc_host::{Maker, PartResources};
 use svc_house::{ControlSender, Notifier, OpenGate};
-use svc_world::{FolderFault, OutputEnds};
+use svc_world::{FolderFault, LoggerInput, OutputEnds, ServiceOutput, drain, is_read};
 use tai_status::{Name, Names, Output};
+
+/// The number at the door of svscan itself. No life has it.
+const OWN_NUMBER: u64 = u64::MAX;
 
 /// Makes the resources of the parts of services, over the folders of a folder. Contracts see it as `Making`
 /// (specs/Making).
@@ -31,10 +32,12 @@ pub struct FolderMaker<S: PartSystem + Drop> {
     kept: Vec<KeptFolder<S::Folder>>,
     pipes: Vec<PairPipes>,
     locked: Vec<Name>,
+    // The folder in which svscan itself is served.
+    own: Option<S::Folder>,
 }
 
 impl<S: PartSystem + Drop> Model for FolderMaker<S> {
-    ghost use Rattle.std.specs.Prelude.{string_bytes};
+    ghost use Rattle.std.specs.Prelude.{string_bytes, option_map};
     ghost use Rattle.svc_maker.specs.Making.{Making};
 
     ghost Value = { Making };
@@ -45,15 +48,17 @@ impl<S: PartSystem + Drop> Model for FolderMaker<S> {
       kept = maker.kept.items;
       pipes = maker.pipes.items;
       locked = maker.locked.items;
+      own = option_map S.Folder.path maker.own;
     } };
 }
 
 impl<S: PartSystem + Drop> FolderMaker<S> {
-    ghost use Rattle.std.specs.Prelude.{◌≡◌, []};
+    ghost use Rattle.std.specs.Prelude.{◌≡◌, [], None};
 
     /// A maker over a system, with no part.
     pub fn new(alloc: Global, system: S) -> FolderMaker<S>
-        ensures { result ≡ record { calls = S.calls system; folder = []; kept = []; pipes = []; locked = [] } }
+        ensures { result
+            ≡ record { calls = S.calls system; folder = []; kept = []; pipes = []; locked = []; own = None } }
     {
         FolderMaker {
             alloc,
@@ -62,6 +67,7 @@ impl<S: PartSystem + Drop> FolderMaker<S> {
             kept: Vec::new(alloc),
             pipes: Vec::new(alloc),
             locked: Vec::new(alloc),
+            own: None,
         }
     }
 
@@ -128,7 +134,7 @@ where
     ghost use Rattle.std.specs.Prelude.{◌≡◌, ◌∷◌, [], option_map, IfSome};
     ghost use Rattle.svc_host.specs.Answers.{answered};
     ghost use Rattle.svc_house.specs.Calls.{ExtendedWhileKept};
-    ghost use Rattle.svc_maker.specs.Making.{EndsPart, KeepsTrace, MakesPair, MakesPart, Making};
+    ghost use Rattle.svc_maker.specs.Making.{EndsPart, KeepsTrace, MakesPair, MakesPart, Making, WatchesOutputs};
     ghost use Rattle.svc_maker.specs.Pipes.{pipes_without};
 
     type World = S::World;
@@ -137,9 +143,9 @@ where
 
     type Reaper = S::Reaper;
 
-    type Output = File;
+    type Output = ServiceOutput;
 
-    type Outlet = Output<PipeWriter>;
+    type Outlet = Output<LoggerInput>;
 
     type Outlets = PairOutlets;
 
@@ -169,7 +175,7 @@ where
         name: &str,
         slot: u64,
         _notifier: Arc<Notifier, Global>,
-    ) -> Option<(File, PairOutlets)>
+    ) -> Option<(ServiceOutput, PairOutlets)>
         ensures { MakesPair name.now slot result self.old self.new }
     {
         if self.pipes.reserve(1).is_err() {
@@ -182,12 +188,13 @@ where
             OutputEnds {
                 read: from_service,
                 write: output,
+                flow,
             },
         ) = self.system.output(path.as_str())
         else {
             return None;
         };
-        let Some((input, to_logger)) = self.system.pipe() else {
+        let Some((input, to_logger)) = self.system.pipe(&flow) else {
             return None;
         };
         let pipes = &mut self.pipes;
@@ -196,6 +203,7 @@ where
             slot,
             output,
             input,
+            flow,
         });
         let outlet = Some(to_logger);
         Some((from_service, PairOutlets { outlet }))
@@ -227,6 +235,43 @@ where
     {
         leave_pipes(&mut self.pipes, slot);
     }
+
+    fn watch_outputs(&mut self)
+        ensures { WatchesOutputs self.old self.new }
+    {
+        self.system.watch_outputs();
+    }
+
+    fn end_output(&mut self, slot: u64, at_once: bool)
+        ensures { self.new ≡ self.old }
+    {
+        if let Some(pair) = pipes_of(&self.pipes, slot) {
+            pair.flow.end(at_once);
+        }
+    }
+
+    fn is_read(&mut self, slot: u64) -> bool
+        ensures { self.new ≡ self.old }
+    {
+        match pipes_of(&self.pipes, slot) {
+            Some(pair) => is_read(&pair.input),
+            None => true,
+        }
+    }
+
+    fn lost(&mut self, slot: u64, has_logger: bool) -> u64
+        ensures { self.new ≡ self.old }
+    {
+        let Some(pair) = pipes_of(&self.pipes, slot) else {
+            return 0;
+        };
+        let unread = if has_logger {
+            0
+        } else {
+            drain(&pair.input).unwrap_or(0)
+        };
+        pair.flow.between().saturating_add(unread)
+    }
 }
 
 impl<S: PartSystem + Drop> FolderHolder for FolderMaker<S>
@@ -234,7 +279,9 @@ where
     S::World: Send + 'static,
     S::Reaper: Send + 'static,
 {
-    ghost use Rattle.std.specs.Prelude.{◌≡◌, [], OnOk, OnErr};
+    ghost use Rattle.std.specs.Prelude.{◌≡◌, [], OnOk, OnErr, string_bytes};
+    ghost use Rattle.std.specs.Result.{result_err};
+    ghost use Rattle.svc_maker.specs.Making.{LeavesOwn, ServesOwn};
 
     /// The folders of services are sought in this folder from now on. At want of memory they are sought where they
     /// were.
@@ -253,5 +300,38 @@ where
     {
         let locked = core::mem::replace(&mut self.locked, Vec::new(self.alloc));
         Names::from_vec(locked)
+    }
+
+    /// svscan itself is served exactly where its folder was opened and locked, its record was written, and it was
+    /// admitted.
+    fn serve_own(
+        &mut self,
+        path: String,
+        bytes: &[u8; 20],
+        sender: ControlSender,
+    ) -> Result<(), OwnFault>
+        ensures { ServesOwn (string_bytes path) bytes.now (result_err result) self.old self.new }
+    {
+        let folder = match self.system.open_own(path) {
+            Ok(folder) => folder,
+            Err(fault) => return Err(OwnFault::Unopened(fault)),
+        };
+        self.system.record(&folder, bytes);
+        if !self.system.admit(OWN_NUMBER, &folder, sender) {
+            self.system.dismiss(OWN_NUMBER, &folder);
+            return Err(OwnFault::NotAdmitted);
+        }
+        self.own = Some(folder);
+        Ok(())
+    }
+
+    /// svscan itself is dismissed, with its sockets, and its record written.
+    fn leave_own(&mut self, bytes: &[u8; 20])
+        ensures { LeavesOwn bytes.now self.old self.new }
+    {
+        if let Some(folder) = self.own.take() {
+            self.system.dismiss(OWN_NUMBER, &folder);
+            self.system.record(&folder, bytes);
+        }
     }
 }

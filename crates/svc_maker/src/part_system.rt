@@ -2,12 +2,12 @@
 use crate::kept_folder::LockedFolder;
 use std::alloc::Global;
 use std::fs::File;
-use std::io::{PipeReader, PipeWriter};
+use std::io::PipeReader;
 use std::sync::Arc;
 use svc_host::Reaper;
 use svc_house::{ControlSender, Notifier, World};
 use svc_left::Left;
-use svc_world::{FolderFault, OutputEnds};
+use svc_world::{Flow, FolderFault, LoggerInput, OutputEnds};
 
 /// What the operating system does for the parts of services. Contracts see the calls with their answers, in order
 /// (`calls`), where they are kept. They may stop to be kept, as where there is no memory for more, and are not kept
@@ -19,7 +19,7 @@ pub trait PartSystem {
     ghost use Rattle.svc_house.specs.Calls.{ExtendedWhileKept};
     ghost use Rattle.svc_left.specs.Process.{IsLiving};
     ghost use Rattle.svc_maker.specs.Calls.{Call, MadePipe, OpenedOutput, Opened, FoundLeft, Admitted, Dismissed};
-    ghost use Rattle.svc_maker.specs.Calls.{KeptTrace, MakesWorld};
+    ghost use Rattle.svc_maker.specs.Calls.{KeptTrace, MakesWorld, OpenedOwn, Recorded, WatchedOutputs};
 
     ghost calls: { Self → Option (List Call) } = { λ _. None };
 
@@ -29,8 +29,8 @@ pub trait PartSystem {
 
     type Reaper: Reaper + Drop;
 
-    /// Makes a pipe, or none.
-    fn pipe(&mut self) -> Option<(PipeReader, PipeWriter)>
+    /// Makes a pipe for the input of a logger, or none. What it takes is counted in the flow.
+    fn pipe(&mut self, flow: &Arc<Flow, Global>) -> Option<(PipeReader, LoggerInput)>
         ensures calls { ExtendedWhileKept (calls self.old) (calls self.new) (MadePipe result ∷ []) };
 
     /// Opens the output of the service in the folder at a path, or none.
@@ -44,6 +44,24 @@ pub trait PartSystem {
         ensures path { IfOk result (λ folder. Self.Folder.path folder ≡ string_bytes path) }
         ensures fault { IfErr result (λ fault.
             ExtendedWhileKept (calls self.old) (calls self.new) (Opened (string_bytes path) (Some fault) ∷ [])) };
+
+    /// Opens the folder at a path in which svscan itself is served, and takes its lock. It is made where it is missing,
+    /// and nothing is changed there while another svscan has the lock. Both are kept until the folder is let go.
+    fn open_own(&mut self, path: String) -> Result<Self::Folder, FolderFault>
+        ensures opened { OnOk result (ExtendedWhileKept (calls self.old) (calls self.new)
+            (OpenedOwn (string_bytes path) None ∷ [])) }
+        ensures path { IfOk result (λ folder. Self.Folder.path folder ≡ string_bytes path) }
+        ensures fault { IfErr result (λ fault.
+            ExtendedWhileKept (calls self.old) (calls self.new) (OpenedOwn (string_bytes path) (Some fault) ∷ [])) };
+
+    /// Puts these bytes in the place of the status record in a folder, and tells whether it could.
+    fn record(&mut self, folder: &Self::Folder, bytes: &[u8; 20]) -> bool
+        ensures calls { ExtendedWhileKept (calls self.old) (calls self.new)
+            (Recorded (Self.Folder.path folder.now) bytes.now result ∷ []) };
+
+    /// Has all outputs look after their flows from now on, so that each can be told to end.
+    fn watch_outputs(&mut self)
+        ensures calls { ExtendedWhileKept (calls self.old) (calls self.new) (WatchedOutputs ∷ []) };
 
     /// What an earlier svscan left of the service in a folder.
     fn left(&mut self, folder: &Self::Folder) -> Left

@@ -7,9 +7,12 @@ ghost use Rattle.std.specs.Prelude.{◌≡◌, ◌≤◌, option_copied, vec_cap
 ghost use Rattle.svc_maker.specs.Pipes.{input_of, output_of, pipes_of, pipes_without};
 
 use scan_table::Role;
+use std::alloc::Global;
 use std::fs::File;
-use std::io::{PipeReader, PipeWriter};
+use std::io::PipeReader;
+use std::sync::Arc;
 use svc_host::Outlets;
+use svc_world::{Flow, LoggerInput};
 use tai_status::{Counted, Output};
 
 /// The ends of a pair's output and pipe that its children get.
@@ -20,19 +23,21 @@ pub(crate) struct PairPipes {
     pub(crate) output: File,
     /// Standard input of its logger.
     pub(crate) input: PipeReader,
+    /// What is counted of what flows between them.
+    pub(crate) flow: Arc<Flow, Global>,
 }
 
 /// The input of a pair's logger: one pipe for all its lives.
 #[derive(Drop)]
 pub struct PairOutlets {
-    pub(crate) outlet: Option<PipeWriter>,
+    pub(crate) outlet: Option<LoggerInput>,
 }
 
-impl Outlets<Output<PipeWriter>> for PairOutlets {
+impl Outlets<Output<LoggerInput>> for PairOutlets {
     ghost use Rattle.std.specs.Prelude.{◌≡◌, None, is_some};
 
     /// The pipe, once.
-    fn next(&mut self) -> Option<Output<PipeWriter>>
+    fn next(&mut self) -> Option<Output<LoggerInput>>
         ensures there { is_some result ≡ is_some self.old.outlet }
         ensures once { self.new.outlet ≡ None }
     {

@@ -1,4 +1,6 @@
 //! The system's own parts of services. It tells contracts nothing.
+ghost use Rattle.std.specs.Prelude.{◌≡◌, string_bytes, IfOk};
+
 use crate::kept_folder::LockedFolder;
 use crate::part_system::PartSystem;
 use crate::reaper::PartReaper;
@@ -16,8 +18,8 @@ use svc_door::Door;
 use svc_house::{ControlSender, Notifier};
 use svc_left::{BootId, Found, Left};
 use svc_world::{
-    ChildReaper, ChildWorld, FolderFault, OutputEnds, ServiceFolder, SignalShell, Streams,
-    SystemChildren, boot_id, open_output,
+    ChildReaper, ChildWorld, Flow, FolderFault, LoggerInput, OutputEnds, ServiceFolder,
+    SignalShell, Streams, SystemChildren, boot_id, open_output,
 };
 use tai_status::TimeSource;
 
@@ -48,6 +50,9 @@ where
     clock: SystemClock<R>,
     shell: Arc<SignalShell<R>, Global>,
     door: Door<ControlSender>,
+    // At its end once the other end is let go: then outputs look after their flows.
+    watch: Arc<PipeReader, Global>,
+    unwatched: Option<PipeWriter>,
 }
 
 impl<R> SystemParts<R>
@@ -60,7 +65,8 @@ where
         files: HostRuntime,
         alloc: Global,
         door: Door<ControlSender>,
-    ) -> Result<SystemParts<R>, AllocError> {
+    ) -> io::Result<SystemParts<R>> {
+        let (watch, unwatched) = io::pipe(&runtime)?;
         Ok(SystemParts {
             runtime,
             files,
@@ -69,6 +75,8 @@ where
             clock: SystemClock::new(runtime),
             shell: Arc::new(alloc, SignalShell::new(runtime, alloc))?,
             door,
+            watch: Arc::new(alloc, watch)?,
+            unwatched: Some(unwatched),
         })
     }
 
@@ -92,6 +100,19 @@ where
             notifier,
             shell,
         )
+    }
+
+    // An open folder, with the path by which it was opened.
+    fn keep(&self, folder: ServiceFolder, path: &String) -> Result<OpenFolder, FolderFault>
+        ensures { IfOk result (λ kept. string_bytes kept.path.value ≡ string_bytes path.now) }
+    {
+        match Arc::new(self.alloc, folder) {
+            Ok(folder) => Ok(OpenFolder {
+                folder,
+                path: Snapshot::of(path),
+            }),
+            Err(_) => Err(FolderFault::NotOpened),
+        }
     }
 
     // Admits a part to the door, where there is one.
@@ -130,23 +151,32 @@ where
 
     type Reaper = PartReaper;
 
-    fn pipe(&mut self) -> Option<(PipeReader, PipeWriter)> {
-        io::pipe(&self.runtime).ok()
+    fn pipe(&mut self, flow: &Arc<Flow, Global>) -> Option<(PipeReader, LoggerInput)> {
+        let flow = Arc::try_clone(flow).ok()?;
+        let (reader, writer) = io::pipe(&self.runtime).ok()?;
+        Some((reader, LoggerInput::new(writer, flow)))
     }
 
     fn output(&mut self, path: &str) -> Option<OutputEnds> {
-        open_output(&self.runtime, &self.files, self.alloc, path).ok()
+        open_output(&self.runtime, &self.files, self.alloc, path, &self.watch).ok()
     }
 
     fn open(&mut self, path: String) -> Result<OpenFolder, FolderFault> {
         let folder = ServiceFolder::open(self.files, path.as_str())?;
-        let Ok(folder) = Arc::new(self.alloc, folder) else {
-            return Err(FolderFault::NotOpened);
-        };
-        Ok(OpenFolder {
-            folder,
-            path: Snapshot::of(&path),
-        })
+        self.keep(folder, &path)
+    }
+
+    fn open_own(&mut self, path: String) -> Result<OpenFolder, FolderFault> {
+        let folder = ServiceFolder::open_own(self.files, path.as_str())?;
+        self.keep(folder, &path)
+    }
+
+    fn record(&mut self, folder: &OpenFolder, bytes: &[u8; 20]) -> bool {
+        folder.folder.replace_status(bytes).is_ok()
+    }
+
+    fn watch_outputs(&mut self) {
+        drop(self.unwatched.take());
     }
 
     fn left(&mut self, folder: &OpenFolder) -> Left {

@@ -112,7 +112,46 @@ fn process_in(bytes: &[u8]) -> Option<u32>
     if view.pid > 0 { Some(view.pid) } else { None }
 }
 
+/// Makes a folder that is its owner's alone, where there is none.
+fn make_missing<R: Files<File = File>>(runtime: &R, path: &str) -> io::Result<()> {
+    let mut how = DirBuilder::new();
+    how.mode(FOLDER_MODE);
+    match how.create(runtime, path) {
+        Ok(()) => fs::set_permissions(runtime, path, Permissions::from_mode(FOLDER_MODE)),
+        Err(fault) if fault.kind() == ErrorKind::AlreadyExists => Ok(()),
+        Err(fault) => Err(fault),
+    }
+}
+
+/// Whether the lock in the folder at a path is held. It changes nothing there, not even a time.
+fn is_held<R: Files<File = File>>(runtime: &R, path: &str) -> bool {
+    let Ok(folder) = open_folder(runtime, path) else {
+        return false;
+    };
+    let Ok(lock) = fs::open(runtime, path_in(&folder, "supervise/lock").as_str()) else {
+        return false;
+    };
+    match lock.try_lock() {
+        // A child that starts just now has the file too: closing alone would leave the lock.
+        Ok(()) => lock.unlock().is_err(),
+        Err(TryLockError::WouldBlock) => true,
+        Err(TryLockError::Error(_)) => false,
+    }
+}
+
 impl ServiceFolder {
+    /// Opens svscan's own folder at a path as that of a service. It is made where it is missing. While another svscan
+    /// holds it nothing is changed there, not even a time.
+    pub fn open_own(files: HostRuntime, path: &str) -> Result<ServiceFolder, FolderFault> {
+        if is_held(&files, path) {
+            return Err(FolderFault::Locked);
+        }
+        if make_missing(&files, path).is_err() {
+            return Err(FolderFault::NotOpened);
+        }
+        ServiceFolder::open(files, path)
+    }
+
     /// Opens the folder at a path, makes its folder `supervise`, and takes the lock in that, without waiting for
     /// another that has it. The lock is held until this is let go.
     pub fn open(files: HostRuntime, path: &str) -> Result<ServiceFolder, FolderFault> {

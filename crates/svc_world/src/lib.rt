@@ -10,6 +10,7 @@
 mod begin;
 mod child_reaper;
 mod child_system;
+mod flow;
 mod folder;
 mod output;
 mod processes;
@@ -20,6 +21,7 @@ mod world;
 pub use begin::{Begin, Death, LastChild};
 pub use child_reaper::ChildReaper;
 pub use child_system::ChildSystem;
+pub use flow::{Flow, LoggerInput, ServiceOutput, drain, is_read};
 pub use folder::{FolderFault, ServiceFolder};
 pub use output::{OutputEnds, open_output};
 pub use processes::boot_id;

@@ -3,21 +3,23 @@
 //! It is a FIFO in the folder of the service, which each of its processes has open for reading too. So a process that
 //! writes while there is no svscan gets no signal and no error: it waits once the FIFO is full, and goes on with the next
 //! svscan. Where there can be no FIFO, or another svscan has the service, it is a pipe, which ends with svscan.
+use crate::flow::{Flow, ServiceOutput};
 use crate::folder::{make_private, open_lock, remove};
 use std::alloc::Global;
 use std::fs::{File, Files, OpenOptions};
-use std::io::{Error, ErrorKind};
+use std::io::{Error, ErrorKind, PipeReader};
 use std::os::fd::AsRawFd;
 use std::os::unix::fs::FileTypeExt;
 use std::process::{Command, Processes, Stdio, SystemProcess};
-use std::sync::Wait;
+use std::sync::{Arc, Wait};
 use std::{fs, io};
 
-/// The two ends of an output: what is read, and what the processes of the service have.
+/// The two ends of an output, what is read and what the processes of the service have, and what is counted of it.
 #[derive(Drop)]
 pub struct OutputEnds {
-    pub read: File,
+    pub read: ServiceOutput,
     pub write: File,
+    pub flow: Arc<Flow, Global>,
 }
 
 fn is_fifo<R: Files<File = File>>(files: &R, path: &str) -> bool {
@@ -59,13 +61,13 @@ fn is_free<R: Files<File = File>>(files: &R, alloc: Global, folder: &str) -> io:
     Ok(true)
 }
 
-/// Opens the FIFO of the service in a folder.
+/// Opens the FIFO of the service in a folder, to be read and to be written.
 fn open_fifo<R: Processes<Started = SystemProcess> + Wait>(
     rt: &R,
     files: &HostRuntime,
     alloc: Global,
     folder: &str,
-) -> io::Result<OutputEnds> {
+) -> io::Result<(File, File)> {
     if !is_free(files, alloc, folder)? {
         return Err(Error::from(ErrorKind::WouldBlock));
     }
@@ -79,31 +81,38 @@ fn open_fifo<R: Processes<Started = SystemProcess> + Wait>(
     how.read(true).write(true);
     let write = how.open(files, path.as_str())?;
     let read = fs::open(files, path.as_str())?;
-    Ok(OutputEnds { read, write })
+    Ok((read, write))
 }
 
-/// A pipe, as files.
-fn open_pipe(files: &HostRuntime, alloc: Global) -> io::Result<OutputEnds> {
+/// A pipe, as files to be read and to be written.
+fn open_pipe(files: &HostRuntime, alloc: Global) -> io::Result<(File, File)> {
     let (reader, writer) = io::pipe(files)?;
     let read = format!(in alloc; "/proc/self/fd/{}", reader.as_raw_fd())?;
     let write = format!(in alloc; "/proc/self/fd/{}", writer.as_raw_fd())?;
     let mut how = OpenOptions::new();
     how.write(true);
-    Ok(OutputEnds {
-        read: fs::open(files, read.as_str())?,
-        write: how.open(files, write.as_str())?,
-    })
+    Ok((
+        fs::open(files, read.as_str())?,
+        how.open(files, write.as_str())?,
+    ))
 }
 
-/// Opens the output of the service in a folder.
+/// Opens the output of the service in a folder. Once the pipe is at its end, the output may be told to end.
 pub fn open_output<R: Processes<Started = SystemProcess> + Wait>(
     rt: &R,
     files: &HostRuntime,
     alloc: Global,
     folder: &str,
+    watch: &Arc<PipeReader, Global>,
 ) -> io::Result<OutputEnds> {
-    match open_fifo(rt, files, alloc, folder) {
-        Ok(ends) => Ok(ends),
-        Err(_) => open_pipe(files, alloc),
-    }
+    let (read, write) = match open_fifo(rt, files, alloc, folder) {
+        Ok(ends) => ends,
+        Err(_) => open_pipe(files, alloc)?,
+    };
+    let flow = Arc::new(alloc, Flow::new())?;
+    Ok(OutputEnds {
+        read: ServiceOutput::new(read, Arc::try_clone(watch)?, Arc::try_clone(&flow)?),
+        write,
+        flow,
+    })
 }

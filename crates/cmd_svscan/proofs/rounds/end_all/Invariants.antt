@@ -1,0 +1,9 @@
+use Rattle.cmd_svscan.specs.Rounds.{effects}
+use Rattle.cmd_svscan.proofs.Turning.{IsEnding}
+use Rattle.cmd_svscan.proofs.rounds.end_all.Given as goal
+
+-- some still ran, each time
+abbrev pub invariant-loop : goal.invariant-loop
+invariant-loop g l =
+    IsEnding (effects (g.K.ServiceSet.calls l.fn.services) l.fn.faults) (effects (g.K.ServiceSet.calls l.services) l.faults)
+    × g.K.ServiceSet.ready l.services

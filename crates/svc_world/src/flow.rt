@@ -1,0 +1,181 @@
+//! How the output of a service flows to its logger: it is counted, and it can be ended while the service runs.
+use libc::net::{POLLIN, poll};
+use libc::types::pollfd;
+use std::alloc::Global;
+use std::fs::File;
+use std::io;
+use std::io::{Error, ErrorKind, PipeReader, PipeWriter, Read, Write};
+use std::os::fd::AsRawFd;
+use std::sync::Arc;
+use std::sync::atomic::{AtomicBool, AtomicU64, Ordering};
+
+/// How many milliseconds an output waits for bytes before it looks whether it is to end, once outputs may be.
+const PAUSE_MILLIS: i32 = 20;
+
+/// How often a wait is begun again.
+const TRIES: u64 = 1 << 48;
+
+/// How many bytes the system takes as a whole or not at all.
+const WHOLE: usize = 4096;
+
+/// What is counted of a service's output, and whether that is to end.
+#[derive(Drop)]
+pub struct Flow {
+    taken: AtomicU64,
+    put: AtomicU64,
+    ends: AtomicBool,
+    ends_at_once: AtomicBool,
+}
+
+/// Counts more. One thread alone counts so.
+fn count_more(counter: &AtomicU64, more: usize) {
+    let before = counter.load(Ordering::SeqCst);
+    counter.store(before.saturating_add(more as u64), Ordering::SeqCst);
+}
+
+impl Flow {
+    /// Nothing flowed yet.
+    pub(crate) const fn new() -> Flow {
+        Flow {
+            taken: AtomicU64::new(0),
+            put: AtomicU64::new(0),
+            ends: AtomicBool::new(false),
+            ends_at_once: AtomicBool::new(false),
+        }
+    }
+
+    /// The output is to end: at once, or when it has nothing for now.
+    pub fn end(&self, at_once: bool) {
+        if at_once {
+            self.ends_at_once.store(true, Ordering::SeqCst);
+        }
+        self.ends.store(true, Ordering::SeqCst);
+    }
+
+    /// How many bytes were read of the output and not put into the input of its logger.
+    pub fn between(&self) -> u64 {
+        let put = self.put.load(Ordering::SeqCst);
+        self.taken.load(Ordering::SeqCst).saturating_sub(put)
+    }
+}
+
+/// Waits until there is something to read of the first descriptor, or the second one is at its end, where that is
+/// given, and for so many milliseconds at most; less than 0 is without an end. Whether each is so.
+fn wait_for_either(first: i32, second: Option<i32>, millis: i32) -> io::Result<(bool, bool)> {
+    let mut asked = [first, second.unwrap_or(-1)].map(|fd| pollfd {
+        fd,
+        events: POLLIN,
+        revents: 0,
+    });
+    if poll(&mut asked, millis) < 0 {
+        let fault = Error::from_raw_os_error(os::errno());
+        if fault.kind() == ErrorKind::Interrupted {
+            return Ok((false, false));
+        }
+        return Err(fault);
+    }
+    Ok((asked[0].revents != 0, asked[1].revents != 0))
+}
+
+/// Whether there is nothing to read of a logger's input for now.
+pub fn is_read(input: &PipeReader) -> bool {
+    let mut asked = [pollfd {
+        fd: input.as_raw_fd(),
+        events: POLLIN,
+        revents: 0,
+    }];
+    poll(&mut asked, 0) <= 0 || asked[0].revents & POLLIN == 0
+}
+
+/// Reads a logger's input to its end, and counts the bytes.
+pub fn drain(input: &PipeReader) -> io::Result<u64> {
+    let mut input = input.try_clone()?;
+    io::copy(&mut input, &mut io::sink())
+}
+
+/// The end of a service's output that is read. It ends where nobody has the other end, and where it is told to.
+#[derive(Drop)]
+pub struct ServiceOutput {
+    file: File,
+    // At its end once outputs may be told to end.
+    watch: Arc<PipeReader, Global>,
+    flow: Arc<Flow, Global>,
+    is_watched: bool,
+}
+
+impl ServiceOutput {
+    /// This end. Once the pipe is at its end the output looks after the flow.
+    pub(crate) fn new(
+        file: File,
+        watch: Arc<PipeReader, Global>,
+        flow: Arc<Flow, Global>,
+    ) -> ServiceOutput {
+        ServiceOutput {
+            file,
+            watch,
+            flow,
+            is_watched: false,
+        }
+    }
+
+    /// Waits until there is something to read, or the output is over, as it was told. Whether it is over.
+    fn is_over(&mut self) -> io::Result<bool> {
+        for _ in 0..TRIES {
+            if self.flow.ends_at_once.load(Ordering::SeqCst) {
+                return Ok(true);
+            }
+            let ends = self.flow.ends.load(Ordering::SeqCst);
+            let (watch, millis) = match (ends, self.is_watched) {
+                (true, _) => (None, 0),
+                (false, true) => (None, PAUSE_MILLIS),
+                (false, false) => (Some(self.watch.as_raw_fd()), -1),
+            };
+            let (is_ready, is_watched) = wait_for_either(self.file.as_raw_fd(), watch, millis)?;
+            if is_ready || ends {
+                return Ok(!is_ready);
+            }
+            if is_watched {
+                self.is_watched = true;
+            }
+        }
+        Err(Error::from(ErrorKind::Interrupted))
+    }
+}
+
+impl Read for ServiceOutput {
+    fn read(&mut self, into: &mut [u8]) -> io::Result<usize> {
+        if self.is_over()? {
+            return Ok(0);
+        }
+        let count = self.file.read(into)?;
+        count_more(&self.flow.taken, count);
+        Ok(count)
+    }
+}
+
+/// The end of a logger's input that is written. It takes no more at once than the system takes as a whole, so that what
+/// was put is known at any moment.
+#[derive(Drop)]
+pub struct LoggerInput {
+    pipe: PipeWriter,
+    flow: Arc<Flow, Global>,
+}
+
+impl LoggerInput {
+    /// This end, and the flow in which is counted what it took.
+    pub fn new(pipe: PipeWriter, flow: Arc<Flow, Global>) -> LoggerInput {
+        LoggerInput { pipe, flow }
+    }
+}
+
+impl Write for LoggerInput {
+    fn write(&mut self, bytes: &[u8]) -> io::Result<usize> {
+        let count = self.pipe.write(&bytes[..bytes.len().min(WHOLE)])?;
+        count_more(&self.flow.put, count);
+        Ok(count)
+    }
+
+    fn flush(&mut self) -> io::Result<()> {
+        Ok(())
+    }
+}
