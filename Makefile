@@ -68,7 +68,7 @@ install:
 	sed 's|^dtools=.*|dtools=$(PREFIX)/bin/dtools\nexport PATH=$(PREFIX)/lib/dtools/bin:$$PATH|' contrib/svscan-run >$(WRAPPERS)/svscan-run
 	sed 's|^dtools=.*|dtools=$(PREFIX)/bin/dtools|; s|:-/service}|:-$(SERVICES)}|' contrib/dtools-service >$(WRAPPERS)/dtools-service
 	chmod 755 $(WRAPPERS)/svscan-run $(WRAPPERS)/dtools-service
-	sed 's|/usr/local|$(PREFIX)|; s| /service$$| $(SERVICES)|; s| /service,| $(SERVICES),|' contrib/dtools.service >$(DESTDIR)$(UNITS)/dtools.service
+	sed 's|/usr/local|$(PREFIX)|; s| /service$$| $(SERVICES)|; s| /service/| $(SERVICES)/|; s| /service,| $(SERVICES),|' contrib/dtools.service >$(DESTDIR)$(UNITS)/dtools.service
 	chmod 644 $(DESTDIR)$(UNITS)/dtools.service
 	for page in $(PAGES); do \
 	  if [ -e man/$$page ]; then cat man/$$page; else awk -f man/formats.awk docs/FORMATS.md; fi | \

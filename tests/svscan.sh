@@ -1483,7 +1483,9 @@ END
   is 'told' '' "$(cat told)"
   start told2 d
   soon 'the next svscan begins each' 10 all_are is_settled d/web d/web/log 'd/two words'
-  is 'a bad folder: status' 0 "$(DTOOLS=$program "$contrib/svscan-run" none/at/all 2>none & sleep 1; kill -TERM $!; wait $!; echo $?)"
+  is 'a bad folder: status' 143 "$(DTOOLS=$program "$contrib/svscan-run" none/at/all 2>none & sleep 1; kill -TERM $!; wait $!; echo $?)"
+  so 'a bad folder: told' holds '^svscan-run: ' none
+  is 'a folder that another svscan has' '111 svscan: unable to lock d' "$(DTOOLS=$program "$contrib/svscan-run" d 2>locked; echo "$? $(cat locked)")"
 }
 
 # As the first process of a space of its own svscan-run leaves no zombie, and ends with all others.
@@ -1503,7 +1505,7 @@ END
   first=$(ps -o pid= --ppid "$outer" | tr -d ' ')
   is 'no zombie' '' "$(ps -o stat= --ppid "$first" | grep Z)"
   kill -TERM "$first"
-  soon 'it ends' 3 not lives "$first"
+  soon 'it ends' 1 not lives "$first"
   wait "$outer"
   is 'status' 0 "$?"
   is 'told' '' "$(cat told)"
