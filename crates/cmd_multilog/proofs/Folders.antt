@@ -1,5 +1,6 @@
 -- Folders of logs: what calls in turn do.
-use Rattle.std.proofs.Common.{◌≡◌, ℕ, ◌+◌, ◌<◌, true, false, List, [], ◌∷◌, ◌++◌, length, map, drop, get_or, Option, Some, None, refl, sym, ap, ◌∙◌, arith, subst, append_assoc, append-nil}
+use Rattle.std.proofs.Common.{◌≡◌, ℕ, ◌+◌, ◌<◌, true, false, List, [], ◌∷◌, ◌++◌, length, map, drop, get_or, Option}
+use Rattle.std.proofs.Common.{Some, None, refl, sym, ap, ◌∙◌, arith, subst, append_assoc, append-nil}
 use Rattle.std.specs.Prelude.{IfSome, IsSome, MatchOption, unwrap_or, take, Result, Ok, Err, OnOk, OnErr}
 use Rattle.std.specs.Option.{option_map}
 use Rattle.std.proofs.lemmas.Slice.Eq.{bytes_eq-Decides}
@@ -8,7 +9,8 @@ use Rattle.tai_status.specs.Label.{Tai64n}
 use Rattle.mlog_files.specs.Files.{Old, Files, Step, Finish, Remove, files_after, append_steps, old_name, with_old}
 use Rattle.mlog_files.specs.Store.{Reaches}
 use Rattle.cmd_multilog.specs.Names.{old_names, with_name}
-use Rattle.cmd_multilog.specs.Folder.{Folder, Changes, Locks, Opens, Extends, Syncs, Renames, without, Removes, Begins, files_in, files_of, IsKept, HasLength, HasNames, StaysAt}
+use Rattle.cmd_multilog.specs.Folder.{Folder, Changes, Locks, Opens, Extends, Syncs, Renames, without, Removes, Begins}
+use Rattle.cmd_multilog.specs.Folder.{files_in, files_of, IsKept, HasLength, HasNames, StaysAt}
 use Rattle.cmd_multilog.proofs.Naming.{names-with_old}
 
 -- the files of a folder with this current file
@@ -20,7 +22,13 @@ abbrev synced : Folder → Folder
 synced a = record { path = a.path; locked = a.locked; current = a.current; synced = true; olds = a.olds }
 
 abbrev extended : List ℕ → Folder → List ℕ → Folder
-extended piece a bytes = record { path = a.path; locked = a.locked; current = Some (bytes ++ piece); synced = false; olds = a.olds }
+extended piece a bytes = record {
+  path = a.path;
+  locked = a.locked;
+  current = Some (bytes ++ piece);
+  synced = false;
+  olds = a.olds;
+}
 
 abbrev renamed : List ℕ → Folder → List ℕ → Folder
 renamed name a bytes = record {
@@ -32,10 +40,24 @@ renamed name a bytes = record {
 }
 
 abbrev opened : Folder → Folder
-opened a = record { path = a.path; locked = a.locked; current = Some (unwrap_or a.current []); synced = false; olds = a.olds }
+opened a = record {
+  path = a.path;
+  locked = a.locked;
+  current = Some (unwrap_or a.current []);
+  synced = false;
+  olds =
+      a.olds;
+}
 
 abbrev removed : List ℕ → Folder → Folder
-removed name a = record { path = a.path; locked = a.locked; current = a.current; synced = a.synced; olds = without name a.olds }
+removed name a = record {
+  path = a.path;
+  locked = a.locked;
+  current = a.current;
+  synced = a.synced;
+  olds =
+      without name a.olds;
+}
 
 abbrev locked_of : Folder → Folder
 locked_of a = record { path = a.path; locked = true; current = a.current; synced = a.synced; olds = a.olds }
@@ -52,7 +74,8 @@ Reaches-gone (Some files) steps = tt
 
 appended_files : (bytes : List ℕ) (files : Files)
     → files_after (append_steps bytes) files ≡ record { current = files.current ++ bytes; olds = files.olds }
-appended_files [] files = ap (λ (t : List ℕ). record { current = t; olds = files.olds }) (sym (append-nil files.current))
+appended_files [] files =
+    ap (λ (t : List ℕ). record { current = t; olds = files.olds }) (sym (append-nil files.current))
 appended_files (b ∷ bs) files =
     appended_files bs (record { current = files.current ++ b ∷ []; olds = files.olds })
     ∙ ap (λ (t : List ℕ). record { current = t; olds = files.olds }) (append_assoc files.current (b ∷ []) bs)
@@ -63,9 +86,11 @@ extends_files None None piece h = tt
 extends_files None (Some b) piece h = absurd h
 extends_files (Some a) None piece h = absurd h
 extends_files (Some a) (Some b) piece h =
-    elim (a.current) as (λ cur. MatchOption cur ⊥ (λ bytes. b ≡ extended piece a bytes) → Reaches (files_with a.olds cur) (files_of (Some b)) (append_steps piece)) [
+    elim (a.current) as (λ cur. MatchOption cur ⊥ (λ bytes. b ≡ extended piece a bytes)
+    → Reaches (files_with a.olds cur) (files_of (Some b)) (append_steps piece)) [
       | None ↦ λ never. absurd never
-      | Some bytes ↦ λ e. subst (λ (f : Folder). Reaches (files_with a.olds (Some bytes)) (files_in f) (append_steps piece)) (sym e)
+      | Some bytes ↦ λ e. subst
+          (λ (f : Folder). Reaches (files_with a.olds (Some bytes)) (files_in f) (append_steps piece)) (sym e)
           (sym (appended_files piece (record { current = bytes; olds = a.olds })))
     ] h
 
@@ -73,7 +98,8 @@ pub synced_files : (a b : Option Folder) → Changes a b Syncs → Reaches (file
 synced_files None None h = tt
 synced_files None (Some b) h = absurd h
 synced_files (Some a) None h = absurd h
-synced_files (Some a) (Some b) h = subst (λ (f : Folder). Reaches (files_in a) (files_in f) []) (sym h) (Reaches-same (files_in a))
+synced_files (Some a) (Some b) h =
+    subst (λ (f : Folder). Reaches (files_in a) (files_in f) []) (sym h) (Reaches-same (files_in a))
 
 renamed_gone : (a b : Folder) (name : List ℕ) → Renames name a b → b.current ≡ None
 renamed_gone a b name h =
@@ -91,10 +117,12 @@ renamed_files None (Some b) c name h k = absurd h
 renamed_files (Some a) None c name h k = absurd h
 renamed_files (Some a) (Some b) None name h k = absurd k
 renamed_files (Some a) (Some b) (Some c) name h k =
-    subst (λ (cur : Option (List ℕ)). Reaches (files_in a) (files_with c.olds cur) []) (sym (renamed_gone b c name k)) (Reaches-gone (files_in a) [])
+    subst (λ (cur : Option (List ℕ)). Reaches (files_in a) (files_with c.olds cur) []) (sym (renamed_gone b c name k))
+    (Reaches-gone (files_in a) [])
 
 -- a finish
-pub finished_files : (a b c d : Option Folder) (label : Tai64n) → Changes a b Syncs → Changes b c (Renames (old_name label)) → Changes c d Opens
+pub finished_files : (a b c d : Option Folder) (label : Tai64n) → Changes a b Syncs
+    → Changes b c (Renames (old_name label)) → Changes c d Opens
     → Reaches (files_of a) (files_of d) (Finish label ∷ [])
 finished_files None None None None label h k l = tt
 finished_files None None None (Some d) label h k l = absurd l
@@ -105,9 +133,12 @@ finished_files (Some a) (Some b) None d label h k l = absurd k
 finished_files (Some a) (Some b) (Some c) None label h k l = absurd l
 finished_files (Some a) (Some b) (Some c) (Some d) label h k l =
     let name = old_name label in
-    elim (a.current) as (λ cur. MatchOption cur ⊥ (λ bytes. c ≡ renamed name (synced a) bytes) → Reaches (files_with a.olds cur) (files_of (Some d)) (Finish label ∷ [])) [
+    elim (a.current) as (λ cur. MatchOption cur ⊥ (λ bytes. c ≡ renamed name (synced a) bytes)
+    → Reaches (files_with a.olds cur) (files_of (Some d)) (Finish label ∷ [])) [
       | None ↦ λ never. absurd never
-      | Some bytes ↦ λ e. subst (λ (f : Folder). Reaches (files_with a.olds (Some bytes)) (files_in f) (Finish label ∷ [])) (sym (l ∙ ap opened e)) refl
+      | Some bytes ↦ λ e. subst
+          (λ (f : Folder). Reaches (files_with a.olds (Some bytes)) (files_in f) (Finish label ∷ []))
+          (sym (l ∙ ap opened e)) refl
     ] (subst (λ (f : Folder). MatchOption f.current ⊥ (λ bytes. c ≡ renamed name f bytes)) h (k.1))
 
 -- Paths
@@ -116,7 +147,8 @@ pub stays-same : (a b : Option Folder) → b ≡ a → StaysAt a b
 stays-same None None h = tt
 stays-same None (Some b) h = cc h
 stays-same (Some a) None h = cc h
-stays-same (Some a) (Some b) h = ap (λ (f : Option Folder). elim f as (λ _. List ℕ) [ None ↦ [] | Some folder ↦ folder.path ]) h
+stays-same (Some a) (Some b) h =
+    ap (λ (f : Option Folder). elim f as (λ _. List ℕ) [ None ↦ [] | Some folder ↦ folder.path ]) h
 
 pub stays-then : (a b c : Option Folder) → StaysAt a b → StaysAt b c → StaysAt a c
 stays-then None None None h k = tt
@@ -126,7 +158,8 @@ stays-then (Some a) None c h k = absurd h
 stays-then (Some a) (Some b) None h k = absurd k
 stays-then (Some a) (Some b) (Some c) h k = k ∙ h
 
-pub stays-changed : (change : Folder → Folder → Type 0) (a b : Option Folder) → ((f g : Folder) → change f g → g.path ≡ f.path)
+pub stays-changed : (change : Folder → Folder → Type 0) (a b : Option Folder)
+    → ((f g : Folder) → change f g → g.path ≡ f.path)
     → Changes a b change → StaysAt a b
 stays-changed change None None keeps h = tt
 stays-changed change None (Some b) keeps h = absurd h
@@ -164,38 +197,47 @@ stays-renamed a b name h = stays-changed (Renames name) a b (renames_path name) 
 
 -- What is kept of a folder
 
-pub kept-extended : (a b : Option Folder) (piece : List ℕ) (names : List (List ℕ)) (len : ℕ) → Changes a b (Extends piece)
+pub kept-extended : (a b : Option Folder) (piece : List ℕ) (names : List (List ℕ)) (len : ℕ)
+    → Changes a b (Extends piece)
     → IsKept a names len → IsKept b names (len + length piece)
 kept-extended None None piece names len h kept = tt
 kept-extended None (Some b) piece names len h kept = absurd h
 kept-extended (Some a) None piece names len h kept = absurd h
 kept-extended (Some a) (Some b) piece names len h kept =
-    elim (a.current) as (λ cur. MatchOption cur ⊥ (λ bytes. b ≡ extended piece a bytes) → IfSome cur (λ bytes. len ≡ length bytes)
+    elim (a.current) as (λ cur. MatchOption cur ⊥ (λ bytes. b ≡ extended piece a bytes)
+    → IfSome cur (λ bytes. len ≡ length bytes)
     → IsKept (Some b) names (len + length piece)) [
       | None ↦ λ never _. absurd never
       | Some bytes ↦ λ e is. subst (λ (f : Folder). IsKept (Some f) names (len + length piece)) (sym e)
           (kept.0, kept.1, ap (λ (n : ℕ). n + length piece) is ∙ sym (length-append bytes piece))
     ] h (kept.2)
 
-pub kept-synced : (a b : Option Folder) (names : List (List ℕ)) (len : ℕ) → Changes a b Syncs → IsKept a names len → IsKept b names len
+pub kept-synced : (a b : Option Folder) (names : List (List ℕ)) (len : ℕ) → Changes a b Syncs → IsKept a names len
+    → IsKept b names len
 kept-synced None None names len h kept = tt
 kept-synced None (Some b) names len h kept = absurd h
 kept-synced (Some a) None names len h kept = absurd h
 kept-synced (Some a) (Some b) names len h kept = subst (λ (f : Folder). IsKept (Some f) names len) (sym h) kept
 
-pub kept-renamed : (a b : Option Folder) (name : List ℕ) (names : List (List ℕ)) (len n : ℕ) → Changes a b (Renames name)
+pub kept-renamed : (a b : Option Folder) (name : List ℕ) (names : List (List ℕ)) (len n : ℕ)
+    → Changes a b (Renames name)
     → IsKept a names len → IsKept b (with_name name names) n
 kept-renamed None None name names len n h kept = tt
 kept-renamed None (Some b) name names len n h kept = absurd h
 kept-renamed (Some a) None name names len n h kept = absurd h
 kept-renamed (Some a) (Some b) name names len n h kept =
-    elim (a.current) as (λ cur. MatchOption cur ⊥ (λ bytes. b ≡ renamed name a bytes) → IsKept (Some b) (with_name name names) n) [
+    elim (a.current) as (λ cur. MatchOption cur ⊥ (λ bytes. b ≡ renamed name a bytes)
+    → IsKept (Some b) (with_name name names) n) [
       | None ↦ λ never. absurd never
-      | Some bytes ↦ λ e. subst (λ (f : Folder). IsKept (Some f) (with_name name names) n) (sym e)
-          (kept.0, ap (with_name name) (kept.1) ∙ sym (names-with_old (record { name = name; bytes = bytes }) a.olds), tt)
+      | Some bytes ↦ λ e. subst (λ (f : Folder). IsKept (Some f) (with_name name names) n) (sym e) (
+        kept.0,
+        ap (with_name name) (kept.1) ∙ sym (names-with_old (record { name = name; bytes = bytes }) a.olds),
+        tt,
+      )
     ] (h.1)
 
-pub kept-begun : (a b c : Option Folder) (name : List ℕ) (names : List (List ℕ)) → Changes a b (Renames name) → Changes b c Opens
+pub kept-begun : (a b c : Option Folder) (name : List ℕ) (names : List (List ℕ)) → Changes a b (Renames name)
+    → Changes b c Opens
     → IsKept b names 0 → IsKept c names 0
 kept-begun None None None name names h k kept = tt
 kept-begun None None (Some c) name names h k kept = absurd k
@@ -207,7 +249,8 @@ kept-begun (Some a) (Some b) (Some c) name names h k kept =
     subst (λ (f : Folder). IsKept (Some f) names 0) (sym k)
     (kept.0, kept.1, ap (λ (cur : Option (List ℕ)). length (unwrap_or cur [])) (sym gone))
 
-pub kept-opened : (a b c : Option Folder) (names : List (List ℕ)) (len : ℕ) → Changes a b Locks → Changes b c Opens → HasLength c len → HasNames c names
+pub kept-opened : (a b c : Option Folder) (names : List (List ℕ)) (len : ℕ) → Changes a b Locks → Changes b c Opens
+    → HasLength c len → HasNames c names
     → IsKept c (old_names names) len
 kept-opened None None None names len h k l n = tt
 kept-opened None None (Some c) names len h k l n = absurd k
@@ -239,17 +282,23 @@ drop-map [] = refl
 drop-map (old ∷ olds) = refl
 
 -- the old file of the first name is removed
-pub kept-removed : (a b : Option Folder) (first : List ℕ) (rest : List (List ℕ)) (len : ℕ) → Changes a b (Removes first) → IsKept a (first ∷ rest) len
+pub kept-removed : (a b : Option Folder) (first : List ℕ) (rest : List (List ℕ)) (len : ℕ) → Changes a b (Removes first)
+    → IsKept a (first ∷ rest) len
     → IsKept b rest len
 kept-removed None None first rest len h kept = tt
 kept-removed None (Some b) first rest len h kept = absurd h
 kept-removed (Some a) None first rest len h kept = absurd h
 kept-removed (Some a) (Some b) first rest len h kept =
     let is = removed_olds a.olds first rest (kept.1) in
-    subst (λ (f : Folder). IsKept (Some f) rest len) (sym h)
-    (kept.0, ap (λ (t : List (List ℕ)). drop 1 t) (kept.1) ∙ sym (drop-map a.olds) ∙ ap (map (λ (o : Old). o.name)) (sym is), kept.2)
+    subst (λ (f : Folder). IsKept (Some f) rest len) (sym h) (
+      kept.0,
+      ap (λ (t : List (List ℕ)). drop 1 t) (kept.1) ∙ sym (drop-map a.olds)
+          ∙ ap (map (λ (o : Old). o.name)) (sym is),
+      kept.2,
+    )
 
-pub removed_files : (a b : Option Folder) (first : List ℕ) (rest : List (List ℕ)) (len : ℕ) → Changes a b (Removes first) → IsKept a (first ∷ rest) len
+pub removed_files : (a b : Option Folder) (first : List ℕ) (rest : List (List ℕ)) (len : ℕ)
+    → Changes a b (Removes first) → IsKept a (first ∷ rest) len
     → Reaches (files_of a) (files_of b) (Remove ∷ [])
 removed_files None None first rest len h kept = tt
 removed_files None (Some b) first rest len h kept = absurd h
@@ -266,7 +315,8 @@ removed_files (Some a) (Some b) first rest len h kept =
 pub none_removed : (a : Option Folder) (len : ℕ) → IsKept a [] len → Reaches (files_of a) (files_of a) (Remove ∷ [])
 none_removed None len kept = tt
 none_removed (Some a) len kept =
-    let none : a.olds ≡ drop 1 a.olds = elim (a.olds) as (λ olds. [] ≡ map (λ (o : Old). o.name) olds → olds ≡ drop 1 olds) [
+    let none : a.olds ≡ drop 1 a.olds =
+    elim (a.olds) as (λ olds. [] ≡ map (λ (o : Old). o.name) olds → olds ≡ drop 1 olds) [
       | [] ↦ λ _. refl
       | old ∷ olds ↦ λ never. cc never
     ] (kept.1) in
@@ -276,20 +326,23 @@ none_removed (Some a) len kept =
     ]
 
 -- the same, where the first name was read and removed at its place
-pub kept-removed-first : (a b : Option Folder) (first : List ℕ) (names : List (List ℕ)) (len : ℕ) → Changes a b (Removes first) → 0 < length names
+pub kept-removed-first : (a b : Option Folder) (first : List ℕ) (names : List (List ℕ)) (len : ℕ)
+    → Changes a b (Removes first) → 0 < length names
     → first ≡ get_or names 0 first → IsKept a names len → IsKept b (take 0 names ++ drop 1 names) len
 kept-removed-first a b first [] len h some is kept = absurd (omega (arith, some))
 kept-removed-first a b first (name ∷ names) len h some is kept =
     kept-removed a b first names len h (subst (λ (n : List ℕ). IsKept a (n ∷ names) len) (sym is) kept)
 
-pub removed_first_files : (a b : Option Folder) (first : List ℕ) (names : List (List ℕ)) (len : ℕ) → Changes a b (Removes first) → 0 < length names
+pub removed_first_files : (a b : Option Folder) (first : List ℕ) (names : List (List ℕ)) (len : ℕ)
+    → Changes a b (Removes first) → 0 < length names
     → first ≡ get_or names 0 first → IsKept a names len → Reaches (files_of a) (files_of b) (Remove ∷ [])
 removed_first_files a b first [] len h some is kept = absurd (omega (arith, some))
 removed_first_files a b first (name ∷ names) len h some is kept =
     removed_files a b first names len h (subst (λ (n : List ℕ). IsKept a (n ∷ names) len) (sym is) kept)
 
 -- a new current file is begun, or there is none
-pub kept-begun-or : {X E : Type 0} (r : Result X E) (a b c : Option Folder) (name : List ℕ) (names : List (List ℕ)) → Changes a b (Renames name)
+pub kept-begun-or : {X E : Type 0} (r : Result X E) (a b c : Option Folder) (name : List ℕ) (names : List (List ℕ))
+    → Changes a b (Renames name)
     → OnOk r (Changes b c Opens) → OnErr r (c ≡ b) → IsKept b names 0 → IsKept c names 0
 kept-begun-or (Ok x) a b c name names h ok err kept = kept-begun a b c name names h ok kept
 kept-begun-or (Err e) a b c name names h ok err kept = subst (λ (f : Option Folder). IsKept f names 0) (sym err) kept
@@ -299,15 +352,18 @@ if_some_any None P p = tt
 if_some_any (Some x) P p = p
 
 -- A log whose current file was finished has one again, where the files are told.
-pub finish_begins : (o s n c : Option Folder) (name : List ℕ) → Changes o s Syncs → Changes s n (Renames name) → Changes n c Opens
+pub finish_begins : (o s n c : Option Folder) (name : List ℕ) → Changes o s Syncs → Changes s n (Renames name)
+    → Changes n c Opens
     → IfSome (files_of o) (λ _. IsSome (files_of c))
 finish_begins None s n c name k l m = tt
 finish_begins (Some o) None n c name k l m = absurd k
 finish_begins (Some o) (Some s) None c name k l m = absurd l
 finish_begins (Some o) (Some s) (Some n) None name k l m = absurd m
-finish_begins (Some o) (Some s) (Some n) (Some c) name k l m = if_some_any (files_in o) (IsSome (files_in c)) (rw m refl)
+finish_begins (Some o) (Some s) (Some n) (Some c) name k l m =
+    if_some_any (files_in o) (IsSome (files_in c)) (rw m refl)
 
-pub finish_begins_or : {T E : Type 0} (r : Result T E) (o s n c : Option Folder) (name : List ℕ) → Changes o s Syncs → Changes s n (Renames name) → OnOk r (Changes n c Opens)
+pub finish_begins_or : {T E : Type 0} (r : Result T E) (o s n c : Option Folder) (name : List ℕ) → Changes o s Syncs
+    → Changes s n (Renames name) → OnOk r (Changes n c Opens)
     → OnOk r (IfSome (files_of o) (λ _. IsSome (files_of c)))
 finish_begins_or (Ok x) o s n c name k l m = finish_begins o s n c name k l m
 finish_begins_or (Err e) o s n c name k l m = tt

@@ -11,8 +11,10 @@ pub names-with_old : (old : Old) (olds : List Old)
     → map (λ (o : Old). o.name) (with_old old olds) ≡ with_name old.name (map (λ (o : Old). o.name) olds)
 names-with_old old [] = refl
 names-with_old old (first ∷ olds) =
-    elim (is_lt (slice_cmp nat_cmp first.name old.name)) as (λ b. map (λ (o : Old). o.name) (if b then first ∷ with_old old olds else old ∷ first ∷ olds)
-    ≡ (if b then first.name ∷ with_name old.name (map (λ (o : Old). o.name) olds) else old.name ∷ first.name ∷ map (λ (o : Old). o.name) olds)) [
+    elim (is_lt (slice_cmp nat_cmp first.name old.name)) as (λ b.
+    map (λ (o : Old). o.name) (if b then first ∷ with_old old olds else old ∷ first ∷ olds)
+    ≡ (if b then first.name ∷ with_name old.name (map (λ (o : Old). o.name) olds) else old.name ∷ first.name
+    ∷ map (λ (o : Old). o.name) olds)) [
       | true ↦ ap (λ (t : List (List ℕ)). first.name ∷ t) (names-with_old old olds)
       | false ↦ refl
     ]

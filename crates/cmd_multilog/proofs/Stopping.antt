@@ -1,5 +1,7 @@
 -- What a logger is given, read by read, and what is behind it.
-use Rattle.std.proofs.Common.{◌≡◌, ℕ, suc, zero, ◌-◌, ◌<◌, ◌≤◌, Bool, true, false, nat_eq, List, [], ◌∷◌, ◌++◌, length, take, Option, Some, None, refl, sym, ap, ◌∙◌, arith, subst, inl, inr, append_assoc, append-nil}
+use Rattle.std.proofs.Common.{◌≡◌, ℕ, suc, zero, ◌-◌, ◌<◌, ◌≤◌, Bool, true, false, nat_eq, List, [], ◌∷◌, ◌++◌, length}
+use Rattle.std.proofs.Common.{take, Option, Some, None, refl, sym, ap, ◌∙◌, arith, subst, inl, inr, append_assoc}
+use Rattle.std.proofs.Common.{append-nil}
 use Rattle.std.specs.Prelude.{◌==◌, not, if◌then◌else◌, ◌⊎◌, Result, Ok, Err, IfOk, OnErr, slice_index_or}
 use Rattle.std.specs.List.{flat_map}
 use Rattle.std.specs.Io.KnownBytes.{Keeps, Consumes, IsAtEnd, ReadConsumes}
@@ -7,7 +9,10 @@ use Rattle.tai_status.proofs.Known.{Keeps-same}
 use Rattle.tai_status.specs.Counted.{IsRead}
 use Rattle.mlog_core.specs.Feed.{IsNext, OpensNext}
 use Rattle.cmd_multilog.specs.declared.stop.Heard.TheVariants as heard
-use Rattle.cmd_multilog.specs.Stop.{Word, Coming, Listening, Changes, Hears, HearsWord, Reads, IsOver, is_in_line, to_newline, behind_newline, rest_of_line, next_line, rest_behind, given, part_of, parts_behind, unread, all_behind, left_in, behind_in, feed_of, IsLinesOf, before_second, StopsAtALine, LosesNothing}
+use Rattle.cmd_multilog.specs.Stop.{Word, Coming, Listening, Changes, Hears, HearsWord, Reads, IsOver, is_in_line}
+use Rattle.cmd_multilog.specs.Stop.{to_newline, behind_newline, rest_of_line, next_line, rest_behind, given, part_of}
+use Rattle.cmd_multilog.specs.Stop.{parts_behind, unread, all_behind, left_in, behind_in, feed_of, IsLinesOf}
+use Rattle.cmd_multilog.specs.Stop.{before_second, StopsAtALine, LosesNothing}
 
 -- The line in hand
 
@@ -31,16 +36,19 @@ in_line_append was (x ∷ xs) ys = in_line_append (not (x == 10)) xs ys
 -- What is given
 
 given_behind : (was : Bool) (xs ys : List ℕ) (words : List Word)
-    → (xs ++ ys) ++ rest_behind (is_in_line was (xs ++ ys)) words ≡ xs ++ (ys ++ rest_behind (is_in_line (is_in_line was xs) ys) words)
+    → (xs ++ ys) ++ rest_behind (is_in_line was (xs ++ ys)) words
+    ≡ xs ++ (ys ++ rest_behind (is_in_line (is_in_line was xs) ys) words)
 given_behind was xs ys words =
     ap (λ (l : Bool). (xs ++ ys) ++ rest_behind l words) (in_line_append was xs ys)
     ∙ append_assoc xs ys (rest_behind (is_in_line (is_in_line was xs) ys) words)
 
-reads_given : (was : Bool) (old new : Coming) (bs : List ℕ) → Reads bs old new → given was old ≡ bs ++ given (is_in_line was bs) new
+reads_given : (was : Bool) (old new : Coming) (bs : List ℕ) → Reads bs old new
+    → given was old ≡ bs ++ given (is_in_line was bs) new
 reads_given was old new bs reads =
     ap (λ (t : List ℕ). t ++ rest_behind (is_in_line was t) old.words) reads.0
     ∙ given_behind was bs new.before old.words
-    ∙ ap (λ (w : List Word). bs ++ (new.before ++ rest_behind (is_in_line (is_in_line was bs) new.before) w)) (sym reads.1)
+    ∙ ap (λ (w : List Word). bs ++ (new.before ++ rest_behind (is_in_line (is_in_line was bs) new.before) w))
+    (sym reads.1)
 
 -- one byte of the line in hand
 line_one : (b : ℕ) (ys : List ℕ) (newline : Bool)
@@ -66,7 +74,8 @@ next_goes (b ∷ c ∷ bs) ys one = absurd (omega (arith, one))
 
 -- the parts behind a word, from the beginning of the next
 abbrev heard_from : Bool → List ℕ → List Word → List (List ℕ)
-heard_from rotates bytes words = if rotates then part_of bytes words ∷ parts_behind (is_in_line false bytes) words else []
+heard_from rotates bytes words =
+    if rotates then part_of bytes words ∷ parts_behind (is_in_line false bytes) words else []
 
 -- what is left of what comes, and what is behind it
 abbrev left_of : Bool → Bool → Option Coming → Option (List ℕ)
@@ -75,9 +84,18 @@ left_of stopped in_line coming =
 
 abbrev behind_of : Bool → Bool → Bool → Option Coming → Option (List (List ℕ))
 behind_of stopped rotates in_line coming =
-    behind_in (record { coming = coming; stopped = stopped; rotates = rotates; in_line = in_line; reads = 0; faults = 0 })
+    behind_in (record {
+      coming = coming;
+      stopped = stopped;
+      rotates = rotates;
+      in_line = in_line;
+      reads = 0;
+      faults =
+          0;
+    })
 
-pub word_left : (rotates in_line : Bool) (old new : Option Coming) → Changes old new (HearsWord rotates) → left_of true in_line new ≡ left_of false in_line old
+pub word_left : (rotates in_line : Bool) (old new : Option Coming) → Changes old new (HearsWord rotates)
+    → left_of true in_line new ≡ left_of false in_line old
 word_left rotates in_line None None hears = refl
 word_left rotates in_line None (Some new) hears = absurd hears
 word_left rotates in_line (Some old) None hears = absurd hears
@@ -125,15 +143,18 @@ behind_goes_on was None (Some new) bs reads = absurd reads
 behind_goes_on was (Some old) None bs reads = absurd reads
 behind_goes_on was (Some old) (Some new) bs reads =
     ap (λ (w : List Word). Some (parts_behind (is_in_line (is_in_line was bs) new.before) w)) reads.1
-    ∙ ap (λ (l : Bool). Some (parts_behind l old.words)) (sym (in_line_append was bs new.before) ∙ ap (is_in_line was) (sym reads.0))
+    ∙ ap (λ (l : Bool). Some (parts_behind l old.words)) (sym (in_line_append was bs new.before)
+    ∙ ap (is_in_line was) (sym reads.0))
 
-behind_goes_to_line : (rotates : Bool) (old new : Option Coming) (bs : List ℕ) → length bs ≤ 1 → Changes old new (Reads bs)
+behind_goes_to_line : (rotates : Bool) (old new : Option Coming) (bs : List ℕ) → length bs ≤ 1
+    → Changes old new (Reads bs)
     → behind_of true rotates (is_in_line true bs) new ≡ behind_of true rotates true old
 behind_goes_to_line rotates None None bs one reads = refl
 behind_goes_to_line rotates None (Some new) bs one reads = absurd reads
 behind_goes_to_line rotates (Some old) None bs one reads = absurd reads
 behind_goes_to_line rotates (Some old) (Some new) bs one reads =
-    let next : next_line (is_in_line true bs) new.before ≡ next_line true old.before = sym (next_goes bs new.before one) ∙ ap (next_line true) (sym reads.0) in
+    let next : next_line (is_in_line true bs) new.before ≡ next_line true old.before = sym (next_goes bs new.before one)
+    ∙ ap (next_line true) (sym reads.0) in
     ap (λ (w : List Word). Some (heard_from rotates (next_line (is_in_line true bs) new.before) w)) reads.1
     ∙ ap (λ (t : List ℕ). Some (heard_from rotates t old.words)) next
 
@@ -161,7 +182,8 @@ reads_on left old new (Ok count) into kept going same reads line over err =
     (goes_on old.in_line old.coming new.coming bs reads) in
     let there : Consumes (left_in old) (left_in new) bs =
     subst (λ (s : Bool). Consumes (left_of s old.in_line old.coming) (left_in new) bs) (sym going)
-    (subst (λ (s : Bool). Consumes (left_of false old.in_line old.coming) (left_of s new.in_line new.coming) bs) (sym (same ∙ going)) gone) in (
+    (subst (λ (s : Bool). Consumes (left_of false old.in_line old.coming) (left_of s new.in_line new.coming) bs)
+    (sym (same ∙ going)) gone) in (
       subst (λ (l : Option (List ℕ)). Consumes l (left_in new) bs) kept there,
       λ none room. is_over new.stopped new.in_line new.coming (over none room),
     )
@@ -187,7 +209,8 @@ reads_line left old new (Ok count) into kept stopped begun same one reads line o
     let there : Consumes (left_in old) (left_in new) bs =
     subst (λ (s : Bool). Consumes (left_of s old.in_line old.coming) (left_in new) bs) (sym stopped)
     (subst (λ (l : Bool). Consumes (left_of true l old.coming) (left_in new) bs) (sym begun)
-    (subst (λ (s : Bool). Consumes (left_of true true old.coming) (left_of s new.in_line new.coming) bs) (sym (same ∙ stopped)) gone)) in (
+    (subst (λ (s : Bool). Consumes (left_of true true old.coming) (left_of s new.in_line new.coming) bs)
+    (sym (same ∙ stopped)) gone)) in (
       subst (λ (l : Option (List ℕ)). Consumes l (left_in new) bs) kept there,
       λ none room. is_over new.stopped new.in_line new.coming (over none room),
     )
@@ -210,8 +233,10 @@ behind_on behind old new (Ok count) into kept going same reads line err =
     ∙ ap (λ (s : Bool). behind_of s old.rotates old.in_line old.coming) (sym going) ∙ kept
 behind_on behind old new (Err e) into kept going same reads line err = ap behind_in err ∙ kept
 
-pub behind_to_line : {E : Type 0} (behind : Option (List (List ℕ))) (old new : Listening) (r : Result ℕ E) (into : List ℕ)
-    → behind_in old ≡ behind → old.stopped ≡ true → old.in_line ≡ true → new.stopped ≡ old.stopped → new.rotates ≡ old.rotates
+pub behind_to_line : {E : Type 0} (behind : Option (List (List ℕ))) (old new : Listening) (r : Result ℕ E)
+    (into : List ℕ)
+    → behind_in old ≡ behind → old.stopped ≡ true → old.in_line ≡ true → new.stopped ≡ old.stopped
+    → new.rotates ≡ old.rotates
     → length into ≤ 1
     → IfOk r (λ count. Changes old.coming new.coming (Reads (take count into)))
     → IfOk r (λ count. new.in_line ≡ is_in_line old.in_line (take count into))
@@ -234,7 +259,8 @@ at_line true [] end = refl
 at_line true (b ∷ bytes) end = cc
 at_line false bytes end = refl
 
-pub next_begins : (rotates in_line : Bool) (coming : Option Coming) → rotates ≡ true → IsAtEnd (left_of true in_line coming)
+pub next_begins : (rotates in_line : Bool) (coming : Option Coming) → rotates ≡ true
+    → IsAtEnd (left_of true in_line coming)
     → IsNext (behind_of true rotates in_line coming) (left_of false false coming) (behind_of false false false coming)
 next_begins true in_line None is end = tt
 next_begins true in_line (Some coming) is end =
@@ -245,10 +271,20 @@ next_begins true in_line (Some coming) is end =
 next_begins false in_line coming is end = cc
 
 pub opens_next : (old : Listening) → old.rotates ≡ true → old.stopped ≡ true → IsRead (feed_of old).device
-    → OpensNext (feed_of old) (feed_of (record { coming = old.coming; stopped = false; rotates = false; in_line = false; reads = old.reads; faults = old.faults }))
+    → OpensNext (feed_of old)
+    (feed_of (record {
+      coming = old.coming;
+      stopped = false;
+      rotates = false;
+      in_line = false;
+      reads = old.reads;
+      faults = old.faults;
+    }))
 opens_next old rotates stopped end = record {
-  next = subst (λ (s : Bool). IsNext (behind_of s old.rotates old.in_line old.coming) (left_of false false old.coming) (behind_of false false false old.coming)) (sym stopped)
-      (next_begins old.rotates old.in_line old.coming rotates (subst (λ (s : Bool). IsAtEnd (left_of s old.in_line old.coming)) stopped end));
+  next = subst (λ (s : Bool). IsNext (behind_of s old.rotates old.in_line old.coming) (left_of false false old.coming)
+      (behind_of false false false old.coming)) (sym stopped)
+      (next_begins old.rotates old.in_line old.coming rotates
+      (subst (λ (s : Bool). IsAtEnd (left_of s old.in_line old.coming)) stopped end));
   reads = refl;
   faults = refl;
 }
@@ -273,16 +309,22 @@ line_ends : (before line : List ℕ) → is_in_line true before ≡ true → is_
 line_ends before line begun ends =
     in_line_append true before line ∙ ap (λ (l : Bool). is_in_line l line) begun ∙ ends
 
-behind_line : (before bytes : List ℕ) → is_in_line true before ≡ true → IsLinesOf (before ++ to_newline bytes) (before ++ bytes)
+behind_line : (before bytes : List ℕ) → is_in_line true before ≡ true
+    → IsLinesOf (before ++ to_newline bytes) (before ++ bytes)
 behind_line before bytes begun =
     let cut = line_cut bytes in
     record {
       rest = cut.0;
       front = ap (λ (t : List ℕ). before ++ t) cut.1 ∙ sym (append_assoc before (to_newline bytes) cut.0);
-      ends = elim cut.2 [ inl ended ↦ inr (inl (line_ends before (to_newline bytes) begun ended)) | inr none ↦ inr (inr none) ];
+      ends = elim cut.2 [
+        | inl ended ↦ inr (inl (line_ends before (to_newline bytes) begun ended))
+        | inr none ↦ inr
+            (inr none)
+      ];
     }
 
-between_lines : (before bytes : List ℕ) → (before ≡ []) ⊎ (is_in_line true before ≡ false) → IsLinesOf (before ++ []) (before ++ bytes)
+between_lines : (before bytes : List ℕ) → (before ≡ []) ⊎ (is_in_line true before ≡ false)
+    → IsLinesOf (before ++ []) (before ++ bytes)
 between_lines before bytes ends =
     let whole : before ++ [] ≡ before = append-nil before in
     record {
@@ -298,7 +340,8 @@ either_line b bs bytes true is = behind_line (b ∷ bs) bytes is
 either_line b bs bytes false is = between_lines (b ∷ bs) bytes (inr is)
 
 lines_given : (before : List ℕ) (words : List Word)
-    → IsLinesOf (given false (record { before = before; words = words })) (before_second (record { before = before; words = words }))
+    → IsLinesOf (given false (record { before = before; words = words }))
+    (before_second (record { before = before; words = words }))
 lines_given before [] = record { rest = []; front = sym (append-nil (before ++ [])); ends = inr (inr refl) }
 lines_given [] (word ∷ words) = between_lines [] word.bytes (inl refl)
 lines_given (b ∷ bs) (word ∷ words) = either_line b bs word.bytes (is_in_line false (b ∷ bs)) refl
@@ -323,39 +366,49 @@ joined parts = flat_map (λ part. part) parts
 
 -- what is behind the first word, in one piece and in parts
 abbrev Behind : Bool → List Word → Type 0
-Behind in_line words = all_behind words ≡ rest_behind in_line words ++ (joined (parts_behind in_line words) ++ unread in_line words)
+Behind in_line words = all_behind words ≡ rest_behind in_line words
+    ++ (joined (parts_behind in_line words) ++ unread in_line words)
 
-behind_word : (in_line : Bool) (word : Word) (words : List Word) (rotates : Bool) → Behind (is_in_line false (next_line in_line word.bytes)) words
+behind_word : (in_line : Bool) (word : Word) (words : List Word) (rotates : Bool)
+    → Behind (is_in_line false (next_line in_line word.bytes)) words
     → word.bytes ++ all_behind words ≡ rest_of_line in_line word.bytes
-    ++ (joined (if rotates then part_of (next_line in_line word.bytes) words ∷ parts_behind (is_in_line false (next_line in_line word.bytes)) words else [])
-    ++ (if rotates then unread (is_in_line false (next_line in_line word.bytes)) words else next_line in_line word.bytes ++ all_behind words))
+    ++ (joined (if rotates then part_of (next_line in_line word.bytes) words
+    ∷ parts_behind (is_in_line false (next_line in_line word.bytes)) words else [])
+    ++ (if rotates then unread (is_in_line false (next_line in_line word.bytes)) words else next_line in_line word.bytes
+    ++ all_behind words))
 behind_word in_line word words false further =
     let next = next_line in_line word.bytes in
-    ap (λ (t : List ℕ). t ++ all_behind words) (line_whole in_line word.bytes) ∙ append_assoc (rest_of_line in_line word.bytes) next (all_behind words)
+    ap (λ (t : List ℕ). t ++ all_behind words) (line_whole in_line word.bytes)
+    ∙ append_assoc (rest_of_line in_line word.bytes) next (all_behind words)
 behind_word in_line word words true further =
     let next = next_line in_line word.bytes in
     let rest = rest_of_line in_line word.bytes in
     let inner = is_in_line false next in
     let parts = joined (parts_behind inner words) in
-    ap (λ (t : List ℕ). t ++ all_behind words) (line_whole in_line word.bytes) ∙ append_assoc rest next (all_behind words)
+    ap (λ (t : List ℕ). t ++ all_behind words) (line_whole in_line word.bytes)
+    ∙ append_assoc rest next (all_behind words)
     ∙ ap (λ (t : List ℕ). rest ++ (next ++ t)) further
     ∙ ap (λ (t : List ℕ). rest ++ t) (sym (append_assoc next (rest_behind inner words) (parts ++ unread inner words))
     ∙ sym (append_assoc (next ++ rest_behind inner words) parts (unread inner words)))
 
 all_parted : (in_line : Bool) (words : List Word) → Behind in_line words
 all_parted in_line [] = refl
-all_parted in_line (word ∷ words) = behind_word in_line word words word.rotates (all_parted (is_in_line false (next_line in_line word.bytes)) words)
+all_parted in_line (word ∷ words) =
+    behind_word in_line word words word.rotates (all_parted (is_in_line false (next_line in_line word.bytes)) words)
 
 pub loses_nothing : LosesNothing
 loses_nothing coming =
     let in_line = is_in_line false coming.before in
     ap (λ (t : List ℕ). coming.before ++ t) (all_parted in_line coming.words)
-    ∙ sym (append_assoc coming.before (rest_behind in_line coming.words) (joined (parts_behind in_line coming.words) ++ unread in_line coming.words))
+    ∙ sym (append_assoc coming.before (rest_behind in_line coming.words) (joined (parts_behind in_line coming.words)
+    ++ unread in_line coming.words))
 
 gave_all : (new : Option (List ℕ)) (all bytes : List ℕ) → Consumes (Some all) new bytes → IsAtEnd new → bytes ≡ all
 gave_all None all bytes gave end = absurd gave
 gave_all (Some left) all bytes gave end = sym (append-nil bytes) ∙ ap (λ (t : List ℕ). bytes ++ t) (sym end) ∙ sym gave
 
 -- A reader that gave all that was known of it gave just that.
-pub all_given : (old new : Option (List ℕ)) (all bytes : List ℕ) → old ≡ Some all → Consumes old new bytes → IsAtEnd new → bytes ≡ all
-all_given old new all bytes known gave end = gave_all new all bytes (subst (λ (o : Option (List ℕ)). Consumes o new bytes) known gave) end
+pub all_given : (old new : Option (List ℕ)) (all bytes : List ℕ) → old ≡ Some all → Consumes old new bytes → IsAtEnd new
+    → bytes ≡ all
+all_given old new all bytes known gave end =
+    gave_all new all bytes (subst (λ (o : Option (List ℕ)). Consumes o new bytes) known gave) end

@@ -1,5 +1,6 @@
 -- What a part takes of its own events is what a suite makes of them.
-use Rattle.std.proofs.Common.{◌≡◌, true, false, List, [], ◌∷◌, ◌++◌, refl, sym, subst, ap, ◌∙◌, append-nil, Some, if◌then◌else◌}
+use Rattle.std.proofs.Common.{◌≡◌, true, false, List, [], ◌∷◌, ◌++◌, refl, sym, subst, ap, ◌∙◌, append-nil, Some}
+use Rattle.std.proofs.Common.{if◌then◌else◌}
 use Rattle.sup_core.specs.declared.asks.Reply.TheVariants.{Took}
 use Rattle.sup_core.specs.declared.event.Event.{Event}
 use Rattle.tai_status.specs.declared.phase.Phase.{Phase}
@@ -36,9 +37,11 @@ took past event taken = rw taken refl
 replays : (past : History) (kept : Kept) (event : Event) → replay kept ≡ state_of past → takes past event ≡ true
     → replay (noted_if_taken kept event) ≡ state_of (Then past event)
 replays past kept event same taken =
-    replay-noted_if_taken kept event ∙ next-state (history_of kept) past event same ∙ ap state_of (next-taken past event taken)
+    replay-noted_if_taken kept event ∙ next-state (history_of kept) past event same
+    ∙ ap state_of (next-taken past event taken)
 
-answered : {A : Type 0} (part : PartId) (past : History) (kept : Kept) (event : Event) → replay kept ≡ state_of past → takes past event ≡ true
+answered : {A : Type 0} (part : PartId) (past : History) (kept : Kept) (event : Event) → replay kept ≡ state_of past
+    → takes past event ≡ true
     → outs_at {A = A} part event (Some kept) ≡ out.At part (Took (asks_of past event)) (phase_of (Then past event)) ∷ []
 answered part past kept event same taken =
     let reply : reply_to (history_of kept) event ≡ Took (asks_of past event) =
@@ -55,7 +58,8 @@ is_gone-gone phase.Resting is = cc is
 is_gone-gone phase.Up is = cc is
 is_gone-gone phase.Down is = cc is
 
-nothing_more : (past : History) (events : List Event) → is_gone (phase_of past) ≡ true → AreTaken past events → events ≡ []
+nothing_more : (past : History) (events : List Event) → is_gone (phase_of past) ≡ true → AreTaken past events
+    → events ≡ []
 nothing_more past [] gone taken = refl
 nothing_more past (event ∷ events) gone taken =
     let held : takes past event ≡ false = takes-gone past event (is_gone-gone (phase_of past) gone) in
@@ -64,21 +68,25 @@ nothing_more past (event ∷ events) gone taken =
 
 -- Events one after another
 
-record Along (A : Type 0) (suite : SuiteState) (part : PartId) (past : History) (kept : Kept) (events : List Event) : Type 0 where
+record Along (A : Type 0) (suite : SuiteState) (part : PartId) (past : History) (kept : Kept)
+    (events : List Event) : Type 0 where
   trace : trace_of (suite_along suite (at_part {A = A} part events)).parts part ≡ Some (noted_along kept events)
   answers : outs_along suite (at_part {A = A} part events) ≡ answers_along part past events
   table : (suite_along suite (at_part {A = A} part events)).table
       ≡ (if is_gone (phase_of (followed_by past events)) then after_end suite.table part else suite.table)
 
-told : (suite : SuiteState) (part : PartId) (past : History) (kept : Kept) (event : Event) → trace_of suite.parts part ≡ Some kept
+told : (suite : SuiteState) (part : PartId) (past : History) (kept : Kept) (event : Event)
+    → trace_of suite.parts part ≡ Some kept
     → replay kept ≡ state_of past → takes past event ≡ true
-    → (suite_at suite part event).table ≡ (if is_gone (phase_of (Then past event)) then after_end suite.table part else suite.table)
+    → (suite_at suite part event).table
+    ≡ (if is_gone (phase_of (Then past event)) then after_end suite.table part else suite.table)
 told suite part past kept event there same taken =
     let state = ap (λ (s : State). s.phase) (replays past kept event same taken) in
     rw there (rw state refl)
 
 along : {A : Type 0} (suite : SuiteState) (part : PartId) (past : History) (kept : Kept) (events : List Event)
-    → replay kept ≡ state_of past → is_gone (phase_of past) ≡ false → AreTaken past events → trace_of suite.parts part ≡ Some kept
+    → replay kept ≡ state_of past → is_gone (phase_of past) ≡ false → AreTaken past events
+    → trace_of suite.parts part ≡ Some kept
     → Along A suite part past kept events
 along suite part past kept [] same here taken there = record { trace = there; answers = refl; table = rw here refl }
 along {A = A} suite part past kept (event ∷ events) same here taken there =
@@ -87,7 +95,8 @@ along {A = A} suite part past kept (event ∷ events) same here taken there =
     let trace : trace_of after.parts part ≡ Some grown = trace_there suite.parts part event kept there in
     let state = replays past kept event same taken.1 in
     let table = told suite part past kept event there same taken.1 in
-    let first : outs_at {A = A} part event (trace_of suite.parts part) ≡ out.At part (Took (asks_of past event)) (phase_of (Then past event)) ∷ [] =
+    let first : outs_at {A = A} part event (trace_of suite.parts part)
+    ≡ out.At part (Took (asks_of past event)) (phase_of (Then past event)) ∷ [] =
     ap (outs_at {A = A} part event) there ∙ answered part past kept event same taken.1 in
     elim (is_gone (phase_of (Then past event))) as (λ gone. is_gone (phase_of (Then past event)) ≡ gone
     → Along A suite part past kept (event ∷ events)) [
@@ -104,7 +113,8 @@ along {A = A} suite part past kept (event ∷ events) same here taken there =
           record {
             trace = rest.trace;
             answers = ap (λ (outs : List (StepOut A)). outs ++ outs_along after (at_part {A = A} part events)) first
-                ∙ ap (λ (outs : List (StepOut A)). out.At part (Took (asks_of past event)) (phase_of (Then past event)) ∷ outs) rest.answers;
+                ∙ ap (λ (outs : List (StepOut A)). out.At part (Took (asks_of past event)) (phase_of (Then past event))
+                ∷ outs) rest.answers;
             table = rest.table ∙ rw as_before refl;
           }
     ] refl

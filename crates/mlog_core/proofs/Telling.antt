@@ -1,5 +1,6 @@
 -- What a run tells of the logs, alerts and status files.
-use Rattle.std.proofs.Common.{◌≡◌, ℕ, ◌+◌, ◌-◌, ◌^◌, min, List, [], ◌∷◌, ◌++◌, length, take, map, fold, Option, Some, None, refl, sym, subst, ap, ◌∙◌, arith, append-nil, length-append}
+use Rattle.std.proofs.Common.{◌≡◌, ℕ, ◌+◌, ◌-◌, ◌^◌, min, List, [], ◌∷◌, ◌++◌, length, take, map, fold, Option, Some}
+use Rattle.std.proofs.Common.{None, refl, sym, subst, ap, ◌∙◌, arith, append-nil, length-append}
 use Rattle.std.proofs.Math.Seq.{take-append_seam}
 use Rattle.std.proofs.lemmas.Option.{slice_get-map}
 use Rattle.std.specs.Prelude.{slice_get, IfSome}
@@ -21,12 +22,14 @@ use Rattle.mlog_files.specs.declared.tail.Tail.{Tail}
 use Rattle.mlog_files.specs.declared.tail.LogFault.{LogFault}
 use Rattle.mlog_files.specs.declared.tail.LogFault.TheVariants as log_fault
 use Rattle.mlog_files.proofs.Goings.{steps_on-append}
-use Rattle.mlog_line.specs.LineRouter.{Place, IsOpened, IsOpenedAt, AreOpened, IsWrittenAt, IsWritten, total_finished, total_removed}
+use Rattle.mlog_line.specs.LineRouter.{Place, IsOpened, IsOpenedAt, AreOpened, IsWrittenAt, IsWritten, total_finished}
+use Rattle.mlog_line.specs.LineRouter.{total_removed}
 use Rattle.mlog_line.specs.Given.{joined, of_text}
 use Rattle.mlog_line.specs.Outputs.{steps_for, after, TakesIn, TakesInAt, TakesFrontAt, Takes, IsSpent, SameGiven}
 use Rattle.mlog_line.proofs.Taking.{Takes-same}
 use Rattle.mlog_line.proofs.Growing.{Same-then, Same-sym, Same-moved, Same-behind}
-use Rattle.mlog_core.specs.Run.{world, AreFound, planned_steps, log_steps, IsPlanSpent, IsEnd, RunsAll, ReachesFront, RunsLines, RunsUpTo}
+use Rattle.mlog_core.specs.Run.{world, AreFound, planned_steps, log_steps, IsPlanSpent, IsEnd, RunsAll, ReachesFront}
+use Rattle.mlog_core.specs.Run.{RunsLines, RunsUpTo}
 use Rattle.mlog_core.specs.Scene.{scene, outputs_of, labels_of, IsInLine, given_in}
 use Rattle.mlog_core.specs.Story.{Came, Done, Halted}
 use Rattle.mlog_core.specs.declared.stream.Counts.{Counts}
@@ -45,7 +48,8 @@ stood_at None None = found (record { current = []; olds = [] })
 stood_of : List Tail → Told → ℕ → Standing
 stood_of tails told log = stood_at (slice_get tails log) (told.files log)
 
-found_by : (plan : Option Plan) (files : Option Files) (tail : Option Tail) → IsOpenedAt plan files tail → IfSome files (λ f. stood_at tail files ≡ found f)
+found_by : (plan : Option Plan) (files : Option Files) (tail : Option Tail) → IsOpenedAt plan files tail
+    → IfSome files (λ f. stood_at tail files ≡ found f)
 unfolding stood_at
 found_by plan None tail o = tt
 found_by None (Some f) None o = refl
@@ -53,30 +57,40 @@ found_by None (Some f) (Some t) o = absurd o
 found_by (Some plan) (Some f) None o = absurd o
 found_by (Some plan) (Some f) (Some t) o = o.stands
 
-all_found : (script : List Act) (told : Told) (tails : List Tail) → AreOpened script told tails → AreFound told (stood_of tails told)
+all_found : (script : List Act) (told : Told) (tails : List Tail) → AreOpened script told tails
+    → AreFound told (stood_of tails told)
 unfolding stood_of
-all_found script told tails opened = λ log. found_by (slice_get (log_plans script) log) (told.files log) (slice_get tails log) (opened log)
+all_found script told tails opened =
+    λ log. found_by (slice_get (log_plans script) log) (told.files log) (slice_get tails log) (opened log)
 
-written_by : (plan : Option Plan) (files : Option Files) (tail : Option Tail) → IsOpenedAt plan files tail → IsWrittenAt tail
+written_by : (plan : Option Plan) (files : Option Files) (tail : Option Tail) → IsOpenedAt plan files tail
+    → IsWrittenAt tail
 written_by None files None o = tt
 written_by None files (Some t) o = absurd o
 written_by (Some plan) files None o = absurd o
 written_by (Some plan) files (Some t) o = o.waiting
 
-pub opened_written : (script : List Act) (told : Told) (tails : List Tail) → AreOpened script told tails → IsWritten tails
-opened_written script told tails opened = λ log. written_by (slice_get (log_plans script) log) (told.files log) (slice_get tails log) (opened log)
+pub opened_written : (script : List Act) (told : Told) (tails : List Tail) → AreOpened script told tails
+    → IsWritten tails
+opened_written script told tails opened =
+    λ log. written_by (slice_get (log_plans script) log) (told.files log) (slice_get tails log) (opened log)
 
 -- One log
 
-steps_planned : (plan : Plan) (files : Option Files) (t : Tail) (text : List Sent) → IsOpened plan files t → steps_for t text ≡ steps_on plan.size plan.keep (Some (standing t)) text
+steps_planned : (plan : Plan) (files : Option Files) (t : Tail) (text : List Sent) → IsOpened plan files t
+    → steps_for t text ≡ steps_on plan.size plan.keep (Some (standing t)) text
 steps_planned plan files t text o =
-    ap (λ (n : ℕ). steps_on n (keep_of t) (Some (standing t)) text) o.size ∙ ap (λ (n : ℕ). steps_on plan.size n (Some (standing t)) text) o.keep
+    ap (λ (n : ℕ). steps_on n (keep_of t) (Some (standing t)) text) o.size
+    ∙ ap (λ (n : ℕ). steps_on plan.size n (Some (standing t)) text) o.keep
 
-after_planned : (plan : Plan) (files : Option Files) (t : Tail) (text : List Sent) → IsOpened plan files t → after t text ≡ standing_on plan.size plan.keep (Some (standing t)) text
+after_planned : (plan : Plan) (files : Option Files) (t : Tail) (text : List Sent) → IsOpened plan files t
+    → after t text ≡ standing_on plan.size plan.keep (Some (standing t)) text
 after_planned plan files t text o =
-    ap (λ (n : ℕ). standing_on n (keep_of t) (Some (standing t)) text) o.size ∙ ap (λ (n : ℕ). standing_on plan.size n (Some (standing t)) text) o.keep
+    ap (λ (n : ℕ). standing_on n (keep_of t) (Some (standing t)) text) o.size
+    ∙ ap (λ (n : ℕ). standing_on plan.size n (Some (standing t)) text) o.keep
 
-all_done : (plan : Plan) (t u : Tail) (a b : Option Files) (text : List Sent) → IsOpened plan a t → TakesIn t u a b text → waiting_in u ≡ []
+all_done : (plan : Plan) (t u : Tail) (a b : Option Files) (text : List Sent) → IsOpened plan a t → TakesIn t u a b text
+    → waiting_in u ≡ []
     → Reaches a b (steps_on plan.size plan.keep (Some (standing t)) text)
 all_done plan t u a b text o k w =
     let whole : k.done ≡ steps_on plan.size plan.keep (Some (standing t)) text =
@@ -84,7 +98,8 @@ all_done plan t u a b text o k w =
     ∙ ap (λ (l : List ℕ). append_steps l ++ steps_for t text) o.waiting ∙ steps_planned plan a t text o in
     subst (λ (s : List Step). Reaches a b s) whole k.reaches
 
-log_done : (plan : Option Plan) (a b : Option Files) (t u : Option Tail) (text : List Sent) → IsOpenedAt plan a t → TakesInAt t u a b text → IsWrittenAt u
+log_done : (plan : Option Plan) (a b : Option Files) (t u : Option Tail) (text : List Sent) → IsOpenedAt plan a t
+    → TakesInAt t u a b text → IsWrittenAt u
     → Reaches a b (planned_steps plan (stood_at t a) text)
 unfolding stood_at
 log_done None a b None None text o k w = k
@@ -94,7 +109,8 @@ log_done (Some plan) a b None u text o k w = absurd o
 log_done (Some plan) a b (Some t) None text o k w = absurd k
 log_done (Some plan) a b (Some t) (Some u) text o k w = all_done plan t u a b text o k w
 
-log_end : (plan : Option Plan) (a b : Option Files) (t u : Option Tail) (text : List Sent) → IsOpenedAt plan a t → TakesInAt t u a b text
+log_end : (plan : Option Plan) (a b : Option Files) (t u : Option Tail) (text : List Sent) → IsOpenedAt plan a t
+    → TakesInAt t u a b text
     → IsEnd plan (stood_at t a) text (option_map standing u)
 unfolding stood_at
 log_end None a b None None text o k = refl
@@ -104,7 +120,8 @@ log_end (Some plan) a b None u text o k = absurd o
 log_end (Some plan) a b (Some t) None text o k = absurd k
 log_end (Some plan) a b (Some t) (Some u) text o k = sym (after_planned plan a t text o) ∙ k.stands
 
-log_front : (plan : Option Plan) (a b : Option Files) (t : Option Tail) (text : List Sent) → IsOpenedAt plan a t → TakesFrontAt t a b text
+log_front : (plan : Option Plan) (a b : Option Files) (t : Option Tail) (text : List Sent) → IsOpenedAt plan a t
+    → TakesFrontAt t a b text
     → ReachesFront a b 0 (planned_steps plan (stood_at t a) text)
 unfolding stood_at
 log_front None a b None text o k = record { count = 0; enough = omega arith; reaches = k }
@@ -117,7 +134,8 @@ log_front (Some plan) a b (Some t) text o k = record {
       (ap (λ (l : List ℕ). append_steps l ++ steps_for t text) o.waiting ∙ steps_planned plan a t text o) k.reaches;
 }
 
-log_spent : (plan : Option Plan) (a : Option Files) (t : Option Tail) (text : List Sent) → IsOpenedAt plan a t → IsSpent t text → IsPlanSpent plan (stood_at t a) text
+log_spent : (plan : Option Plan) (a : Option Files) (t : Option Tail) (text : List Sent) → IsOpenedAt plan a t
+    → IsSpent t text → IsPlanSpent plan (stood_at t a) text
 unfolding stood_at
 log_spent None a None text o k = absurd k
 log_spent None a (Some t) text o k = absurd o
@@ -125,8 +143,10 @@ log_spent (Some plan) a None text o k = absurd o
 log_spent (Some plan) a (Some t) text o k = sym (after_planned plan a t text o) ∙ k
 
 -- All steps of the first text are done, and perhaps some of the others.
-log_lines : (plan : Option Plan) (a b : Option Files) (t u : Option Tail) (xs more rest : List Sent) → IsOpenedAt plan a t → TakesInAt t u a b (xs ++ more) → IsWrittenAt u
-    → ReachesFront a b (length (planned_steps plan (stood_at t a) xs)) (planned_steps plan (stood_at t a) ((xs ++ more) ++ rest))
+log_lines : (plan : Option Plan) (a b : Option Files) (t u : Option Tail) (xs more rest : List Sent)
+    → IsOpenedAt plan a t → TakesInAt t u a b (xs ++ more) → IsWrittenAt u
+    → ReachesFront a b (length (planned_steps plan (stood_at t a) xs))
+    (planned_steps plan (stood_at t a) ((xs ++ more) ++ rest))
 unfolding stood_at
 log_lines None a b None None xs more rest o k w = record { count = 0; enough = omega arith; reaches = k }
 log_lines None a b None (Some u) xs more rest o k w = absurd k
@@ -145,20 +165,24 @@ log_lines (Some plan) a b (Some t) (Some u) xs more rest o k w =
       count = length upto;
       enough = omega (arith, parts, sum);
       reaches = subst (λ (s : List Step). Reaches a b s)
-          (sym (ap (take (length upto)) (steps_on-append plan.size plan.keep stood (xs ++ more) rest) ∙ take-append_seam upto later))
+          (sym (ap (take (length upto)) (steps_on-append plan.size plan.keep stood (xs ++ more) rest)
+          ∙ take-append_seam upto later))
           (all_done plan t u a b (xs ++ more) o k w);
     }
 
 -- Counts
 
-fold_map : {X Y : Type 0} (f : ℕ → Y → ℕ) (g : X → Y) (n : ℕ) (xs : List X) → fold f n (map g xs) ≡ fold (λ (t : ℕ) (x : X). f t (g x)) n xs
+fold_map : {X Y : Type 0} (f : ℕ → Y → ℕ) (g : X → Y) (n : ℕ) (xs : List X)
+    → fold f n (map g xs) ≡ fold (λ (t : ℕ) (x : X). f t (g x)) n xs
 fold_map f g n [] = refl
 fold_map f g n (x ∷ xs) = fold_map f g (f n (g x)) xs
 
 -- The whole run
 
-pub runs_all : (script : List Act) (r p : Device) (old new : StoreState) (a b : Option (List Tai64n)) (p0 p1 : Place) (n : ℕ) (counts : Counts)
-    → AreOpened script old.told p0.tails → IsWritten p1.tails → Done script (scene None p0 old a) (scene None p1 new b) r p n
+pub runs_all : (script : List Act) (r p : Device) (old new : StoreState) (a b : Option (List Tai64n)) (p0 p1 : Place)
+    (n : ℕ) (counts : Counts)
+    → AreOpened script old.told p0.tails → IsWritten p1.tails
+    → Done script (scene None p0 old a) (scene None p1 new b) r p n
     → counts.lines ≡ n → counts.finished ≡ total_finished p1.tails → counts.removed ≡ total_removed p1.tails
     → RunsAll script (world r old a) (world p new b) counts
 unfolding stood_of
@@ -171,21 +195,29 @@ runs_all script r p old new a b p0 p1 n counts opened written d lines finished r
   gave = d.gave;
   each = d.each;
   are_found = all_found script old.told p0.tails opened;
-  logs = λ log. log_done (slice_get (log_plans script) log) (old.told.files log) (new.told.files log) (slice_get p0.tails log) (slice_get p1.tails log) (log_text script log d.labels d.bytes)
+  logs = λ log. log_done (slice_get (log_plans script) log) (old.told.files log) (new.told.files log)
+      (slice_get p0.tails log) (slice_get p1.tails log) (log_text script log d.labels d.bytes)
       (opened log) (d.takes.logs log) (written log);
   alerts = d.takes.alerts;
   files = d.takes.files;
   lines = lines ∙ d.count_is ∙ d.each;
-  are_ends = λ log. subst (λ (end : Option Standing). IsEnd (slice_get (log_plans script) log) (stood_of p0.tails old.told log) (log_text script log d.labels d.bytes) end)
+  are_ends = λ log. subst
+      (λ (end : Option Standing). IsEnd (slice_get (log_plans script) log) (stood_of p0.tails old.told log)
+      (log_text script log d.labels d.bytes) end)
       (sym (slice_get-map standing p1.tails log))
-      (log_end (slice_get (log_plans script) log) (old.told.files log) (new.told.files log) (slice_get p0.tails log) (slice_get p1.tails log) (log_text script log d.labels d.bytes)
+      (log_end (slice_get (log_plans script) log) (old.told.files log) (new.told.files log) (slice_get p0.tails log)
+      (slice_get p1.tails log) (log_text script log d.labels d.bytes)
       (opened log) (d.takes.logs log));
-  finished = finished ∙ sym (fold_map (λ (t : ℕ) (s : Standing). min (2 ^ 64 - 1) (t + s.marks.finished)) standing 0 p1.tails);
-  removed = removed ∙ sym (fold_map (λ (t : ℕ) (s : Standing). min (2 ^ 64 - 1) (t + s.marks.removed)) standing 0 p1.tails);
+  finished = finished ∙ sym (fold_map (λ (t : ℕ) (s : Standing). min (2 ^ 64 - 1) (t + s.marks.finished)) standing 0
+      p1.tails);
+  removed = removed ∙ sym (fold_map (λ (t : ℕ) (s : Standing). min (2 ^ 64 - 1) (t + s.marks.removed)) standing 0
+      p1.tails);
 }
 
-pub runs_up_to : (script : List Act) (r p : Device) (old new : StoreState) (a b : Option (List Tai64n)) (p0 p1 : Place) (why : LogFault) (tells : RunFault)
-    → AreOpened script old.told p0.tails → (tells ≡ fault.LabelsSpent → why ≡ log_fault.LabelsSpent) → Halted script (scene None p0 old a) (scene None p1 new b) r p why
+pub runs_up_to : (script : List Act) (r p : Device) (old new : StoreState) (a b : Option (List Tai64n)) (p0 p1 : Place)
+    (why : LogFault) (tells : RunFault)
+    → AreOpened script old.told p0.tails → (tells ≡ fault.LabelsSpent → why ≡ log_fault.LabelsSpent)
+    → Halted script (scene None p0 old a) (scene None p1 new b) r p why
     → RunsUpTo script (world r old a) (world p new b) tells
 unfolding stood_of
 runs_up_to script r p old new a b p0 p1 why tells opened same h = record {
@@ -195,18 +227,26 @@ runs_up_to script r p old new a b p0 p1 why tells opened same h = record {
   read = h.read;
   gave = h.gave;
   are_found = all_found script old.told p0.tails opened;
-  logs = λ log. log_front (slice_get (log_plans script) log) (old.told.files log) (new.told.files log) (slice_get p0.tails log) (log_text script log h.labels h.bytes)
+  logs = λ log. log_front (slice_get (log_plans script) log) (old.told.files log) (new.told.files log)
+      (slice_get p0.tails log) (log_text script log h.labels h.bytes)
       (opened log) (h.stops.logs log);
   alerts = h.stops.alerts;
-  spent = λ is. let s = h.stops.spent (same is) in (s.log, log_spent (slice_get (log_plans script) s.log) (old.told.files s.log) (slice_get p0.tails s.log) (log_text script s.log h.labels h.bytes) (opened s.log) s.spent);
+  spent = λ is. let s = h.stops.spent (same is) in (
+    s.log,
+    log_spent (slice_get (log_plans script) s.log) (old.told.files s.log) (slice_get p0.tails s.log)
+        (log_text script s.log h.labels h.bytes) (opened s.log) s.spent,
+  );
 }
 
-plain_left : (script : List Act) (p : Place) (i : Option Tai64n) (left : List ℕ) → IsInLine script p i left → IsPlain left
+plain_left : (script : List Act) (p : Place) (i : Option Tai64n) (left : List ℕ) → IsInLine script p i left
+    → IsPlain left
 plain_left script p None left is = subst (λ (t : List ℕ). IsPlain t) (sym is) refl
 plain_left script p (Some label) left is = is.1
 
-pub runs_lines : (script : List Act) (r p : Device) (old new : StoreState) (a b : Option (List Tai64n)) (p0 p1 : Place) (i : Option Tai64n) (n : ℕ)
-    → AreOpened script old.told p0.tails → IsWritten p1.tails → Came script (scene None p0 old a) (scene i p1 new b) r p n
+pub runs_lines : (script : List Act) (r p : Device) (old new : StoreState) (a b : Option (List Tai64n)) (p0 p1 : Place)
+    (i : Option Tai64n) (n : ℕ)
+    → AreOpened script old.told p0.tails → IsWritten p1.tails
+    → Came script (scene None p0 old a) (scene i p1 new b) r p n
     → RunsLines script (world r old a) (world p new b)
 unfolding stood_of
 runs_lines script r p old new a b p0 p1 i n opened written c =
@@ -218,10 +258,13 @@ runs_lines script r p old new a b p0 p1 i n opened written c =
     let first = outputs_of (scene None p0 old a) in
     let last = outputs_of (scene i p1 new b) in
     let takes : Takes first last (joined t1 s1) =
-    Takes-same first last w.grows.more (joined t1 s1) w.grows.takes (record { logs = w.grows.whole.logs; alerts = w.grows.whole.alerts; files = w.grows.whole.files }) in
+    Takes-same first last w.grows.more (joined t1 s1) w.grows.takes
+    (record { logs = w.grows.whole.logs; alerts = w.grows.whole.alerts; files = w.grows.whole.files }) in
     let whole : SameGiven (joined (joined t1 s1) end.rest) all =
-    Same-then (joined (joined t1 s1) end.rest) (joined t1 (joined s1 end.rest)) all (Same-sym (joined t1 (joined s1 end.rest)) (joined (joined t1 s1) end.rest) (Same-moved t1 s1 end.rest))
-    (Same-then (joined t1 (joined s1 end.rest)) (joined t1 (of_text script (labels_of i) w.left)) all (Same-behind t1 (joined s1 end.rest) (of_text script (labels_of i) w.left) end.whole)
+    Same-then (joined (joined t1 s1) end.rest) (joined t1 (joined s1 end.rest)) all
+    (Same-sym (joined t1 (joined s1 end.rest)) (joined (joined t1 s1) end.rest) (Same-moved t1 s1 end.rest))
+    (Same-then (joined t1 (joined s1 end.rest)) (joined t1 (of_text script (labels_of i) w.left)) all
+    (Same-behind t1 (joined s1 end.rest) (of_text script (labels_of i) w.left) end.whole)
     (text_turn script w.names (labels_of i) w.whole w.left w.lines w.each)) in
     record {
       lines = w.whole;
@@ -235,10 +278,14 @@ runs_lines script r p old new a b p0 p1 i n opened written c =
       plain = plain_left script p1 i w.left w.at;
       each = w.each;
       are_found = all_found script old.told p0.tails opened;
-      logs = λ log. subst (λ (t : List Sent). ReachesFront (old.told.files log) (new.told.files log) (length (log_steps script (stood_of p0.tails old.told) w.names w.whole log))
+      logs = λ log. subst (λ (t : List Sent).
+          ReachesFront (old.told.files log) (new.told.files log)
+          (length (log_steps script (stood_of p0.tails old.told) w.names w.whole log))
           (planned_steps (slice_get (log_plans script) log) (stood_of p0.tails old.told log) t)) (whole.logs log)
-          (log_lines (slice_get (log_plans script) log) (old.told.files log) (new.told.files log) (slice_get p0.tails log) (slice_get p1.tails log) (t1.logs log) (s1.logs log) (end.rest.logs log)
+          (log_lines (slice_get (log_plans script) log) (old.told.files log) (new.told.files log)
+          (slice_get p0.tails log) (slice_get p1.tails log) (t1.logs log) (s1.logs log) (end.rest.logs log)
           (opened log) (takes.logs log) (written log));
       alerts = subst (λ (t : List ℕ). AppendsFront old.told.alerts new.told.alerts t) whole.alerts
-          (AppendsFront-more end.rest.alerts (AppendsFront-whole old.told.alerts new.told.alerts (t1.alerts ++ s1.alerts) takes.alerts));
+          (AppendsFront-more end.rest.alerts
+          (AppendsFront-whole old.told.alerts new.told.alerts (t1.alerts ++ s1.alerts) takes.alerts));
     }

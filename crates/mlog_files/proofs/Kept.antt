@@ -1,5 +1,6 @@
 -- Files in memory.
-use Rattle.std.proofs.Common.{◌≡◌, ℕ, suc, ◌+◌, ◌<◌, ◌≤◌, Bool, true, false, List, [], ◌∷◌, ◌++◌, length, take, drop, get_or, refl, sym, ap, ◌∙◌, arith, append_assoc, append-nil}
+use Rattle.std.proofs.Common.{◌≡◌, ℕ, suc, ◌+◌, ◌<◌, ◌≤◌, Bool, true, false, List, [], ◌∷◌, ◌++◌, length, take, drop}
+use Rattle.std.proofs.Common.{get_or, refl, sym, ap, ◌∙◌, arith, append_assoc, append-nil}
 use Rattle.std.proofs.Math.Seq.{take-suc, drop-cons, drop-length}
 use Rattle.std.proofs.lemmas.List.{take_all}
 use Rattle.std.specs.Cmp.Lexicographic.{slice_cmp}
@@ -8,7 +9,8 @@ use Rattle.mlog_files.specs.Files.{Old, Files, files_after, append_steps, with_o
 
 pub appended_files : (bytes : List ℕ) (files : Files)
     → files_after (append_steps bytes) files ≡ record { current = files.current ++ bytes; olds = files.olds }
-appended_files [] files = ap (λ (t : List ℕ). record { current = t; olds = files.olds }) (sym (append-nil files.current))
+appended_files [] files =
+    ap (λ (t : List ℕ). record { current = t; olds = files.olds }) (sym (append-nil files.current))
 appended_files (b ∷ bs) files =
     appended_files bs (record { current = files.current ++ b ∷ []; olds = files.olds })
     ∙ ap (λ (t : List ℕ). record { current = t; olds = files.olds }) (append_assoc files.current (b ∷ []) bs)
@@ -42,14 +44,16 @@ found_place old olds at d within more kept =
     ∙ ap (λ (t : List Old). take at olds ++ old ∷ t) (sym cut)
 
 -- It is behind all.
-pub last_place : (old : Old) (olds : List Old) → with_old old olds ≡ take (length olds) olds ++ with_old old (drop (length olds) olds)
+pub last_place : (old : Old) (olds : List Old) → with_old old olds ≡ take (length olds) olds
+    ++ with_old old (drop (length olds) olds)
     → with_old old olds ≡ take (length olds) olds ++ old ∷ drop (length olds) olds
 last_place old olds kept =
     let none : drop (length olds) olds ≡ [] = drop-length olds in
     kept ∙ ap (λ (t : List Old). take (length olds) olds ++ with_old old t) none
     ∙ ap (λ (t : List Old). take (length olds) olds ++ old ∷ t) (sym none)
 
-pub told_below : (truth : Bool) (olds : List Old) (at : ℕ) (d old : Old) (here name : List ℕ) → d ≡ get_or olds at d → here ≡ d.name → old.name ≡ name
+pub told_below : (truth : Bool) (olds : List Old) (at : ℕ) (d old : Old) (here name : List ℕ) → d ≡ get_or olds at d
+    → here ≡ d.name → old.name ≡ name
     → is_lt (slice_cmp nat_cmp here name) ≡ truth → is_lt (slice_cmp nat_cmp (get_or olds at d).name old.name) ≡ truth
 told_below truth olds at d old here name is named same below =
     ap (λ (o : Old). is_lt (slice_cmp nat_cmp o.name old.name)) (sym is)

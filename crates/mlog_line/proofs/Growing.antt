@@ -49,7 +49,8 @@ Same-behind p x y s = record {
 }
 
 -- two steps on the way
-pub two_steps : (x m y n z : Given) → SameGiven (joined x m) y → SameGiven (joined y n) z → SameGiven (joined x (joined m n)) z
+pub two_steps : (x m y n z : Given) → SameGiven (joined x m) y → SameGiven (joined y n) z
+    → SameGiven (joined x (joined m n)) z
 two_steps x m y n z s t =
     Same-then (joined x (joined m n)) (joined (joined x m) n) z (Same-moved x m n)
     (Same-then (joined (joined x m) n) (joined y n) z (Same-joined (joined x m) y n s) t)
@@ -82,7 +83,8 @@ Grows-from a b w x y s g = record {
 pub Grows-behind : (a b : Outputs) (p x y : Given) → Grows a b x y → Grows a b (joined p x) (joined p y)
 Grows-behind a b p x y g = record { more = g.more; whole = behind p x g.more y g.whole; takes = g.takes }
 
-pub StopsAt-then : (a b c : Outputs) (x y z : Given) (why : LogFault) → Grows a b x y → StopsAt b c y z why → StopsAt a c x z why
+pub StopsAt-then : (a b c : Outputs) (x y z : Given) (why : LogFault) → Grows a b x y → StopsAt b c y z why
+    → StopsAt a c x z why
 StopsAt-then a b c x y z why g h = record {
   more = joined g.more h.more;
   whole = two_steps x g.more y h.more z g.whole h.whole;
@@ -90,22 +92,27 @@ StopsAt-then a b c x y z why g h = record {
 }
 
 -- There was more to come.
-pub StopsAt-more : (a b : Outputs) (x y r z : Given) (why : LogFault) → StopsAt a b x y why → SameGiven (joined y r) z → StopsAt a b x z why
+pub StopsAt-more : (a b : Outputs) (x y r z : Given) (why : LogFault) → StopsAt a b x y why → SameGiven (joined y r) z
+    → StopsAt a b x z why
 StopsAt-more a b x y r z why g s = record {
   more = joined g.more r;
   whole = two_steps x g.more y r z g.whole s;
   stops = Stops-more a b g.more r why g.stops;
 }
 
-pub StopsAt-same : (a b : Outputs) (x y z : Given) (why : LogFault) → StopsAt a b x y why → SameGiven y z → StopsAt a b x z why
-StopsAt-same a b x y z why g s = record { more = g.more; whole = Same-then (joined x g.more) y z g.whole s; stops = g.stops }
+pub StopsAt-same : (a b : Outputs) (x y z : Given) (why : LogFault) → StopsAt a b x y why → SameGiven y z
+    → StopsAt a b x z why
+StopsAt-same a b x y z why g s =
+    record { more = g.more; whole = Same-then (joined x g.more) y z g.whole s; stops = g.stops }
 
-pub StopsAt-from : (a b : Outputs) (w x y : Given) (why : LogFault) → SameGiven w x → StopsAt a b x y why → StopsAt a b w y why
+pub StopsAt-from : (a b : Outputs) (w x y : Given) (why : LogFault) → SameGiven w x → StopsAt a b x y why
+    → StopsAt a b w y why
 StopsAt-from a b w x y why s g = record {
   more = g.more;
   whole = Same-then (joined w g.more) (joined x g.more) y (Same-joined w x g.more s) g.whole;
   stops = g.stops;
 }
 
-pub StopsAt-behind : (a b : Outputs) (p x y : Given) (why : LogFault) → StopsAt a b x y why → StopsAt a b (joined p x) (joined p y) why
+pub StopsAt-behind : (a b : Outputs) (p x y : Given) (why : LogFault) → StopsAt a b x y why
+    → StopsAt a b (joined p x) (joined p y) why
 StopsAt-behind a b p x y why g = record { more = g.more; whole = behind p x g.more y g.whole; stops = g.stops }

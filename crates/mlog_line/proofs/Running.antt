@@ -1,5 +1,7 @@
 -- Texts that go to all logs.
-use Rattle.std.proofs.Common.{◌≡◌, ℕ, zero, suc, ◌+◌, ◌<◌, ◌≤◌, ◌==◌, nat_lt, if◌then◌else◌, Bool, true, false, List, [], ◌∷◌, ◌++◌, length, take, set, Option, Some, None, refl, sym, subst, ap, ◌∙◌, arith, append-nil, inl, inr}
+use Rattle.std.proofs.Common.{◌≡◌, ℕ, zero, suc, ◌+◌, ◌<◌, ◌≤◌, ◌==◌, nat_lt, if◌then◌else◌, Bool, true, false, List}
+use Rattle.std.proofs.Common.{[], ◌∷◌, ◌++◌, length, take, set, Option, Some, None, refl, sym, subst, ap, ◌∙◌, arith}
+use Rattle.std.proofs.Common.{append-nil, inl, inr}
 use Rattle.std.proofs.lemmas.Bool.{cases_lt}
 use Rattle.std.specs.Prelude.{slice_get}
 use Rattle.tai_status.specs.Lines.{Sent}
@@ -27,7 +29,8 @@ long_as : (text : List Sent) → length (bytes_of text) ≡ length text
 long_as [] = refl
 long_as (s ∷ text) = ap suc (long_as text)
 
-room_at : (tails : List Tail) (log count : ℕ) (t : Tail) → slice_get tails log ≡ Some t → HasRoomAt count (slice_get tails log) → count ≤ room_in t
+room_at : (tails : List Tail) (log count : ℕ) (t : Tail) → slice_get tails log ≡ Some t
+    → HasRoomAt count (slice_get tails log) → count ≤ room_in t
 room_at tails log count t is room = subst (λ (o : Option Tail). HasRoomAt count o) is room
 
 -- What a text that has room does.
@@ -40,7 +43,8 @@ steps_are t bytes text room is =
       all.1 ∙ ap (λ (n : ℕ). Some (longer (standing t) n)) long,
     )
 
-pub within_takes : (tails now : List Tail) (old new : StoreState) (log : ℕ) (t u : Tail) (bytes : List ℕ) (text : List Sent) → log < length tails
+pub within_takes : (tails now : List Tail) (old new : StoreState) (log : ℕ) (t u : Tail) (bytes : List ℕ)
+    (text : List Sent) → log < length tails
     → slice_get tails log ≡ Some t → now ≡ set tails log u → HasRoomAt (length bytes) (slice_get tails log)
     → Goes old new log (waiting_in t) (waiting_in u) (append_steps bytes)
     → standing u ≡ longer (standing t) (length bytes) → SameLimits t u → bytes_of text ≡ bytes
@@ -60,7 +64,8 @@ within_takes tails now old new log t u bytes text within was is room k stands sa
       keep = same.keep;
     })
 
-pub within_stops : (tails now : List Tail) (old new : StoreState) (log : ℕ) (t : Tail) (bytes : List ℕ) (text : List Sent) (why : LogFault) → slice_get tails log ≡ Some t
+pub within_stops : (tails now : List Tail) (old new : StoreState) (log : ℕ) (t : Tail) (bytes : List ℕ)
+    (text : List Sent) (why : LogFault) → slice_get tails log ≡ Some t
     → HasRoomAt (length bytes) (slice_get tails log)
     → Fails old new log (append_steps (waiting_in t) ++ append_steps bytes) → why ≡ fault.Store → bytes_of text ≡ bytes
     → Stops (outputs tails old) (outputs now new) (to_one log text) why
@@ -70,16 +75,21 @@ within_stops tails now old new log t bytes text why was room f is_store bytes_ar
     one_stops tails now old new log t text why was k.front.others k.front.alerts
     (record {
       count = k.count;
-      reaches = subst (λ (w : List Step). Reaches (old.told.files log) (new.told.files log) (take k.count (append_steps (waiting_in t) ++ w))) (sym s.0) k.front.here;
+      reaches = subst (λ (w : List Step).
+          Reaches (old.told.files log) (new.told.files log) (take k.count (append_steps (waiting_in t) ++ w))) (sym s.0)
+          k.front.here;
     })
     (λ is. f.rose) (λ is. cc)
 
-pub others_as_before : (tails now : List Tail) (log : ℕ) (u : Tail) → now ≡ set tails log u → (n : ℕ) → log < n → slice_get now n ≡ slice_get tails n
-others_as_before tails now log u is n above = ap (λ (l : List Tail). slice_get l n) is ∙ set_elsewhere tails log n u (λ same. omega (arith, above, same))
+pub others_as_before : (tails now : List Tail) (log : ℕ) (u : Tail) → now ≡ set tails log u → (n : ℕ) → log < n
+    → slice_get now n ≡ slice_get tails n
+others_as_before tails now log u is n above = ap (λ (l : List Tail). slice_get l n) is
+    ∙ set_elsewhere tails log n u (λ same. omega (arith, above, same))
 
 -- The first logs
 
-next_by : {X : Type 0} (log k : ℕ) (text : List X) (a b c : Bool) → nat_lt log k ≡ a → (log == k) ≡ b → nat_lt log (k + 1) ≡ c
+next_by : {X : Type 0} (log k : ℕ) (text : List X) (a b c : Bool) → nat_lt log k ≡ a → (log == k) ≡ b
+    → nat_lt log (k + 1) ≡ c
     → (if a then text else []) ++ (if b then text else []) ≡ (if c then text else [])
 next_by log k text true true c ea eb ec = absurd (grind (arith, ea, eb))
 next_by log k text true false true ea eb ec = append-nil text
@@ -97,27 +107,50 @@ first_next k text = record {
 }
 
 pub first_nothing : (o : Outputs) (text : List Sent) → Takes o o (to_first 0 text)
-first_nothing o text = Takes-same o o nothing (to_first 0 text) (Takes-none o) (record { logs = λ log. (let none : nat_lt log 0 ≡ false = grind arith in rw none refl); alerts = refl; files = λ file. refl })
+first_nothing o text =
+    Takes-same o o nothing (to_first 0 text) (Takes-none o)
+    (record {
+      logs = λ log. (let none : nat_lt log 0 ≡ false = grind arith in rw none refl);
+      alerts = refl;
+      files =
+          λ file. refl;
+    })
 
-pub first_further : (a b c : Outputs) (k : ℕ) (text : List Sent) → Takes a b (to_first k text) → Takes b c (to_one k text) → Takes a c (to_first (k + 1) text)
+pub first_further : (a b c : Outputs) (k : ℕ) (text : List Sent) → Takes a b (to_first k text)
+    → Takes b c (to_one k text) → Takes a c (to_first (k + 1) text)
 first_further a b c k text t u =
-    Takes-same a c (joined (to_first k text) (to_one k text)) (to_first (k + 1) text) (Takes-then a b c (to_first k text) (to_one k text) t u) (first_next k text)
+    Takes-same a c (joined (to_first k text) (to_one k text)) (to_first (k + 1) text)
+    (Takes-then a b c (to_first k text) (to_one k text) t u) (first_next k text)
 
-rest_by : {X : Type 0} (log k count : ℕ) (text : List X) (a b : Bool) → k ≤ count → nat_lt log k ≡ a → nat_lt log count ≡ b
+rest_by : {X : Type 0} (log k count : ℕ) (text : List X) (a b : Bool) → k ≤ count → nat_lt log k ≡ a
+    → nat_lt log count ≡ b
     → (if a then text else []) ++ (if a then [] else (if b then text else [])) ≡ (if b then text else [])
 rest_by log k count text true true few ea eb = append-nil text
 rest_by log k count text true false few ea eb = absurd (grind (arith, ea, eb, few))
 rest_by log k count text false b few ea eb = refl
 
-pub first_stopped : (a b c : Outputs) (k count : ℕ) (text : List Sent) (why : LogFault) → k < count → Takes a b (to_first k text) → Stops b c (to_one k text) why
+pub first_stopped : (a b c : Outputs) (k count : ℕ) (text : List Sent) (why : LogFault) → k < count
+    → Takes a b (to_first k text) → Stops b c (to_one k text) why
     → Stops a c (to_first count text) why
 first_stopped a b c k count text why few t u =
     let upto : Stops a c (to_first (k + 1) text) why =
-    Stops-same a c (joined (to_first k text) (to_one k text)) (to_first (k + 1) text) why (Stops-then a b c (to_first k text) (to_one k text) why t u) (first_next k text) in
-    let rest : Given = record { logs = λ log. if nat_lt log (k + 1) then [] else (if nat_lt log count then text else []); alerts = []; files = λ file. [] } in
+    Stops-same a c (joined (to_first k text) (to_one k text)) (to_first (k + 1) text) why
+    (Stops-then a b c (to_first k text) (to_one k text) why t u) (first_next k text) in
+    let rest : Given = record {
+      logs =
+          λ log. if nat_lt log (k + 1) then [] else (if nat_lt log count then text else []);
+      alerts = [];
+      files =
+          λ file. [];
+    } in
     Stops-same a c (joined (to_first (k + 1) text) rest) (to_first count text) why
     (Stops-more a c (to_first (k + 1) text) rest why upto)
-    (record { logs = λ log. rest_by log (k + 1) count text (nat_lt log (k + 1)) (nat_lt log count) (omega (arith, few)) refl refl; alerts = refl; files = λ file. refl })
+    (record {
+      logs = λ log. rest_by log (k + 1) count text (nat_lt log (k + 1)) (nat_lt log count) (omega (arith, few))
+          refl refl;
+      alerts = refl;
+      files = λ file. refl;
+    })
 
 -- Room
 
@@ -133,8 +166,11 @@ past_room [] log count past = tt
 past_room (t ∷ tails) zero count past = absurd (omega (arith, past))
 past_room (t ∷ tails) (suc log) count past = past_room tails log count (omega (arith, past))
 
-pub room_all : (tails : List Tail) (index count : ℕ) → ((log : ℕ) → log < index → HasRoomAt count (slice_get tails log)) → length tails ≤ index → HaveRoom count tails
-room_all tails index count upto all = λ log. elim (cases_lt log index) [ inl below ↦ upto log below | inr past ↦ past_room tails log count (omega (arith, past, all)) ]
+pub room_all : (tails : List Tail) (index count : ℕ) → ((log : ℕ) → log < index → HasRoomAt count (slice_get tails log))
+    → length tails ≤ index → HaveRoom count tails
+room_all tails index count upto all =
+    λ log. elim (cases_lt log index)
+    [ inl below ↦ upto log below | inr past ↦ past_room tails log count (omega (arith, past, all)) ]
 
 less_at : (t : Option Tail) (a b : ℕ) → b ≤ a → HasRoomAt a t → HasRoomAt b t
 less_at None a b less room = tt
@@ -143,8 +179,10 @@ less_at (Some t) a b less room = omega (arith, less, room)
 pub room_less : (tails : List Tail) (a b : ℕ) → b ≤ a → HaveRoom a tails → HaveRoom b tails
 room_less tails a b less room = λ log. less_at (slice_get tails log) a b less (room log)
 
-pub room_next : (tails : List Tail) (index room now : ℕ) (t : Tail) → slice_get tails index ≡ Some t → now ≤ room → now ≤ room_in t
-    → ((log : ℕ) → log < index → HasRoomAt room (slice_get tails log)) → (log : ℕ) → log < index + 1 → HasRoomAt now (slice_get tails log)
+pub room_next : (tails : List Tail) (index room now : ℕ) (t : Tail) → slice_get tails index ≡ Some t → now ≤ room
+    → now ≤ room_in t
+    → ((log : ℕ) → log < index → HasRoomAt room (slice_get tails log)) → (log : ℕ) → log < index + 1
+    → HasRoomAt now (slice_get tails log)
 room_next tails index room now t is less here before = λ log below. elim (cases_lt log index) [
   | inl lower ↦ less_at (slice_get tails log) room now less (before log lower)
   | inr not_lower ↦

@@ -1,5 +1,6 @@
 -- Outputs that are given one thing after another.
-use Rattle.std.proofs.Common.{◌≡◌, ℕ, ◌+◌, List, [], ◌++◌, length, take, Option, Some, None, refl, sym, subst, ap, ◌∙◌, arith, append_assoc, append-nil, fold}
+use Rattle.std.proofs.Common.{◌≡◌, ℕ, ◌+◌, List, [], ◌++◌, length, take, Option, Some, None, refl, sym, subst, ap, ◌∙◌}
+use Rattle.std.proofs.Common.{arith, append_assoc, append-nil, fold}
 use Rattle.std.proofs.Math.Seq.{take-append-add}
 use Rattle.std.proofs.lemmas.List.Sums.{fold-append}
 use Rattle.std.specs.Prelude.{slice_get, Result, Ok, Err, OnOk, OnErr, IfErr}
@@ -17,19 +18,24 @@ use Rattle.mlog_files.proofs.Doing.{Reaches-then, front_stays, rose_since}
 use Rattle.mlog_files.proofs.Goings.{steps_on-none, standing_on-none}
 use Rattle.mlog_files.proofs.Putting.{steps_parted, stands_parted, same_files}
 use Rattle.mlog_line.specs.Given.{Given, nothing, joined}
-use Rattle.mlog_line.specs.Outputs.{Outputs, steps_for, after, TakesIn, TakesFront, TakesInAt, TakesFrontAt, Becomes, Takes, IsSpent, Stops, SameGiven}
+use Rattle.mlog_line.specs.Outputs.{Outputs, steps_for, after, TakesIn, TakesFront, TakesInAt, TakesFrontAt, Becomes}
+use Rattle.mlog_line.specs.Outputs.{Takes, IsSpent, Stops, SameGiven}
 
 -- One log
 
-steps_then : (t u : Tail) (xs ys : List Sent) → after t xs ≡ Some (standing u) → size_of u ≡ size_of t → keep_of u ≡ keep_of t
+steps_then : (t u : Tail) (xs ys : List Sent) → after t xs ≡ Some (standing u) → size_of u ≡ size_of t
+    → keep_of u ≡ keep_of t
     → steps_for t (xs ++ ys) ≡ steps_for t xs ++ steps_for u ys
 steps_then t u xs ys is size keep =
-    steps_parted (size_of t) (keep_of t) (size_of u) (keep_of u) (standing t) (Some (standing u)) (xs ++ ys) xs ys size keep refl is
+    steps_parted (size_of t) (keep_of t) (size_of u) (keep_of u) (standing t) (Some (standing u)) (xs ++ ys) xs ys size
+    keep refl is
 
-after_then : (t u : Tail) (xs ys : List Sent) → after t xs ≡ Some (standing u) → size_of u ≡ size_of t → keep_of u ≡ keep_of t
+after_then : (t u : Tail) (xs ys : List Sent) → after t xs ≡ Some (standing u) → size_of u ≡ size_of t
+    → keep_of u ≡ keep_of t
     → after t (xs ++ ys) ≡ after u ys
 after_then t u xs ys is size keep =
-    stands_parted (size_of t) (keep_of t) (size_of u) (keep_of u) (standing t) (Some (standing u)) (xs ++ ys) xs ys size keep refl is
+    stands_parted (size_of t) (keep_of t) (size_of u) (keep_of u) (standing t) (Some (standing u)) (xs ++ ys) xs ys size
+    keep refl is
 
 joined_steps : (t u : Tail) (a b : Option Files) (xs ys : List Sent) (k : TakesIn t u a b xs)
     → k.done ++ (append_steps (waiting_in u) ++ steps_for u ys) ≡ append_steps (waiting_in t) ++ steps_for t (xs ++ ys)
@@ -39,37 +45,45 @@ joined_steps t u a b xs ys k =
     ∙ append_assoc (append_steps (waiting_in t)) (steps_for t xs) (steps_for u ys)
     ∙ ap (λ (s : List Step). append_steps (waiting_in t) ++ s) (sym (steps_then t u xs ys k.stands k.size k.keep))
 
-pub TakesIn-then : (t u v : Tail) (a b c : Option Files) (xs ys : List Sent) → TakesIn t u a b xs → TakesIn u v b c ys → TakesIn t v a c (xs ++ ys)
+pub TakesIn-then : (t u v : Tail) (a b c : Option Files) (xs ys : List Sent) → TakesIn t u a b xs → TakesIn u v b c ys
+    → TakesIn t v a c (xs ++ ys)
 TakesIn-then t u v a b c xs ys k l = record {
   done = k.done ++ l.done;
   reaches = Reaches-then a b c k.done l.done k.reaches l.reaches;
-  whole = append_assoc k.done l.done (append_steps (waiting_in v)) ∙ ap (λ (s : List Step). k.done ++ s) l.whole ∙ joined_steps t u a b xs ys k;
+  whole = append_assoc k.done l.done (append_steps (waiting_in v)) ∙ ap (λ (s : List Step). k.done ++ s) l.whole
+      ∙ joined_steps t u a b xs ys k;
   stands = after_then t u xs ys k.stands k.size k.keep ∙ l.stands;
   size = l.size ∙ k.size;
   keep = l.keep ∙ k.keep;
 }
 
-TakesIn-front : (t u : Tail) (a b c : Option Files) (xs ys : List Sent) → TakesIn t u a b xs → TakesFront u b c ys → TakesFront t a c (xs ++ ys)
+TakesIn-front : (t u : Tail) (a b c : Option Files) (xs ys : List Sent) → TakesIn t u a b xs → TakesFront u b c ys
+    → TakesFront t a c (xs ++ ys)
 TakesIn-front t u a b c xs ys k f =
     let waits : List Step = append_steps (waiting_in u) ++ steps_for u ys in
-    let front : take (length k.done + f.count) (append_steps (waiting_in t) ++ steps_for t (xs ++ ys)) ≡ k.done ++ take f.count waits =
+    let front : take (length k.done + f.count) (append_steps (waiting_in t) ++ steps_for t (xs ++ ys))
+    ≡ k.done ++ take f.count waits =
     ap (take (length k.done + f.count)) (sym (joined_steps t u a b xs ys k)) ∙ take-append-add k.done waits f.count in
     record {
       count = length k.done + f.count;
-      reaches = subst (λ (s : List Step). Reaches a c s) (sym front) (Reaches-then a b c k.done (take f.count waits) k.reaches f.reaches);
+      reaches = subst (λ (s : List Step). Reaches a c s) (sym front)
+          (Reaches-then a b c k.done (take f.count waits) k.reaches f.reaches);
     }
 
-TakesFront-more : (t : Tail) (a b : Option Files) (xs ys : List Sent) → TakesFront t a b xs → TakesFront t a b (xs ++ ys)
+TakesFront-more : (t : Tail) (a b : Option Files) (xs ys : List Sent) → TakesFront t a b xs
+    → TakesFront t a b (xs ++ ys)
 TakesFront-more t a b xs ys f =
     let first : List Step = append_steps (waiting_in t) ++ steps_for t xs in
     let later : List Step = steps_on (size_of t) (keep_of t) (after t xs) ys in
     let whole : first ++ later ≡ append_steps (waiting_in t) ++ steps_for t (xs ++ ys) =
     append_assoc (append_steps (waiting_in t)) (steps_for t xs) later
     ∙ ap (λ (s : List Step). append_steps (waiting_in t) ++ s)
-    (sym (steps_parted (size_of t) (keep_of t) (size_of t) (keep_of t) (standing t) (after t xs) (xs ++ ys) xs ys refl refl refl refl)) in
+    (sym (steps_parted (size_of t) (keep_of t) (size_of t) (keep_of t) (standing t) (after t xs) (xs ++ ys) xs ys refl
+    refl refl refl)) in
     record {
       count = length (take f.count first);
-      reaches = subst (λ (s : List Step). Reaches a b s) (front_stays first later f.count ∙ ap (take (length (take f.count first))) whole) f.reaches;
+      reaches = subst (λ (s : List Step). Reaches a b s) (front_stays first later f.count
+          ∙ ap (take (length (take f.count first))) whole) f.reaches;
     }
 
 -- Logs by number
@@ -90,11 +104,13 @@ TakesInAt-front None (Some u) a b c xs ys k l = absurd k
 TakesInAt-front (Some t) None a b c xs ys k l = absurd k
 TakesInAt-front (Some t) (Some u) a b c xs ys k l = TakesIn-front t u a b c xs ys k l
 
-TakesFrontAt-more : (t : Option Tail) (a b : Option Files) (xs ys : List Sent) → TakesFrontAt t a b xs → TakesFrontAt t a b (xs ++ ys)
+TakesFrontAt-more : (t : Option Tail) (a b : Option Files) (xs ys : List Sent) → TakesFrontAt t a b xs
+    → TakesFrontAt t a b (xs ++ ys)
 TakesFrontAt-more None a b xs ys f = f
 TakesFrontAt-more (Some t) a b xs ys f = TakesFront-more t a b xs ys f
 
-IsSpent-then : (t u : Option Tail) (a b : Option Files) (xs ys : List Sent) → TakesInAt t u a b xs → IsSpent u ys → IsSpent t (xs ++ ys)
+IsSpent-then : (t u : Option Tail) (a b : Option Files) (xs ys : List Sent) → TakesInAt t u a b xs → IsSpent u ys
+    → IsSpent t (xs ++ ys)
 IsSpent-then None None a b xs ys k s = absurd s
 IsSpent-then None (Some u) a b xs ys k s = absurd k
 IsSpent-then (Some t) None a b xs ys k s = absurd k
@@ -103,7 +119,8 @@ IsSpent-then (Some t) (Some u) a b xs ys k s = after_then t u xs ys k.stands k.s
 IsSpent-more : (t : Option Tail) (xs ys : List Sent) → IsSpent t xs → IsSpent t (xs ++ ys)
 IsSpent-more None xs ys s = absurd s
 IsSpent-more (Some t) xs ys s =
-    stands_parted (size_of t) (keep_of t) (size_of t) (keep_of t) (standing t) (after t xs) (xs ++ ys) xs ys refl refl refl refl
+    stands_parted (size_of t) (keep_of t) (size_of t) (keep_of t) (standing t) (after t xs) (xs ++ ys) xs ys refl refl
+    refl refl
     ∙ ap (λ (r : Option Standing). standing_on (size_of t) (keep_of t) r ys) s
 
 -- Nothing is given to a log.
@@ -113,7 +130,8 @@ TakesInAt-none (Some t) a = record {
   done = [];
   reaches = same_files a;
   whole = sym (append-nil (append_steps (waiting_in t)))
-      ∙ ap (λ (s : List Step). append_steps (waiting_in t) ++ s) (sym (steps_on-none (size_of t) (keep_of t) (Some (standing t))));
+      ∙ ap (λ (s : List Step). append_steps (waiting_in t) ++ s)
+      (sym (steps_on-none (size_of t) (keep_of t) (Some (standing t))));
   stands = standing_on-none (size_of t) (keep_of t) (Some (standing t));
   size = refl;
   keep = refl;
@@ -125,13 +143,16 @@ TakesFrontAt-none None a xs = same_files a
 TakesFrontAt-none (Some t) a xs = record { count = 0; reaches = same_files a }
 
 -- What went in is a front of itself.
-pub TakesFrontAt-whole : (t u : Option Tail) (a b : Option Files) (xs : List Sent) → TakesInAt t u a b xs → TakesFrontAt t a b xs
+pub TakesFrontAt-whole : (t u : Option Tail) (a b : Option Files) (xs : List Sent) → TakesInAt t u a b xs
+    → TakesFrontAt t a b xs
 TakesFrontAt-whole t u a b xs k =
-    subst (λ (text : List Sent). TakesFrontAt t a b text) (append-nil xs) (TakesInAt-front t u a b b xs [] k (TakesFrontAt-none u b []))
+    subst (λ (text : List Sent). TakesFrontAt t a b text) (append-nil xs)
+    (TakesInAt-front t u a b b xs [] k (TakesFrontAt-none u b []))
 
 -- Status files
 
-pub Becomes-then : (a b c : Option (List ℕ)) (xs ys : List (List ℕ)) → Becomes a b xs → Becomes b c ys → Becomes a c (xs ++ ys)
+pub Becomes-then : (a b c : Option (List ℕ)) (xs ys : List (List ℕ)) → Becomes a b xs → Becomes b c ys
+    → Becomes a c (xs ++ ys)
 Becomes-then None None None xs ys k l = tt
 Becomes-then None None (Some c) xs ys k l = absurd l
 Becomes-then None (Some b) c xs ys k l = absurd k
@@ -148,10 +169,12 @@ Becomes-none (Some a) = refl
 
 -- Alerts
 
-pub Appends-front : (a b c : Option (List ℕ)) (xs ys : List ℕ) → Appends a b xs → AppendsFront b c ys → AppendsFront a c (xs ++ ys)
+pub Appends-front : (a b c : Option (List ℕ)) (xs ys : List ℕ) → Appends a b xs → AppendsFront b c ys
+    → AppendsFront a c (xs ++ ys)
 Appends-front a b c xs ys k f = record {
   count = length xs + f.count;
-  front = subst (λ (t : List ℕ). Appends a c t) (sym (take-append-add xs ys f.count)) (Appends-then a b c xs (take f.count ys) k f.front);
+  front = subst (λ (t : List ℕ). Appends a c t) (sym (take-append-add xs ys f.count))
+      (Appends-then a b c xs (take f.count ys) k f.front);
 }
 
 pub Appends-none : (a : Option (List ℕ)) → Appends a a []
@@ -165,10 +188,12 @@ AppendsFront-none a xs = record { count = 0; front = Appends-none a }
 
 pub Takes-then : (a b c : Outputs) (x y : Given) → Takes a b x → Takes b c y → Takes a c (joined x y)
 Takes-then a b c x y k l = record {
-  logs = λ log. TakesInAt-then (slice_get a.tails log) (slice_get b.tails log) (slice_get c.tails log) (a.store.told.files log) (b.store.told.files log) (c.store.told.files log)
+  logs = λ log. TakesInAt-then (slice_get a.tails log) (slice_get b.tails log) (slice_get c.tails log)
+      (a.store.told.files log) (b.store.told.files log) (c.store.told.files log)
       (x.logs log) (y.logs log) (k.logs log) (l.logs log);
   alerts = Appends-then a.store.told.alerts b.store.told.alerts c.store.told.alerts x.alerts y.alerts k.alerts l.alerts;
-  files = λ file. Becomes-then (a.store.told.statuses file) (b.store.told.statuses file) (c.store.told.statuses file) (x.files file) (y.files file) (k.files file) (l.files file);
+  files = λ file. Becomes-then (a.store.told.statuses file) (b.store.told.statuses file) (c.store.told.statuses file)
+      (x.files file) (y.files file) (k.files file) (l.files file);
   steady = let s = k.steady in let t = l.steady in omega (arith, s, t);
 }
 
@@ -182,28 +207,35 @@ Takes-none a = record {
 
 pub Takes-same : (a b : Outputs) (x y : Given) → Takes a b x → SameGiven x y → Takes a b y
 Takes-same a b x y k s = record {
-  logs = λ log. subst (λ (text : List Sent). TakesInAt (slice_get a.tails log) (slice_get b.tails log) (a.store.told.files log) (b.store.told.files log) text) (s.logs log) (k.logs log);
+  logs = λ log. subst (λ (text : List Sent). TakesInAt (slice_get a.tails log) (slice_get b.tails log)
+      (a.store.told.files log) (b.store.told.files log) text) (s.logs log) (k.logs log);
   alerts = subst (λ (text : List ℕ). Appends a.store.told.alerts b.store.told.alerts text) s.alerts k.alerts;
-  files = λ file. subst (λ (contents : List (List ℕ)). Becomes (a.store.told.statuses file) (b.store.told.statuses file) contents) (s.files file) (k.files file);
+  files = λ file. subst (λ (contents : List (List ℕ)). Becomes (a.store.told.statuses file) (b.store.told.statuses file)
+      contents) (s.files file) (k.files file);
   steady = k.steady;
 }
 
-pub Stops-then : (a b c : Outputs) (x y : Given) (why : LogFault) → Takes a b x → Stops b c y why → Stops a c (joined x y) why
+pub Stops-then : (a b c : Outputs) (x y : Given) (why : LogFault) → Takes a b x → Stops b c y why
+    → Stops a c (joined x y) why
 Stops-then a b c x y why k f = record {
-  logs = λ log. TakesInAt-front (slice_get a.tails log) (slice_get b.tails log) (a.store.told.files log) (b.store.told.files log) (c.store.told.files log)
+  logs = λ log. TakesInAt-front (slice_get a.tails log) (slice_get b.tails log) (a.store.told.files log)
+      (b.store.told.files log) (c.store.told.files log)
       (x.logs log) (y.logs log) (k.logs log) (f.logs log);
-  alerts = Appends-front a.store.told.alerts b.store.told.alerts c.store.told.alerts x.alerts y.alerts k.alerts f.alerts;
+  alerts = Appends-front a.store.told.alerts b.store.told.alerts c.store.told.alerts x.alerts y.alerts k.alerts
+      f.alerts;
   store = λ is. rose_since a.store.failures b.store.failures c.store.failures k.steady (f.store is);
   spent = λ is. let s = f.spent is in record {
     log = s.log;
-    spent = IsSpent-then (slice_get a.tails s.log) (slice_get b.tails s.log) (a.store.told.files s.log) (b.store.told.files s.log) (x.logs s.log) (y.logs s.log)
+    spent = IsSpent-then (slice_get a.tails s.log) (slice_get b.tails s.log) (a.store.told.files s.log)
+        (b.store.told.files s.log) (x.logs s.log) (y.logs s.log)
         (k.logs s.log) s.spent;
   };
 }
 
 pub Stops-more : (a b : Outputs) (x y : Given) (why : LogFault) → Stops a b x why → Stops a b (joined x y) why
 Stops-more a b x y why f = record {
-  logs = λ log. TakesFrontAt-more (slice_get a.tails log) (a.store.told.files log) (b.store.told.files log) (x.logs log) (y.logs log) (f.logs log);
+  logs = λ log. TakesFrontAt-more (slice_get a.tails log) (a.store.told.files log) (b.store.told.files log) (x.logs log)
+      (y.logs log) (f.logs log);
   alerts = AppendsFront-more y.alerts f.alerts;
   store = f.store;
   spent = λ is. let s = f.spent is in record {
@@ -214,7 +246,8 @@ Stops-more a b x y why f = record {
 
 pub Stops-same : (a b : Outputs) (x y : Given) (why : LogFault) → Stops a b x why → SameGiven x y → Stops a b y why
 Stops-same a b x y why f s = record {
-  logs = λ log. subst (λ (text : List Sent). TakesFrontAt (slice_get a.tails log) (a.store.told.files log) (b.store.told.files log) text) (s.logs log) (f.logs log);
+  logs = λ log. subst (λ (text : List Sent). TakesFrontAt (slice_get a.tails log) (a.store.told.files log)
+      (b.store.told.files log) text) (s.logs log) (f.logs log);
   alerts = subst (λ (text : List ℕ). AppendsFront a.store.told.alerts b.store.told.alerts text) s.alerts f.alerts;
   store = f.store;
   spent = λ is. let p = f.spent is in record {
@@ -229,7 +262,8 @@ pub on_ok_two : {T E P Q R : Type 0} (r : Result T E) → (P → Q → R) → On
 on_ok_two (Ok x) f p q = f p q
 on_ok_two (Err e) f p q = tt
 
-pub if_err_with : {T E D : Type 0} (r : Result T E) (P R : E → Type 0) → ((e : E) → D → P e → R e) → OnErr r D → IfErr r P → IfErr r R
+pub if_err_with : {T E D : Type 0} (r : Result T E) (P R : E → Type 0) → ((e : E) → D → P e → R e) → OnErr r D
+    → IfErr r P → IfErr r R
 if_err_with (Ok x) P R f d p = tt
 if_err_with (Err e) P R f d p = f e d p
 
@@ -238,7 +272,8 @@ if_err_weaker (Ok x) P R f p = tt
 if_err_weaker (Err e) P R f p = f e p
 
 -- Whether a call fails or not.
-pub either_way : {T E P R : Type 0} (r : Result T E) (Q : E → Type 0) → (P → R) → ((e : E) → Q e → R) → OnOk r P → IfErr r Q → R
+pub either_way : {T E P R : Type 0} (r : Result T E) (Q : E → Type 0) → (P → R) → ((e : E) → Q e → R) → OnOk r P
+    → IfErr r Q → R
 either_way (Ok x) Q f h p q = f p
 either_way (Err e) Q f h p q = h e q
 

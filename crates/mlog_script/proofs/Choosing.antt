@@ -1,5 +1,7 @@
 -- Where a line is selected, as a loop over the actions finds it.
-use Rattle.std.proofs.Common.{◌≡◌, ℕ, suc, ◌+◌, ◌-◌, ◌<◌, ◌≤◌, if◌then◌else◌, Bool, true, false, not, List, [], ◌∷◌, ◌++◌, length, take, drop, map, get_or, drop-cons, refl, sym, subst, ap, ◌∙◌, arith, append-nil, count_by, cond, Some, None}
+use Rattle.std.proofs.Common.{◌≡◌, ℕ, suc, ◌+◌, ◌-◌, ◌<◌, ◌≤◌, if◌then◌else◌, Bool, true, false, not, List, [], ◌∷◌}
+use Rattle.std.proofs.Common.{◌++◌, length, take, drop, map, get_or, drop-cons, refl, sym, subst, ap, ◌∙◌, arith}
+use Rattle.std.proofs.Common.{append-nil, count_by, cond, Some, None}
 use Rattle.std.specs.Prelude.{unwrap_or}
 use Rattle.std.specs.List.{filter_map, cons_option, last_or, list_any, list_all}
 use Rattle.std.proofs.lemmas.Bool.{or_parts, and_parts, false≢true}
@@ -18,16 +20,19 @@ choice_of true chosen = refl
 choice_of false chosen = refl
 
 pub choices_next : (test : Act → Bool) (acts : List Act) (a : Act) (front : List ℕ)
-    → choices test (acts ++ a ∷ []) front ≡ choices test acts front ++ (if test a then is_chosen acts front ∷ [] else [])
+    → choices test (acts ++ a ∷ []) front ≡ choices test acts front
+    ++ (if test a then is_chosen acts front ∷ [] else [])
 choices_next test acts a front =
     ap (filter_map (choice test front)) (placed_behind-append [] acts (a ∷ []))
     ∙ filter_map-append (choice test front) (placed_behind [] acts) (placed_behind acts (a ∷ []))
     ∙ ap (λ (flags : List Bool). choices test acts front ++ flags) (choice_of (test a) (is_chosen acts front))
 
-count_first : {X : Type 0} (p : X → Bool) (x : X) (xs : List X) → count_by p (x ∷ xs) ≡ count_by p (x ∷ []) + count_by p xs
+count_first : {X : Type 0} (p : X → Bool) (x : X) (xs : List X) → count_by p (x ∷ xs) ≡ count_by p (x ∷ [])
+    + count_by p xs
 count_first p x xs = sum_by-append (λ y. cond (p y) 1 0) (x ∷ []) xs
 
-length_choice : (b chosen : Bool) (flags : List Bool) → length (cons_option (if b then Some chosen else None) flags) ≡ cond b 1 0 + length flags
+length_choice : (b chosen : Bool) (flags : List Bool) → length (cons_option (if b then Some chosen else None) flags)
+    ≡ cond b 1 0 + length flags
 length_choice true chosen flags = omega arith
 length_choice false chosen flags = omega arith
 
@@ -35,22 +40,28 @@ length_behind : (test : Act → Bool) (front : List ℕ) (before acts : List Act
     → length (filter_map (choice test front) (placed_behind before acts)) ≡ count_by test acts
 length_behind test front before [] = refl
 length_behind test front before (a ∷ acts) =
-    length_choice (test a) (is_chosen before front) (filter_map (choice test front) (placed_behind (before ++ a ∷ []) acts))
+    length_choice (test a) (is_chosen before front)
+    (filter_map (choice test front) (placed_behind (before ++ a ∷ []) acts))
     ∙ ap (λ n. cond (test a) 1 0 + n) (length_behind test front (before ++ a ∷ []) acts)
     ∙ (let first = count_first test a acts in omega (arith, first))
 
 -- one choice for each action that passes the test
-pub length-choices : (test : Act → Bool) (acts : List Act) (front : List ℕ) → length (choices test acts front) ≡ count_by test acts
+pub length-choices : (test : Act → Bool) (acts : List Act) (front : List ℕ) → length (choices test acts front)
+    ≡ count_by test acts
 length-choices test acts front = length_behind test front [] acts
 
 -- the actions at a place of a loop
-pub acts_next : {R : Type 0} (f : R → Act) (actions : List R) (k : ℕ) (action : R) → k < length actions → action ≡ get_or actions k action
+pub acts_next : {R : Type 0} (f : R → Act) (actions : List R) (k : ℕ) (action : R) → k < length actions
+    → action ≡ get_or actions k action
     → map f (take (k + 1) actions) ≡ map f (take k actions) ++ f action ∷ []
-acts_next f actions k action within is = map_more f actions k action within ∙ ap (λ y. map f (take k actions) ++ f y ∷ []) (sym is)
+acts_next f actions k action within is = map_more f actions k action within
+    ∙ ap (λ y. map f (take k actions) ++ f y ∷ []) (sym is)
 
-pub flags_step : {R : Type 0} (f : R → Act) (test : Act → Bool) (actions : List R) (front : List ℕ) (k : ℕ) (action : R) (chosen : Bool) (flags more : List Bool)
+pub flags_step : {R : Type 0} (f : R → Act) (test : Act → Bool) (actions : List R) (front : List ℕ) (k : ℕ) (action : R)
+    (chosen : Bool) (flags more : List Bool)
     → k < length actions → action ≡ get_or actions k action → chosen ≡ is_chosen (map f (take k actions)) front
-    → flags ≡ choices test (map f (take k actions)) front → more ≡ flags ++ (if test (f action) then chosen ∷ [] else [])
+    → flags ≡ choices test (map f (take k actions)) front
+    → more ≡ flags ++ (if test (f action) then chosen ∷ [] else [])
     → more ≡ choices test (map f (take (k + 1) actions)) front
 flags_step f test actions front k action chosen flags more within is was held e =
     e ∙ ap (λ (fs : List Bool). fs ++ (if test (f action) then chosen ∷ [] else [])) held
@@ -59,7 +70,8 @@ flags_step f test actions front k action chosen flags more within is was held e 
     ∙ ap (λ acts. choices test acts front) (sym (acts_next f actions k action within is))
 
 -- where a choice comes, there is room for it
-pub room_at : {R : Type 0} (f : R → Act) (test : Act → Bool) (actions : List R) (front : List ℕ) (k room : ℕ) (action : R) (flags : List Bool)
+pub room_at : {R : Type 0} (f : R → Act) (test : Act → Bool) (actions : List R) (front : List ℕ) (k room : ℕ)
+    (action : R) (flags : List Bool)
     → k < length actions → action ≡ get_or actions k action → flags ≡ choices test (map f (take k actions)) front
     → count_by test (map f actions) ≤ room → test (f action) ≡ true → length flags < room
 room_at f test actions front k room action flags within is held fits here =
@@ -68,41 +80,51 @@ room_at f test actions front k room action flags within is held fits here =
     ap (map f) (sym (take-append-drop k actions)) ∙ map-append f (take k actions) (drop k actions)
     ∙ ap (λ rest. map f (take k actions) ++ map f rest) (drop-cons actions k action within)
     ∙ ap (λ a. map f (take k actions) ++ f a ∷ map f (drop (suc k) actions)) (sym is) in
-    let sums = ap (count_by test) split ∙ sum_by-append (λ (a : Act). cond (test a) 1 0) (map f (take k actions)) (f action ∷ map f (drop (suc k) actions)) in
+    let sums = ap (count_by test) split
+    ∙ sum_by-append (λ (a : Act). cond (test a) 1 0) (map f (take k actions))
+    (f action ∷ map f (drop (suc k) actions)) in
     let first = count_first test (f action) (map f (drop (suc k) actions)) in
     let one : count_by test (f action ∷ []) ≡ 1 = ap (λ b. 0 + cond b 1 0) here in
     omega (arith, n, sums, first, one, fits)
 
 -- The actions between two places decide last.
-pub chosen_between : {R : Type 0} (f : R → Act) (actions : List R) (front : List ℕ) (asked place : ℕ) (chosen next : Bool)
+pub chosen_between : {R : Type 0} (f : R → Act) (actions : List R) (front : List ℕ) (asked place : ℕ)
+    (chosen next : Bool)
     → asked ≤ place → chosen ≡ is_chosen (map f (take asked actions)) front
     → next ≡ unwrap_or (last_given (decision front) (map f (take (place - asked) (drop asked actions)))) chosen
     → next ≡ is_chosen (map f (take place actions)) front
 chosen_between f actions front asked place chosen next before was e =
     let between = take (place - asked) (drop asked actions) in
     let cut : take place actions ≡ take asked actions ++ between =
-    ap (λ n. take n actions) (let sum : place ≡ asked + (place - asked) = omega (arith, before) in sum) ∙ take-add asked (place - asked) actions in
+    ap (λ n. take n actions) (let sum : place ≡ asked + (place - asked) = omega (arith, before) in sum)
+    ∙ take-add asked (place - asked) actions in
     e ∙ ap (λ b. unwrap_or (last_given (decision front) (map f between)) b) was
     ∙ sym (given_then (decision front) (map f (take asked actions)) (map f between) true)
     ∙ ap (λ acts. is_chosen acts front) (sym (map-append f (take asked actions) between) ∙ ap (map f) (sym cut))
 
 -- The last of some actions decides, or else those before it do.
-pub chosen_back : {R : Type 0} (f : R → Act) (front : List ℕ) (rest : List R) (last : R) (before : Bool) → 1 ≤ length rest
+pub chosen_back : {R : Type 0} (f : R → Act) (front : List ℕ) (rest : List R) (last : R) (before : Bool)
+    → 1 ≤ length rest
     → last ≡ get_or rest (length rest - 1) last
     → unwrap_or (last_given (decision front) (map f rest)) before
-    ≡ unwrap_or (decision front (f last)) (unwrap_or (last_given (decision front) (map f (take (length rest - 1) rest))) before)
+    ≡ unwrap_or (decision front (f last))
+    (unwrap_or (last_given (decision front) (map f (take (length rest - 1) rest))) before)
 chosen_back f front rest last before some is =
-    let all : map f rest ≡ map f (take (length rest - 1 + 1) rest) = ap (map f) (sym (take_all (length rest - 1 + 1) rest (omega (arith, some)))) in
-    ap (λ acts. unwrap_or (last_given (decision front) acts) before) (all ∙ acts_next f rest (length rest - 1) last (omega (arith, some)) is)
+    let all : map f rest ≡ map f (take (length rest - 1 + 1) rest) =
+    ap (map f) (sym (take_all (length rest - 1 + 1) rest (omega (arith, some)))) in
+    ap (λ acts. unwrap_or (last_given (decision front) acts) before) (all
+    ∙ acts_next f rest (length rest - 1) last (omega (arith, some)) is)
     ∙ given_next (decision front) (map f (take (length rest - 1) rest)) (f last) before
 
 -- An action at which no line goes out adds no flag.
-pub no_flag : {R : Type 0} (f : R → Act) (test : Act → Bool) (actions : List R) (front : List ℕ) (k : ℕ) (action : R) (flags : List Bool)
+pub no_flag : {R : Type 0} (f : R → Act) (test : Act → Bool) (actions : List R) (front : List ℕ) (k : ℕ) (action : R)
+    (flags : List Bool)
     → k < length actions → action ≡ get_or actions k action → test (f action) ≡ false
     → flags ≡ choices test (map f (take k actions)) front → flags ≡ choices test (map f (take (k + 1) actions)) front
 no_flag f test actions front k action flags within is none held =
     held ∙ sym (append-nil (choices test (map f (take k actions)) front))
-    ∙ ap (λ b. choices test (map f (take k actions)) front ++ (if b then is_chosen (map f (take k actions)) front ∷ [] else [])) (sym none)
+    ∙ ap (λ b. choices test (map f (take k actions)) front
+    ++ (if b then is_chosen (map f (take k actions)) front ∷ [] else [])) (sym none)
     ∙ sym (choices_next test (map f (take k actions)) (f action) front)
     ∙ ap (λ acts. choices test acts front) (sym (acts_next f actions k action within is))
 
@@ -113,16 +135,19 @@ no_decision front (Select pattern) none = absurd (false≢true (sym none))
 no_decision front (Deselect pattern) none = absurd (false≢true (sym none))
 no_decision front a none = refl
 
-nothing_decides : (front : List ℕ) (acts : List Act) → list_any is_pattern acts ≡ false → filter_map (decision front) acts ≡ []
+nothing_decides : (front : List ℕ) (acts : List Act) → list_any is_pattern acts ≡ false
+    → filter_map (decision front) acts ≡ []
 nothing_decides front [] none = refl
 nothing_decides front (a ∷ acts) none =
     let parts = or_parts (is_pattern a) (list_any is_pattern acts) none in
-    ap (λ o. cons_option o (filter_map (decision front) acts)) (no_decision front a parts.0) ∙ nothing_decides front acts parts.1
+    ap (λ o. cons_option o (filter_map (decision front) acts)) (no_decision front a parts.0)
+    ∙ nothing_decides front acts parts.1
 
 is_chosen_always : (front : List ℕ) (acts : List Act) → list_any is_pattern acts ≡ false → is_chosen acts front ≡ true
 is_chosen_always front acts none = ap (λ bs. unwrap_or (last_or None bs) true) (nothing_decides front acts none)
 
-none_more : (acts : List Act) (a : Act) → list_any is_pattern acts ≡ false → is_pattern a ≡ false → list_any is_pattern (acts ++ a ∷ []) ≡ false
+none_more : (acts : List Act) (a : Act) → list_any is_pattern acts ≡ false → is_pattern a ≡ false
+    → list_any is_pattern (acts ++ a ∷ []) ≡ false
 none_more [] a none here = rw here refl
 none_more (b ∷ acts) a none here =
     let parts = or_parts (is_pattern b) (list_any is_pattern acts) none in
@@ -133,19 +158,23 @@ set_first : (b chosen : Bool) (flags : List Bool) → chosen ≡ true → list_a
 set_first true chosen flags is all = rw is all
 set_first false chosen flags is all = all
 
-set_behind : (test : Act → Bool) (front : List ℕ) (before acts : List Act) → list_any is_pattern before ≡ false → list_any is_pattern acts ≡ false
+set_behind : (test : Act → Bool) (front : List ℕ) (before acts : List Act) → list_any is_pattern before ≡ false
+    → list_any is_pattern acts ≡ false
     → list_all (λ flag. flag) (filter_map (choice test front) (placed_behind before acts)) ≡ true
 set_behind test front before [] none also = refl
 set_behind test front before (a ∷ acts) none also =
     let parts = or_parts (is_pattern a) (list_any is_pattern acts) also in
     set_first (test a) (is_chosen before front) (filter_map (choice test front) (placed_behind (before ++ a ∷ []) acts))
-    (is_chosen_always front before none) (set_behind test front (before ++ a ∷ []) acts (none_more before a none parts.0) parts.1)
+    (is_chosen_always front before none)
+    (set_behind test front (before ++ a ∷ []) acts (none_more before a none parts.0) parts.1)
 
 -- All flags are set then.
-pub set_always : (test : Act → Bool) (acts : List Act) (front : List ℕ) → list_any is_pattern acts ≡ false → list_all (λ flag. flag) (choices test acts front) ≡ true
+pub set_always : (test : Act → Bool) (acts : List Act) (front : List ℕ) → list_any is_pattern acts ≡ false
+    → list_all (λ flag. flag) (choices test acts front) ≡ true
 set_always test acts front none = set_behind test front [] acts refl none
 
-all_set_same : (xs ys : List Bool) → list_all (λ flag. flag) xs ≡ true → list_all (λ flag. flag) ys ≡ true → length xs ≡ length ys → xs ≡ ys
+all_set_same : (xs ys : List Bool) → list_all (λ flag. flag) xs ≡ true → list_all (λ flag. flag) ys ≡ true
+    → length xs ≡ length ys → xs ≡ ys
 all_set_same [] [] all also n = refl
 all_set_same [] (y ∷ ys) all also n = absurd (omega (arith, n))
 all_set_same (x ∷ xs) [] all also n = absurd (omega (arith, n))
@@ -156,10 +185,12 @@ all_set_same (x ∷ xs) (y ∷ ys) all also n =
     let head : x ≡ y = here.0 ∙ sym there.0 in cc
 
 -- So flags that are all set, as many as there are actions, are those of each line.
-pub set_are : (test : Act → Bool) (acts : List Act) (front : List ℕ) (flags : List Bool) → list_any is_pattern acts ≡ false
+pub set_are : (test : Act → Bool) (acts : List Act) (front : List ℕ) (flags : List Bool)
+    → list_any is_pattern acts ≡ false
     → list_all (λ flag. flag) flags ≡ true → length flags ≡ count_by test acts → flags ≡ choices test acts front
 set_are test acts front flags none all fits =
-    all_set_same flags (choices test acts front) all (set_always test acts front none) (fits ∙ sym (length-choices test acts front))
+    all_set_same flags (choices test acts front) all (set_always test acts front none) (fits
+    ∙ sym (length-choices test acts front))
 
 same_chosen : (a b c x y z : List Bool) → a ≡ x → b ≡ y → c ≡ z
     → ◌≡◌ {A = Chosen} (record { alerts = a; logs = b; files = c }) (record { alerts = x; logs = y; files = z })
@@ -172,11 +203,14 @@ pub chosen_stays : (script : List Act) (front : List ℕ) (c : Chosen) (alerts l
 chosen_stays script front c alerts logs files is set fits b tests other =
     let none : list_any is_pattern script ≡ false = sym tests ∙ other in
     let held = subst (λ (x : Chosen). Fits x script) (sym is) fits in
-    sym is ∙ same_chosen alerts logs files (choices is_alert script front) (choices is_log script front) (choices is_file script front)
-    (set_are is_alert script front alerts none set.0 held.alerts_fit) (set_are is_log script front logs none set.1 held.logs_fit)
+    sym is ∙ same_chosen alerts logs files (choices is_alert script front) (choices is_log script front)
+    (choices is_file script front)
+    (set_are is_alert script front alerts none set.0 held.alerts_fit)
+    (set_are is_log script front logs none set.1 held.logs_fit)
     (set_are is_file script front files none set.2 held.files_fit)
 
-pub set_noted : (test : Act → Bool) (script acts : List Act) (front : List ℕ) (flags : List Bool) (b : Bool) → flags ≡ choices test acts front → acts ≡ script
+pub set_noted : (test : Act → Bool) (script acts : List Act) (front : List ℕ) (flags : List Bool) (b : Bool)
+    → flags ≡ choices test acts front → acts ≡ script
     → b ≡ list_any is_pattern script → not b ≡ true → list_all (λ flag. flag) flags ≡ true
 set_noted test script acts front flags true noted same tests other = absurd (false≢true other)
 set_noted test script acts front flags false noted same tests other =

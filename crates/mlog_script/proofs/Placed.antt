@@ -1,5 +1,6 @@
 -- Items with those before them.
-use Rattle.std.proofs.Common.{◌≡◌, refl, sym, ap, ◌∙◌, List, [], ◌∷◌, ◌++◌, append_assoc, append-nil, Option, Some, None}
+use Rattle.std.proofs.Common.{◌≡◌, refl, sym, ap, ◌∙◌, List, [], ◌∷◌, ◌++◌, append_assoc, append-nil, Option, Some}
+use Rattle.std.proofs.Common.{None}
 use Rattle.std.specs.Prelude.{unwrap_or}
 use Rattle.std.specs.List.{filter_map, last_or, cons_option}
 use Rattle.std.proofs.lemmas.List.Elements.{filter_map-append}
@@ -23,17 +24,20 @@ last_or-given o (x ∷ xs) y d = last_or-given (Some x) xs y d
 pub given_next : {X Y : Type 0} (f : X → Option Y) (xs : List X) (x : X) (d : Y)
     → unwrap_or (last_given f (xs ++ x ∷ [])) d ≡ unwrap_or (f x) (unwrap_or (last_given f xs) d)
 given_next f xs x d =
-    ap (λ ys. unwrap_or (last_or None ys) d) (filter_map-append f xs (x ∷ [])) ∙ last_or-given None (filter_map f xs) (f x) d
+    ap (λ ys. unwrap_or (last_or None ys) d) (filter_map-append f xs (x ∷ []))
+    ∙ last_or-given None (filter_map f xs) (f x) d
 
 last_or-then : {Y : Type 0} (o : Option Y) (xs ys : List Y) → last_or o (xs ++ ys) ≡ last_or (last_or o xs) ys
 last_or-then o [] ys = refl
 last_or-then o (x ∷ xs) ys = last_or-then (Some x) xs ys
 
-last_or-some : {Y : Type 0} (y : Y) (ys : List Y) (d e : Y) → unwrap_or (last_or (Some y) ys) d ≡ unwrap_or (last_or (Some y) ys) e
+last_or-some : {Y : Type 0} (y : Y) (ys : List Y) (d e : Y) → unwrap_or (last_or (Some y) ys) d
+    ≡ unwrap_or (last_or (Some y) ys) e
 last_or-some y [] d e = refl
 last_or-some y (z ∷ ys) d e = last_or-some z ys d e
 
-last_or-else : {Y : Type 0} (o : Option Y) (ys : List Y) (d : Y) → unwrap_or (last_or o ys) d ≡ unwrap_or (last_or None ys) (unwrap_or o d)
+last_or-else : {Y : Type 0} (o : Option Y) (ys : List Y) (d : Y) → unwrap_or (last_or o ys) d
+    ≡ unwrap_or (last_or None ys) (unwrap_or o d)
 last_or-else o [] d = refl
 last_or-else o (y ∷ ys) d = last_or-some y ys d (unwrap_or o d)
 

@@ -6,7 +6,8 @@ use Rattle.star_match.specs.Star.{star, is_star, has_adjacent_stars}
 abbrev HasRow : List ℕ → Type 0
 HasRow pattern = (front after : List ℕ) × (pattern ≡ front ++ star ∷ star ∷ after)
 
-pub row_of : (pattern : List ℕ) → has_adjacent_stars pattern ≡ true → (front after : List ℕ) × (pattern ≡ front ++ star ∷ star ∷ after)
+pub row_of : (pattern : List ℕ) → has_adjacent_stars pattern ≡ true → (front after : List ℕ)
+    × (pattern ≡ front ++ star ∷ star ∷ after)
 row_of [] adjacent = absurd (false≢true adjacent)
 row_of (x ∷ []) adjacent = absurd (false≢true adjacent)
 row_of (x ∷ y ∷ rest) adjacent =

@@ -3,15 +3,18 @@ use Rattle.std.proofs.Common.{◌≡◌, ℕ, true, false, List, [], ◌∷◌, 
 use Rattle.std.specs.List.{concat}
 use Rattle.std.proofs.lemmas.Bool.{eq-eqb, ne_eqb, eqb-true, eqb-false, false≢true}
 use Rattle.std.proofs.lemmas.List.{append-nil}
-use Rattle.star_match.specs.Star.{star, is_star, IsWithout, Matches, empty, byte_first, star_last, star_before, has_adjacent_stars}
+use Rattle.star_match.specs.Star.{star, is_star, IsWithout, Matches, empty, byte_first, star_last, star_before}
+use Rattle.star_match.specs.Star.{has_adjacent_stars}
 use Rattle.star_match.specs.Laws.{TakeParts}
 use Rattle.star_match.proofs.Stars.{without_parts, tail_is_apart, next_is_plain}
 
 -- A match is a cut.
-pub cut_of : {pattern text : List ℕ} → Matches pattern text → (parts : List (List ℕ)) × TakeParts pattern parts × (text ≡ concat parts)
+pub cut_of : {pattern text : List ℕ} → Matches pattern text → (parts : List (List ℕ)) × TakeParts pattern parts
+    × (text ≡ concat parts)
 cut_of empty = ([], tt, refl)
 cut_of (byte_first {byte} other m) =
-    let rest = cut_of m in ((byte ∷ []) ∷ rest.0, (rw (ne_eqb byte star other) refl, rest.1), ap (λ (t : List ℕ). byte ∷ t) rest.2)
+    let rest = cut_of m in
+    ((byte ∷ []) ∷ rest.0, (rw (ne_eqb byte star other) refl, rest.1), ap (λ (t : List ℕ). byte ∷ t) rest.2)
 cut_of (star_last text) = (text ∷ [], (tt, tt), sym (append-nil text))
 cut_of (star_before part clean m) =
     let rest = cut_of m in (part ∷ rest.0, (clean, rest.1), ap (λ (t : List ℕ). part ++ t) rest.2)
@@ -39,7 +42,8 @@ pub joins : (pattern : List ℕ) → Joins pattern
 joins [] = joins_nothing
 joins (byte ∷ rest) =
     elim (is_star byte) as (λ b. is_star byte ≡ b → Joins (byte ∷ rest)) [
-      | true ↦ λ e. subst (λ (x : ℕ). Joins (x ∷ rest)) (sym (eqb-true byte star e)) (joins_after_star rest (joins rest))
+      | true ↦ λ e. subst (λ (x : ℕ). Joins (x ∷ rest)) (sym (eqb-true byte star e))
+          (joins_after_star rest (joins rest))
       | false ↦ λ e. joins_after_byte byte rest e (joins rest)
     ] refl
 
@@ -59,7 +63,8 @@ same_front c (x ∷ xs) (y ∷ ys) after later p q e =
 
 -- A text has at most one cut by this pattern.
 abbrev HasOne : List ℕ → Type 0
-HasOne pattern = (parts others : List (List ℕ)) → TakeParts pattern parts → TakeParts pattern others → concat parts ≡ concat others → parts ≡ others
+HasOne pattern = (parts others : List (List ℕ)) → TakeParts pattern parts → TakeParts pattern others
+    → concat parts ≡ concat others → parts ≡ others
 
 one_of_nothing : HasOne []
 one_of_nothing [] [] are also e = refl

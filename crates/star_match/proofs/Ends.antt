@@ -1,5 +1,6 @@
 -- The last byte of a text that a pattern matches.
-use Rattle.std.proofs.Common.{◌≡◌, ℕ, suc, ◌-◌, ◌==◌, Bor, true, false, List, [], ◌∷◌, ◌++◌, length, refl, sym, subst, ap, ◌∙◌, arith}
+use Rattle.std.proofs.Common.{◌≡◌, ℕ, suc, ◌-◌, ◌==◌, Bor, true, false, List, [], ◌∷◌, ◌++◌, length, refl, sym, subst}
+use Rattle.std.proofs.Common.{ap, ◌∙◌, arith}
 use Rattle.std.specs.Prelude.{Option, Some, None, slice_get, option_copied}
 use Rattle.std.specs.Option.{option_eq}
 use Rattle.std.proofs.lemmas.Bool.{ne_eqb, eq-eqb, false≢true}
@@ -25,7 +26,8 @@ last-append b (x ∷ xs) ys is = last-behind x b (xs ++ ys) (last-append b xs ys
 
 -- Where a pattern ends in a plain byte, so does each text that it matches.
 abbrev EndsSo : List ℕ → Type 0
-EndsSo pattern = (text : List ℕ) (b : ℕ) → is_star b ≡ false → last_byte pattern ≡ Some b → star_matches pattern text ≡ true
+EndsSo pattern = (text : List ℕ) (b : ℕ) → is_star b ≡ false → last_byte pattern ≡ Some b
+    → star_matches pattern text ≡ true
     → last_byte text ≡ Some b
 
 nothing_left : (text : List ℕ) → star_matches [] text ≡ true → text ≡ []
@@ -53,7 +55,8 @@ ends_after_star byte c rest is ends text b plain last m =
     let front = front_of c text in
     let later : star_matches (c ∷ rest) (from_first c text) ≡ true = rw (is, star_matches) at m in
     subst (λ (t : List ℕ). last_byte t ≡ Some b) (sym front.2)
-    (last-append b front.0 (from_first c text) (ends (from_first c text) b plain (sym (last-step byte c rest) ∙ last) later))
+    (last-append b front.0 (from_first c text)
+    (ends (from_first c text) b plain (sym (last-step byte c rest) ∙ last) later))
 
 pub ends_so : (pattern : List ℕ) → EndsSo pattern
 ends_so [] = ends_nothing
@@ -65,8 +68,10 @@ ends_so (byte ∷ c ∷ rest) =
     ] refl
 
 -- as the code reads the last bytes
-pub ends_alike : (pattern text : List ℕ) (p t : Option (Bor ℕ)) (byte : Bor ℕ) → option_copied p ≡ last_byte pattern → p ≡ Some byte → (byte.now ≡ star → ⊥)
-    → option_copied t ≡ last_byte text → star_matches pattern text ≡ true → option_eq (λ x y. x.now == y.now) t (Some byte) ≡ true
+pub ends_alike : (pattern text : List ℕ) (p t : Option (Bor ℕ)) (byte : Bor ℕ) → option_copied p ≡ last_byte pattern
+    → p ≡ Some byte → (byte.now ≡ star → ⊥)
+    → option_copied t ≡ last_byte text → star_matches pattern text ≡ true
+    → option_eq (λ x y. x.now == y.now) t (Some byte) ≡ true
 ends_alike pattern text p None byte told is plain end m =
     let last : last_byte pattern ≡ Some byte.now = sym told ∙ ap option_copied is in
     let same = ends_so pattern text byte.now (ne_eqb byte.now star plain) last m in absurd cc

@@ -2,7 +2,8 @@
 use Rattle.std.proofs.Common.{◌≡◌, ℕ, ◌==◌, true, false, ◌&&◌, List, [], ◌∷◌, ◌++◌, refl, sym}
 use Rattle.std.specs.List.{list_any}
 use Rattle.std.proofs.lemmas.Bool.{eqb-true, or_parts, false≢true}
-use Rattle.star_match.specs.Star.{star, is_star, IsWithout, Matches, byte_first, star_last, star_before, has_adjacent_stars}
+use Rattle.star_match.specs.Star.{star, is_star, IsWithout, Matches, byte_first, star_last, star_before}
+use Rattle.star_match.specs.Star.{has_adjacent_stars}
 
 pub without_parts : (c x : ℕ) (xs : List ℕ) → IsWithout c (x ∷ xs) → ((x == c) ≡ false) × IsWithout c xs
 without_parts c x xs clean = or_parts (x == c) (list_any (λ byte. byte == c) xs) clean

@@ -6,7 +6,8 @@ use Rattle.star_match.specs.Star.{star, IsWithout, Matches, empty, byte_first, s
 use Rattle.star_match.proofs.Stars.{without_parts, byte_first_of, star_before_of}
 
 -- A word and a rest match the word followed by a text that the rest matches.
-pub word_then : (word rest after : List ℕ) → IsWithout star word → Matches rest after → Matches (word ++ rest) (word ++ after)
+pub word_then : (word rest after : List ℕ) → IsWithout star word → Matches rest after
+    → Matches (word ++ rest) (word ++ after)
 word_then [] rest after clean m = m
 word_then (byte ∷ word) rest after clean m =
     let parts = without_parts star byte word clean in
@@ -34,7 +35,8 @@ word_itself word clean =
     let m = word_then word [] [] clean empty in
     subst (λ (w : List ℕ). Matches w w) (append-nil word) m
 
-pub found_at_first : (c : ℕ) (rest text : List ℕ) → IsWithout star (c ∷ rest) → Matches (star ∷ (c ∷ rest) ++ star ∷ []) text
+pub found_at_first : (c : ℕ) (rest text : List ℕ) → IsWithout star (c ∷ rest)
+    → Matches (star ∷ (c ∷ rest) ++ star ∷ []) text
     → (front after : List ℕ) × IsWithout c front × (text ≡ front ++ (c ∷ rest) ++ after)
 found_at_first c rest text clean m =
     let cut = star_before_of m refl in

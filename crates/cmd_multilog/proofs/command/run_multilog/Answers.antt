@@ -29,7 +29,8 @@ returns g c =
             ran = Some c.in-Err-run_parts.fault;
             runs = c.in-Err-run_parts.ensures;
             status_is = c.report.ensures.status;
-            told = subst (λ (t : List ℕ). Tells c.args.faults.now c.report.new.faults t) c.run_text.ensures c.report.ensures.told;
+            told = subst (λ (t : List ℕ). Tells c.args.faults.now c.report.new.faults t) c.run_text.ensures
+                c.report.ensures.told;
           };
         }),
       );

@@ -5,5 +5,6 @@ use Rattle.cmd_multilog.proofs.opening.open_all.Goals as goal
 
 pub returns-in-Err-clause-err : goal.returns-in-Err-clause-err
 returns-in-Err-clause-err g c =
-    not_placed c.args.store.now c.open_logs.new.store c.place_statuses.new.store (folders_of c.args.script.now) (file_paths c.args.script.now)
+    not_placed c.args.store.now c.open_logs.new.store c.place_statuses.new.store (folders_of c.args.script.now)
+    (file_paths c.args.script.now)
     c.in_ok-open_logs.ensures.ok c.in-Err.ensures.err

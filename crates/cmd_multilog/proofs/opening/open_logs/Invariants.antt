@@ -5,7 +5,8 @@ use Rattle.cmd_multilog.proofs.opening.open_logs.Given as goal
 
 abbrev pub invariant-loop-log : goal.invariant-loop-log
 invariant-loop-log g l =
-    Opens l.fn.store l.store (take l.log (folders_of l.script)) [] (take l.log (folders_of l.script)) × (length l.store.logs ≡ l.log)
+    Opens l.fn.store l.store (take l.log (folders_of l.script)) [] (take l.log (folders_of l.script))
+    × (length l.store.logs ≡ l.log)
     × (l.log ≤ count_by is_log l.script)
 
 abbrev pub decreases-loop-log : goal.decreases-loop-log

@@ -10,7 +10,8 @@ loop-file-init g c = (opens-none c.args.store.now, ap length c.requires.none, om
 pub overflow_add-file : goal.overflow_add-file
 overflow_add-file g c =
     let ok = c.in_ok-add_status.ensures.ok in
-    let len = longer c.loop-file.store.statuses c.add_status.new.self.statuses ok.status c.loop-file.file ok.statuses c.loop-file.invariant.1 in
+    let len = longer c.loop-file.store.statuses c.add_status.new.self.statuses ok.status c.loop-file.file ok.statuses
+    c.loop-file.invariant.1 in
     let fits : c.loop-file.file + 1 < 2 ^ 64 = subst (λ (n : ℕ). n < 2 ^ 64) len c.in_ok-add_status.ensures.fits in
     search (rules, fits)
 
@@ -21,12 +22,15 @@ loop-file-preserved g c =
     let path = c.in-Some.path.now in
     let is : slice_get paths c.loop-file.file ≡ Some path = search rules in
     let below : c.loop-file.file + 1 ≤ count_by is_file c.args.script.now = search rules in (
-      opens-status c.args.store.now c.loop-file.store c.add_status.new.self paths c.loop-file.file path c.loop-file.invariant.0 is ok,
-      longer c.loop-file.store.statuses c.add_status.new.self.statuses ok.status c.loop-file.file ok.statuses c.loop-file.invariant.1,
+      opens-status c.args.store.now c.loop-file.store c.add_status.new.self paths c.loop-file.file path
+          c.loop-file.invariant.0 is ok,
+      longer c.loop-file.store.statuses c.add_status.new.self.statuses ok.status c.loop-file.file ok.statuses
+          c.loop-file.invariant.1,
       below,
     )
 
 pub returns-clause-ok : goal.returns-clause-ok
 returns-clause-ok g c =
     let none : slice_get (file_paths c.args.script.now) c.loop-file.file ≡ None = search rules in
-    opens-all-files c.args.store.now c.loop-file.store (file_paths c.args.script.now) c.loop-file.file c.loop-file.invariant.0 none
+    opens-all-files c.args.store.now c.loop-file.store (file_paths c.args.script.now) c.loop-file.file
+    c.loop-file.invariant.0 none

@@ -16,9 +16,11 @@ returns-in_err-put_alike-clause-feeds g c =
       begun = tt;
       went = tt;
       stopped = λ line at. where_none_stopped c.args.script.now _ _ line _ _ at
-          (alike_stopped c.args.script.now lines.result.reach c.args.router.now lines.new.router c.put_alike.new.self _ _ _ _ c.args.bytes.now lines.result.len lines.result.count _
+          (alike_stopped c.args.script.now lines.result.reach c.args.router.now lines.new.router c.put_alike.new.self _
+          _ _ _ c.args.bytes.now lines.result.len lines.result.count _
           lines.ensures.tails (ap length lines.ensures.tails ∙ c.requires.serves.tails)
-          (alike_taken c.args.script.now lines.result.reach _ _ c.args.bytes.now c.min-room.result lines.result.len lines.result.count lines.ensures.within lines.ensures.alike)
+          (alike_taken c.args.script.now lines.result.reach _ _ c.args.bytes.now c.min-room.result lines.result.len
+          lines.result.count lines.ensures.within lines.ensures.alike)
           hands.stopped);
       serves = search rules;
       stays = hands.stays;
@@ -42,9 +44,11 @@ returns-clause-feeds g c =
       within = grind (arith, common_steps);
       begun = lines.ensures.count;
       went = λ line at. where_none c.args.script.now _ _ line _ _ at
-          (alike_went c.args.script.now lines.result.reach c.args.router.now lines.new.router c.put_alike.new.self _ _ _ _ _ lines.result.count
+          (alike_went c.args.script.now lines.result.reach c.args.router.now lines.new.router c.put_alike.new.self _ _ _
+          _ _ lines.result.count
           lines.ensures.tails (ap length lines.ensures.tails ∙ c.requires.serves.tails)
-          (alike_taken c.args.script.now lines.result.reach _ _ c.args.bytes.now c.min-room.result lines.result.len lines.result.count lines.ensures.within lines.ensures.alike)
+          (alike_taken c.args.script.now lines.result.reach _ _ c.args.bytes.now c.min-room.result lines.result.len
+          lines.result.count lines.ensures.within lines.ensures.alike)
           hands.ok);
       stopped = tt;
       serves = search rules;

@@ -14,8 +14,10 @@ returns-in_err-flush-clause-feeds g c =
       within = tt;
       begun = tt;
       went = tt;
-      stopped = λ line at. unflushed c.args.script.now _ line _ c.feed_parts.new.router c.flush.new.self _ _ _ c.args.bytes.now _ _
-          (all_taken c.args.script.now _ _ line c.args.bytes.now _ _ c.in_ok-fed.ensures.all (fed.went line at)) flush.hands.stopped;
+      stopped = λ line at. unflushed c.args.script.now _ line _ c.feed_parts.new.router c.flush.new.self _ _ _
+          c.args.bytes.now _ _
+          (all_taken c.args.script.now _ _ line c.args.bytes.now _ _ c.in_ok-fed.ensures.all (fed.went line at))
+          flush.hands.stopped;
       serves = search rules;
       stays = Stays-then fed.stays flush.hands.stays;
     })

@@ -15,7 +15,8 @@ returns-in_err-put g c =
       taken = tt;
       goes_on = tt;
       ended = tt;
-      stopped = λ line at plain. line_put_stopped c.args.script.now c.args.label.now line c.args.bytes.now front.result.len front.result.ends _ _ _
+      stopped = λ line at plain. line_put_stopped c.args.script.now c.args.label.now line c.args.bytes.now
+          front.result.len front.result.ends _ _ _
           front.ensures.plain c.requires.some front.ensures.newline front.ensures.none (put.stopped line at) plain;
       serves = put.serves;
       stays = put.stays;
@@ -44,8 +45,10 @@ returns-in_err-end g c =
       taken = tt;
       goes_on = tt;
       ended = tt;
-      stopped = λ line at plain. line_end_stopped c.args.script.now c.args.label.now line c.args.bytes.now front.result.len front.result.ends _ _ _ _
-          front.ensures.plain c.requires.some front.ensures.newline front.ensures.none (put.grows line at) (end.stopped _ (put.at line at)) plain;
+      stopped = λ line at plain. line_end_stopped c.args.script.now c.args.label.now line c.args.bytes.now
+          front.result.len front.result.ends _ _ _ _
+          front.ensures.plain c.requires.some front.ensures.newline front.ensures.none (put.grows line at)
+          (end.stopped _ (put.at line at)) plain;
       serves = end.serves;
       stays = Stays-then put.stays end.stays;
     })
@@ -58,8 +61,10 @@ returns g c =
     record {
       taken = (grind (arith, common_steps), grind (arith, common_steps));
       goes_on = λ ends. cc;
-      ended = λ ends line at. line_ended c.args.script.now c.args.label.now line c.args.bytes.now front.result.len _ _ _ front.ensures.plain
-          (front.ensures.newline (not_false front.result.ends c.if-not-front.false)) (put.grows line at) (end.grows _ (put.at line at));
+      ended = λ ends line at. line_ended c.args.script.now c.args.label.now line c.args.bytes.now front.result.len _ _ _
+          front.ensures.plain
+          (front.ensures.newline (not_false front.result.ends c.if-not-front.false)) (put.grows line at)
+          (end.grows _ (put.at line at));
       stopped = tt;
       serves = end.serves;
       stays = Stays-then put.stays end.stays;

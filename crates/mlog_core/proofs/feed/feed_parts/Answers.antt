@@ -37,7 +37,8 @@ loop-len-preserved g c =
     let few = before.begun in
     let within = fed.within in
     let begun = fed.begun in record {
-      went = further c.args.script.now _ _ _ c.args.bytes.now c.loop-len.len c.in_ok-fed.fed.len c.loop-len.begun c.in_ok-fed.fed.begun before.went fed.went;
+      went = further c.args.script.now _ _ _ c.args.bytes.now c.loop-len.len c.in_ok-fed.fed.len c.loop-len.begun
+          c.in_ok-fed.fed.begun before.went fed.went;
       within = grind (arith, common_steps, below, within);
       begun = omega (arith, few, begun);
       serves = fed.serves;

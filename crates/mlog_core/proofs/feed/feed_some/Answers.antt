@@ -15,5 +15,7 @@ returns-then-fed-gt0-clause-feeds g c = rw c.in-None.is c.in_ok-fed.ensures.feed
 pub returns-clause-feeds : goal.returns-clause-feeds
 returns-clause-feeds g c =
     let fed = c.in_ok-fed.ensures in
-    after_nothing c.feed_part-2.result c.args.script.now c.args.inside _ c.args.router.now _ _ _ _ _ _ _ _ c.args.bytes.now c.in_ok-fed.fed.len c.in_ok-fed.fed.begun
-    c.in-None.is fed.none (grind (arith, common_steps)) fed.feeds.begun fed.feeds.went fed.feeds.stays c.feed_part-2.ensures.feeds
+    after_nothing c.feed_part-2.result c.args.script.now c.args.inside _ c.args.router.now _ _ _ _ _ _ _ _
+    c.args.bytes.now c.in_ok-fed.fed.len c.in_ok-fed.fed.begun
+    c.in-None.is fed.none (grind (arith, common_steps)) fed.feeds.begun fed.feeds.went fed.feeds.stays
+    c.feed_part-2.ensures.feeds

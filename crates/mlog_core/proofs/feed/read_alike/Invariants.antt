@@ -5,7 +5,8 @@ use Rattle.mlog_core.proofs.feed.read_alike.Given as goal
 
 abbrev pub invariant-lines : goal.invariant-lines
 invariant-lines g l = record {
-  alike : AreAlike l.script l.lines.reach (g.C.TimeSource.readings l.fn.clock) (g.C.TimeSource.readings l.clock) (take l.lines.len l.bytes) l.lines.count;
+  alike : AreAlike l.script l.lines.reach (g.C.TimeSource.readings l.fn.clock) (g.C.TimeSource.readings l.clock)
+      (take l.lines.len l.bytes) l.lines.count;
   empty : l.lines.count ≡ 0 → l.lines.len ≡ 0;
   within : l.lines.len ≤ length l.bytes;
   few : l.lines.count ≤ l.lines.len;

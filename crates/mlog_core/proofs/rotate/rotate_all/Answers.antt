@@ -8,7 +8,8 @@ use Rattle.mlog_core.proofs.rotate.rotate_all.Goals as goal
 pub returns-in_err-rotate_log-clause-stopped : goal.returns-in_err-rotate_log-clause-stopped
 returns-in_err-rotate_log-clause-stopped g c =
     let p = err_from_is_err_and c.from_residual.result c.from_residual.ensures.1 in
-    rw (p.1, p.2) (not_all_rotated c.args.script.now c.now-reading.result _ _ _ c.loop-log.log _ _ _ c.now-reading.ensures c.loop-log.invariant c.in_err-rotate_log.ensures.stopped)
+    rw (p.1, p.2) (not_all_rotated c.args.script.now c.now-reading.result _ _ _ c.loop-log.log _ _ _
+    c.now-reading.ensures c.loop-log.invariant c.in_err-rotate_log.ensures.stopped)
 
 pub returns-clause-done : goal.returns-clause-done
 returns-clause-done g c =
@@ -16,4 +17,5 @@ returns-clause-done g c =
     let within = c.loop-log.auto.log-end in
     let all = c.logs-log-end.ensures in
     let is : c.loop-log.log ≡ count_by is_log c.args.script.now = grind (arith, common_steps, ended, within, all) in
-    all_rotated c.args.script.now c.now-reading.result _ _ c.loop-log.log _ _ is c.now-reading.ensures c.loop-log.invariant
+    all_rotated c.args.script.now c.now-reading.result _ _ c.loop-log.log _ _ is c.now-reading.ensures
+    c.loop-log.invariant

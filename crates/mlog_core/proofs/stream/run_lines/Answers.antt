@@ -21,8 +21,12 @@ reads-init g c = record {
 pub returns-in-Ok-feed_end-clause-runs : goal.returns-in-Ok-feed_end-clause-runs
 returns-in-Ok-feed_end-clause-runs g c =
     record {
-      done = came_to_end c.args.script.now _ _ _ (g.I.PartedInput.feed c.args.input.now).device (g.I.PartedInput.feed c.reads.input).device (g.I.PartedInput.feed c.read_part.new.self).device c.reads.lines refl c.reads.invariant.came
-          (subst (λ (n : ℕ). Consumes (g.I.PartedInput.feed c.reads.input).device.bytes (g.I.PartedInput.feed c.read_part.new.self).device.bytes (take n c.read_part.new.into)) c.if-count-eq0.true c.in-Ok.ensures.bytes.0) refl
+      done = came_to_end c.args.script.now _ _ _ (g.I.PartedInput.feed c.args.input.now).device
+          (g.I.PartedInput.feed c.reads.input).device (g.I.PartedInput.feed c.read_part.new.self).device c.reads.lines
+          refl c.reads.invariant.came
+          (subst (λ (n : ℕ). Consumes (g.I.PartedInput.feed c.reads.input).device.bytes
+          (g.I.PartedInput.feed c.read_part.new.self).device.bytes (take n c.read_part.new.into))
+          c.if-count-eq0.true c.in-Ok.ensures.bytes.0) refl
           c.in-Ok-feed_end.ensures.ends.grows;
       came = λ is. cc;
       store = λ is. cc;
@@ -31,13 +35,19 @@ returns-in-Ok-feed_end-clause-runs g c =
 
 pub returns-in-Err-feed_end-clause-runs : goal.returns-in-Err-feed_end-clause-runs
 returns-in-Err-feed_end-clause-runs g c =
-    let ended = subst (λ (n : ℕ). Consumes (g.I.PartedInput.feed c.reads.input).device.bytes (g.I.PartedInput.feed c.read_part.new.self).device.bytes (take n c.read_part.new.into)) c.if-count-eq0.true c.in-Ok.ensures.bytes.0 in
+    let ended = subst (λ (n : ℕ). Consumes (g.I.PartedInput.feed c.reads.input).device.bytes
+    (g.I.PartedInput.feed c.read_part.new.self).device.bytes (take n c.read_part.new.into)) c.if-count-eq0.true
+    c.in-Ok.ensures.bytes.0 in
     record {
       done = tt;
       came = λ is. absurd (c.fault_of.ensures.other.0 (err_same _ _ is));
-      store = λ is. told_end c.args.script.now _ _ _ (g.I.PartedInput.feed c.args.input.now).device (g.I.PartedInput.feed c.reads.input).device (g.I.PartedInput.feed c.read_part.new.self).device c.reads.lines _ _ (c.fault_of.ensures.only_store (err_same _ _ is)) refl
+      store = λ is. told_end c.args.script.now _ _ _ (g.I.PartedInput.feed c.args.input.now).device
+          (g.I.PartedInput.feed c.reads.input).device (g.I.PartedInput.feed c.read_part.new.self).device c.reads.lines _
+          _ (c.fault_of.ensures.only_store (err_same _ _ is)) refl
           c.reads.invariant.came ended refl c.in-Err-feed_end.ensures.ends.stopped;
-      spent = λ is. told_end c.args.script.now _ _ _ (g.I.PartedInput.feed c.args.input.now).device (g.I.PartedInput.feed c.reads.input).device (g.I.PartedInput.feed c.read_part.new.self).device c.reads.lines _ _ (c.fault_of.ensures.only_spent (err_same _ _ is)) refl
+      spent = λ is. told_end c.args.script.now _ _ _ (g.I.PartedInput.feed c.args.input.now).device
+          (g.I.PartedInput.feed c.reads.input).device (g.I.PartedInput.feed c.read_part.new.self).device c.reads.lines _
+          _ (c.fault_of.ensures.only_spent (err_same _ _ is)) refl
           c.reads.invariant.came ended refl c.in-Err-feed_end.ensures.ends.stopped;
     }
 
@@ -51,8 +61,12 @@ reads-preserved g c =
     let few = before.few in
     let faults = before.faults in
     record {
-      came = came_then c.args.script.now _ _ _ (g.I.PartedInput.feed c.args.input.now).device (g.I.PartedInput.feed c.reads.input).device (g.I.PartedInput.feed c.read_part.new.self).device c.reads.lines _ _ before.came
-          (subst (λ (t : List ℕ). Consumes (g.I.PartedInput.feed c.reads.input).device.bytes (g.I.PartedInput.feed c.read_part.new.self).device.bytes t) (grind (arith, common_steps)) c.in-Ok.ensures.bytes.0)
+      came = came_then c.args.script.now _ _ _ (g.I.PartedInput.feed c.args.input.now).device
+          (g.I.PartedInput.feed c.reads.input).device (g.I.PartedInput.feed c.read_part.new.self).device c.reads.lines _
+          _ before.came
+          (subst (λ (t : List ℕ). Consumes (g.I.PartedInput.feed c.reads.input).device.bytes
+          (g.I.PartedInput.feed c.read_part.new.self).device.bytes t) (grind (arith, common_steps))
+          c.in-Ok.ensures.bytes.0)
           (all_fed c.args.script.now _ _ _ _ _ all feeds.went);
       serves = feeds.serves;
       written = block.written;
@@ -65,13 +79,19 @@ reads-preserved g c =
 
 pub returns-in-Err-feed_block-clause-runs : goal.returns-in-Err-feed_block-clause-runs
 returns-in-Err-feed_block-clause-runs g c =
-    let block = subst (λ (t : List ℕ). Consumes (g.I.PartedInput.feed c.reads.input).device.bytes (g.I.PartedInput.feed c.read_part.new.self).device.bytes t) (grind (arith, common_steps)) c.in-Ok.ensures.bytes.0 in
+    let block = subst (λ (t : List ℕ). Consumes (g.I.PartedInput.feed c.reads.input).device.bytes
+    (g.I.PartedInput.feed c.read_part.new.self).device.bytes t) (grind (arith, common_steps))
+    c.in-Ok.ensures.bytes.0 in
     let why = c.fault_of-in-Err-feed_block.ensures in
     record {
       done = tt;
       came = λ is. absurd (why.other.0 (err_same _ _ is));
-      store = λ is. told_block c.args.script.now _ _ _ (g.I.PartedInput.feed c.args.input.now).device (g.I.PartedInput.feed c.reads.input).device (g.I.PartedInput.feed c.read_part.new.self).device c.reads.lines _ _ _ (why.only_store (err_same _ _ is)) refl c.reads.invariant.came
+      store = λ is. told_block c.args.script.now _ _ _ (g.I.PartedInput.feed c.args.input.now).device
+          (g.I.PartedInput.feed c.reads.input).device (g.I.PartedInput.feed c.read_part.new.self).device c.reads.lines _
+          _ _ (why.only_store (err_same _ _ is)) refl c.reads.invariant.came
           block c.in-Err-feed_block.ensures.feeds.stopped;
-      spent = λ is. told_block c.args.script.now _ _ _ (g.I.PartedInput.feed c.args.input.now).device (g.I.PartedInput.feed c.reads.input).device (g.I.PartedInput.feed c.read_part.new.self).device c.reads.lines _ _ _ (why.only_spent (err_same _ _ is)) refl c.reads.invariant.came
+      spent = λ is. told_block c.args.script.now _ _ _ (g.I.PartedInput.feed c.args.input.now).device
+          (g.I.PartedInput.feed c.reads.input).device (g.I.PartedInput.feed c.read_part.new.self).device c.reads.lines _
+          _ _ (why.only_spent (err_same _ _ is)) refl c.reads.invariant.came
           block c.in-Err-feed_block.ensures.feeds.stopped;
     }

@@ -9,7 +9,8 @@ use Rattle.mlog_core.proofs.stream.run_lines.Given as goal
 abbrev pub invariant-reads : goal.invariant-reads
 invariant-reads g l = record {
   came : Came l.script (scene None l.fn.router (g.S.LogStore.state l.fn.store) (g.C.TimeSource.readings l.fn.clock))
-      (scene l.inside l.router (g.S.LogStore.state l.store) (g.C.TimeSource.readings l.clock)) (g.I.PartedInput.feed l.fn.input).device (g.I.PartedInput.feed l.input).device l.lines;
+      (scene l.inside l.router (g.S.LogStore.state l.store) (g.C.TimeSource.readings l.clock))
+      (g.I.PartedInput.feed l.fn.input).device (g.I.PartedInput.feed l.input).device l.lines;
   serves : Serves l.script l.router (g.S.LogStore.state l.store);
   written : IsWritten l.router.tails;
   few : l.lines ≤ 32768 * (g.I.PartedInput.feed l.input).device.reads;

@@ -6,7 +6,8 @@ use Rattle.mlog_core.proofs.stream.run_part.Goals as goal
 pub returns-in-Ok-run_lines-clause-runs : goal.returns-in-Ok-run_lines-clause-runs
 returns-in-Ok-run_lines-clause-runs g c = record {
   done = runs_all c.args.script.now _ _ _ _ _ _ c.in-Ok.router c.run_lines.new.router c.in-Ok-run_lines.lines _
-      c.in-Ok.ensures.opened c.in-Ok-run_lines.ensures.written c.in-Ok-run_lines.ensures.runs.done refl c.finished.ensures c.removed.ensures;
+      c.in-Ok.ensures.opened c.in-Ok-run_lines.ensures.written c.in-Ok-run_lines.ensures.runs.done refl
+      c.finished.ensures c.removed.ensures;
   read = λ is. cc;
   store = λ is. cc;
   spent = λ is. cc;
@@ -21,8 +22,11 @@ returns-clause-runs g c =
       done = tt;
       read = λ is.
           let told = runs.came (fault_moved _ _ is) in
-          runs_lines c.args.script.now _ _ _ _ _ _ c.in-Ok.router c.run_lines.new.router told.0 told.1 opened told.2 told.3;
-      store = λ is. runs_up_to c.args.script.now _ _ _ _ _ _ c.in-Ok.router c.run_lines.new.router _ _ opened (λ e. cc) (runs.store (fault_moved _ _ is));
-      spent = λ is. runs_up_to c.args.script.now _ _ _ _ _ _ c.in-Ok.router c.run_lines.new.router _ _ opened (λ e. refl) (runs.spent (fault_moved _ _ is));
+          runs_lines c.args.script.now _ _ _ _ _ _ c.in-Ok.router c.run_lines.new.router told.0 told.1 opened told.2
+          told.3;
+      store = λ is. runs_up_to c.args.script.now _ _ _ _ _ _ c.in-Ok.router c.run_lines.new.router _ _ opened (λ e. cc)
+          (runs.store (fault_moved _ _ is));
+      spent = λ is. runs_up_to c.args.script.now _ _ _ _ _ _ c.in-Ok.router c.run_lines.new.router _ _ opened
+          (λ e. refl) (runs.spent (fault_moved _ _ is));
       memory = λ is. absurd (c.in-Err.ensures.memory (fault_moved _ _ is));
     }

@@ -6,7 +6,8 @@ use Rattle.mlog_core.proofs.turns.run_parts.Given as goal
 abbrev pub invariant-parts : goal.invariant-parts
 invariant-parts g l = record {
   begun : List Play;
-  turns : TurnsOver begun l.script (play (g.I.PartedInput.feed l.fn.input) (g.S.LogStore.state l.fn.store) (g.C.TimeSource.readings l.fn.clock))
+  turns : TurnsOver begun l.script
+      (play (g.I.PartedInput.feed l.fn.input) (g.S.LogStore.state l.fn.store) (g.C.TimeSource.readings l.fn.clock))
       (play (g.I.PartedInput.feed l.input) (g.S.LogStore.state l.store) (g.C.TimeSource.readings l.clock));
   logs : count_by is_log l.script ≤ (g.S.LogStore.state l.store).logs;
   files : count_by is_file l.script ≤ (g.S.LogStore.state l.store).status_files;

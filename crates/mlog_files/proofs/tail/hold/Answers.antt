@@ -11,9 +11,11 @@ returns-in_err-write_out-clause-err g c =
 pub returns-clause-ok : goal.returns-clause-ok
 returns-clause-ok g c =
     on_ok_weaker c.append_all.result
-    (λ d. Goes-through c.args.waiting.now c.write_out.new.waiting (append_steps c.args.piece.now) c.in_ok-write_out.ensures.empty (Does-then c.in_ok-write_out.ensures.ok d))
+    (λ d. Goes-through c.args.waiting.now c.write_out.new.waiting (append_steps c.args.piece.now)
+    c.in_ok-write_out.ensures.empty (Does-then c.in_ok-write_out.ensures.ok d))
     c.append_all.ensures.ok
 
 pub returns-clause-err : goal.returns-clause-err
 returns-clause-err g c =
-    on_err_weaker c.append_all.result (λ d. Fails-then (append_steps c.args.piece.now) c.in_ok-write_out.ensures.ok d) c.append_all.ensures.err
+    on_err_weaker c.append_all.result (λ d. Fails-then (append_steps c.args.piece.now) c.in_ok-write_out.ensures.ok d)
+    c.append_all.ensures.err

@@ -7,8 +7,16 @@ use Rattle.mlog_line.proofs.alerts.alert_front.Goals as goal
 
 pub returns-clause-ok : goal.returns-clause-ok
 returns-clause-ok g c =
-    on_ok_weaker c.alert_all.result (λ k. subst (λ (t : List ℕ). Alerts (g.S.LogStore.state c.args.store.now) (g.S.LogStore.state c.alert_all.new.store) t) (alert_is c.args.front.now c.copy_from_slice.new.self c.min-len.result c.min-len.ensures c.copy_from_slice.ensures.after) k) c.alert_all.ensures.ok
+    on_ok_weaker c.alert_all.result
+    (λ k. subst (λ (t : List ℕ).
+    Alerts (g.S.LogStore.state c.args.store.now) (g.S.LogStore.state c.alert_all.new.store) t)
+    (alert_is c.args.front.now c.copy_from_slice.new.self c.min-len.result c.min-len.ensures
+    c.copy_from_slice.ensures.after) k) c.alert_all.ensures.ok
 
 pub returns-clause-err : goal.returns-clause-err
 returns-clause-err g c =
-    on_err_weaker c.alert_all.result (λ k. subst (λ (t : List ℕ). AlertsFront (g.S.LogStore.state c.args.store.now) (g.S.LogStore.state c.alert_all.new.store) t) (alert_is c.args.front.now c.copy_from_slice.new.self c.min-len.result c.min-len.ensures c.copy_from_slice.ensures.after) k) c.alert_all.ensures.err
+    on_err_weaker c.alert_all.result
+    (λ k. subst (λ (t : List ℕ).
+    AlertsFront (g.S.LogStore.state c.args.store.now) (g.S.LogStore.state c.alert_all.new.store) t)
+    (alert_is c.args.front.now c.copy_from_slice.new.self c.min-len.result c.min-len.ensures
+    c.copy_from_slice.ensures.after) k) c.alert_all.ensures.err

@@ -30,4 +30,5 @@ loop-log-preserved g c =
     }
 
 pub returns-clause-written : goal.returns-clause-written
-returns-clause-written g c = all_written _ _ c.loop-log.invariant.written (let e = c.loop-log.invariant.length in grind (arith, common_steps, e))
+returns-clause-written g c = all_written _ _ c.loop-log.invariant.written (let e = c.loop-log.invariant.length in
+    grind (arith, common_steps, e))

@@ -7,7 +7,8 @@ use Rattle.mlog_line.proofs.logs.flush_all.Given as goal
 
 abbrev pub invariant-loop-log : goal.invariant-loop-log
 invariant-loop-log g l = record {
-  takes : Takes (outputs l.fn.tails.items (g.S.LogStore.state l.fn.store)) (outputs l.tails.items (g.S.LogStore.state l.store)) nothing;
+  takes : Takes (outputs l.fn.tails.items (g.S.LogStore.state l.fn.store))
+      (outputs l.tails.items (g.S.LogStore.state l.store)) nothing;
   written : IsWrittenUpTo l.log l.tails.items;
   length : length l.tails.items ≡ length l.fn.tails.items;
   stays : Stays (g.S.LogStore.state l.fn.store) (g.S.LogStore.state l.store);

@@ -12,15 +12,20 @@ returns-clause-hands g c =
     let here = slice_get_read items (length items) c.args.log tail refl c.requires.log c.index_mut.ensures.value in
     record {
       ok = on_ok_two c.flush.result
-          (λ done empty. flush_takes items _ _ _ c.args.log tail c.flush.new.self c.requires.log here refl done empty c.flush.ensures.stands c.flush.ensures.same)
+          (λ done empty. flush_takes items _ _ _ c.args.log tail c.flush.new.self c.requires.log here refl done empty
+          c.flush.ensures.stands c.flush.ensures.same)
           c.flush.ensures.done c.flush.ensures.empty;
-      stopped = if_err_with c.flush.result _ _ (λ why failed is_store. flush_stops items _ _ _ c.args.log tail why here failed is_store)
+      stopped = if_err_with c.flush.result _ _
+          (λ why failed is_store. flush_stops items _ _ _ c.args.log tail why here failed is_store)
           c.flush.ensures.stopped c.flush.ensures.why;
       length = search rules;
-      stays = either_so c.flush.result (λ done. done.stays) (λ failed. failed.front.front.stays) c.flush.ensures.done c.flush.ensures.stopped;
+      stays = either_so c.flush.result (λ done. done.stays) (λ failed. failed.front.front.stays) c.flush.ensures.done
+          c.flush.ensures.stopped;
     }
 
 pub returns-clause-written : goal.returns-clause-written
 returns-clause-written g c =
-    on_ok_weaker c.flush.result (λ empty before. written_next c.args.tails.now.items _ c.args.log c.flush.new.self c.requires.log refl empty before)
+    on_ok_weaker c.flush.result
+    (λ empty before. written_next c.args.tails.now.items _ c.args.log c.flush.new.self c.requires.log refl empty
+    before)
     c.flush.ensures.empty

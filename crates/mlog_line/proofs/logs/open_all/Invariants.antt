@@ -6,7 +6,9 @@ use Rattle.mlog_line.proofs.logs.open_all.Given as goal
 
 abbrev pub invariant-loop-plan : goal.invariant-loop-plan
 invariant-loop-plan g l =
-    ((log : ℕ) → log < length l.tails.items → IsOpenedAt (slice_get (log_plans l.script) log) ((g.S.LogStore.state l.store).told.files log) (slice_get l.tails.items log))
+    ((log : ℕ) → log < length l.tails.items
+    → IsOpenedAt (slice_get (log_plans l.script) log) ((g.S.LogStore.state l.store).told.files log)
+    (slice_get l.tails.items log))
     × (length l.tails.items ≤ count_by is_log l.script)
 
 abbrev pub decreases-loop-plan : goal.decreases-loop-plan

@@ -13,7 +13,8 @@ returns-in_err-put_one_within g c =
     let few : c.loop-log.log < length c.args.tails.now.items = grind (arith, common_steps) in
     rw (p.1, p.2) (record {
       ok = tt;
-      stopped = λ text is. first_stopped _ _ _ c.loop-log.log (length c.args.tails.now.items) text _ few (before.takes text is) (one.stopped text is);
+      stopped = λ text is. first_stopped _ _ _ c.loop-log.log (length c.args.tails.now.items) text _ few
+          (before.takes text is) (one.stopped text is);
       length = one.length ∙ before.length;
       stays = Stays-then before.stays one.stays;
     })
@@ -23,7 +24,8 @@ loop-log-preserved g c =
     let before = c.loop-log.invariant in
     let one = c.in_ok-put_one_within.ensures in record {
       takes = λ text is. first_further _ _ _ c.loop-log.log text (before.takes text is) (one.hands.ok text is);
-      others = λ n above. one.others n (let a = above in omega (arith, a)) ∙ before.others n (let a = above in omega (arith, a));
+      others = λ n above. one.others n (let a = above in omega (arith, a))
+          ∙ before.others n (let a = above in omega (arith, a));
       length = one.hands.length ∙ before.length;
       stays = Stays-then before.stays one.hands.stays;
     }

@@ -11,7 +11,8 @@ returns-in_err-put_one g c =
     let one = c.in_err-put_one.ensures in
     rw (p.1, p.2) (record {
       ok = tt;
-      stopped = chosen_stopped _ _ _ c.args.chosen.now c.loop-log.log _ c.args.label.now c.args.bytes.now _ c.loop-log-test.true (read_flag c.args.chosen.now c.loop-log.log c.loop-log-test.true)
+      stopped = chosen_stopped _ _ _ c.args.chosen.now c.loop-log.log _ c.args.label.now c.args.bytes.now _
+          c.loop-log-test.true (read_flag c.args.chosen.now c.loop-log.log c.loop-log-test.true)
           before.takes one.stopped;
       length = one.length ∙ before.length;
       stays = Stays-then before.stays one.stays;
@@ -21,7 +22,8 @@ pub loop-log-preserved : goal.loop-log-preserved
 loop-log-preserved g c =
     let before = c.loop-log.invariant in
     let one = c.in_ok-put_one.ensures in record {
-      takes = chosen_further _ _ _ c.args.chosen.now c.loop-log.log _ c.args.label.now c.args.bytes.now c.loop-log-test.true (read_flag c.args.chosen.now c.loop-log.log c.loop-log-test.true)
+      takes = chosen_further _ _ _ c.args.chosen.now c.loop-log.log _ c.args.label.now c.args.bytes.now
+          c.loop-log-test.true (read_flag c.args.chosen.now c.loop-log.log c.loop-log-test.true)
           before.takes one.ok;
       length = one.length ∙ before.length;
       stays = Stays-then before.stays one.stays;

@@ -6,7 +6,8 @@ use Rattle.mlog_line.proofs.logs.put_chosen.Given as goal
 
 abbrev pub invariant-loop-log : goal.invariant-loop-log
 invariant-loop-log g l = record {
-  takes : Takes (outputs l.fn.tails.items (g.S.LogStore.state l.fn.store)) (outputs l.tails.items (g.S.LogStore.state l.store)) (to_logs (take l.log l.chosen) l.label l.bytes);
+  takes : Takes (outputs l.fn.tails.items (g.S.LogStore.state l.fn.store))
+      (outputs l.tails.items (g.S.LogStore.state l.store)) (to_logs (take l.log l.chosen) l.label l.bytes);
   length : length l.tails.items ≡ length l.fn.tails.items;
   stays : Stays (g.S.LogStore.state l.fn.store) (g.S.LogStore.state l.store);
 }

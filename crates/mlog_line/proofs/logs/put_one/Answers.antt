@@ -12,11 +12,13 @@ returns-then-is_chosen g c =
     let here = slice_get_read items (length items) c.args.log tail refl c.requires.log c.index_mut.ensures.value in
     rw c.if-is_chosen.true (record {
       ok = on_ok_weaker c.put.result
-          (λ puts. put_takes items _ _ _ c.args.log tail c.put.new.self c.args.label.now c.args.bytes.now c.requires.log here refl puts c.put.ensures.same)
+          (λ puts. put_takes items _ _ _ c.args.log tail c.put.new.self c.args.label.now c.args.bytes.now c.requires.log
+          here refl puts c.put.ensures.same)
           c.put.ensures.puts;
       stopped = if_err_weaker c.put.result _ _
           (λ why stopped. put_stops items _ _ _ c.args.log tail c.args.label.now c.args.bytes.now why here stopped)
           c.put.ensures.stopped;
       length = search rules;
-      stays = either_way c.put.result _ (λ puts. puts.goes.does.stays) (λ why stopped. stopped.front.front.stays) c.put.ensures.puts c.put.ensures.stopped;
+      stays = either_way c.put.result _ (λ puts. puts.goes.does.stays) (λ why stopped. stopped.front.front.stays)
+          c.put.ensures.puts c.put.ensures.stopped;
     })

@@ -4,8 +4,10 @@ use Rattle.mlog_script.proofs.check.check.Goals as goal
 
 pub returns-in-Some-clause-told : goal.returns-in-Some-clause-told
 returns-in-Some-clause-told c =
-    rw (told_at (λ word. word.now) c.args.words.now c.loop-place.place _ c.in-Some.kind c.loop-place-test.true c.loop-place.invariant c.in-Some.ensures) refl
+    rw (told_at (λ word. word.now) c.args.words.now c.loop-place.place _ c.in-Some.kind c.loop-place-test.true
+    c.loop-place.invariant c.in-Some.ensures) refl
 
 pub loop-place-preserved : goal.loop-place-preserved
 loop-place-preserved c =
-    passed_at (λ word. word.now) c.args.words.now c.loop-place.place _ c.loop-place-test.true c.loop-place.invariant c.in_default.ensures
+    passed_at (λ word. word.now) c.args.words.now c.loop-place.place _ c.loop-place-test.true c.loop-place.invariant
+    c.in_default.ensures

@@ -4,7 +4,8 @@ use Rattle.mlog_script.proofs.check.stands_among.Given as goal
 
 abbrev pub invariant-loop-rest : goal.invariant-loop-rest
 invariant-loop-rest l =
-    list_any (λ other. bytes_eq other l.word) (map (λ word. word.now) l.rest) ≡ list_any (λ other. bytes_eq other l.word) (map (λ word. word.now) l.words)
+    list_any (λ other. bytes_eq other l.word) (map (λ word. word.now) l.rest)
+    ≡ list_any (λ other. bytes_eq other l.word) (map (λ word. word.now) l.words)
 
 abbrev pub decreases-loop-rest : goal.decreases-loop-rest
 decreases-loop-rest l = length l.rest

@@ -9,13 +9,17 @@ use Rattle.mlog_script.proofs.choices.is_chosen_behind.Goals as goal
 pub returns-in-Some : goal.returns-in-Some
 returns-in-Some g c =
     let rest = c.loop-rest.rest.now in
-    let earlier : Bool = unwrap_or (last_given (decision c.args.front.now) (map act (take (length rest - 1) rest))) c.args.before in
+    let earlier : Bool = unwrap_or (last_given (decision c.args.front.now) (map act (take (length rest - 1) rest)))
+    c.args.before in
     sym (ap (λ (o : Option Bool). unwrap_or o earlier) (sym c.decision.ensures ∙ c.in-Some.is))
-    ∙ sym (chosen_back act c.args.front.now rest c.last-item.result c.args.before c.in-len1-up.len_at_least c.last-item.is) ∙ c.loop-rest.invariant
+    ∙ sym (chosen_back act c.args.front.now rest c.last-item.result c.args.before c.in-len1-up.len_at_least
+    c.last-item.is) ∙ c.loop-rest.invariant
 
 pub loop-rest-preserved : goal.loop-rest-preserved
 loop-rest-preserved g c =
     let rest = c.loop-rest.rest.now in
-    let earlier : Bool = unwrap_or (last_given (decision c.args.front.now) (map act (take (length rest - 1) rest))) c.args.before in
+    let earlier : Bool = unwrap_or (last_given (decision c.args.front.now) (map act (take (length rest - 1) rest)))
+    c.args.before in
     sym (chosen_back act c.args.front.now rest c.last-item.result c.args.before c.in-len1-up.len_at_least c.last-item.is
-    ∙ ap (λ (o : Option Bool). unwrap_or o earlier) (sym c.decision.ensures ∙ c.in_default-decision.is)) ∙ c.loop-rest.invariant
+    ∙ ap (λ (o : Option Bool). unwrap_or o earlier) (sym c.decision.ensures ∙ c.in_default-decision.is))
+    ∙ c.loop-rest.invariant

@@ -7,7 +7,8 @@ use Rattle.mlog_script.proofs.choices.is_chosen_behind.Given as goal
 
 abbrev pub invariant-loop-rest : goal.invariant-loop-rest
 invariant-loop-rest g l =
-    unwrap_or (last_given (decision l.front) (map act l.rest)) l.before ≡ unwrap_or (last_given (decision l.front) (map act l.actions)) l.before
+    unwrap_or (last_given (decision l.front) (map act l.rest)) l.before
+    ≡ unwrap_or (last_given (decision l.front) (map act l.actions)) l.before
 
 abbrev pub decreases-loop-rest : goal.decreases-loop-rest
 decreases-loop-rest g l = length l.rest

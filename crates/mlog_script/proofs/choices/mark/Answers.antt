@@ -7,18 +7,23 @@ use Rattle.mlog_script.proofs.choices.mark.Goals as goal
 
 pub note-requires-clause-alerts : goal.note-requires-clause-alerts
 note-requires-clause-alerts g c here =
-    room_at act is_alert c.args.actions.now c.args.front.now c.loop-place.place _ c.index-actions-place.result c.loop-place.marks.alerts.items
-    c.loop-place-test.true c.index-actions-place.is c.loop-place.invariant.alerts_are c.loop-place.invariant.alerts_fit here
+    room_at act is_alert c.args.actions.now c.args.front.now c.loop-place.place _ c.index-actions-place.result
+    c.loop-place.marks.alerts.items
+    c.loop-place-test.true c.index-actions-place.is c.loop-place.invariant.alerts_are c.loop-place.invariant.alerts_fit
+    here
 
 pub note-requires-clause-logs : goal.note-requires-clause-logs
 note-requires-clause-logs g c here =
-    room_at act is_log c.args.actions.now c.args.front.now c.loop-place.place _ c.index-actions-place.result c.loop-place.marks.logs.items
+    room_at act is_log c.args.actions.now c.args.front.now c.loop-place.place _ c.index-actions-place.result
+    c.loop-place.marks.logs.items
     c.loop-place-test.true c.index-actions-place.is c.loop-place.invariant.logs_are c.loop-place.invariant.logs_fit here
 
 pub note-requires-clause-files : goal.note-requires-clause-files
 note-requires-clause-files g c here =
-    room_at act is_file c.args.actions.now c.args.front.now c.loop-place.place _ c.index-actions-place.result c.loop-place.marks.files.items
-    c.loop-place-test.true c.index-actions-place.is c.loop-place.invariant.files_are c.loop-place.invariant.files_fit here
+    room_at act is_file c.args.actions.now c.args.front.now c.loop-place.place _ c.index-actions-place.result
+    c.loop-place.marks.files.items
+    c.loop-place-test.true c.index-actions-place.is c.loop-place.invariant.files_are c.loop-place.invariant.files_fit
+    here
 
 pub loop-place-preserved-then-not-is_output : goal.loop-place-preserved-then-not-is_output
 loop-place-preserved-then-not-is_output g c =
@@ -26,11 +31,14 @@ loop-place-preserved-then-not-is_output g c =
     let none = c.is_output.ensures.none c.if-not-is_output.true in record {
       asked_before = let few = before.asked_before in omega (arith, few);
       chosen_is = before.chosen_is;
-      alerts_are = no_flag act is_alert c.args.actions.now c.args.front.now c.loop-place.place c.index-actions-place.result c.loop-place.marks.alerts.items
+      alerts_are = no_flag act is_alert c.args.actions.now c.args.front.now c.loop-place.place
+          c.index-actions-place.result c.loop-place.marks.alerts.items
           c.loop-place-test.true c.index-actions-place.is none.0 before.alerts_are;
-      logs_are = no_flag act is_log c.args.actions.now c.args.front.now c.loop-place.place c.index-actions-place.result c.loop-place.marks.logs.items
+      logs_are = no_flag act is_log c.args.actions.now c.args.front.now c.loop-place.place c.index-actions-place.result
+          c.loop-place.marks.logs.items
           c.loop-place-test.true c.index-actions-place.is none.1 before.logs_are;
-      files_are = no_flag act is_file c.args.actions.now c.args.front.now c.loop-place.place c.index-actions-place.result c.loop-place.marks.files.items
+      files_are = no_flag act is_file c.args.actions.now c.args.front.now c.loop-place.place
+          c.index-actions-place.result c.loop-place.marks.files.items
           c.loop-place-test.true c.index-actions-place.is none.2 before.files_are;
       alerts_fit = before.alerts_fit;
       logs_fit = before.logs_fit;
@@ -40,16 +48,21 @@ loop-place-preserved-then-not-is_output g c =
 pub loop-place-preserved : goal.loop-place-preserved
 loop-place-preserved g c =
     let before = c.loop-place.invariant in
-    let chosen : c.is_chosen_behind-chosen.result ≡ is_chosen (map act (take c.loop-place.place c.args.actions.now)) c.args.front.now =
-    chosen_between act c.args.actions.now c.args.front.now c.loop-place.asked c.loop-place.place c.loop-place.chosen c.is_chosen_behind-chosen.result
+    let chosen : c.is_chosen_behind-chosen.result
+    ≡ is_chosen (map act (take c.loop-place.place c.args.actions.now)) c.args.front.now =
+    chosen_between act c.args.actions.now c.args.front.now c.loop-place.asked c.loop-place.place c.loop-place.chosen
+    c.is_chosen_behind-chosen.result
     before.asked_before before.chosen_is c.is_chosen_behind-chosen.ensures in record {
       asked_before = omega arith;
       chosen_is = chosen;
-      alerts_are = flags_step act is_alert c.args.actions.now c.args.front.now c.loop-place.place c.index-actions-place.result c.is_chosen_behind-chosen.result c.loop-place.marks.alerts.items _
+      alerts_are = flags_step act is_alert c.args.actions.now c.args.front.now c.loop-place.place
+          c.index-actions-place.result c.is_chosen_behind-chosen.result c.loop-place.marks.alerts.items _
           c.loop-place-test.true c.index-actions-place.is chosen before.alerts_are c.note.ensures.alerts;
-      logs_are = flags_step act is_log c.args.actions.now c.args.front.now c.loop-place.place c.index-actions-place.result c.is_chosen_behind-chosen.result c.loop-place.marks.logs.items _
+      logs_are = flags_step act is_log c.args.actions.now c.args.front.now c.loop-place.place
+          c.index-actions-place.result c.is_chosen_behind-chosen.result c.loop-place.marks.logs.items _
           c.loop-place-test.true c.index-actions-place.is chosen before.logs_are c.note.ensures.logs;
-      files_are = flags_step act is_file c.args.actions.now c.args.front.now c.loop-place.place c.index-actions-place.result c.is_chosen_behind-chosen.result c.loop-place.marks.files.items _
+      files_are = flags_step act is_file c.args.actions.now c.args.front.now c.loop-place.place
+          c.index-actions-place.result c.is_chosen_behind-chosen.result c.loop-place.marks.files.items _
           c.loop-place-test.true c.index-actions-place.is chosen before.files_are c.note.ensures.files;
       alerts_fit = omega (arith, before.alerts_fit, c.note.ensures.alert_room);
       logs_fit = omega (arith, before.logs_fit, c.note.ensures.log_room);

@@ -16,4 +16,5 @@ returns-clause-files c = λ script file. comes_in_turn (to_file script file)
 pub returns-clause-content : goal.returns-clause-content
 returns-clause-content c = λ script file before labels more lines rest whole each.
     ap (fold (λ (old new : List ℕ). new) before) (comes_in_turn (to_file script file) labels more lines rest whole each)
-    ∙ fold-append (λ (old new : List ℕ). new) before (file_contents script file labels lines) (file_contents script file more rest)
+    ∙ fold-append (λ (old new : List ℕ). new) before (file_contents script file labels lines)
+    (file_contents script file more rest)

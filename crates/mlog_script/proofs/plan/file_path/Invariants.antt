@@ -6,4 +6,5 @@ use Rattle.mlog_script.proofs.plan.file_path.Given as goal
 
 abbrev pub invariant-loop-action : goal.invariant-loop-action
 invariant-loop-action g l =
-    slice_get (file_paths (map act (drop l.action-index l.actions))) l.left ≡ slice_get (file_paths (map act l.actions)) l.file
+    slice_get (file_paths (map act (drop l.action-index l.actions))) l.left
+    ≡ slice_get (file_paths (map act l.actions)) l.file

@@ -11,4 +11,5 @@ invariant_of-self-2 g c =
     let some : 0 < length names = search rules in
     let is : first ≡ get_or names 0 first = search rules in
     subst (λ (t : List (List ℕ)). IsKept (f c.remove.new.self) t c.self.inside.length) (sym c.remove-2.ensures.items)
-    (kept-removed-first (f c.self.inside.folder) (f c.remove.new.self) first names c.self.inside.length c.in_ok-remove.ensures.ok some is c.self.invariant)
+    (kept-removed-first (f c.self.inside.folder) (f c.remove.new.self) first names c.self.inside.length
+    c.in_ok-remove.ensures.ok some is c.self.invariant)

@@ -9,8 +9,24 @@ pub returns-clause-next : goal.returns-clause-next
 returns-clause-next g c =
     let inside = c.self.inside in
     let coming = g.S.LoggerInput.coming inside.input in
-    let old : Listening = record { coming = coming; stopped = inside.stopped; rotates = inside.rotates; in_line = inside.in_line; reads = inside.reads; faults = inside.faults } in
-    let new : Listening = record { coming = coming; stopped = false; rotates = false; in_line = false; reads = inside.reads; faults = inside.faults } in
+    let old : Listening = record {
+      coming = coming;
+      stopped = inside.stopped;
+      rotates = inside.rotates;
+      in_line =
+          inside.in_line;
+      reads = inside.reads;
+      faults = inside.faults;
+    } in
+    let new : Listening = record {
+      coming = coming;
+      stopped = false;
+      rotates = false;
+      in_line = false;
+      reads =
+          inside.reads;
+      faults = inside.faults;
+    } in
     let end = subst (λ (l : Listening). IsRead (feed_of l).device) (sym c.self.view_is) c.requires.end in
     λ is. subst (λ (l : Listening). OpensNext (feed_of l) (feed_of new)) c.self.view_is
     (opens_next old c.if-not-self.false (c.self.invariant c.if-not-self.false) end)

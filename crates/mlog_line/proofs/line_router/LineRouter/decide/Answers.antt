@@ -14,8 +14,10 @@ returns-in-Err-replace_chosen-clause-decides g c =
     let chosen_is = c.choose.ensures.chosen ∙ ap (chosen script) kept_is in
     record {
       takes = tt;
-      stopped = decided_half c.args.self.now.tails _ _ _ _ script c.args.label.now c.args.self.now.front c.as_slice-front.result.now (c.args.self.now.front ++ c.args.end.now) _
-          (c.alerts.ensures ∙ ap (λ (ch : Chosen). ch.alerts) chosen_is) kept_is c.in-Ok.ensures.ok c.in-Err-replace_chosen.ensures.err;
+      stopped = decided_half c.args.self.now.tails _ _ _ _ script c.args.label.now c.args.self.now.front
+          c.as_slice-front.result.now (c.args.self.now.front ++ c.args.end.now) _
+          (c.alerts.ensures ∙ ap (λ (ch : Chosen). ch.alerts) chosen_is) kept_is c.in-Ok.ensures.ok
+          c.in-Err-replace_chosen.ensures.err;
       serves = search rules;
       stays = Stays-then c.in-Ok.ensures.ok.stays c.in-Err-replace_chosen.ensures.err.stays;
     }
@@ -33,13 +35,16 @@ returns-clause-decides g c =
     let logs_is = c.logs.ensures ∙ ap (λ (ch : Chosen). ch.logs) chosen_is in
     record {
       takes = on_ok_weaker c.put_chosen-put.result (λ k.
-          decided_takes c.args.self.now.tails _ _ _ _ _ _ script c.args.label.now c.args.self.now.front c.as_slice-front.result.now (c.args.self.now.front ++ c.args.end.now) c.as_slice-text.result.now _ _ _
+          decided_takes c.args.self.now.tails _ _ _ _ _ _ script c.args.label.now c.args.self.now.front
+          c.as_slice-front.result.now (c.args.self.now.front ++ c.args.end.now) c.as_slice-text.result.now _ _ _
           tails_is kept_is text_is alerts_is files_is logs_is c.in-Ok.ensures.ok c.in-Ok-replace_chosen.ensures.ok k)
           c.put_chosen-put.ensures.ok;
       stopped = if_err_weaker c.put_chosen-put.result _ _ (λ why k.
-          decided_stopped c.args.self.now.tails _ _ _ _ _ _ script c.args.label.now c.args.self.now.front c.as_slice-front.result.now (c.args.self.now.front ++ c.args.end.now) c.as_slice-text.result.now _ _ _ why
+          decided_stopped c.args.self.now.tails _ _ _ _ _ _ script c.args.label.now c.args.self.now.front
+          c.as_slice-front.result.now (c.args.self.now.front ++ c.args.end.now) c.as_slice-text.result.now _ _ _ why
           tails_is kept_is text_is alerts_is files_is logs_is c.in-Ok.ensures.ok c.in-Ok-replace_chosen.ensures.ok k)
           c.put_chosen-put.ensures.stopped;
       serves = search rules;
-      stays = Stays-then c.in-Ok.ensures.ok.stays (Stays-then c.in-Ok-replace_chosen.ensures.ok.stays c.put_chosen-put.ensures.stays);
+      stays = Stays-then c.in-Ok.ensures.ok.stays
+          (Stays-then c.in-Ok-replace_chosen.ensures.ok.stays c.put_chosen-put.ensures.stays);
     }

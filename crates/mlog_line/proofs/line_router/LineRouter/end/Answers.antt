@@ -14,9 +14,11 @@ returns-then-self g c =
     let flags = c.logs.ensures ∙ ap (λ (q : Place). q.chosen.logs) c.self.view_is in
     record {
       grows = on_ok_weaker c.put_chosen.result
-          (λ k line at. end_grows c.args.script.now p c.args.label.now line _ _ _ _ is same flags k at) c.put_chosen.ensures.ok;
+          (λ k line at. end_grows c.args.script.now p c.args.label.now line _ _ _ _ is same flags k at)
+          c.put_chosen.ensures.ok;
       stopped = if_err_weaker c.put_chosen.result _ _
-          (λ why k line at. end_stopped c.args.script.now p c.args.label.now line _ _ _ _ why is same flags k at) c.put_chosen.ensures.stopped;
+          (λ why k line at. end_stopped c.args.script.now p c.args.label.now line _ _ _ _ why is same flags k at)
+          c.put_chosen.ensures.stopped;
       serves = search rules;
       stays = c.put_chosen.ensures.stays;
     }

@@ -7,8 +7,12 @@ pub returns : goal.returns
 returns g c =
     let decides = c.decide.ensures.decides in
     record {
-      grows = on_ok_weaker c.decide.result (λ k line at. kept_end_grows c.args.script.now c.args.self.now c.args.label.now line _ _ c.requires.kept k at) decides.takes;
-      stopped = if_err_weaker c.decide.result _ _ (λ why k line at. kept_end_stopped c.args.script.now c.args.self.now c.args.label.now line _ _ why c.requires.kept k at) decides.stopped;
+      grows = on_ok_weaker c.decide.result
+          (λ k line at. kept_end_grows c.args.script.now c.args.self.now c.args.label.now line _ _ c.requires.kept k at)
+          decides.takes;
+      stopped = if_err_weaker c.decide.result _ _
+          (λ why k line at. kept_end_stopped c.args.script.now c.args.self.now c.args.label.now line _ _ why
+          c.requires.kept k at) decides.stopped;
       serves = decides.serves;
       stays = decides.stays;
     }

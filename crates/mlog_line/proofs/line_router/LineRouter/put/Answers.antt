@@ -14,13 +14,16 @@ returns-then-self g c =
     let flags = c.logs.ensures ∙ ap (λ (q : Place). q.chosen.logs) c.self.view_is in
     record {
       at = on_ok_weaker c.put_chosen.result
-          (λ k line at. put_at c.args.script.now p c.self.inside.decided c.self.inside.choices c.self.inside.kept c.args.label.now line c.args.bytes.now is c.if-self.true
+          (λ k line at. put_at c.args.script.now p c.self.inside.decided c.self.inside.choices c.self.inside.kept
+          c.args.label.now line c.args.bytes.now is c.if-self.true
           (ap (λ (q : Place). q.chosen) c.self.view_is) at)
           c.put_chosen.ensures.ok;
       grows = on_ok_weaker c.put_chosen.result
-          (λ k line at. put_grows c.args.script.now p c.args.label.now line c.args.bytes.now _ _ _ _ is same flags k at) c.put_chosen.ensures.ok;
+          (λ k line at. put_grows c.args.script.now p c.args.label.now line c.args.bytes.now _ _ _ _ is same flags k at)
+          c.put_chosen.ensures.ok;
       stopped = if_err_weaker c.put_chosen.result _ _
-          (λ why k line at. put_stopped c.args.script.now p c.args.label.now line c.args.bytes.now _ _ _ _ why is same flags k at) c.put_chosen.ensures.stopped;
+          (λ why k line at. put_stopped c.args.script.now p c.args.label.now line c.args.bytes.now _ _ _ _ why is same
+          flags k at) c.put_chosen.ensures.stopped;
       serves = search rules;
       stays = c.put_chosen.ensures.stays;
     }

@@ -7,5 +7,7 @@ use Rattle.mlog_line.proofs.line_router.LineRouter.put_alike.Goals as goal
 pub returns-in-Everywhere-clause-hands : goal.returns-in-Everywhere-clause-hands
 returns-in-Everywhere-clause-hands g c =
     rw c.in-Everywhere.is
-    (subst (λ (p : Place). HandsText c.put_all_within.result p.tails c.put_all_within.new.tails.items (g.S.LogStore.state c.args.store.now)
-    (g.S.LogStore.state c.put_all_within.new.store) c.args.bytes.now (to_first (length p.tails))) c.self.view_is c.put_all_within.ensures)
+    (subst (λ (p : Place). HandsText c.put_all_within.result p.tails c.put_all_within.new.tails.items
+    (g.S.LogStore.state c.args.store.now)
+    (g.S.LogStore.state c.put_all_within.new.store) c.args.bytes.now (to_first (length p.tails))) c.self.view_is
+    c.put_all_within.ensures)

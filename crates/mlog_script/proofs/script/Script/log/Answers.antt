@@ -8,7 +8,8 @@ use Rattle.mlog_script.proofs.script.Script.log.Goals as goal
 
 pub returns-clause-there : goal.returns-clause-there
 returns-clause-there g c =
-    there (log_plans (map act c.actions.result.now)) c.args.log _ _ c.log_plan.ensures (length-log_plans (map act c.actions.result.now) ∙ ap (count_by is_log) c.actions.ensures.actions)
+    there (log_plans (map act c.actions.result.now)) c.args.log _ _ c.log_plan.ensures
+    (length-log_plans (map act c.actions.result.now) ∙ ap (count_by is_log) c.actions.ensures.actions)
 
 pub returns-clause-limits : goal.returns-clause-limits
 returns-clause-limits g c =

@@ -10,12 +10,15 @@ use Rattle.mlog_script.proofs.Maps.{list_any-map}
 use Rattle.mlog_script.proofs.script.Script.read.Goals as goal
 
 pub returns-clause-ok : goal.returns-clause-ok
-returns-clause-ok g c = c.in_ok-actions.ensures.ok ∙ sym (map-map (λ (action : Act). Ok action) act c.in_ok-actions.actions.items)
+returns-clause-ok g c = c.in_ok-actions.ensures.ok
+    ∙ sym (map-map (λ (action : Act). Ok action) act c.in_ok-actions.actions.items)
 
 pub invariant_of-result : goal.invariant_of-result
 invariant_of-result g c = (
   actions_within (texts c.args.words.now) (map act c.in_ok-actions.actions.items)
       (c.in_ok-actions.ensures.ok ∙ sym (map-map (λ (action : Act). Ok action) act c.in_ok-actions.actions.items)),
-  c.any_stamp-stamps.ensures ∙ sym (list_any-map is_stamp act c.deref.result.now) ∙ ap (λ (acts : List _). list_any is_stamp (map act acts)) c.deref.ensures.value,
-  c.any_pattern-has_patterns.ensures ∙ sym (list_any-map is_pattern act c.deref-2.result.now) ∙ ap (λ (acts : List _). list_any is_pattern (map act acts)) c.deref-2.ensures.value,
+  c.any_stamp-stamps.ensures ∙ sym (list_any-map is_stamp act c.deref.result.now)
+      ∙ ap (λ (acts : List _). list_any is_stamp (map act acts)) c.deref.ensures.value,
+  c.any_pattern-has_patterns.ensures ∙ sym (list_any-map is_pattern act c.deref-2.result.now)
+      ∙ ap (λ (acts : List _). list_any is_pattern (map act acts)) c.deref-2.ensures.value,
 )
