@@ -65,7 +65,17 @@ is 'the first minute: it is up' yes "$([ -n "$before" ] && echo yes)"
 dpkg -i after.deb >said 2>&1
 is 'upgraded' 0 "$?"
 is 'the service goes on' "$before" "$(pid)"
-is 'it says how' 1 "$(grep -c 'restart svscan-run' said)"
+is 'it says how' 1 "$(grep -c 'svc -q DIR/.svscan' said)"
+/usr/lib/dtools/bin/svc -q /service/.svscan
+wait "$runner"
+is 'so svscan ends' 0 "$?"
+is 'the service goes on without it' 0 "$(kill -0 "$before"; echo $?)"
+set -m
+/usr/lib/dtools/bin/svscan-run /service >printed 2>&1 &
+runner=$!
+set +m
+for _ in $(seq 100); do [ "$(pid)" = "$before" ] && break; sleep 0.1; done
+is 'the new svscan has it' "$before" "$(pid)"
 dpkg -r dtools >said 2>&1
 is 'it does not go while services run' 1 "$?"
 is 'it says why' 1 "$(grep -c 'services still run under svscan' said)"
