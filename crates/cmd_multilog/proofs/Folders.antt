@@ -306,7 +306,8 @@ removed_files (Some a) None first rest len h kept = absurd h
 removed_files (Some a) (Some b) first rest len h kept =
     let is = removed_olds a.olds first rest (kept.1) in
     subst (λ (f : Folder). Reaches (files_in a) (files_in f) (Remove ∷ [])) (sym h)
-    (elim (a.current) as (λ cur. Reaches (files_with a.olds cur) (files_with (without first a.olds) cur) (Remove ∷ [])) [
+    (elim (a.current) as (λ cur.
+    Reaches (files_with a.olds cur) (files_with (without first a.olds) cur) (Remove ∷ [])) [
       | None ↦ tt
       | Some bytes ↦ ap (λ (t : List Old). record { current = bytes; olds = t }) is
     ])

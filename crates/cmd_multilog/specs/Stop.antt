@@ -180,5 +180,6 @@ LosesNothing = (coming : Coming) → all_of coming
 
 -- A run that read all of a part handed out just that.
 abbrev pub RunsToALine : Type 0
-RunsToALine = (script : List Act) (coming : Coming) (old new : World) (counts : Counts) (ran : RunsAll script old new counts)
+RunsToALine = (script : List Act) (coming : Coming) (old new : World) (counts : Counts)
+    (ran : RunsAll script old new counts)
     → old.reader.bytes ≡ Some (given false coming) → IsRead new.reader → ran.bytes ≡ given false coming

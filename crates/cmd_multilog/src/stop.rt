@@ -45,8 +45,9 @@ pub trait LoggerInput {
         ensures err { OnErr result (coming self.new ≡ coming self.old) };
 }
 
-/// A reader of whole lines. Once it hears a word it reads the line in hand to its newline, byte by byte, and its part is
-/// at its end then. Behind a rotation the next part begins there; what comes behind a stop and that line is not read.
+/// A reader of whole lines. Once it hears a word it reads the line in hand to its newline, byte by byte, and its part
+/// is at its end then. Behind a rotation the next part begins there; what comes behind a stop and that line is not
+/// read.
 #[derive(Drop)]
 pub struct Stoppable<S: LoggerInput + Drop> {
     input: S,

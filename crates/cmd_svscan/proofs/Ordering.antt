@@ -1,5 +1,6 @@
 -- Names in byte order.
-use Rattle.std.proofs.Common.{◌≡◌, ℕ, ◌+◌, ◌<◌, List, [], ◌∷◌, ◌++◌, length, map, arith, subst, sym, ap, ◌∙◌, String, Option, Some, None, Result, Ok, Err, IfOk, IfSome}
+use Rattle.std.proofs.Common.{◌≡◌, ℕ, ◌+◌, ◌<◌, List, [], ◌∷◌, ◌++◌, length, map, arith, subst, sym, ap, ◌∙◌, String}
+use Rattle.std.proofs.Common.{Option, Some, None, Result, Ok, Err, IfOk, IfSome}
 use Rattle.std.proofs.lemmas.List.Elements.{All-push}
 use Rattle.scan_table.specs.Slots.{Row}
 use Rattle.cmd_svscan.specs.declared.rows.Entry.{Entry}
@@ -11,7 +12,8 @@ use Rattle.cmd_svscan.specs.Listing.{AreInOrder, AreAsSaid, row_of}
 pub in_order : {Z : Type 0} (names : List (String Z)) → IsSorted string_cmp names → AreInOrder (map string_bytes names)
 in_order [] h = λ k d low within. absurd (omega (arith, within))
 in_order {Z} (name ∷ names) h = λ k d low within.
-    let texts : length (map string_bytes (name ∷ names)) ≡ length (name ∷ names) = length-map (name ∷ names) string_bytes in
+    let texts : length (map string_bytes (name ∷ names)) ≡ length (name ∷ names) =
+    length-map (name ∷ names) string_bytes in
     let far : k + 1 < length (name ∷ names) = subst (λ (n : ℕ). k + 1 < n) texts within in
     let near : k < length (name ∷ names) = omega (arith, far) in
     let later = get_or-map string_bytes (name ∷ names) (k + 1) name d far in
@@ -19,13 +21,15 @@ in_order {Z} (name ∷ names) h = λ k d low within.
     rw (later, sooner) (h k name low far)
 
 -- what holds of a list holds of the one in a result that is equal to it
-pub if_ok-same : {T E : Type 0} (P : List (List ℕ) → Type 0) (f : T → List (List ℕ)) (r : Result T E) (names : List (List ℕ)) → IfOk r (λ rows. f rows ≡ names)
+pub if_ok-same : {T E : Type 0} (P : List (List ℕ) → Type 0) (f : T → List (List ℕ)) (r : Result T E)
+    (names : List (List ℕ)) → IfOk r (λ rows. f rows ≡ names)
     → P names → IfOk r (λ rows. P (f rows))
 if_ok-same P f (Ok rows) names h p = subst P (sym h) p
 if_ok-same P f (Err e) names h p = tt
 
 -- a row is as it was said
-pub row-said : (said : Option (List ℕ → Entry)) (name bytes : List ℕ) (entry : Entry) (row : Row) → row ≡ row_of name entry → bytes ≡ name
+pub row-said : (said : Option (List ℕ → Entry)) (name bytes : List ℕ) (entry : Entry) (row : Row)
+    → row ≡ row_of name entry → bytes ≡ name
     → IfSome said (λ s. entry ≡ s bytes) → IfSome said (λ s. row ≡ row_of row.name (s row.name))
 row-said None name bytes entry row is same h = tt
 row-said (Some s) name bytes entry row is same h =

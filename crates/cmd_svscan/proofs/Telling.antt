@@ -1,12 +1,14 @@
 -- Calls and lines, one after the other.
-use Rattle.std.proofs.Common.{ℕ, List, [], ◌∷◌, ◌++◌, Option, Some, None, refl, sym, ap, ◌∙◌, subst, append_assoc, append-nil}
+use Rattle.std.proofs.Common.{ℕ, List, [], ◌∷◌, ◌++◌, Option, Some, None, refl, sym, ap, ◌∙◌, subst, append_assoc}
+use Rattle.std.proofs.Common.{append-nil}
 use Rattle.tai_status.specs.Counted.{Device, Tells}
 use Rattle.cmd_svscan.specs.Calls.{Call}
 use Rattle.tai_status.specs.Extended.{Extended}
 use Rattle.cmd_svscan.specs.Rounds.{TellsAll}
 
 -- calls after calls
-pub extended-then : (a b c : Option (List Call)) (first rest : List Call) → Extended a b first → Extended b c rest → Extended a c (first ++ rest)
+pub extended-then : (a b c : Option (List Call)) (first rest : List Call) → Extended a b first → Extended b c rest
+    → Extended a c (first ++ rest)
 extended-then None b c first rest h k = tt
 extended-then (Some a) None c first rest h k = absurd h
 extended-then (Some a) (Some b) None first rest h k = absurd k
@@ -18,7 +20,8 @@ extended-none None = tt
 extended-none (Some a) = sym (append-nil a)
 
 -- lines after lines
-pub tells-then : (first rest : List (List ℕ)) (a b c : Device) → TellsAll first a b → TellsAll rest b c → TellsAll (first ++ rest) a c
+pub tells-then : (first rest : List (List ℕ)) (a b c : Device) → TellsAll first a b → TellsAll rest b c
+    → TellsAll (first ++ rest) a c
 tells-then [] rest a b c h k = subst (λ (d : Device). TellsAll rest d c) h k
 tells-then (line ∷ lines) rest a b c h k = (h.0, (h.1.0, tells-then lines rest h.0 b c h.1.1 k))
 

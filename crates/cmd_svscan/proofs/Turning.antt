@@ -1,5 +1,6 @@
 -- Rounds, one after the other.
-use Rattle.std.proofs.Common.{◌≡◌, ℕ, ◌+◌, ◌<◌, ◌≤◌, List, [], ◌∷◌, ◌++◌, length, flat_map, Option, Some, None, refl, sym, ap, ◌∙◌, subst, append-nil, arith, inl, inr, length-append}
+use Rattle.std.proofs.Common.{◌≡◌, ℕ, ◌+◌, ◌<◌, ◌≤◌, List, [], ◌∷◌, ◌++◌, length, flat_map, Option, Some, None, refl}
+use Rattle.std.proofs.Common.{sym, ap, ◌∙◌, subst, append-nil, arith, inl, inr, length-append}
 use Rattle.std.specs.Prelude.{All, IfSome, ◌-◌, map}
 use Rattle.std.proofs.lemmas.List.Elements.{All-push}
 use Rattle.std.proofs.lemmas.Grind.{flat_map-append}
@@ -11,8 +12,10 @@ use Rattle.cmd_svscan.specs.declared.orders.Order.{Order}
 use Rattle.std.proofs.lemmas.List.{map-append}
 use Rattle.tai_status.specs.Extended.{Extended}
 use Rattle.cmd_svscan.specs.declared.orders.Order.TheVariants as order
-use Rattle.cmd_svscan.specs.Rounds.{Effects, Round, GoesOn, Makes, Runs, EndsBy, TellsAll, Turn, IsFollowed, Rests, Leaves, EndsAll, Close, Ends, EndsAsTold, LeavesAsTold, effects}
-use Rattle.cmd_svscan.specs.Rounds.{calls_of, lines_of, calls_of_turn, lines_of_turn, calls_of_rest, calls_of_close, lines_of_close, remaining_told, unlogged_told}
+use Rattle.cmd_svscan.specs.Rounds.{Effects, Round, GoesOn, Makes, Runs, EndsBy, TellsAll, Turn, IsFollowed, Rests}
+use Rattle.cmd_svscan.specs.Rounds.{Leaves, EndsAll, Close, Ends, EndsAsTold, LeavesAsTold, effects}
+use Rattle.cmd_svscan.specs.Rounds.{calls_of, lines_of, calls_of_turn, lines_of_turn, calls_of_rest, calls_of_close}
+use Rattle.cmd_svscan.specs.Rounds.{lines_of_close, remaining_told, unlogged_told}
 use Rattle.cmd_svscan.proofs.Telling.{extended-then, extended-none, tells-then}
 
 -- how many rounds are left after so many
@@ -37,7 +40,8 @@ all_left None some = refl
 all_left (Some n) some = (some, omega arith)
 
 -- no round was made yet
-pub way_none : (folder : List ℕ) (limit : Option ℕ) (old : Effects) → IfSome limit (λ rounds. 0 < rounds) → IsUnderWay folder limit limit old old
+pub way_none : (folder : List ℕ) (limit : Option ℕ) (old : Effects) → IfSome limit (λ rounds. 0 < rounds)
+    → IsUnderWay folder limit limit old old
 way_none folder limit old some = record {
   turns = [];
   followed = (λ k d less. absurd (omega (arith, less)));
@@ -47,7 +51,8 @@ way_none folder limit old some = record {
 }
 
 -- one more round that goes on, and its rest
-pub way_more : (folder : List ℕ) (limit left after : Option ℕ) (old mid now new : Effects) (round : Round) → IsUnderWay folder limit left old mid
+pub way_more : (folder : List ℕ) (limit left after : Option ℕ) (old mid now new : Effects) (round : Round)
+    → IsUnderWay folder limit left old mid
     → Makes folder round mid now → GoesOn round → Rests order.Round now.calls new.calls → new.faults ≡ now.faults
     → ((count : ℕ) → IsLeft limit left count → IsLeft limit after (count + 1))
     → IsUnderWay folder limit after old new
@@ -56,17 +61,23 @@ way_more folder limit left after old mid now new round way makes on rests same l
     record {
       turns = way.turns ++ turn ∷ [];
       followed = All-push IsFollowed way.turns turn way.followed (on, rests.decides);
-      calls = subst (λ (l : List Call). Extended old.calls new.calls l) (sym (flat_map-push (calls_of_turn folder) way.turns turn))
-          (extended-then old.calls mid.calls new.calls _ _ way.calls (extended-then mid.calls now.calls new.calls _ _ makes.calls rests.calls));
+      calls = subst (λ (l : List Call). Extended old.calls new.calls l)
+          (sym (flat_map-push (calls_of_turn folder) way.turns turn))
+          (extended-then old.calls mid.calls new.calls _ _ way.calls
+          (extended-then mid.calls now.calls new.calls _ _ makes.calls rests.calls));
       told = subst (λ (d : Device). TellsAll (flat_map lines_of_turn (way.turns ++ turn ∷ [])) old.faults d) (sym same)
-          (subst (λ (l : List (List ℕ)). TellsAll l old.faults now.faults) (sym (flat_map-push lines_of_turn way.turns turn))
+          (subst (λ (l : List (List ℕ)). TellsAll l old.faults now.faults)
+          (sym (flat_map-push lines_of_turn way.turns turn))
           (tells-then _ _ old.faults mid.faults now.faults way.told makes.told));
-      left_is = subst (λ (n : ℕ). IsLeft limit after n) (sym (length-append way.turns (turn ∷ []))) (less (length way.turns) way.left_is);
+      left_is = subst (λ (n : ℕ). IsLeft limit after n) (sym (length-append way.turns (turn ∷ [])))
+          (less (length way.turns) way.left_is);
     }
 
 -- the last round, and the close
-pub way_closes : (folder : List ℕ) (limit left : Option ℕ) (status : ℕ) (old mid now new : Effects) (round : Round) (close : Close)
-    → (way : IsUnderWay folder limit left old mid) → Makes folder round mid now → Extended now.calls new.calls (calls_of_close close)
+pub way_closes : (folder : List ℕ) (limit left : Option ℕ) (status : ℕ) (old mid now new : Effects) (round : Round)
+    (close : Close)
+    → (way : IsUnderWay folder limit left old mid) → Makes folder round mid now
+    → Extended now.calls new.calls (calls_of_close close)
     → TellsAll (lines_of_close close) now.faults new.faults → EndsBy limit (length way.turns + 1) round close status
     → Runs folder limit status old new
 way_closes folder limit left status old mid now new round close way makes closed told ends = record {
@@ -74,8 +85,10 @@ way_closes folder limit left status old mid now new round close way makes closed
   last = round;
   close = close;
   followed = way.followed;
-  calls = extended-then old.calls mid.calls new.calls _ _ way.calls (extended-then mid.calls now.calls new.calls _ _ makes.calls closed);
-  told = tells-then _ _ old.faults mid.faults new.faults way.told (tells-then _ _ mid.faults now.faults new.faults makes.told told);
+  calls = extended-then old.calls mid.calls new.calls _ _ way.calls
+      (extended-then mid.calls now.calls new.calls _ _ makes.calls closed);
+  told = tells-then _ _ old.faults mid.faults new.faults way.told
+      (tells-then _ _ mid.faults now.faults new.faults makes.told told);
   ends = ends;
 }
 
@@ -85,10 +98,12 @@ within (Some n) None count is = absurd is
 within (Some n) (Some m) count is = omega arith
 
 -- the last round does not go on
-pub way_fails : (folder : List ℕ) (limit left : Option ℕ) (old mid now new : Effects) (round : Round) → IsUnderWay folder limit left old mid
+pub way_fails : (folder : List ℕ) (limit left : Option ℕ) (old mid now new : Effects) (round : Round)
+    → IsUnderWay folder limit left old mid
     → Makes folder round mid now → (GoesOn round → ⊥) → EndsAll now new → Runs folder limit 111 old new
 way_fails folder limit left old mid now new round way makes off ended =
-    way_closes folder limit left 111 old mid now new round (Ends ended.left ended.unlogged) way makes ended.calls ended.told
+    way_closes folder limit left 111 old mid now new round (Ends ended.left ended.unlogged) way makes ended.calls
+    ended.told
     (inr (refl, off, within limit left (length way.turns) way.left_is))
 
 last : (limit : Option ℕ) (count : ℕ) → IsLeft limit (Some 1) count → limit ≡ Some (count + 1)
@@ -96,25 +111,32 @@ last None count is = absurd cc
 last (Some n) count is = let e : n ≡ count + 1 = omega arith in ap Some e
 
 -- it was the last round that was asked for
-pub way_done : (folder : List ℕ) (limit : Option ℕ) (old mid now new : Effects) (round : Round) → IsUnderWay folder limit (Some 1) old mid
+pub way_done : (folder : List ℕ) (limit : Option ℕ) (old mid now new : Effects) (round : Round)
+    → IsUnderWay folder limit (Some 1) old mid
     → Makes folder round mid now → GoesOn round → EndsAll now new → Runs folder limit 0 old new
 way_done folder limit old mid now new round way makes on ended =
-    way_closes folder limit (Some 1) 0 old mid now new round (Ends ended.left ended.unlogged) way makes ended.calls ended.told
+    way_closes folder limit (Some 1) 0 old mid now new round (Ends ended.left ended.unlogged) way makes ended.calls
+    ended.told
     (inl (refl, on, last limit (length way.turns) way.left_is))
 
 -- the end of all was asked for in the rest
-pub way_told : (folder : List ℕ) (limit left : Option ℕ) (old mid now rested new : Effects) (round : Round) → IsUnderWay folder limit left old mid
-    → Makes folder round mid now → GoesOn round → Rests order.End now.calls rested.calls → rested.faults ≡ now.faults → EndsAll rested new
+pub way_told : (folder : List ℕ) (limit left : Option ℕ) (old mid now rested new : Effects) (round : Round)
+    → IsUnderWay folder limit left old mid
+    → Makes folder round mid now → GoesOn round → Rests order.End now.calls rested.calls → rested.faults ≡ now.faults
+    → EndsAll rested new
     → Runs folder limit 0 old new
 way_told folder limit left old mid now rested new round way makes on rests same ended =
     way_closes folder limit left 0 old mid now new round (EndsAsTold rests.rest ended.left ended.unlogged) way makes
     (extended-then now.calls rested.calls new.calls _ _ rests.calls ended.calls)
-    (subst (λ (d : Device). TellsAll (lines_of_close (EndsAsTold rests.rest ended.left ended.unlogged)) d new.faults) same ended.told)
+    (subst (λ (d : Device). TellsAll (lines_of_close (EndsAsTold rests.rest ended.left ended.unlogged)) d new.faults)
+    same ended.told)
     (refl, on, rests.decides)
 
 -- svscan's own end was asked for in the rest
-pub way_left : (folder : List ℕ) (limit left : Option ℕ) (old mid now rested new : Effects) (round : Round) → IsUnderWay folder limit left old mid
-    → Makes folder round mid now → GoesOn round → Rests order.Leave now.calls rested.calls → rested.faults ≡ now.faults → Leaves rested new
+pub way_left : (folder : List ℕ) (limit left : Option ℕ) (old mid now rested new : Effects) (round : Round)
+    → IsUnderWay folder limit left old mid
+    → Makes folder round mid now → GoesOn round → Rests order.Leave now.calls rested.calls → rested.faults ≡ now.faults
+    → Leaves rested new
     → Runs folder limit 0 old new
 way_left folder limit left old mid now rested new round way makes on rests same leaves =
     way_closes folder limit left 0 old mid now new round (LeavesAsTold rests.rest leaves.unlogged) way makes
@@ -123,7 +145,8 @@ way_left folder limit left old mid now rested new round way makes on rests same 
     (refl, on, rests.decides)
 
 -- one round less is left
-pub left-less : (limit : Option ℕ) (m : ℕ) → (m ≡ 1 → ⊥) → (count : ℕ) → IsLeft limit (Some m) count → IsLeft limit (Some (m - 1)) (count + 1)
+pub left-less : (limit : Option ℕ) (m : ℕ) → (m ≡ 1 → ⊥) → (count : ℕ) → IsLeft limit (Some m) count
+    → IsLeft limit (Some (m - 1)) (count + 1)
 left-less None m more count is = absurd cc
 left-less (Some n) m more count is = (omega arith, omega arith)
 
@@ -139,7 +162,8 @@ less-some limit left after m is is_after more count h =
     (left-less limit m more count (subst (λ (o : Option ℕ). IsLeft limit o count) is h))
 
 -- there is no end
-pub less-none : (limit left after : Option ℕ) → left ≡ None → after ≡ left → (count : ℕ) → IsLeft limit left count → IsLeft limit after (count + 1)
+pub less-none : (limit left after : Option ℕ) → left ≡ None → after ≡ left → (count : ℕ) → IsLeft limit left count
+    → IsLeft limit after (count + 1)
 less-none limit left after is same count h =
     subst (λ (o : Option ℕ). IsLeft limit o (count + 1)) (sym (same ∙ is))
     (left-none limit count (subst (λ (o : Option ℕ). IsLeft limit o count) is h))
@@ -156,9 +180,15 @@ pub record HasPassed (old now : Option (List Call)) : Type 0 where
   pub calls : Extended old now (map heard_byte passed)
 
 pub passed-none : (old : Option (List Call)) → HasPassed old old
-passed-none old = record { passed = []; nothing = (λ k d less. absurd (omega (arith, less))); calls = extended-none old }
+passed-none old = record {
+  passed = [];
+  nothing = (λ k d less. absurd (omega (arith, less)));
+  calls =
+      extended-none old;
+}
 
-pub passed-more : (old mid new : Option (List Call)) (byte : ℕ) → HasPassed old mid → Extended mid new (Heard (Some byte) ∷ [])
+pub passed-more : (old mid new : Option (List Call)) (byte : ℕ) → HasPassed old mid
+    → Extended mid new (Heard (Some byte) ∷ [])
     → order_of byte ≡ None → HasPassed old new
 passed-more old mid new byte so_far heard is = record {
   passed = so_far.passed ++ byte ∷ [];
@@ -189,22 +219,27 @@ pub record IsEnding (old now : Effects) : Type 0 where
 pub ending-none : (old : Effects) → IsEnding old old
 ending-none old = record { left = []; calls = extended-none old.calls; told = refl }
 
-pub ending-more : (old mid new : Effects) (some : List Remaining) → IsEnding old mid → Extended mid.calls new.calls (Ended (Some some) ∷ [])
+pub ending-more : (old mid new : Effects) (some : List Remaining) → IsEnding old mid
+    → Extended mid.calls new.calls (Ended (Some some) ∷ [])
     → TellsAll (map remaining_told some) mid.faults new.faults → IsEnding old new
 ending-more old mid new some so_far ended told = record {
   left = so_far.left ++ some ∷ [];
-  calls = subst (λ (l : List Call). Extended old.calls new.calls l) (sym (map-append still_left so_far.left (some ∷ [])))
+  calls = subst (λ (l : List Call). Extended old.calls new.calls l)
+      (sym (map-append still_left so_far.left (some ∷ [])))
       (extended-then old.calls mid.calls new.calls _ _ so_far.calls ended);
-  told = subst (λ (l : List (List ℕ)). TellsAll l old.faults new.faults) (sym (flat_map-push (map remaining_told) so_far.left some))
+  told = subst (λ (l : List (List ℕ)). TellsAll l old.faults new.faults)
+      (sym (flat_map-push (map remaining_told) so_far.left some))
       (tells-then _ _ old.faults mid.faults new.faults so_far.told told);
 }
 
-pub ending-ends : (old mid now new : Effects) → IsEnding old mid → Extended mid.calls now.calls (Ended None ∷ []) → now.faults ≡ mid.faults
+pub ending-ends : (old mid now new : Effects) → IsEnding old mid → Extended mid.calls now.calls (Ended None ∷ [])
+    → now.faults ≡ mid.faults
     → Leaves now new → EndsAll old new
 ending-ends old mid now new so_far ended same leaves = record {
   left = so_far.left;
   unlogged = leaves.unlogged;
-  calls = extended-then old.calls mid.calls new.calls _ _ so_far.calls (extended-then mid.calls now.calls new.calls _ _ ended leaves.calls);
+  calls = extended-then old.calls mid.calls new.calls _ _ so_far.calls
+      (extended-then mid.calls now.calls new.calls _ _ ended leaves.calls);
   told = tells-then _ _ old.faults mid.faults new.faults so_far.told
       (subst (λ (d : Device). TellsAll (map unlogged_told leaves.unlogged) d new.faults) same leaves.told);
 }

@@ -29,7 +29,8 @@ pub record Effects : Type 0 where
 abbrev pub effects : (calls : Option (List Call)) (faults : Device) → Effects
 effects calls faults = record { calls = calls; faults = faults }
 
--- A round: the folder was not listed; its rows were scanned, with what could not be done; or the scan of its rows failed.
+-- A round: the folder was not listed; its rows were scanned, with what could not be done; or the scan of its rows
+-- failed.
 pub data Round : Type 0 where
   Unlisted : (fault : ListFault) → Round
   Scan : (rows : List Row) → (out : RoundOut) → Round
@@ -150,8 +151,9 @@ not_logged count = codes ": " ++ (decimal count ++ (codes " bytes were not logge
 abbrev pub unlogged_told : Unlogged → List ℕ
 unlogged_told unlogged = name_told (not_logged unlogged.count) unlogged.name
 
--- How a run closes behind its last round: all services are ended, and meanwhile these still ran each five seconds; or that
--- was asked for in a rest; or svscan's own end was. In the end it leaves the services, and these bytes were not logged.
+-- How a run closes behind its last round: all services are ended, and meanwhile these still ran each five seconds; or
+-- that was asked for in a rest; or svscan's own end was. In the end it leaves the services, and these bytes were not
+-- logged.
 pub data Close : Type 0 where
   Ends : (left : List (List Remaining)) → (unlogged : List Unlogged) → Close
   EndsAsTold : (rest : Rest) → (left : List (List Remaining)) → (unlogged : List Unlogged) → Close
@@ -192,8 +194,8 @@ pub record EndsAll (old new : Effects) : Type 0 where
   pub calls : Extended old.calls new.calls (calls_of_end left unlogged)
   pub told : TellsAll (lines_of_end left unlogged) old.faults new.faults
 
--- How it ends with its last round, of so many in all: with status 0 after as many as were asked for, or as it was told in
--- the rest behind it; or with status 111, where that round doesn't go on.
+-- How it ends with its last round, of so many in all: with status 0 after as many as were asked for, or as it was told
+-- in the rest behind it; or with status 111, where that round doesn't go on.
 abbrev pub EndsBy : (limit : Option ℕ) (count : ℕ) (last : Round) (close : Close) (status : ℕ) → Type 0
 EndsBy limit count last (Ends left unlogged) status =
     ((status ≡ 0) × GoesOn last × (limit ≡ Some count))

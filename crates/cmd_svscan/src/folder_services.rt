@@ -469,7 +469,8 @@ fn try_leave<M: FolderHolder + Drop, R: Threads + Wait + Clock + Copy + Drop + S
     }
 }
 
-/// Does what is requested. The host is made at the beginning, or where that fails at the first round for which it can be.
+/// Does what is requested. The host is made at the beginning, or where that fails at the first round for which it can
+/// be.
 pub fn handle<R>(
     rt: R,
     files: HostRuntime,

@@ -2,9 +2,11 @@
 ghost use Rattle.std.specs.Prelude.{◌≡◌, ◌<◌, ◌++◌, ◌∷◌, [], ℕ, map, true, false, IfSome};
 ghost use Rattle.tai_status.specs.Counted.{Tells};
 ghost use Rattle.tai_status.specs.Extended.{Extended};
-ghost use Rattle.cmd_svscan.specs.Rounds.{effects, kind_name, name_told, not_taken, unlisted, untaken_told, lines_of_out};
+ghost use Rattle.cmd_svscan.specs.Rounds.{effects, kind_name, name_told, not_taken, unlisted, untaken_told};
+ghost use Rattle.cmd_svscan.specs.Rounds.{lines_of_out};
 ghost use Rattle.cmd_svscan.specs.Rounds.{lines_of_begun, not_logged, remaining_told, still_runs, unlogged_told};
-ghost use Rattle.cmd_svscan.specs.Rounds.{BeginsAndRuns, EndsAll, Leaves, Rests, Runs, SvscanEnds, TakesRound, TellsAll};
+ghost use Rattle.cmd_svscan.specs.Rounds.{BeginsAndRuns, EndsAll, Leaves, Rests, Runs, SvscanEnds, TakesRound};
+ghost use Rattle.cmd_svscan.specs.Rounds.{TellsAll};
 
 use crate::orders::{Order, order_of};
 use crate::service_set::{Begun, ListFault, Remaining, RoundOut, ServiceSet, Unlogged, Untaken};
@@ -290,21 +292,21 @@ fn begin_and_run<R: Wait, K: ServiceSet, E: Write>(
 
 /// The command `svscan [DIR [N]]`: keeps the services of DIR, or of the folder that it is in, running
 /// (<https://cr.yp.to/daemontools/svscan.html>). Each round lists the folder and scans its rows; five seconds lie
-/// between two rounds. It is served itself, in the folder `.svscan` there, and of its control bytes `a` asks for a round
-/// now, `x` for the end of all services, in order, and `q` for its own end, at which the services run on; the first of
-/// these two counts. With N, which is 1 to 4294967295 without leading zeros, it ends all services after N rounds; else it
-/// doesn't come back, unless by these two or a fault.
+/// between two rounds. It is served itself, in the folder `.svscan` there, and of its control bytes `a` asks for a
+/// round now, `x` for the end of all services, in order, and `q` for its own end, at which the services run on; the
+/// first of these two counts. With N, which is 1 to 4294967295 without leading zeros, it ends all services after N
+/// rounds; else it doesn't come back, unless by these two or a fault.
 ///
 /// Told on `faults`: `svscan: unable to lock DIR`, where another svscan has the folder; `svscan: .svscan: unable to
-/// supervise`, where it can't be served itself; `svscan: unable to list`, where the folder or a name in it can't be read,
-/// and `svscan: OutOfMemory` of want of memory: the round does nothing more, and the next one tries again; `svscan: NAME:
-/// N bytes were not taken` of control bytes that came to a service which ended without them, and `svscan: NAME: unable to
-/// write the trace` of one whose last trace is not whole; `svscan: NAME: TooMany` of each name that gets no service,
-/// `svscan: NAME: unable to lock` of each that another svscan has, and `svscan: NAME: unable to supervise` of each other
-/// one that a round could not begin; `svscan: KIND` of another fault of the scan, which ends all services; `svscan: NAME:
-/// process PID still runs`, each five seconds, of what does not end; `svscan: NAME: N bytes were not logged`, of lines that
-/// did not reach their logger. Answers the status: 0; 111 after such a fault, and where another svscan has the folder; 100
-/// for wrong words: then nothing is asked of the system.
+/// supervise`, where it can't be served itself; `svscan: unable to list`, where the folder or a name in it can't be
+/// read, and `svscan: OutOfMemory` of want of memory: the round does nothing more, and the next one tries again;
+/// `svscan: NAME: N bytes were not taken` of control bytes that came to a service which ended without them, and
+/// `svscan: NAME: unable to write the trace` of one whose last trace is not whole; `svscan: NAME: TooMany` of each name
+/// that gets no service, `svscan: NAME: unable to lock` of each that another svscan has, and `svscan: NAME: unable to
+/// supervise` of each other one that a round could not begin; `svscan: KIND` of another fault of the scan, which ends
+/// all services; `svscan: NAME: process PID still runs`, each five seconds, of what does not end; `svscan: NAME: N
+/// bytes were not logged`, of lines that did not reach their logger. Answers the status: 0; 111 after such a fault, and
+/// where another svscan has the folder; 100 for wrong words: then nothing is asked of the system.
 pub fn run_svscan<R: Wait, K: ServiceSet, E: Write>(
     rt: &R,
     services: &mut K,

@@ -111,7 +111,8 @@ pub trait ServiceSet {
     fn end(&mut self) -> Option<Vec<Remaining>>
         requires { ready self.old }
         ensures ready { ready self.new }
-        ensures ended { Extended (calls self.old) (calls self.new) (Ended (option_map (λ left. left.items) result) ∷ []) };
+        ensures ended { Extended (calls self.old) (calls self.new)
+            (Ended (option_map (λ left. left.items) result) ∷ []) };
 
     /// The services are left: what was read of their outputs is given to their loggers first, for five seconds at most.
     /// svscan itself is served no more. Answers what was not logged.

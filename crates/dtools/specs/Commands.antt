@@ -115,8 +115,8 @@ Prints end words status old new =
 -- `why` read the clock that is among the devices, only `envdir` starts a command, only `multilog` keeps logs and reads
 -- the input of a logger, only `svc`, `svstat`, `svok`, `why` and `wait` ask services, only `wait` has a pace, and only
 -- `svscan` keeps services running.
-pub record CommandEnds (name : List ℕ) (words : List (List ℕ)) (status : ℕ) (system : System) (before after : CallsSoFar)
-    (old new : Equipment) : Type 0 where
+pub record CommandEnds (name : List ℕ) (words : List (List ℕ)) (status : ℕ) (system : System)
+    (before after : CallsSoFar) (old new : Equipment) : Type 0 where
   pub unknown : NamesNoCommand name → RefusesWords status old.console new.console
   pub sim : name ≡ codes "sim" → SimEnds words status old.console new.console
   pub tai64n : name ≡ codes "tai64n" → StampsEnd words status old.readings new.readings old.console new.console

@@ -129,8 +129,8 @@ fn drops_before_it_counts(rt: HostRuntime) -> Result<(), Fail> {
     Ok(())
 }
 
-/// A scan that starts, restarts and drops, and a copy of the table. Where a growth is refused nothing has changed, and the same scan with memory
-/// answers as if the refused one had not been.
+/// A scan that starts, restarts and drops, and a copy of the table. Where a growth is refused nothing has changed, and
+/// the same scan with memory answers as if the refused one had not been.
 fn scanning(memory: &Scarce<Global>, growths: u64) -> Result<bool, Fail> {
     let mut table = ScanTable::new(memory, 0)?;
     table.scan(rows(memory, &[("dl", "a"), ("d", "b")])?.as_slice())?;

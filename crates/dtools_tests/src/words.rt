@@ -50,8 +50,8 @@ fn each_growth_of_words_and_lines_is_refused_in_turn(rt: HostRuntime) -> Result<
     refuse_in_turn(rt.alloc(), telling)
 }
 
-/// Records of 18 bytes, by hand: the second, the process, whether it is paused, what is wanted; whether it is normally up,
-/// the second of the look, and the line.
+/// Records of 18 bytes, by hand: the second, the process, whether it is paused, what is wanted; whether it is normally
+/// up, the second of the look, and the line.
 const LINES: [(u64, u32, bool, Want, bool, u64, &str); 3] = [
     (
         1,

@@ -45,7 +45,8 @@ left_by-without : (counted : List File) (env : List Binding) (name : List ℕ) �
 left_by-without counted [] name again = refl
 left_by-without counted (variable ∷ env) name again =
     elim (bytes_eq variable.name name) as (λ b. bytes_eq variable.name name ≡ b →
-    left_by counted (cond (not b) (variable ∷ without env name) (without env name)) ≡ left_by counted (variable ∷ env)) [
+    left_by counted (cond (not b) (variable ∷ without env name) (without env name))
+    ≡ left_by counted (variable ∷ env)) [
       | true ↦ λ is.
           let taken : has_file counted variable.name ≡ true = ap (has_file counted) (same variable.name name is)
           ∙ again in

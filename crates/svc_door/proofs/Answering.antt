@@ -1,5 +1,6 @@
 -- What a read's answer tells fits what the read did.
-use Rattle.std.proofs.Common.{◌≡◌, ℕ, zero, suc, ◌<◌, List, [], length, take, Option, None, Some, Ok, Err, Result, IfOk, refl, sym, subst, arith}
+use Rattle.std.proofs.Common.{◌≡◌, ℕ, zero, suc, ◌<◌, List, [], length, take, Option, None, Some, Ok, Err, Result, IfOk}
+use Rattle.std.proofs.Common.{refl, sym, subst, arith}
 use Rattle.std.proofs.Math.Dec.{eqb-suc-zero}
 use Rattle.std.specs.declared.io.ErrorKind.{ErrorKind}
 use Rattle.std.specs.declared.io.ErrorKind.TheVariants.{Interrupted, WouldBlock}
@@ -18,7 +19,8 @@ Consumes-nothing None new k = tt
 Consumes-nothing (Some xs) None k = absurd k
 Consumes-nothing (Some xs) (Some ys) k = sym k
 
-heard-fault : (kind : ErrorKind) (old mid new : Option (List ℕ)) (heard : Heard) (into : List ℕ) → Keeps old mid → Keeps mid new
+heard-fault : (kind : ErrorKind) (old mid new : Option (List ℕ)) (heard : Heard) (into : List ℕ) → Keeps old mid
+    → Keeps mid new
     → heard_at kind ≡ Some heard → Hears old new heard into
 heard-fault Interrupted old mid new heard into k l is = absurd cc
 heard-fault WouldBlock old mid new heard into k l is =
@@ -38,5 +40,10 @@ heard-of (Ok zero) old mid new heard into k room within read is =
     (Keeps-then old mid new k (Consumes-nothing mid new read.0), read.1 refl room)
 heard-of (Ok (suc count)) old mid new heard into k room within read is =
     let same : Bytes (suc count) ≡ heard = cc (eqb-suc-zero count) in
-    subst (λ h. Hears old new h into) same (omega arith, within.0, Keeps-Consumes old mid new (take (suc count) into) k read.0)
-heard-of (Err fault) old mid new heard into k room within read is = heard-fault (error_kind fault) old mid new heard into k read is
+    subst (λ h. Hears old new h into) same (
+      omega arith,
+      within.0,
+      Keeps-Consumes old mid new (take (suc count) into) k read.0,
+    )
+heard-of (Err fault) old mid new heard into k room within read is =
+    heard-fault (error_kind fault) old mid new heard into k read is

@@ -1,5 +1,6 @@
 -- A connection goes on: a byte is posted, bytes are read, or none are.
-use Rattle.std.proofs.Common.{◌≡◌, ℕ, ◌+◌, ◌<◌, ◌≤◌, List, [], ◌∷◌, ◌++◌, length, take, drop, slice_index, Option, refl, sym, ap, ◌∙◌, subst, append_assoc, append-nil, add-one, arith, length-append}
+use Rattle.std.proofs.Common.{◌≡◌, ℕ, ◌+◌, ◌<◌, ◌≤◌, List, [], ◌∷◌, ◌++◌, length, take, drop, slice_index, Option, refl}
+use Rattle.std.proofs.Common.{sym, ap, ◌∙◌, subst, append_assoc, append-nil, add-one, arith, length-append}
 use Rattle.std.proofs.Math.Seq.{drop-cons}
 use Rattle.std.specs.List.{concat}
 use Rattle.std.specs.Io.KnownBytes.{Consumes}
@@ -20,13 +21,21 @@ kept-some piece from to less within = simp (length-drop, length-take-le to piece
 
 -- nothing was read or posted
 pub GoesOn-same : (v : ConnectionState) → v.taken ≤ 4096 → GoesOn [] v v
-GoesOn-same v most = record { read = []; gives = Consumes-none v.left; count = omega arith; most = most; order = sym (append-nil v.kept) }
+GoesOn-same v most = record {
+  read = [];
+  gives = Consumes-none v.left;
+  count = omega arith;
+  most = most;
+  order =
+      sym (append-nil v.kept);
+}
 
 pub Posts-same : (a : List ℕ) (v : ConnectionState) → v.taken ≤ 4096 → Posts a a v v
 Posts-same a v most = record { posted = []; accepts = sym (append-nil a); on = GoesOn-same v most }
 
 -- the first byte that was kept was posted
-pub Posts-one : (a b c : List ℕ) (u v w : ConnectionState) (byte : ℕ) → Posts a b u v → w.left ≡ v.left → w.taken ≡ v.taken
+pub Posts-one : (a b c : List ℕ) (u v w : ConnectionState) (byte : ℕ) → Posts a b u v → w.left ≡ v.left
+    → w.taken ≡ v.taken
     → c ≡ b ++ byte ∷ [] → v.kept ≡ byte ∷ w.kept → Posts a c u w
 Posts-one a b c u v w byte p left taken accepts kept = record {
   posted = p.posted ++ byte ∷ [];
@@ -41,7 +50,8 @@ Posts-one a b c u v w byte p left taken accepts kept = record {
 }
 
 -- bytes were read, with nothing kept
-pub Posts-read : (a : List ℕ) (u w : ConnectionState) → u.kept ≡ [] → Consumes u.left w.left w.kept → w.taken ≡ u.taken + length w.kept
+pub Posts-read : (a : List ℕ) (u w : ConnectionState) → u.kept ≡ [] → Consumes u.left w.left w.kept
+    → w.taken ≡ u.taken + length w.kept
     → w.taken ≤ 4096 → Posts a a u w
 Posts-read a u w none gives count most = record {
   posted = [];
@@ -59,28 +69,34 @@ Posts-then a b c u v w p q = record {
     gives = Consumes-then u.left v.left w.left p.on.read q.on.read p.on.gives q.on.gives;
     count = omega (arith, p.on.count, q.on.count, length-append p.on.read q.on.read);
     most = q.on.most;
-    order = append_assoc p.posted q.posted w.kept ∙ ap (λ l. p.posted ++ l) q.on.order ∙ sym (append_assoc p.posted v.kept q.on.read)
+    order = append_assoc p.posted q.posted w.kept ∙ ap (λ l. p.posted ++ l) q.on.order
+        ∙ sym (append_assoc p.posted v.kept q.on.read)
         ∙ ap (λ l. l ++ q.on.read) p.on.order ∙ append_assoc u.kept p.on.read q.on.read;
   };
 }
 
 -- Over turns
 
-posted-then : (opening : Option (List ℕ)) (posted more : List ℕ) (v w : ConnectionState) → HasPosted opening posted v → GoesOn more v w
+posted-then : (opening : Option (List ℕ)) (posted more : List ℕ) (v w : ConnectionState) → HasPosted opening posted v
+    → GoesOn more v w
     → HasPosted opening (posted ++ more) w
 posted-then opening posted more v w h g =
     let same : (posted ++ more) ++ w.kept ≡ (posted ++ v.kept) ++ g.read =
     append_assoc posted more w.kept ∙ ap (λ l. posted ++ l) g.order ∙ sym (append_assoc posted v.kept g.read) in
     record {
-      gives = subst (λ l. Consumes opening w.left l) (sym same) (Consumes-then opening v.left w.left (posted ++ v.kept) g.read h.gives g.gives);
+      gives = subst (λ l. Consumes opening w.left l) (sym same)
+          (Consumes-then opening v.left w.left (posted ++ v.kept) g.read h.gives g.gives);
       count = ap length same ∙ (omega (arith, length-append (posted ++ v.kept) g.read, h.count, g.count));
       most = g.most;
     }
 
-pub posted-along : (opening : Option (List ℕ)) (posted : List ℕ) (turns : List (List ℕ)) (first last : ConnectionState) → HasPosted opening posted first
+pub posted-along : (opening : Option (List ℕ)) (posted : List ℕ) (turns : List (List ℕ)) (first last : ConnectionState)
+    → HasPosted opening posted first
     → GoesOnAlong turns first last → HasPosted opening (posted ++ concat turns) last
 posted-along opening posted [] first last h is =
-    subst (λ v. HasPosted opening (posted ++ []) v) (sym is) (subst (λ l. HasPosted opening l first) (sym (append-nil posted)) h)
+    subst (λ v. HasPosted opening (posted ++ []) v) (sym is)
+    (subst (λ l. HasPosted opening l first) (sym (append-nil posted)) h)
 posted-along opening posted (more ∷ later) first last h on =
-    let next = posted-along opening (posted ++ more) later on.0 last (posted-then opening posted more first on.0 h on.1) on.2 in
+    let next = posted-along opening (posted ++ more) later on.0 last (posted-then opening posted more first on.0 h on.1)
+    on.2 in
     subst (λ l. HasPosted opening l last) (append_assoc posted more (concat later)) next

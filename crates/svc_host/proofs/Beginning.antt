@@ -1,5 +1,6 @@
 -- Parts that are begun, one after the other.
-use Rattle.std.proofs.Common.{◌≡◌, ℕ, zero, suc, ◌+◌, ◌<◌, Bool, true, false, inl, inr, List, [], ◌∷◌, ◌++◌, length, map, refl, sym, ap, ◌∙◌, subst, arith, slice_index_or, length-append, append_assoc}
+use Rattle.std.proofs.Common.{◌≡◌, ℕ, zero, suc, ◌+◌, ◌<◌, Bool, true, false, inl, inr, List, [], ◌∷◌, ◌++◌, length}
+use Rattle.std.proofs.Common.{map, refl, sym, ap, ◌∙◌, subst, arith, slice_index_or, length-append, append_assoc}
 use Rattle.std.specs.Prelude.{not}
 use Rattle.std.proofs.lemmas.List.Elements.{All-append}
 use Rattle.std.proofs.lemmas.List.{append-nil, map-append}
@@ -11,14 +12,16 @@ use Rattle.svc_host.specs.Begun.{Begins}
 use Rattle.svc_host.specs.Rounds.{AreBegun, IsBegunOne, IsParted, chosen}
 
 module _ {A : Type 0} where
-  chosen_yes : (flags : List Bool) (xs : List A) (x : A) → length flags ≡ length xs → chosen (flags ++ true ∷ []) (xs ++ x ∷ []) ≡ chosen flags xs ++ x ∷ []
+  chosen_yes : (flags : List Bool) (xs : List A) (x : A) → length flags ≡ length xs
+      → chosen (flags ++ true ∷ []) (xs ++ x ∷ []) ≡ chosen flags xs ++ x ∷ []
   chosen_yes [] [] x same = refl
   chosen_yes [] (y ∷ ys) x same = absurd (omega (arith, same))
   chosen_yes (flag ∷ flags) [] x same = absurd (omega (arith, same))
   chosen_yes (true ∷ flags) (y ∷ ys) x same = ap (λ l. y ∷ l) (chosen_yes flags ys x (omega (arith, same)))
   chosen_yes (false ∷ flags) (y ∷ ys) x same = chosen_yes flags ys x (omega (arith, same))
 
-  chosen_no : (flags : List Bool) (xs : List A) (x : A) → length flags ≡ length xs → chosen (flags ++ false ∷ []) (xs ++ x ∷ []) ≡ chosen flags xs
+  chosen_no : (flags : List Bool) (xs : List A) (x : A) → length flags ≡ length xs
+      → chosen (flags ++ false ∷ []) (xs ++ x ∷ []) ≡ chosen flags xs
   chosen_no [] [] x same = refl
   chosen_no [] (y ∷ ys) x same = absurd (omega (arith, same))
   chosen_no (flag ∷ flags) [] x same = absurd (omega (arith, same))
@@ -33,7 +36,8 @@ nots_length : (flags : List Bool) → length (map not flags) ≡ length flags
 nots_length [] = refl
 nots_length (flag ∷ flags) = ap suc (nots_length flags)
 
-one_longer : {A : Type 0} {B : Type 0} (xs : List A) (x : A) (ys : List B) (y : B) → length xs ≡ length ys → length (xs ++ x ∷ []) ≡ length (ys ++ y ∷ [])
+one_longer : {A : Type 0} {B : Type 0} (xs : List A) (x : A) (ys : List B) (y : B) → length xs ≡ length ys
+    → length (xs ++ x ∷ []) ≡ length (ys ++ y ∷ [])
 one_longer xs x ys y same = length-append xs (x ∷ []) ∙ ap (λ n. n + 1) same ∙ sym (length-append ys (y ∷ []))
 
 module _ {A : Type 0} (all ones others : List A) (x : A) (parted : IsParted all ones others) where
@@ -61,7 +65,8 @@ module _ {A : Type 0} (all ones others : List A) (x : A) (parted : IsParted all 
 abbrev id_of : HostPart → PartId
 id_of part = part.id
 
-pub begun_none : (slots : List SlotState) (rows : List Row) (label : Tai64n) (parts : List HostPart) → AreBegun slots rows label [] parts parts []
+pub begun_none : (slots : List SlotState) (rows : List Row) (label : Tai64n) (parts : List HostPart)
+    → AreBegun slots rows label [] parts parts []
 begun_none slots rows label parts =
     record {
       begun = [];
@@ -70,7 +75,8 @@ begun_none slots rows label parts =
       parted = record { flags = []; each = refl; set = refl; not_set = refl };
     }
 
-module _ (slots : List SlotState) (rows : List Row) (label : Tai64n) (done : List PartId) (id : PartId) (old mid : List HostPart)
+module _ (slots : List SlotState) (rows : List Row) (label : Tai64n) (done : List PartId) (id : PartId)
+    (old mid : List HostPart)
     (failed : List PartId) (before : AreBegun slots rows label done old mid failed) where
   pub begun_more : (part : HostPart) → Begins slots rows label part → part.id ≡ id
       → AreBegun slots rows label (done ++ id ∷ []) old (mid ++ part ∷ []) failed
@@ -101,13 +107,15 @@ module _ (slots : List SlotState) (rows : List Row) (label : Tai64n) (done : Lis
       → AreBegun slots rows label (done ++ id ∷ []) old news new
   next_begun news new (inl more) =
       subst (λ f. AreBegun slots rows label (done ++ id ∷ []) old news f) (sym more.4)
-      (subst (λ s. AreBegun slots rows label (done ++ id ∷ []) old s failed) (sym more.3) (begun_more more.0 more.2 more.1))
+      (subst (λ s. AreBegun slots rows label (done ++ id ∷ []) old s failed) (sym more.3)
+      (begun_more more.0 more.2 more.1))
   next_begun news new (inr none) =
       subst (λ f. AreBegun slots rows label (done ++ id ∷ []) old news f) (sym none.1)
       (subst (λ s. AreBegun slots rows label (done ++ id ∷ []) old s (failed ++ id ∷ [])) (sym none.0) failed_more)
 
 -- the same, said of what is equal
-pub begun_as : (slots slots' : List SlotState) (rows : List Row) (label : Tai64n) (ids ids' : List PartId) (olds olds' news : List HostPart) (failed failed' : List PartId)
+pub begun_as : (slots slots' : List SlotState) (rows : List Row) (label : Tai64n) (ids ids' : List PartId)
+    (olds olds' news : List HostPart) (failed failed' : List PartId)
     → AreBegun slots rows label ids olds news failed → slots ≡ slots' → ids ≡ ids' → olds ≡ olds' → failed ≡ failed'
     → AreBegun slots' rows label ids' olds' news failed'
 begun_as slots slots' rows label ids ids' olds olds' news failed failed' begun a b c d =

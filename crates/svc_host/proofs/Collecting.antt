@@ -1,5 +1,6 @@
 -- Threads that are joined, one part after the other.
-use Rattle.std.proofs.Common.{◌≡◌, ℕ, zero, suc, ◌<◌, ◌≤◌, Bool, true, false, List, [], ◌∷◌, ◌++◌, length, refl, sym, ap, ◌∙◌, subst, arith, slice_index_or}
+use Rattle.std.proofs.Common.{◌≡◌, ℕ, zero, suc, ◌<◌, ◌≤◌, Bool, true, false, List, [], ◌∷◌, ◌++◌, length, refl, sym}
+use Rattle.std.proofs.Common.{ap, ◌∙◌, subst, arith, slice_index_or}
 use Rattle.std.specs.Prelude.{MatchBool}
 use Rattle.std.proofs.lemmas.List.Elements.{All-append}
 use Rattle.scan_table.specs.Table.{TableState, after_end}
@@ -8,7 +9,8 @@ use Rattle.svc_host.specs.Rounds.{AreCollected, Ran}
 use Rattle.svc_host.proofs.Going.{all_same, go_on_then, one_goes_on}
 use Rattle.svc_host.proofs.Tables.{ends_more}
 
-same_default : (parts : List HostPart) (place : ℕ) (d e : HostPart) → place < length parts → slice_index_or parts place d ≡ slice_index_or parts place e
+same_default : (parts : List HostPart) (place : ℕ) (d e : HostPart) → place < length parts
+    → slice_index_or parts place d ≡ slice_index_or parts place e
 same_default [] place d e within = absurd (omega (arith, within))
 same_default (part ∷ parts) zero d e within = refl
 same_default (part ∷ parts) (suc place) d e within = same_default parts place d e (omega (arith, within))
@@ -19,7 +21,8 @@ collected_none table parts =
 
 module _ (old mid new : TableState) (olds mids news : List HostPart) (place : ℕ) (within : place < length olds)
     (before : AreCollected old olds mid mids) (count : length mids ≡ length olds)
-    (left : (k : ℕ) (d : HostPart) → place ≤ k → slice_index_or mids k d ≡ slice_index_or olds k d) (step : IsStep mids place news) where
+    (left : (k : ℕ) (d : HostPart) → place ≤ k → slice_index_or mids k d ≡ slice_index_or olds k d)
+    (step : IsStep mids place news) where
   abbrev part : HostPart
   part = slice_index_or mids place step.part
 
@@ -49,7 +52,9 @@ module _ (old mid new : TableState) (olds mids news : List HostPart) (place : �
   joined_none : new ≡ mid → AreCollected old olds new news
   joined_none table = record { joined = before.joined; ran = before.ran; table = table ∙ before.table; parts = goes }
 
-  pub collected_next : (joined : Bool) → MatchBool joined ((d : HostPart) → new ≡ after_end mid (slice_index_or mids place d).id) (new ≡ mid)
-      → (joined ≡ true → (d : HostPart) → (slice_index_or mids place d).has_ended ≡ false) → AreCollected old olds new news
+  pub collected_next : (joined : Bool)
+      → MatchBool joined ((d : HostPart) → new ≡ after_end mid (slice_index_or mids place d).id) (new ≡ mid)
+      → (joined ≡ true → (d : HostPart) → (slice_index_or mids place d).has_ended ≡ false)
+      → AreCollected old olds new news
   collected_next true table ran = joined_one (table step.part) (ran refl step.part)
   collected_next false table ran = joined_none table

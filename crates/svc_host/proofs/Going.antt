@@ -1,11 +1,13 @@
 -- Parts whose events go on.
-use Rattle.std.proofs.Common.{◌≡◌, true, ℕ, zero, suc, ◌<◌, List, [], ◌∷◌, length, refl, sym, ap, ◌∙◌, subst, arith, slice_index_or, slice_set}
+use Rattle.std.proofs.Common.{◌≡◌, true, ℕ, zero, suc, ◌<◌, List, [], ◌∷◌, length, refl, sym, ap, ◌∙◌, subst, arith}
+use Rattle.std.proofs.Common.{slice_index_or, slice_set}
 use Rattle.svc_station.proofs.Prefixes.{prefix_self, prefix_trans}
 use Rattle.sup_core.specs.State.{State}
 use Rattle.tai_status.specs.declared.phase.Phase.TheVariants as phase
 use Rattle.sup_core.specs.History.{phase_of, state_of}
 use Rattle.scan_table.specs.declared.part.PartId.{PartId}
-use Rattle.svc_host.specs.Parts.{HostPart, PartGoesOn, HasPosted, GoOn, IsNowhere, IsPlace, IsPost, IsReading, IsStep, history_of}
+use Rattle.svc_host.specs.Parts.{HostPart, PartGoesOn, HasPosted, GoOn, IsNowhere, IsPlace, IsPost, IsReading, IsStep}
+use Rattle.svc_host.specs.Parts.{history_of}
 
 pub stays_same : (part : HostPart) → PartGoesOn part part
 stays_same part = record { id = refl; opening = refl; station = refl; known = prefix_self part.known; posted = refl }
@@ -37,7 +39,8 @@ pub one_goes_on : (parts : List HostPart) (place : ℕ) (new : HostPart) → pla
     → ((d : HostPart) → PartGoesOn (slice_index_or parts place d) new) → GoOn parts (slice_set parts place new)
 one_goes_on [] place new within goes = absurd (omega arith)
 one_goes_on (part ∷ parts) zero new within goes = (goes part, all_same parts)
-one_goes_on (part ∷ parts) (suc place) new within goes = (stays_same part, one_goes_on parts place new (omega arith) goes)
+one_goes_on (part ∷ parts) (suc place) new within goes =
+    (stays_same part, one_goes_on parts place new (omega arith) goes)
 
 -- what the others are then
 pub others_stay : (parts : List HostPart) (place : ℕ) (new : HostPart) (k : ℕ) (d : HostPart) → place < k
@@ -49,12 +52,14 @@ others_stay (part ∷ parts) (suc place) new zero d less = refl
 others_stay (part ∷ parts) (suc place) new (suc k) d less = others_stay parts place new k d (omega arith)
 
 -- what stands at the place then
-pub here_then : (parts : List HostPart) (place : ℕ) (new d : HostPart) → place < length parts → slice_index_or (slice_set parts place new) place d ≡ new
+pub here_then : (parts : List HostPart) (place : ℕ) (new d : HostPart) → place < length parts
+    → slice_index_or (slice_set parts place new) place d ≡ new
 here_then [] place new d within = absurd (omega arith)
 here_then (part ∷ parts) zero new d within = refl
 here_then (part ∷ parts) (suc place) new d within = here_then parts place new d (omega arith)
 
-pub set_length : (parts : List HostPart) (place : ℕ) (new : HostPart) → length (slice_set parts place new) ≡ length parts
+pub set_length : (parts : List HostPart) (place : ℕ) (new : HostPart) → length (slice_set parts place new)
+    ≡ length parts
 set_length [] place new = refl
 set_length (part ∷ parts) zero new = refl
 set_length (part ∷ parts) (suc place) new = ap suc (set_length parts place new)
@@ -64,10 +69,13 @@ pub not_nowhere : (id : PartId) (parts : List HostPart) (place : ℕ) → IsPlac
 not_nowhere id [] place at nowhere = absurd (omega (arith, at.within))
 not_nowhere id (part ∷ parts) place at nowhere = nowhere place part at.within (at.here part)
 
-pub step_goes : (parts : List HostPart) (place : ℕ) (news : List HostPart) → place < length parts → IsStep parts place news → GoOn parts news
-step_goes parts place news within step = subst (GoOn parts) (sym step.parts) (one_goes_on parts place step.part within step.goes_on)
+pub step_goes : (parts : List HostPart) (place : ℕ) (news : List HostPart) → place < length parts
+    → IsStep parts place news → GoOn parts news
+step_goes parts place news within step =
+    subst (GoOn parts) (sym step.parts) (one_goes_on parts place step.part within step.goes_on)
 
-pub reads : (id : PartId) (parts : List HostPart) (place : ℕ) (news : List HostPart) (machine : State) → IsPlace id parts place
+pub reads : (id : PartId) (parts : List HostPart) (place : ℕ) (news : List HostPart) (machine : State)
+    → IsPlace id parts place
     → IsStep parts place news → ((d : HostPart) → machine ≡ state_of (history_of (slice_index_or news place d)))
     → ((d : HostPart) → (slice_index_or news place d).has_ended ≡ true
     → phase_of (history_of (slice_index_or news place d)) ≡ phase.Gone)
@@ -82,7 +90,8 @@ reads id parts place news machine at step reading gone =
         is = (step.goes_on step.part).id ∙ at.here step.part;
       };
       reading = ap (λ m. m.status) (reading step.part ∙ ap (λ part. state_of (history_of part)) (here step.part));
-      gone = subst (λ (part : HostPart). part.has_ended ≡ true → phase_of (history_of part) ≡ phase.Gone) (here step.part)
+      gone = subst (λ (part : HostPart). part.has_ended ≡ true → phase_of (history_of part) ≡ phase.Gone)
+          (here step.part)
           (gone step.part);
     }
   where
@@ -90,6 +99,7 @@ reads id parts place news machine at step reading gone =
     here d = ap (λ l. slice_index_or l place d) step.parts ∙ here_then parts place step.part d at.within
 
 pub posts : (id : PartId) (parts : List HostPart) (place : ℕ) (byte : ℕ) (new : HostPart) → IsPlace id parts place
-    → ((d : HostPart) → HasPosted (slice_index_or parts place d) byte new) → IsPost parts id byte (slice_set parts place new)
+    → ((d : HostPart) → HasPosted (slice_index_or parts place d) byte new)
+    → IsPost parts id byte (slice_set parts place new)
 posts id parts place byte new at has =
     record { place = place; part = new; here = has; is = (has new).id ∙ at.here new; parts = refl }

@@ -6,9 +6,11 @@ use Rattle.svc_station.specs.declared.note.Note.{Note}
 use Rattle.svc_station.specs.declared.writer.Writer.{Writer}
 use Rattle.svc_station.specs.Ends.{history_in, history_of, note_station, published, station, told_by}
 
-opening-same : (note : Note) (writer : Writer) → note_station note ≡ station writer → note.opening ≡ (station writer).opening
+opening-same : (note : Note) (writer : Writer) → note_station note ≡ station writer
+    → note.opening ≡ (station writer).opening
 opening-same note writer same = ap (λ v. v.opening) same
 
-pub noted-history : (note : Note) (writer : Writer) → note_station note ≡ station writer → told_by note ≡ published writer
+pub noted-history : (note : Note) (writer : Writer) → note_station note ≡ station writer
+    → told_by note ≡ published writer
     → history_in note ≡ history_of writer
 noted-history note writer same told = λ i. followed_by (Opened (opening-same note writer same i)) (told i)

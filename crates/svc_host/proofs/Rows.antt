@@ -12,20 +12,24 @@ use Rattle.scan_table.specs.Table.{name_of, slot_at}
 use Rattle.svc_host.specs.Parts.{HostPart}
 use Rattle.svc_host.specs.Begun.{Begins, IsBegun, is_down, row_at}
 
-row_named : (rows : List Row) (slot : Option SlotState) (name : List ℕ) → option_map name_of slot ≡ Some name → row_at rows slot ≡ row_of rows name
+row_named : (rows : List Row) (slot : Option SlotState) (name : List ℕ) → option_map name_of slot ≡ Some name
+    → row_at rows slot ≡ row_of rows name
 row_named rows None name is = absurd (cc is)
 row_named rows (Some slot) name is = ap (row_of rows) (cc is)
 
-pub begins : (slots : List SlotState) (rows : List Row) (label : Tai64n) (id : PartId) (name : List ℕ) (row : Row) (part : HostPart)
+pub begins : (slots : List SlotState) (rows : List Row) (label : Tai64n) (id : PartId) (name : List ℕ) (row : Row)
+    (part : HostPart)
     → option_map name_of (slot_at slots id.slot) ≡ Some name → row_of rows name ≡ Some row
     → IsBegun id (beginning part.opening (is_down id.role row) label) part → Begins slots rows label part
 begins slots rows label id name row part named found begun =
     record {
       row = row;
-      found = ap (λ (p : PartId). row_at rows (slot_at slots p.slot)) begun.is ∙ row_named rows (slot_at slots id.slot) name named ∙ found;
+      found = ap (λ (p : PartId). row_at rows (slot_at slots p.slot)) begun.is
+          ∙ row_named rows (slot_at slots id.slot) name named ∙ found;
       begun = record {
         is = refl;
-        opening = begun.opening ∙ sym (ap (λ (p : PartId). state_of (beginning part.opening (is_down p.role row) label)) begun.is);
+        opening = begun.opening
+            ∙ sym (ap (λ (p : PartId). state_of (beginning part.opening (is_down p.role row) label)) begun.is);
         known = begun.known;
         posted = begun.posted;
         has_ended = begun.has_ended;
@@ -33,8 +37,11 @@ begins slots rows label id name row part named found begun =
       };
     }
 
-pub begins_if : (slots : List SlotState) (rows : List Row) (label : Tai64n) (id : PartId) (name : List ℕ) (row : Row) (made : Option HostPart)
+pub begins_if : (slots : List SlotState) (rows : List Row) (label : Tai64n) (id : PartId) (name : List ℕ) (row : Row)
+    (made : Option HostPart)
     → option_map name_of (slot_at slots id.slot) ≡ Some name → row_of rows name ≡ Some row
-    → IfSome made (λ part. IsBegun id (beginning part.opening (is_down id.role row) label) part) → IfSome made (λ part. Begins slots rows label part)
+    → IfSome made (λ part. IsBegun id (beginning part.opening (is_down id.role row) label) part)
+    → IfSome made (λ part. Begins slots rows label part)
 begins_if slots rows label id name row None named found begun = tt
-begins_if slots rows label id name row (Some part) named found begun = begins slots rows label id name row part named found begun
+begins_if slots rows label id name row (Some part) named found begun =
+    begins slots rows label id name row part named found begun

@@ -1,5 +1,6 @@
 -- What is posted to a part in the end of all services.
-use Rattle.std.proofs.Common.{◌≡◌, Bool, true, false, ℕ, ◌<◌, List, [], ◌∷◌, ◌++◌, length, refl, sym, ap, ◌∙◌, subst, arith, append-nil, append_assoc}
+use Rattle.std.proofs.Common.{◌≡◌, Bool, true, false, ℕ, ◌<◌, List, [], ◌∷◌, ◌++◌, length, refl, sym, ap, ◌∙◌, subst}
+use Rattle.std.proofs.Common.{arith, append-nil, append_assoc}
 use Rattle.std.specs.Prelude.{codes, MatchBool}
 use Rattle.std.proofs.lemmas.Bool.Decides.{nat_tests}
 use Rattle.std.specs.List.{All}
@@ -32,7 +33,8 @@ posts_none bytes old new same = record {
 is_itself : (byte : ℕ) → is_among (byte ∷ []) byte ≡ true
 is_itself byte = grind (arith, nat_tests)
 
-pub posts_one : (bytes : List ℕ) (byte : ℕ) (old new : HostPart) → is_among bytes byte ≡ true → HasPosted old byte new → PostsOf bytes old new
+pub posts_one : (bytes : List ℕ) (byte : ℕ) (old new : HostPart) → is_among bytes byte ≡ true → HasPosted old byte new
+    → PostsOf bytes old new
 posts_one bytes byte old new is has = record {
   more = byte ∷ [];
   among = All-push (λ b. is_among bytes b ≡ true) [] byte (none bytes) is;
@@ -46,17 +48,22 @@ posts_one bytes byte old new is has = record {
 }
 
 -- a byte was posted, or not, and then nothing changed
-pub posts_if : (byte : ℕ) (posted : Bool) (old mid new : HostPart) → MatchBool posted (HasPosted old byte mid) (mid ≡ old) → new ≡ mid
+pub posts_if : (byte : ℕ) (posted : Bool) (old mid new : HostPart)
+    → MatchBool posted (HasPosted old byte mid) (mid ≡ old) → new ≡ mid
     → PostsOf (byte ∷ []) old new
-posts_if byte true old mid new has same = subst (PostsOf (byte ∷ []) old) (sym same) (posts_one (byte ∷ []) byte old mid (is_itself byte) has)
+posts_if byte true old mid new has same =
+    subst (PostsOf (byte ∷ []) old) (sym same) (posts_one (byte ∷ []) byte old mid (is_itself byte) has)
 posts_if byte false old mid new has same = posts_none (byte ∷ []) old new (same ∙ has)
 
 -- what is posted later comes behind
-pub posts_then : (bytes first second : List ℕ) (old mid new : HostPart) → ((byte : ℕ) → is_among first byte ≡ true → is_among bytes byte ≡ true)
-    → ((byte : ℕ) → is_among second byte ≡ true → is_among bytes byte ≡ true) → PostsOf first old mid → PostsOf second mid new → PostsOf bytes old new
+pub posts_then : (bytes first second : List ℕ) (old mid new : HostPart)
+    → ((byte : ℕ) → is_among first byte ≡ true → is_among bytes byte ≡ true)
+    → ((byte : ℕ) → is_among second byte ≡ true → is_among bytes byte ≡ true) → PostsOf first old mid
+    → PostsOf second mid new → PostsOf bytes old new
 posts_then bytes first second old mid new one two p q = record {
   more = p.more ++ q.more;
-  among = All-append (λ b. is_among bytes b ≡ true) p.more q.more (λ k d less. one _ (p.among k d less)) (λ k d less. two _ (q.among k d less));
+  among = All-append (λ b. is_among bytes b ≡ true) p.more q.more (λ k d less. one _ (p.among k d less))
+      (λ k d less. two _ (q.among k d less));
   id = q.id ∙ p.id;
   opening = q.opening ∙ p.opening;
   station = q.station ∙ p.station;
@@ -67,7 +74,8 @@ posts_then bytes first second old mid new one two p q = record {
 }
 
 -- its events go on before
-pub posts_behind : (bytes : List ℕ) (old mid new : HostPart) → PartGoesOn old mid → mid.has_ended ≡ old.has_ended → mid.loss ≡ old.loss
+pub posts_behind : (bytes : List ℕ) (old mid new : HostPart) → PartGoesOn old mid → mid.has_ended ≡ old.has_ended
+    → mid.loss ≡ old.loss
     → PostsOf bytes mid new → PostsOf bytes old new
 posts_behind bytes old mid new goes ended loss q = record {
   more = q.more;

@@ -1,5 +1,6 @@
 -- The end of all services, in order, and when svscan may leave them.
-use Rattle.std.specs.Prelude.{◌≡◌, ℕ, nat_le, nat_lt, Bool, true, false, ◌&&◌, if◌then◌else◌, List, [], ◌∷◌, ◌++◌, codes}
+use Rattle.std.specs.Prelude.{◌≡◌, ℕ, nat_le, nat_lt, Bool, true, false, ◌&&◌, if◌then◌else◌, List, [], ◌∷◌, ◌++◌}
+use Rattle.std.specs.Prelude.{codes}
 use Rattle.std.specs.Prelude.{slice_index_or, slice_set}
 use Rattle.std.specs.List.{All}
 use mathlib.Core.List.{IsPrefix}
@@ -15,9 +16,9 @@ use Rattle.svc_host.specs.declared.ending.EndStep.TheVariants.{Stop, Exit, Wait}
 use Rattle.svc_host.specs.declared.ending.ProcessSight.{ProcessSight}
 use Rattle.svc_host.specs.declared.ending.ProcessSight.TheVariants.{Lives, Comes, Absent}
 
--- What is done next with a part. A service is to stop at once. Its logger is left alone while the service runs; then it is
--- to end with its process, and to stop at once after five seconds. The logger of an earlier svscan is left alone before
--- that: it reads another input than this svscan's, and what follows it reads that one.
+-- What is done next with a part. A service is to stop at once. Its logger is left alone while the service runs; then it
+-- is to end with its process, and to stop at once after five seconds. The logger of an earlier svscan is left alone
+-- before that: it reads another input than this svscan's, and what follows it reads that one.
 abbrev pub end_step : Role → (service_runs is_adopted : Bool) → (waited : ℕ) → EndStep
 end_step Main service_runs is_adopted waited = Stop
 end_step Log true is_adopted waited = Wait

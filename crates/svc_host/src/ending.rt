@@ -31,8 +31,8 @@ pub(crate) enum ProcessSight {
     Absent,
 }
 
-/// What is seen of the process of a part with this machine. That of an earlier svscan's logger, which reads another input,
-/// is not the one that counts: the next one comes.
+/// What is seen of the process of a part with this machine. That of an earlier svscan's logger, which reads another
+/// input, is not the one that counts: the next one comes.
 pub(crate) fn sight_of(machine: &Machine, reads_another: bool) -> ProcessSight
     ensures { result ≡ sight_of machine.now reads_another }
 {

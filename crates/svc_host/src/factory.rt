@@ -127,8 +127,8 @@ impl<M: Maker + Drop, R: Threads + Wait + Clock + Copy + Drop + Send + 'static> 
         Some(Part::new(id, opening, adopted, inside, running))
     }
 
-    /// Makes a part of the table, which begins by the row of its slot or as it was left, and starts its thread, or makes
-    /// nothing.
+    /// Makes a part of the table, which begins by the row of its slot or as it was left, and starts its thread, or
+    /// makes nothing.
     pub(crate) fn begin(
         &mut self,
         table: &ScanTable,

@@ -490,8 +490,8 @@ impl<M: Maker + Drop, R: Threads + Wait + Clock + Copy + Drop + Send + 'static> 
         running(&self.parts)
     }
 
-    /// The output of each pair ends: at once, where its service has a process, and else when it has nothing for now. Whether
-    /// svscan may leave all pairs.
+    /// The output of each pair ends: at once, where its service has a process, and else when it has nothing for now.
+    /// Whether svscan may leave all pairs.
     pub fn end_outputs(&mut self) -> bool {
         self.factory.maker.watch_outputs();
         self.collect();
@@ -502,8 +502,8 @@ impl<M: Maker + Drop, R: Threads + Wait + Clock + Copy + Drop + Send + 'static> 
         may_leave
     }
 
-    /// Of one pair its slot, and how many bytes of its output were read and don't reach its logger. Its threads are to end.
-    /// None: all pairs are told.
+    /// Of one pair its slot, and how many bytes of its output were read and don't reach its logger. Its threads are to
+    /// end. None: all pairs are told.
     pub fn take_lost(&mut self) -> Option<(u64, u64)>
         ensures table { self.new.table ≡ self.old.table }
         ensures parts { GoOn self.old.parts self.new.parts }

@@ -64,8 +64,8 @@ pub trait Maker {
         ensures fresh { IfSome result (λ resources. answered (Self.World.calls resources.world) ≡ []) };
 
     /// The output of a pair's service of this name, which runs on from life to life, and where it goes, or none where
-    /// they can't be made. It may be asked again for a slot, where no thread could be made. What carries the output waits
-    /// for `notifier`.
+    /// they can't be made. It may be asked again for a slot, where no thread could be made. What carries the output
+    /// waits for `notifier`.
     fn pair(
         &mut self,
         name: &str,

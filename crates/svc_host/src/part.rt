@@ -222,8 +222,8 @@ impl<R: Threads + Wait + Clock + Copy + Drop + Send + 'static> Part<R> {
         self.posted_exit
     }
 
-    /// Posts what is next for it in the end of all services, unless it has ended. Its service runs or not, and was found
-    /// gone so many milliseconds ago.
+    /// Posts what is next for it in the end of all services, unless it has ended. Its service runs or not, and was
+    /// found gone so many milliseconds ago.
     pub(crate) fn end_next(&mut self, rt: &R, service_runs: bool, waited: u64)
         ensures { EndsNext service_runs waited self.old self.new }
     {

@@ -1,5 +1,6 @@
 //! The parts that are there, as a list.
-ghost use Rattle.std.specs.Prelude.{◌≡◌, ◌<◌, ◌↔◌, ⊤, Err, IfOk, OnOk, OnErr, IfSome, MatchOption, length, slice_index_or};
+ghost use Rattle.std.specs.Prelude.{◌≡◌, ◌<◌, ◌↔◌, ⊤, Err, IfOk, OnOk, OnErr, IfSome, MatchOption, length};
+ghost use Rattle.std.specs.Prelude.{slice_index_or};
 ghost use Rattle.sup_core.specs.History.{state_of};
 ghost use Rattle.std.specs.List.{list_any};
 ghost use Rattle.scan_table.specs.Table.{is_at};

@@ -12,19 +12,20 @@ use Rattle.svc_world.specs.declared.folder.FolderFault.{FolderFault}
 
 -- One call, with its answer: a pipe was to be made, and these are its two ends; the output of the service in the folder
 -- at a path was to be opened, and these are its ends; the folder at a path was to be opened
--- and locked, and was, or this came of it; this was found left of the service in the folder at a path; a world was to be
--- made over the folder at a path, told by this name, of which this was left, with these ends of pipes as standard input
--- and output; the part of this number was to be admitted to the door, with the
+-- and locked, and was, or this came of it; this was found left of the service in the folder at a path; a world was to
+-- be made over the folder at a path, told by this name, of which this was left, with these ends of pipes as standard
+-- input and output; the part of this number was to be admitted to the door, with the
 -- sockets of the folder at a path; the part of this number was dismissed from the door, and the sockets of the folder
--- at a path removed; a trace was to be kept in the folder at a path, and was or not; svscan's own folder at a path was to
--- be opened and locked, and was, or this came of it; a status record was to be written in the folder at a path, and was
--- or not; all outputs were to look after their flows.
+-- at a path removed; a trace was to be kept in the folder at a path, and was or not; svscan's own folder at a path was
+-- to be opened and locked, and was, or this came of it; a status record was to be written in the folder at a path, and
+-- was or not; all outputs were to look after their flows.
 pub data Call : Type 0 where
   MadePipe : (ends : Option (PipeReader × LoggerInput)) → Call
   OpenedOutput : (path : List ℕ) → (ends : Option OutputEnds) → Call
   Opened : (path : List ℕ) → (fault : Option FolderFault) → Call
   FoundLeft : (path : List ℕ) → (left : Left) → Call
-  MadeWorld : (path name : List ℕ) → (left : Left) → (input : Option PipeReader) → (output : Option File) → (made : Bool) → Call
+  MadeWorld : (path name : List ℕ) → (left : Left) → (input : Option PipeReader) → (output : Option File)
+      → (made : Bool) → Call
   Admitted : (number : ℕ) → (path : List ℕ) → (admitted : Bool) → Call
   Dismissed : (number : ℕ) → (path : List ℕ) → Call
   KeptTrace : (path : List ℕ) → (text : List ℕ) → (kept : Bool) → Call

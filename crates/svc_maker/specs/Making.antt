@@ -15,7 +15,8 @@ use Rattle.svc_left.specs.Opening.{opening_left}
 use Rattle.svc_world.specs.declared.output.OutputEnds.{OutputEnds}
 use Rattle.svc_world.specs.declared.flow.LoggerInput.{LoggerInput}
 use Rattle.svc_world.specs.declared.flow.ServiceOutput.{ServiceOutput}
-use Rattle.svc_maker.specs.Calls.{Call, MadePipe, OpenedOutput, Opened, FoundLeft, MadeWorld, Admitted, Dismissed, KeptTrace}
+use Rattle.svc_maker.specs.Calls.{Call, MadePipe, OpenedOutput, Opened, FoundLeft, MadeWorld, Admitted, Dismissed}
+use Rattle.svc_maker.specs.Calls.{KeptTrace}
 use Rattle.svc_maker.specs.Calls.{OpenedOwn, Recorded, WatchedOutputs}
 use Rattle.svc_maker.specs.declared.holder.OwnFault.{OwnFault}
 use Rattle.svc_maker.specs.declared.holder.OwnFault.TheVariants as own
@@ -86,9 +87,9 @@ world_made plan left made =
     Opened plan.path None ∷ FoundLeft plan.path left
     ∷ MadeWorld plan.path plan.name left plan.input plan.output made ∷ []
 
--- How a part is set up by a plan: its folder is opened, what an earlier svscan left there is found, its world is made with
--- that, and it is admitted to the door. It begins as what was found says. Where one of these fails, the next is not
--- tried; one that was not admitted is dismissed, with its sockets; and for want of memory none is tried at all.
+-- How a part is set up by a plan: its folder is opened, what an earlier svscan left there is found, its world is made
+-- with that, and it is admitted to the door. It begins as what was found says. Where one of these fails, the next is
+-- not tried; one that was not admitted is dismissed, with its sockets; and for want of memory none is tried at all.
 abbrev pub IsSetUp : Option MakeFault → Option Opening → Plan → (old new : Option (List Call)) → Type 0
 IsSetUp None opening plan old new =
     (left : Left) × (opening ≡ Some (opening_left left))
@@ -132,8 +133,8 @@ pub record MakesPart (name : List ℕ) (part : PartId) (opening : Option Opening
 -- Pairs
 
 -- The output of a pair's service was opened, in the service's own folder, and the pipe of its logger made: what the
--- service writes is read at this end, and what this outlet takes the logger reads. They stand in the place of those that
--- the slot had.
+-- service writes is read at this end, and what this outlet takes the logger reads. They stand in the place of those
+-- that the slot had.
 pub record JoinsPair (name : List ℕ) (slot : ℕ) (read : ServiceOutput) (outlets : PairOutlets) (old new : Making)
     : Type 0 where
   pub ends : OutputEnds
@@ -211,9 +212,9 @@ KeepsTrace part text kept old new =
 abbrev pub own_number : ℕ
 own_number = 2 ^ 64 - 1
 
--- svscan itself was to be served in the folder at a path, with this record. Its folder is opened, its record written, and
--- then it is admitted to the door: then it stands there. Where the folder is not opened nothing more is tried; where it is
--- not admitted it is dismissed, with its sockets.
+-- svscan itself was to be served in the folder at a path, with this record. Its folder is opened, its record written,
+-- and then it is admitted to the door: then it stands there. Where the folder is not opened nothing more is tried;
+-- where it is not admitted it is dismissed, with its sockets.
 abbrev pub ServesOwn : (path bytes : List ℕ) → Option OwnFault → (old new : Making) → Type 0
 ServesOwn path bytes None old new =
     ((written : Bool) × ExtendedWhileKept old.calls new.calls

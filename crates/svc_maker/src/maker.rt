@@ -149,8 +149,8 @@ where
 
     type Outlets = PairOutlets;
 
-    /// A part stands exactly where its folder was opened and locked, its world made, and it was admitted to the door. It
-    /// begins as what an earlier svscan left in that folder says.
+    /// A part stands exactly where its folder was opened and locked, its world made, and it was admitted to the door.
+    /// It begins as what an earlier svscan left in that folder says.
     /// The children of a pair have its pipes, once `pair` made them for the slot.
     fn part(
         &mut self,

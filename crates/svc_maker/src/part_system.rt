@@ -70,9 +70,9 @@ pub trait PartSystem {
         ensures process { IsLiving result.process };
 
     /// The world of the service in a folder of which this was left, and what waits for its processes, or none where it
-    /// can't be made. A process that lives on is adopted. Each child has copies of these ends of pipes as standard input
-    /// and output, and svscan's own where there is none. The notifier is notified where there is news. By this name the
-    /// service is told.
+    /// can't be made. A process that lives on is adopted. Each child has copies of these ends of pipes as standard
+    /// input and output, and svscan's own where there is none. The notifier is notified where there is news. By this
+    /// name the service is told.
     fn world(
         &mut self,
         folder: &Self::Folder,

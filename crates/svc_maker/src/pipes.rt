@@ -1,8 +1,8 @@
 //! What stands between a service and its logger.
 //!
-//! A pair has an output and a pipe, and both live as long as its slot. What the service writes, in all its lives, is read
-//! from the output; what all lives of the logger read is written to the pipe. So what a logger that died had not read
-//! waits for the next one. The output itself outlives svscan, as long as a process of the service has it.
+//! A pair has an output and a pipe, and both live as long as its slot. What the service writes, in all its lives, is
+//! read from the output; what all lives of the logger read is written to the pipe. So what a logger that died had not
+//! read waits for the next one. The output itself outlives svscan, as long as a process of the service has it.
 ghost use Rattle.std.specs.Prelude.{◌≡◌, ◌≤◌, option_copied, vec_capacity, vec_len};
 ghost use Rattle.svc_maker.specs.Pipes.{input_of, output_of, pipes_of, pipes_without};
 

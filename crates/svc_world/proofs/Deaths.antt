@@ -13,7 +13,8 @@ use Rattle.svc_world.specs.Calls.{Call, SoughtDeath, RecordedExit, RecordedCount
 use Rattle.svc_world.specs.Watch.{Watch, SeeksDeath, TellsDeath, exit_of}
 
 -- how the child ended was recorded, and then the counts
-pub tells : (exit : Exit) (seen old new : Watch) (between : Option (List Call)) (line text : List ℕ) (written counted : Bool)
+pub tells : (exit : Exit) (seen old new : Watch) (between : Option (List Call)) (line text : List ℕ)
+    (written counted : Bool)
     (counts : Counts) → seen ≡ old → ExtendedWhileKept seen.calls between (RecordedExit line written ∷ [])
     → ExtendedWhileKept between new.calls (RecordedCounts text counted ∷ [])
     → line ≡ exit_text exit → text ≡ counts_text counts → counts ≡ one_ended seen.counts
@@ -23,10 +24,13 @@ tells exit seen old new between line text written counted counts same first seco
     subst (λ (o : Watch). TellsDeath exit o new) same (record {
       exit_written = written;
       counts_written = counted;
-      calls = extended-append seen.calls between new.calls (RecordedExit (exit_text exit) written ∷ []) (RecordedCounts (counts_text (one_ended seen.counts)) counted ∷ [])
+      calls = extended-append seen.calls between new.calls (RecordedExit (exit_text exit) written ∷ [])
+          (RecordedCounts (counts_text (one_ended seen.counts)) counted ∷ [])
           (subst (λ l. ExtendedWhileKept seen.calls between (RecordedExit l written ∷ [])) line_is first)
-          (subst (λ l. ExtendedWhileKept between new.calls (RecordedCounts l counted ∷ [])) (text_is ∙ ap counts_text counts_are) second);
-      stands = subst (λ (k : Counts). new ≡ record seen { calls = new.calls; child = Gone; counts = k }) counts_are stands;
+          (subst (λ l. ExtendedWhileKept between new.calls (RecordedCounts l counted ∷ [])) (text_is
+          ∙ ap counts_text counts_are) second);
+      stands = subst (λ (k : Counts). new ≡ record seen { calls = new.calls; child = Gone; counts = k }) counts_are
+          stands;
     })
 
 -- a death was sought and found, and then told

@@ -111,8 +111,8 @@ pub record RecordsStart (child : Option ℕ) (old new : Watch) : Type 0 where
       (process_recorded child old.boot tick recorded ++ counts_recorded child old.counts written)
   pub stands : new ≡ record old { calls = new.calls; counts = counts_after child old.counts }
 
--- A start: where an earlier svscan left a process, that is sought; the clock is read, and then one child is spawned. Its
--- process is recorded, once; it is counted, and the counts are recorded, once.
+-- A start: where an earlier svscan left a process, that is sought; the clock is read, and then one child is spawned.
+-- Its process is recorded, once; it is counted, and the counts are recorded, once.
 pub record Starts (old new : Watch) : Type 0 where
   pub runs : Bool
   pub child : Option ℕ
@@ -161,8 +161,8 @@ abbrev pub death_recorded : Exit → Counts → (exit_written counts_written : B
 death_recorded exit counts exit_written counts_written =
     RecordedExit (exit_text exit) exit_written ∷ RecordedCounts (counts_text (one_ended counts)) counts_written ∷ []
 
--- A death is told, and no more kept to be told: how the child ended is recorded, once, and it is counted, and the counts
--- are recorded, once.
+-- A death is told, and no more kept to be told: how the child ended is recorded, once, and it is counted, and the
+-- counts are recorded, once.
 pub record TellsDeath (exit : Exit) (old new : Watch) : Type 0 where
   pub exit_written : Bool
   pub counts_written : Bool

@@ -35,12 +35,14 @@ pub trait ChildSystem {
 
     /// Puts this line, how the last child ended, in the place of the one before. After a fault that stands there.
     fn replace_exit(&mut self, line: &[u8]) -> io::Result<()>
-        ensures calls { ExtendedWhileKept (calls self.old) (calls self.new) (RecordedExit line.now (is_ok result) ∷ []) };
+        ensures calls { ExtendedWhileKept (calls self.old) (calls self.new)
+            (RecordedExit line.now (is_ok result) ∷ []) };
 
     /// Puts this line, how many children began and ended, in the place of the one before. After a fault that stands
     /// there.
     fn replace_counts(&mut self, line: &[u8]) -> io::Result<()>
-        ensures calls { ExtendedWhileKept (calls self.old) (calls self.new) (RecordedCounts line.now (is_ok result) ∷ []) };
+        ensures calls { ExtendedWhileKept (calls self.old) (calls self.new)
+            (RecordedCounts line.now (is_ok result) ∷ []) };
 
     /// Puts this line, which process the service has, in the place of the one before. After a fault that stands there.
     fn replace_process(&mut self, line: &[u8]) -> io::Result<()>

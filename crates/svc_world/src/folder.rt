@@ -268,8 +268,8 @@ impl ServiceFolder {
         }
     }
 
-    /// The process that an earlier svscan left running in this folder, and that can't be adopted. The status record that
-    /// stands there names it, where no process is adopted. Since that record is soon replaced, a copy is kept as
+    /// The process that an earlier svscan left running in this folder, and that can't be adopted. The status record
+    /// that stands there names it, where no process is adopted. Since that record is soon replaced, a copy is kept as
     /// `supervise/earlier` while the process runs, and names it to the next svscan too, also where that adopts a child
     /// which only says that it runs. None where no such process runs, and none was being started.
     pub fn earlier(&self, alloc: Global, adopted: Option<u32>) -> Option<u32> {

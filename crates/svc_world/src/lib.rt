@@ -1,10 +1,10 @@
 //! The real world of one service: its folder, its children, its signals and its status record.
 //!
 //! `ChildWorld` keeps the rules of a service's world over the small trait `ChildSystem`, and is proved: no second copy
-//! of a service that still runs, no signal to a process that may be another's, each start and each death told once, which
-//! process the service has is recorded at each start, and how it ended at each death, beside how many began and ended.
-//! Below that trait is the system's own layer, which tells contracts nothing: `ServiceFolder`, `SystemChildren` with
-//! their `ChildReaper`, `SignalShell`.
+//! of a service that still runs, no signal to a process that may be another's, each start and each death told once,
+//! which process the service has is recorded at each start, and how it ended at each death, beside how many began and
+//! ended. Below that trait is the system's own layer, which tells contracts nothing: `ServiceFolder`, `SystemChildren`
+//! with their `ChildReaper`, `SignalShell`.
 #![tactic(auto)]
 
 mod begin;

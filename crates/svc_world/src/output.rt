@@ -1,8 +1,8 @@
 //! The output of a service that has a logger: what it writes waits there for whoever reads it.
 //!
 //! It is a FIFO in the folder of the service, which each of its processes has open for reading too. So a process that
-//! writes while there is no svscan gets no signal and no error: it waits once the FIFO is full, and goes on with the next
-//! svscan. Where there can be no FIFO, or another svscan has the service, it is a pipe, which ends with svscan.
+//! writes while there is no svscan gets no signal and no error: it waits once the FIFO is full, and goes on with the
+//! next svscan. Where there can be no FIFO, or another svscan has the service, it is a pipe, which ends with svscan.
 use crate::flow::{Flow, ServiceOutput};
 use crate::folder::{make_private, open_lock, remove};
 use std::alloc::Global;

@@ -14,8 +14,8 @@ use tai_status::Label;
 
 /// The world of one service. Contracts see it as `Watch` (specs/Watch).
 ///
-/// The process that an earlier svscan left running is adopted, or else not started a second time beside. A signal goes to
-/// the child that was made last, or to the process that was adopted, while its death is not known. Which process the
+/// The process that an earlier svscan left running is adopted, or else not started a second time beside. A signal goes
+/// to the child that was made last, or to the process that was adopted, while its death is not known. Which process the
 /// service has is recorded at each start. A status record that can't be written is counted, and the service goes on; so
 /// it does where the lines of a process, of an exit or of counts can't be, which the next ones replace.
 #[derive(Drop)]
@@ -74,7 +74,8 @@ fn child_of(child: Option<u32>) -> LastChild
 impl<C: ChildSystem + Drop> ChildWorld<C> {
     ghost use Rattle.std.specs.Prelude.{◌≡◌, None};
     ghost use Rattle.svc_exit.specs.Counts.{no_counts};
-    ghost use Rattle.svc_world.specs.Watch.{Watch, CountsStart, RecordsProcess, RecordsStart, SeeksDeath, SeeksEarlier, TellsDeath};
+    ghost use Rattle.svc_world.specs.Watch.{Watch, CountsStart, RecordsProcess, RecordsStart, SeeksDeath, SeeksEarlier};
+    ghost use Rattle.svc_world.specs.Watch.{TellsDeath};
     ghost use Rattle.svc_world.specs.Watch.{child_of};
 
     /// The world over these children, in this boot. `adopted` is the process that runs for the service already, and

@@ -5,5 +5,6 @@ use Rattle.cmd_svscan.proofs.rounds.end_all.Given as goal
 -- some still ran, each time
 abbrev pub invariant-loop : goal.invariant-loop
 invariant-loop g l =
-    IsEnding (effects (g.K.ServiceSet.calls l.fn.services) l.fn.faults) (effects (g.K.ServiceSet.calls l.services) l.faults)
+    IsEnding (effects (g.K.ServiceSet.calls l.fn.services) l.fn.faults)
+    (effects (g.K.ServiceSet.calls l.services) l.faults)
     × g.K.ServiceSet.ready l.services

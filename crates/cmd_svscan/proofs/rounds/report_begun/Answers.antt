@@ -11,6 +11,7 @@ returns-in-Locked g c =
     let folder = c.args.folder.now in
     let old = c.args.faults.now in
     let new = c.report_parts.new.faults in
-    let told = subst (λ (f : List ℕ). Tells old new (codes "svscan: unable to lock " ++ (f ++ 10 ∷ []))) c.as_bytes.ensures.value c.report_parts.ensures.told in
+    let told = subst (λ (f : List ℕ). Tells old new (codes "svscan: unable to lock " ++ (f ++ 10 ∷ [])))
+    c.as_bytes.ensures.value c.report_parts.ensures.told in
     subst (λ (begun : Begun). TellsAll (lines_of_begun folder begun) old new) (sym c.in-Locked.is)
     (tells-one (codes "svscan: unable to lock " ++ (folder ++ 10 ∷ [])) old new told)

@@ -27,7 +27,8 @@ returns-in-Ok-round-clause-round g c =
       Scan rows out,
       tt,
       record {
-        calls = extended-then (calls c.args.services.now) (calls c.list.new.self) (calls c.round.new.self) (Listed folder (Ok rows) ∷ []) (Scanned folder rows (Ok out) ∷ []) c.in-Ok.ensures.ok scanned;
+        calls = extended-then (calls c.args.services.now) (calls c.list.new.self) (calls c.round.new.self)
+            (Listed folder (Ok rows) ∷ []) (Scanned folder rows (Ok out) ∷ []) c.in-Ok.ensures.ok scanned;
         told = c.report_out.ensures;
       },
     )
@@ -39,11 +40,15 @@ returns-in-Err-round-clause-round g c =
     let fault = c.in-Err-round.fault in
     let calls = g.K.ServiceSet.calls in
     let scanned = c.in-Err-round.ensures.scanned in
-    let told = subst (λ (k : List ℕ). Tells c.args.faults.now c.report_parts.new.faults (codes "svscan: " ++ (k ++ 10 ∷ []))) c.kind.ensures c.report_parts.ensures.told in (
+    let told = subst (λ (k : List ℕ).
+    Tells c.args.faults.now c.report_parts.new.faults (codes "svscan: " ++ (k ++ 10 ∷ []))) c.kind.ensures
+    c.report_parts.ensures.told in (
       Fails rows fault,
       search rules,
       record {
-        calls = extended-then (calls c.args.services.now) (calls c.list.new.self) (calls c.round.new.self) (Listed folder (Ok rows) ∷ []) (Scanned folder rows (Err fault) ∷ []) c.in-Ok.ensures.ok scanned;
-        told = tells-one (codes "svscan: " ++ (kind_name fault ++ 10 ∷ [])) c.args.faults.now c.report_parts.new.faults told;
+        calls = extended-then (calls c.args.services.now) (calls c.list.new.self) (calls c.round.new.self)
+            (Listed folder (Ok rows) ∷ []) (Scanned folder rows (Err fault) ∷ []) c.in-Ok.ensures.ok scanned;
+        told = tells-one (codes "svscan: " ++ (kind_name fault ++ 10 ∷ [])) c.args.faults.now c.report_parts.new.faults
+            told;
       },
     )

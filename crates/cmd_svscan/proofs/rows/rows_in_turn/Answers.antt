@@ -20,5 +20,6 @@ loop-name-preserved g c =
           ∙ sym (map-append string_bytes c.loop-name.yielded (c.in-Some.name ∷ []));
       entries = subst (λ (l : List Row). AreAsSaid said l) (sym items)
           (as_said-push said rows row c.loop-name.invariant.entries
-          (row-said said (string_bytes c.in-Some.name) c.as_str.result.now c.in_ok-entry.entry row c.row.ensures c.as_str.ensures.value c.in_ok-entry.ensures));
+          (row-said said (string_bytes c.in-Some.name) c.as_str.result.now c.in_ok-entry.entry row c.row.ensures
+          c.as_str.ensures.value c.in_ok-entry.ensures));
     }

@@ -9,7 +9,8 @@ pub loop-id-init : goal.loop-id-init
 loop-id-init g c =
     let parts = c.args.parts.now.items in
     record {
-      begun = subst (AreBegun c.args.table.now.slots c.args.rows.now c.args.label [] parts parts) (sym c.requires.failed)
+      begun = subst (AreBegun c.args.table.now.slots c.args.rows.now c.args.label [] parts parts)
+          (sym c.requires.failed)
           (begun_none c.args.table.now.slots c.args.rows.now c.args.label parts);
       parts_room = omega (arith, c.requires.parts_room);
       failed_room = omega (arith, c.requires.failed_room);
@@ -23,9 +24,24 @@ loop-id-preserved g c =
     let next : k + 1 ≡ suc k = omega arith in
     let done = ap (λ n. take n ids) next ∙ take-suc ids k past c.loop-id-test.true in
     record {
-      begun = subst (λ l. AreBegun c.args.table.now.slots c.args.rows.now c.args.label l c.args.parts.now.items c.begin_one.new.parts.items c.begin_one.new.failed.items) (sym done)
-          (next_begun c.args.table.now.slots c.args.rows.now c.args.label (take k ids) (get_or ids k past) c.args.parts.now.items c.loop-id.parts.items
-          c.loop-id.failed.items at.begun c.begin_one.new.parts.items c.begin_one.new.failed.items c.begin_one.ensures.begun);
-      parts_room = omega (arith, at.parts_room, c.loop-id-test.true, c.begin_one.ensures.parts_len, c.begin_one.ensures.parts_room);
-      failed_room = omega (arith, at.failed_room, c.loop-id-test.true, c.begin_one.ensures.failed_len, c.begin_one.ensures.failed_room);
+      begun = subst (λ l. AreBegun c.args.table.now.slots c.args.rows.now c.args.label l c.args.parts.now.items
+          c.begin_one.new.parts.items c.begin_one.new.failed.items) (sym done)
+          (next_begun c.args.table.now.slots c.args.rows.now c.args.label (take k ids) (get_or ids k past)
+          c.args.parts.now.items c.loop-id.parts.items
+          c.loop-id.failed.items at.begun c.begin_one.new.parts.items c.begin_one.new.failed.items
+          c.begin_one.ensures.begun);
+      parts_room = omega (
+        arith,
+        at.parts_room,
+        c.loop-id-test.true,
+        c.begin_one.ensures.parts_len,
+        c.begin_one.ensures.parts_room,
+      );
+      failed_room = omega (
+        arith,
+        at.failed_room,
+        c.loop-id-test.true,
+        c.begin_one.ensures.failed_len,
+        c.begin_one.ensures.failed_room,
+      );
     }

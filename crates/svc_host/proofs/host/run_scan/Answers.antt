@@ -10,7 +10,8 @@ returns-in-Err-clause-cause g c = cause c.args.table.now c.args.rows.now _ (sym 
 pub returns-clause-scanned : goal.returns-clause-scanned
 returns-clause-scanned g c = record {
   scan = c.in-Ok.ensures.scan;
-  table = c.end_all.ensures ∙ ap (λ l. after_ends l c.in-Ok.found.table) (c.deref-2.ensures.value ∙ sym c.from_vec.ensures)
+  table = c.end_all.ensures
+      ∙ ap (λ l. after_ends l c.in-Ok.found.table) (c.deref-2.ensures.value ∙ sym c.from_vec.ensures)
       ∙ ap (after_ends c.from_vec.result) c.in-Ok.ensures.table;
   begun = begun_as _ _ c.args.rows.now c.args.label _ _ _ _ c.begin_all.new.parts.items _ _ c.begin_all.ensures
       (ap (λ table. table.slots) c.in-Ok.ensures.table) (c.deref.ensures.value ∙ c.in-Ok.ensures.ids)

@@ -12,7 +12,10 @@ returns-after-eq g c =
     let mids = c.adopted_at-is_adopted.new.parts.items in
     let news = c.machine_at.new.parts.items in
     let place = c.in-Some.place in
-    let within : place < length parts = subst (λ (l : List HostPart). place < length l) c.deref.ensures.value c.in-Some.ensures in
+    let within : place < length parts =
+    subst (λ (l : List HostPart). place < length l) c.deref.ensures.value c.in-Some.ensures in
     let step : IsStep parts place mids = c.adopted_at-is_adopted.ensures in
-    let there : place < length mids = subst (λ (n : ℕ). place < n) (sym (ap length step.parts ∙ set_length parts place step.part)) within in
-    go_on_then parts mids news (step_goes parts place mids within step) (step_goes mids place news there c.machine_at.ensures.step)
+    let there : place < length mids =
+    subst (λ (n : ℕ). place < n) (sym (ap length step.parts ∙ set_length parts place step.part)) within in
+    go_on_then parts mids news (step_goes parts place mids within step)
+    (step_goes mids place news there c.machine_at.ensures.step)

@@ -11,10 +11,13 @@ at : (g : given.Over) (c : goal.After-view g) → IsPlace c.args.id c.args.parts
 at g c = subst (λ parts. IsPlace c.args.id parts c.in_ok-place.place) c.deref.ensures.value c.in_ok-place.ensures
 
 pub returns-clause-parts : goal.returns-clause-parts
-returns-clause-parts g c = step_goes c.args.parts.now.items c.in_ok-place.place c.machine_at.new.parts.items (at g c).within c.machine_at.ensures.step
+returns-clause-parts g c =
+    step_goes c.args.parts.now.items c.in_ok-place.place c.machine_at.new.parts.items (at g c).within
+    c.machine_at.ensures.step
 
 pub returns-clause-there : goal.returns-clause-there
 returns-clause-there g c =
     subst (IsReading c.args.id c.machine_at.new.parts.items) (sym c.view.ensures.view)
-    (reads c.args.id c.args.parts.now.items c.in_ok-place.place c.machine_at.new.parts.items c.machine_at.result (at g c) c.machine_at.ensures.step c.machine_at.ensures.reading
+    (reads c.args.id c.args.parts.now.items c.in_ok-place.place c.machine_at.new.parts.items c.machine_at.result
+    (at g c) c.machine_at.ensures.step c.machine_at.ensures.reading
     c.machine_at.ensures.gone)

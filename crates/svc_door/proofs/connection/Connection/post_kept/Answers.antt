@@ -27,8 +27,13 @@ loop-self-init g c =
       to = c.self.invariant.1;
       piece = c.self.invariant.2;
       most = c.self.invariant.3;
-      posts = subst (λ (v : ConnectionState). Posts accepted accepted v now) is (Posts-same accepted now c.self.invariant.3);
-      unread = (ap (λ (v : ConnectionState). v.left) is, ap (λ (v : ConnectionState). v.said) is, ap (λ (v : ConnectionState). v.taken) is);
+      posts = subst (λ (v : ConnectionState). Posts accepted accepted v now) is
+          (Posts-same accepted now c.self.invariant.3);
+      unread = (
+        ap (λ (v : ConnectionState). v.left) is,
+        ap (λ (v : ConnectionState). v.said) is,
+        ap (λ (v : ConnectionState). v.taken) is,
+      );
       same = (ap (λ (v : ConnectionState). v.spoke) is, ap (λ (v : ConnectionState). v.watched) is);
     }
 

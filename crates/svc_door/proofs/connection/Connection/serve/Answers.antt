@@ -6,17 +6,21 @@ pub returns-then-not-post_kept-2-clause-posts : goal.returns-then-not-post_kept-
 returns-then-not-post_kept-2-clause-posts g c =
     let was = c.loop-self.invariant in
     let before = g.P.ByteSink.accepted c.loop-self.sink in
-    let read = Posts-read before c.loop-self.self c.read.new.self was.none c.in-Bytes.ensures.gives c.in-Bytes.ensures.count c.in-Bytes.ensures.most in
-    Posts-then _ before _ _ c.loop-self.self _ was.posts (Posts-then before before _ _ c.read.new.self _ read c.if-not-post_kept-2.ensures.posts)
+    let read = Posts-read before c.loop-self.self c.read.new.self was.none c.in-Bytes.ensures.gives
+    c.in-Bytes.ensures.count c.in-Bytes.ensures.most in
+    Posts-then _ before _ _ c.loop-self.self _ was.posts
+    (Posts-then before before _ _ c.read.new.self _ read c.if-not-post_kept-2.ensures.posts)
 
 pub loop-self-preserved : goal.loop-self-preserved
 loop-self-preserved g c =
     let was = c.loop-self.invariant in
     let before = g.P.ByteSink.accepted c.loop-self.sink in
-    let read = Posts-read before c.loop-self.self c.read.new.self was.none c.in-Bytes.ensures.gives c.in-Bytes.ensures.count c.in-Bytes.ensures.most in
+    let read = Posts-read before c.loop-self.self c.read.new.self was.none c.in-Bytes.ensures.gives
+    c.in-Bytes.ensures.count c.in-Bytes.ensures.most in
     let posted = c.if-not-post_kept-2.ensures in
     record {
-      posts = Posts-then _ before _ _ c.loop-self.self _ was.posts (Posts-then before before _ _ c.read.new.self _ read posted.posts);
+      posts = Posts-then _ before _ _ c.loop-self.self _ was.posts
+          (Posts-then before before _ _ c.read.new.self _ read posted.posts);
       none = posted.all refl;
       same = (
         posted.same.0 ∙ c.in-Bytes.ensures.same.0 ∙ was.same.0,

@@ -10,4 +10,6 @@ pub returns-clause-begun : goal.returns-clause-begun
 returns-clause-begun g c =
     begins_if c.args.table.now.slots c.args.rows.now c.args.label c.args.id _ c.in-Some-find_row.row.now c.make.result
     (sym c.name.ensures ∙ ap option_copied c.in-Some.is) (search rules)
-    (subst (λ down. IfSome c.make.result (λ (part : HostPart). IsBegun c.args.id (beginning part.opening down c.args.label) part)) c.is_down-down.ensures c.make.ensures)
+    (subst (λ down. IfSome c.make.result
+    (λ (part : HostPart). IsBegun c.args.id (beginning part.opening down c.args.label) part)) c.is_down-down.ensures
+    c.make.ensures)

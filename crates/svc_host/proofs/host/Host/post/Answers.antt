@@ -6,4 +6,5 @@ use Rattle.svc_host.proofs.host.Host.post.Goals as goal
 
 pub returns-clause-there : goal.returns-clause-there
 returns-clause-there g c =
-    subst (λ host. (c.post_to.result ≡ Err NoSuchPart) ↔ IsNowhere c.args.id host.parts) c.self.view_is c.post_to.ensures.there
+    subst (λ host. (c.post_to.result ≡ Err NoSuchPart) ↔ IsNowhere c.args.id host.parts) c.self.view_is
+    c.post_to.ensures.there

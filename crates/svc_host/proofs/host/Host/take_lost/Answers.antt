@@ -6,4 +6,5 @@ use Rattle.svc_host.proofs.host.Host.take_lost.Goals as goal
 
 pub returns-in_err-pair-clause-parts : goal.returns-in_err-pair-clause-parts
 returns-in_err-pair-clause-parts g c =
-    subst (λ (host : HostState). GoOn host.parts c.self.inside.parts.items) c.self.view_is (all_same c.self.inside.parts.items)
+    subst (λ (host : HostState). GoOn host.parts c.self.inside.parts.items) c.self.view_is
+    (all_same c.self.inside.parts.items)

@@ -7,9 +7,11 @@ use Rattle.svc_house.proofs.Extended.{extended-append}
 use Rattle.svc_maker.proofs.maker.FolderMakerMaker.pair.Goals as goal
 
 -- the path that was made is that of the service's own folder
-own : (path text folder lent name : List ℕ) → path ≡ text → text ≡ lent ++ (47 ∷ name) → lent ≡ folder → path ≡ part_path folder name Main
+own : (path text folder lent name : List ℕ) → path ≡ text → text ≡ lent ++ (47 ∷ name) → lent ≡ folder
+    → path ≡ part_path folder name Main
 own path text folder lent name same made lends =
-    same ∙ made ∙ ap (λ (f : List ℕ). f ++ (47 ∷ name)) lends ∙ ap (λ (n : List ℕ). folder ++ (47 ∷ n)) (sym (append-nil name))
+    same ∙ made ∙ ap (λ (f : List ℕ). f ++ (47 ∷ name)) lends
+    ∙ ap (λ (n : List ℕ). folder ++ (47 ∷ n)) (sym (append-nil name))
 
 pub returns-in_default-output : goal.returns-in_default-output
 returns-in_default-output g c = rw (← c.self.view_is, c.reserve.ensures.items) (record {
