@@ -17,10 +17,10 @@ SECONDS = {
     "tai_status": 142, "sup_core": 204, "star_match": 40, "mlog_script": 163, "mlog_files": 81,
     "mlog_line": 82, "mlog_core": 119, "svc_mail": 91, "sup_trace": 142, "svc_station": 171, "svc_house": 117,
     "env_title": 101, "scan_table": 281, "suite_lines": 115, "suite_core": 184, "svc_relay": 43,
-    "trace_words": 40, "cmd_base": 23, "svc_exit": 47, "svc_left": 61, "svc_world": 265, "svc_door": 98,
-    "svc_host": 449, "svc_maker": 150, "cmd_sim": 109, "cmd_trace": 100, "cmd_filters": 30, "cmd_help": 27,
+    "trace_words": 40, "cmd_base": 23, "svc_exit": 47, "svc_left": 61, "svc_world": 325, "svc_door": 98,
+    "svc_host": 449, "svc_maker": 260, "cmd_sim": 109, "cmd_trace": 100, "cmd_filters": 30, "cmd_help": 27,
     "cmd_envdir": 181, "cmd_multilog": 278, "cmd_svc": 159, "cmd_local": 113, "cmd_why": 339,
-    "cmd_report": 152, "cmd_wait": 63, "cmd_svscan": 370, "dtools": 280,
+    "cmd_report": 152, "cmd_wait": 63, "cmd_svscan": 550, "dtools": 280,
 }
 
 
@@ -56,11 +56,12 @@ def in_lanes(tasks):
                 idle = processors - sum(jobs for _, _, jobs in running.values())
                 room = memory - sum(held for _, held, _ in running.values())
                 if idle > 0 and (not running or needs <= room):
-                    jobs = min(idle, 4, max(1, round(1.2 * processors * behind[key] / work)))
+                    # (what all else waits for shares processors with the others where too few are idle)
+                    jobs = min(4, max(1, round(1.2 * processors * behind[key] / work)))
                     while jobs > 1 and needs * (1 + 0.6 * (jobs - 1)) > room:
                         jobs -= 1
                     left.remove(key)
-                    running[pool.submit(call, given, jobs)] = key, needs * (1 + 0.6 * (jobs - 1)), jobs
+                    running[pool.submit(call, given, jobs)] = key, needs * (1 + 0.6 * (jobs - 1)), min(jobs, idle)
             for it in wait(running, return_when=FIRST_COMPLETED).done:
                 given[running.pop(it)[0]] = it.result()
     return given
