@@ -263,7 +263,11 @@ is 'TERM in a line: status' 0 "$?"
 is 'TERM in a line: current' 'one two three' "$(xargs <halves/current)"
 started ./halves half
 becomes four tail -n 1 halves/current
+# It is in a line once it has read these two bytes.
+taken() { sed -n 's/^rchar: //p' "/proc/$logger/io"; }
+before=$(taken)
 printf fi >&7
+becomes $((before + 2)) taken
 kill -KILL "$shell"
 wait "$shell" 2>/dev/null
 sleep 0.2
