@@ -4,4 +4,4 @@
 pub(crate) const KIT: &str = "rattle-kit-13b logic dac8208d650f15bf";
 
 /// The sum of its sources, as packaging/source-sum tells it.
-pub(crate) const SOURCE: &str = "613edd829dcfff0e07e3843364b0f8d2f9730b41bb7e24d58c8b67172156fd0f";
+pub(crate) const SOURCE: &str = "9df6df9c40fbc64a04fbc8a37bc0137c7e4180db44afc3aad2f1b29b92accbfb";
