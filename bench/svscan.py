@@ -192,6 +192,8 @@ def one_pair(suite):
     folder = f"{room}/{suite.name}-pair"
     home = f"{folder}/web"
     os.makedirs(f"{home}/log/main")
+    with open(f"{home}/log/main/config", "w") as config:
+        config.write("s16777215\nn100\n")
     os.mkfifo(f"{home}/lines")
     write_script(f"{home}/run", "exec cat lines")
     write_script(f"{home}/log/run", f"exec {suite.logger}")
