@@ -102,7 +102,7 @@ def logs(error, call):
 
 # The services of svscan, a pair among them.
 SERVICES = {"web": "exec sleep 1000", "db": "echo said\nexec sleep 1000", "db/log": "exec cat >>lines"}
-TOLD = re.compile(r"svscan: (OutOfMemory|unable to list|\S+: (unable to (supervise|lock|write status|write the trace)|\d+ bytes were not logged))|"
+TOLD = re.compile(r"svscan: (OutOfMemory|unable to list|\S+: (unable to (supervise: .*|lock|write status|write the trace)|\d+ bytes were not logged))|"
                   r"dtools: OutOfMemory")
 
 

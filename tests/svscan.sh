@@ -324,13 +324,13 @@ END
   svc -t d/web
   soon 't: another one' 5 is_another d/web "$first"
   so 't: how it ended' exit_says "$first signal TERM" d/web
-  so 't: two began' counts_are '2 1' d/web
+  soon 't: two began' 3 counts_are '2 1' d/web
   soon 'it settles' 5 is_settled d/web
   first=$(process d/web)
   svc -k d/web
   soon 'k: another one' 5 is_another d/web "$first"
   so 'k: how it ended' exit_says "$first signal KILL" d/web
-  so 'k: three began' counts_are '3 2' d/web
+  soon 'k: three began' 3 counts_are '3 2' d/web
   is 'one that never ran: the counts of an earlier svscan are gone' 'no no' \
     "$(exists d/down/supervise/counts) $(exists d/down/supervise/exit)"
   soon 'web is up again' 5 is_settled d/web
@@ -841,17 +841,23 @@ END
   soon 'moved away: ended' 3 not is_served elsewhere/second
   sleep 6
   is 'moved away: it does not start again' 1 "$(count elsewhere/second/starts)"
-  # A name that is no text: nothing is scanned, and what runs goes on.
+  # Names that are no text are told, once a round, and the others are services as ever.
   first=$(process d/renamed)
   : >"d/$(printf '\377')"
-  soon 'a name that is no text' 8 holds '^svscan: unable to list$' told
+  mkdir "d/$(printf 'web\300')"
   sleeper d/third
+  soon 'names that are no text' 8 holds '^svscan: 2 names are not text$' told
+  soon 'names that are no text: another one starts' 8 is_up d/third
+  is 'names that are no text: it goes on' "$first" "$(process d/renamed)"
   sleep 6
-  is 'a name that is no text: it goes on' "$first" "$(process d/renamed)"
-  so 'a name that is no text: nothing starts' test ! -e d/third/starts
-  rm "d/$(printf '\377')"
-  soon 'a name that is no text: gone' 8 is_up d/third
-  is 'nothing else was told' '' "$(grep -v -e '^svscan: renamed: unable to lock$' -e '^svscan: unable to list$' told)"
+  lies 'names that are no text: once a round' 2 4 "$(grep -c 'names are not text$' told)"
+  rm -r d/*$'\377'* d/*$'\300'*
+  sleep 6
+  local told
+  told=$(count told)
+  sleep 6
+  is 'names that are no text: gone' "$told" "$(count told)"
+  is 'nothing else was told' '' "$(grep -v -e '^svscan: renamed: unable to lock$' -e '^svscan: [12] names are not text$' told)"
 }
 
 # Two svscans over the same services, and two links to one service.
@@ -1040,12 +1046,19 @@ END
   soon 'served in the end' 3 is_up d/web
 }
 
-# A supervise that can't be made.
+# A supervise that can't be made, and one that is a link to nothing.
 no_supervise() {
   sleeper d/file
   sleeper d/other
   sleeper d/readonly
+  sleeper d/lost
+  sleeper d/link
+  sleeper d/away
+  mkdir kept
   echo 'no folder' >d/file/supervise
+  ln -s "$PWD/nosuch/lost" d/lost/supervise
+  ln -s ../../kept/link d/link/supervise
+  ln -s "$PWD/kept/away" d/away/supervise
   local mounted=no
   if mount --bind d/readonly d/readonly 2>/dev/null; then
     echo "$PWD/d/readonly" >>"$room/$scenario.mounts"
@@ -1057,10 +1070,17 @@ no_supervise() {
   so 'a file in its place: it does not start' test ! -e d/file/starts
   is 'a file in its place: not served' 100 "$(is_served d/file; echo $?)"
   [ $mounted = yes ] && so 'read-only: it does not start' test ! -e d/readonly/supervise
-  is 'they are told, and no other' "file$([ $mounted = yes ] && echo ' readonly')" \
-    "$(sed -n 's/^svscan: \(.*\): unable to supervise$/\1/p' told | sort -u | paste -sd ' ')"
-  is 'nothing else is told' '' "$(grep -v ': unable to supervise$' told)"
+  so 'a link into nowhere: it does not start' test ! -e d/lost/starts
+  is 'they are told with the cause, and no other' "svscan: file: unable to supervise: Not a directory
+svscan: lost: unable to supervise: No such file or directory$([ $mounted = yes ] && echo "
+svscan: readonly: unable to supervise: Read-only file system")" "$(sort -u told)"
   lies 'once a round' 2 3 "$(grep -c '^svscan: file: ' told)"
+  so 'a link to nothing: what it names is made' test -f kept/away/lock
+  is 'a link to nothing: its own, both ways' '700 700' "$(stat -c %a kept/link kept/away | paste -sd ' ')"
+  is 'a link to nothing: up' '0 0' "$(for each in link away; do is_served d/$each; echo $?; done | paste -sd ' ')"
+  so 'a link to nothing: it stays a link' test -L d/link/supervise
+  mkdir nosuch
+  soon 'a link into nowhere: no more' 8 is_up d/lost
   rm d/file/supervise
   soon 'a file in its place: gone' 8 is_up d/file
   if [ $mounted = yes ]; then
@@ -1072,6 +1092,14 @@ no_supervise() {
   sleep 6
   is 'they are told no more' "$told" "$(count told)"
   is 'the other one is as it was' 1 "$(count d/other/starts)"
+  # Another user than root has no permission here.
+  if [ "$(id -u)" = 0 ] && setpriv --reuid 65534 --clear-groups test -x "$program" 2>/dev/null; then
+    sleeper e/web
+    chmod 755 "$room" . e e/web
+    timeout 20 setpriv --reuid 65534 --clear-groups "$program" svscan e 1 >/dev/null 2>denied </dev/null
+    is 'denied' 'svscan: .svscan: unable to supervise: Permission denied
+svscan: web: unable to supervise: Permission denied' "$(cat denied)"
+  fi
 }
 
 # So many rounds, and the end of all; words that are refused; a folder that is not there.
@@ -1123,9 +1151,9 @@ END
     ended "usage: $words" 100 'dtools: usage' $words
   done
   ended 'usage: an empty number' 100 'dtools: usage' d ''
-  ended 'no such folder' 0 'svscan: .svscan: unable to supervise
+  ended 'no such folder' 0 'svscan: .svscan: unable to supervise: No such file or directory
 svscan: unable to list' "$room/nonexistent" 1
-  ended 'no folder' 0 'svscan: .svscan: unable to supervise
+  ended 'no folder' 0 'svscan: .svscan: unable to supervise: Not a directory
 svscan: unable to list' d/web/run 1
   cd d || return
   start ../told.inside
@@ -1301,7 +1329,7 @@ refused() {
   start told3 e
   soon 'without its own folder: up' 5 is_settled e/web
   sleep 6
-  is 'without its own folder: told once' 'svscan: .svscan: unable to supervise' "$(cat told3)"
+  is 'without its own folder: told once' 'svscan: .svscan: unable to supervise: Not a directory' "$(cat told3)"
 }
 
 # It says its last words after TERM, for 0.3 seconds.
@@ -1582,14 +1610,14 @@ shortage() {
   under=()
   soon 'the first is up' 10 is_settled d/s1
   for each in $(seq 2 20); do sleeper "d/s$each"; done
-  soon 'some are told' 15 holds ': unable to supervise$' told
+  soon 'some are told' 15 holds ': unable to supervise: Too many open files$' told
   sleep 5
   so 'svscan lives' lives "$svscan"
   local up=()
   for each in d/s{1..20}; do is_served "$each" && is_up "$each" && up+=("$each"); done
   lies 'some are up, and some are not' 1 19 ${#up[@]}
   is 'those that are not served are told' '' "$(for each in d/s{1..20}; do
-    is_served "$each" || holds "^svscan: ${each##*/}: unable to supervise$" told || echo "$each"
+    is_served "$each" || holds "^svscan: ${each##*/}: unable to supervise: Too many open files$" told || echo "$each"
   done)"
   local before after
   before=$(ticks "$svscan")
@@ -1598,6 +1626,49 @@ shortage() {
   lies 'svscan does not spin: ticks in 5 s' 0 50 $((after - before))
   so 'svscan lives on' lives "$svscan"
   so 'the service too' lives "$(process "${up[0]:-none}")"
+}
+
+# Ten services and three pairs want 24 + 10 * 4 + 3 * 14 descriptors: with one less that is told, at once and once, and with
+# as many all are up.
+descriptors_told() {
+  local each
+  for each in d e; do
+    for name in s{0..9} p{0..2}; do sleeper "$each/$name"; done
+    for name in p{0..2}; do logger "$each/$name/log"; done
+    : >"$each/file"
+    sleeper "$each/.hidden"
+  done
+  under=(bash -c 'ulimit -n 105; exec "$@"' bash)
+  start told d
+  under=(bash -c 'ulimit -n 106; exec "$@"' bash)
+  start told2 e
+  under=()
+  soon 'as many: up' 8 all_are is_settled e/s{0..9} e/p{0..2} e/p{0..2}/log
+  soon 'one less: told' 3 holds '^svscan: 106 descriptors are needed, 105 are allowed$' told
+  is 'one less: first of all' 'svscan: 106 descriptors are needed, 105 are allowed' "$(head -n 1 told)"
+  sleep 6
+  is 'one less: once' 1 "$(grep -c 'descriptors are needed' told)"
+  is 'as many: nothing is told' '' "$(cat told2)"
+}
+
+# A folder that does not change is not listed again, and what comes to it is seen.
+unchanged() {
+  command -v strace >/dev/null || return
+  sleeper d/web
+  sleeper real
+  ln -s ../there d/link
+  start told d
+  soon 'up' 5 is_settled d/web
+  sleep 8
+  timeout 11 strace -f -qq -e trace=getdents64,getdents -o listed -p "$svscan"
+  is 'it is not listed' 0 "$(grep -c getdents listed)"
+  mv real there
+  soon 'a link that leads somewhere now' 8 is_up d/link
+  sleeper d/other
+  soon 'a new one' 8 is_up d/other
+  sleep 8
+  sleeper d/third
+  soon 'one after a rest' 8 is_up d/third
 }
 
 # What stands in the folder when a service begins anew counts, though rounds passed in which it was not looked at.
@@ -1694,7 +1765,8 @@ play_all() {
 }
 
 scenarios=(life modes_kept exits endings no_run links stubborn killed_service killed_svscan killed_early unwritten new_boot other_user earlier_record changes twice names silent
-  connections no_supervise rounds untaken own refused last_words upgraded unread ordered first_process two_services child begins_anew shortage)
+  connections no_supervise rounds untaken own refused last_words upgraded unread ordered first_process two_services child begins_anew shortage
+  descriptors_told unchanged)
 # These keep every processor busy, and have the machine for themselves.
 crowds=(killed_logger late_logger last_entries given_back many)
 shift

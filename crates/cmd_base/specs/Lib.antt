@@ -3,3 +3,4 @@ pub mod Told
 pub mod Known
 pub mod Paths
 pub mod Printed
+pub mod Causes

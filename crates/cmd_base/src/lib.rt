@@ -2,11 +2,13 @@
 //! reads, the status file of a service among them, and the system's clock.
 #![tactic(auto)]
 
+mod cause;
 mod clock;
 mod files;
 mod reporting;
 mod status;
 
+pub use cause::Cause;
 pub use clock::SystemClock;
 pub use files::FileSource;
 pub use reporting::{

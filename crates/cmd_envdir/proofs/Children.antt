@@ -3,11 +3,15 @@ use Rattle.std.proofs.Common.{◌≡◌, ℕ, suc, ◌+◌, ◌<◌, ◌||◌, B
 use Rattle.std.proofs.Common.{Option, Some, None, refl, sym, ap, ◌∙◌, ◌⊎◌, inl, inr, arith, subst, String}
 use Rattle.std.proofs.lemmas.List.{length-map, get_or-map}
 use Rattle.std.specs.Prelude.{◌≢◌, bytes_eq, option_map, find, get_or, map, string_bytes, string_cmp, IsSorted}
-use Rattle.std.specs.Prelude.{if◌then◌else◌}
+use Rattle.std.specs.Prelude.{if◌then◌else◌, Result, Err, MatchOption, IsOkUnless, IsErrOf}
 use Rattle.std.specs.List.{IsDistinct, AllByRecursion}
 use Rattle.std.proofs.lemmas.Slice.Eq.{bytes_eq-Decides}
 use Rattle.env_title.specs.Env.{Binding, HasDistinctNames, is_named, value_of}
 use Rattle.env_title.specs.Files.{File, has_file}
+use Rattle.env_title.specs.Faults.{first_fault}
+use Rattle.env_title.specs.declared.fault.EnvFault.{EnvFault}
+use Rattle.env_title.specs.declared.fault.EnvFault.TheVariants as why
+use Rattle.env_title.proofs.Faulty.{never_memory}
 use Rattle.cmd_envdir.specs.declared.fault.EnvdirFault.{EnvdirFault}
 use Rattle.cmd_envdir.specs.declared.fault.EnvdirFault.TheVariants as fault
 use Rattle.std.specs.IoError.{error_kind}
@@ -15,7 +19,7 @@ use Rattle.std.specs.declared.io.Error.{Error}
 use Rattle.std.specs.declared.io.ErrorKind.TheVariants.{OutOfMemory}
 use Rattle.cmd_base.specs.Known.{IsKnown, IsMissed}
 use Rattle.cmd_envdir.specs.Child.{said_of, AreInByteOrder}
-use Rattle.cmd_envdir.specs.Ends.{name_of, IsFirstFault, WasRead}
+use Rattle.cmd_envdir.specs.Ends.{name_of, starved, IsFirstFault, WasRead}
 use Rattle.cmd_envdir.specs.Sayings.{said_after_files, said_after_set}
 
 -- that a variable is taken away
@@ -143,17 +147,53 @@ said_whole files variables name distinct =
 
 -- Faults
 
+-- What is told where there is no memory is the first fault, where there is one.
+starved_at : (files : List File) (o : Option EnvFault) → first_fault files ≡ o → IsFirstFault (starved o) files
+starved_at files None is = is
+starved_at files (Some (why.NameHasEquals place)) is = is
+starved_at files (Some (why.NotText place)) is = is
+starved_at files (Some why.OutOfMemory) is = absurd (never_memory files is)
+
+pub starved_first : (files : List File) (told : EnvdirFault) → told ≡ starved (first_fault files)
+    → IsFirstFault told files
+starved_first files told is =
+    subst (λ (w : EnvdirFault). IsFirstFault w files) (sym is) (starved_at files (first_fault files) refl)
+
+starved_by : (o : Option EnvFault) → (starved o ≢ fault.Unread) × (starved o ≢ fault.NotRun)
+starved_by None = (λ e. cc e, λ e. cc e)
+starved_by (Some (why.NameHasEquals place)) = (λ e. cc e, λ e. cc e)
+starved_by (Some (why.NotText place)) = (λ e. cc e, λ e. cc e)
+starved_by (Some why.OutOfMemory) = (λ e. cc e, λ e. cc e)
+
+pub starved_neither : (told : EnvdirFault) (o : Option EnvFault) → told ≡ starved o
+    → (told ≢ fault.Unread) × (told ≢ fault.NotRun)
+starved_neither told o is =
+    subst (λ (w : EnvdirFault). (w ≢ fault.Unread) × (w ≢ fault.NotRun)) (sym is) (starved_by o)
+
+-- Memory is wanted only where no file has a fault.
+pub wanted : {T : Type 0} (files : List File) (r : Result T EnvFault)
+    → MatchOption (first_fault files) (IsOkUnless r why.OutOfMemory) (λ f. IsErrOf r f) → r ≡ Err why.OutOfMemory
+    → first_fault files ≡ None
+wanted {T} files r refuses is =
+    elim (first_fault files) as (λ o. first_fault files ≡ o
+    → MatchOption o (IsOkUnless r why.OutOfMemory) (λ f. IsErrOf r f) → o ≡ None) [
+      | None ↦ λ _ h. refl
+      | Some f ↦ λ bad h.
+          let same : why.OutOfMemory ≡ f = cc (subst (λ (q : Result T EnvFault). IsErrOf q f) is h) in
+          absurd (never_memory files (bad ∙ ap {B = Option EnvFault} (λ (w : EnvFault). Some w) (sym same)))
+    ] refl refuses
+
 -- a fault that is of no file
-pub of_no_file : (cause : EnvdirFault) (files : List File) → (cause ≡ fault.OutOfMemory) ⊎ (cause ≡ fault.Unread)
-    → IsFirstFault cause files × (name_of cause files ≡ []) × (cause ≢ fault.NotRun)
-of_no_file fault.OutOfMemory files h = (tt, refl, λ e. cc e)
-of_no_file fault.Unread files h = (tt, refl, λ e. cc e)
-of_no_file fault.NotRun files (inl h) = cc h
-of_no_file fault.NotRun files (inr h) = cc h
-of_no_file (fault.NameHasEquals place) files (inl h) = cc h
-of_no_file (fault.NameHasEquals place) files (inr h) = cc h
-of_no_file (fault.NotText place) files (inl h) = cc h
-of_no_file (fault.NotText place) files (inr h) = cc h
+pub of_no_file : (cause : EnvdirFault) → (cause ≡ fault.OutOfMemory) ⊎ (cause ≡ fault.Unread)
+    → IsFirstFault cause [] × (name_of cause [] ≡ []) × (cause ≢ fault.NotRun)
+of_no_file fault.OutOfMemory h = (refl, refl, λ e. cc e)
+of_no_file fault.Unread h = (tt, refl, λ e. cc e)
+of_no_file fault.NotRun (inl h) = cc h
+of_no_file fault.NotRun (inr h) = cc h
+of_no_file (fault.NameHasEquals place) (inl h) = cc h
+of_no_file (fault.NameHasEquals place) (inr h) = cc h
+of_no_file (fault.NotText place) (inl h) = cc h
+of_no_file (fault.NotText place) (inr h) = cc h
 
 -- Folders
 

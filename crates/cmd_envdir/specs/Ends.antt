@@ -5,6 +5,7 @@ use Rattle.std.specs.Option.{option_map_or}
 use Rattle.env_title.specs.Env.{Binding}
 use Rattle.env_title.specs.Files.{File, env_after}
 use Rattle.env_title.specs.Faults.{first_fault}
+use Rattle.env_title.specs.declared.fault.EnvFault.{EnvFault}
 use Rattle.env_title.specs.declared.fault.EnvFault.TheVariants as why
 use Rattle.tai_status.specs.Counted.{Device, Fails, Tells, Works, Wrote, WroteFront}
 use Rattle.cmd_base.specs.Known.{IsKnown}
@@ -34,13 +35,20 @@ name_of fault.Unread files = []
 name_of fault.NotRun files = []
 name_of fault.OutOfMemory files = []
 
--- A fault that is of a file is the first fault of these files.
+-- A fault that is of a file is the first fault of these files. Memory is wanted only where no file has one.
 abbrev pub IsFirstFault : EnvdirFault → List File → Type 0
 IsFirstFault (fault.NameHasEquals place) files = first_fault files ≡ Some (why.NameHasEquals place)
 IsFirstFault (fault.NotText place) files = first_fault files ≡ Some (why.NotText place)
 IsFirstFault fault.Unread files = ⊤
 IsFirstFault fault.NotRun files = first_fault files ≡ None
-IsFirstFault fault.OutOfMemory files = ⊤
+IsFirstFault fault.OutOfMemory files = first_fault files ≡ None
+
+-- what is told where there is no memory: the first fault of the files, where they have one
+abbrev pub starved : Option EnvFault → EnvdirFault
+starved None = fault.OutOfMemory
+starved (Some (why.NameHasEquals place)) = fault.NameHasEquals place
+starved (Some (why.NotText place)) = fault.NotText place
+starved (Some why.OutOfMemory) = fault.OutOfMemory
 
 -- What a fault says of a folder: it is not known to be there; or, where memory sufficed, its files are these.
 abbrev pub WasRead : EnvdirFault → Option (List File) → List File → Type 0

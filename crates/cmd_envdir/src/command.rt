@@ -7,16 +7,16 @@ ghost use Rattle.tai_status.specs.Counted.{Tells};
 ghost use Rattle.cmd_envdir.specs.System.{child, outputs, scene, texts};
 ghost use Rattle.cmd_envdir.specs.Words.{ReadsAsWordsOf};
 ghost use Rattle.cmd_envdir.specs.Ends.{AskedEnds, ChildEnds, EndsWriting, EnvdirEnds, HasNoChild, IsChangedBy};
-ghost use Rattle.cmd_envdir.specs.Ends.{IsFirstFault, RunsChild, WordsEnd, envdir_told, name_of};
+ghost use Rattle.cmd_envdir.specs.Ends.{IsFirstFault, RunsChild, WordsEnd, envdir_told, name_of, starved};
 
 use crate::child::run_child;
 use crate::env_system::EnvSystem;
 use crate::fault::EnvdirFault;
-use crate::folder::{FolderFile, env_files, name_at};
+use crate::folder::{FolderFile, env_files, fault_in, name_at};
 use crate::launcher::Launcher;
 use crate::words::shell_text;
 use cmd_base::{DONE, TROUBLE, report, report_parts, usage};
-use env_title::{Env, EnvFault, EnvFile, apply};
+use env_title::{Env, EnvFault, EnvFile, apply, first_fault};
 use std::alloc::Allocator;
 use std::io::{Error, ErrorKind, Write};
 use tai_status::Output;
@@ -33,6 +33,17 @@ fn fault_of(error: Error) -> EnvdirFault
     EnvdirFault::Unread
 }
 
+/// What is told where there is no memory: what is wrong with the first file that can't be applied, where one can't.
+fn starved(first: Option<EnvFault>) -> EnvdirFault
+    ensures { result ≡ starved first }
+{
+    match first {
+        Some(EnvFault::NameHasEquals(place)) => EnvdirFault::NameHasEquals(place),
+        Some(EnvFault::NotText(place)) => EnvdirFault::NotText(place),
+        Some(EnvFault::OutOfMemory) | None => EnvdirFault::OutOfMemory,
+    }
+}
+
 /// The environment that files make of one.
 fn applied<A: Allocator + Clone>(
     alloc: &A,
@@ -45,7 +56,7 @@ fn applied<A: Allocator + Clone>(
     ensures neither { IfErr result (λ why. (why ≢ EnvdirFault.Unread) × (why ≢ EnvdirFault.NotRun)) }
 {
     let Ok(own) = alloc.clone() else {
-        return Err(EnvdirFault::OutOfMemory);
+        return Err(starved(first_fault(files)));
     };
     match apply(own, files, before) {
         Ok(after) => Ok(after),
@@ -67,7 +78,7 @@ fn changed_env<R: EnvSystem, A: Allocator + Clone>(
 {
     match rt.variables(alloc) {
         Ok(before) => applied(alloc, files, &before),
-        Err(_) => Err(EnvdirFault::OutOfMemory),
+        Err(_) => Err(starved(first_fault(files))),
     }
 }
 
@@ -88,7 +99,7 @@ fn run_with<R: EnvSystem, L: Launcher, A: Allocator + Clone>(
     ensures read { IfErr result (λ why. why ≢ EnvdirFault.Unread) }
 {
     let Ok(files) = env_files(alloc, folder) else {
-        return Err(EnvdirFault::OutOfMemory);
+        return Err(starved(fault_in(folder)));
     };
     let after = match changed_env(rt, alloc, &files) {
         Ok(after) => after,
@@ -111,10 +122,10 @@ fn folder_words<A: Allocator + Clone>(
     ensures neither { IfErr result (λ why. (why ≢ EnvdirFault.Unread) × (why ≢ EnvdirFault.NotRun)) }
 {
     let Ok(files) = env_files(alloc, folder) else {
-        return Err(EnvdirFault::OutOfMemory);
+        return Err(starved(fault_in(folder)));
     };
     let Ok(own) = alloc.clone() else {
-        return Err(EnvdirFault::OutOfMemory);
+        return Err(starved(fault_in(folder)));
     };
     match applied(alloc, &files, &Env::new(own)) {
         Ok(set) => shell_text(alloc, &files, &set).map_err(|_| EnvdirFault::OutOfMemory),

@@ -2,11 +2,12 @@
 ghost use Rattle.std.specs.Prelude.{◌≡◌, [], ◌∷◌, ◌++◌, map, string_bytes, slice_get, IfOk, IsSorted};
 ghost use Rattle.std.specs.String.{string_cmp};
 ghost use Rattle.std.specs.Option.{option_map_or};
+ghost use Rattle.env_title.specs.Faults.{first_fault};
 ghost use Rattle.cmd_envdir.specs.Child.{AreInByteOrder};
 ghost use Rattle.cmd_envdir.specs.System.{AreHeld};
 
 use cmd_base::FileSource;
-use env_title::EnvFile;
+use env_title::{EnvFault, EnvFile};
 use std::alloc::{AllocError, Allocator, Global};
 use std::fs::Files;
 use std::marker::Model;
@@ -75,6 +76,33 @@ fn path_in<A: Allocator + Clone>(alloc: &A, dir: &str, name: &str) -> Result<Str
     Ok(path)
 }
 
+impl<A: Allocator> FolderFile<A> {
+    ghost use Rattle.std.specs.Prelude.{◌≡◌};
+
+    // The file as a change of an environment.
+    fn change(&self) -> EnvFile<'_>
+        ensures { result ≡ self.now }
+    {
+        EnvFile {
+            name: self.name.as_str(),
+            bytes: self.bytes.as_slice(),
+        }
+    }
+}
+
+/// What is wrong with the first file that can't be applied, where one can't. It takes no memory.
+pub fn fault_in<A: Allocator>(folder: &[FolderFile<A>]) -> Option<EnvFault>
+    ensures { result ≡ first_fault folder.now }
+{
+    for (place, file) in folder.iter().enumerate() {
+        let fault = file.change().fault(place);
+        if fault.is_some() {
+            return fault;
+        }
+    }
+    None
+}
+
 /// The files as changes of an environment.
 pub fn env_files<'a, A: Allocator + Clone>(
     alloc: &A,
@@ -84,10 +112,7 @@ pub fn env_files<'a, A: Allocator + Clone>(
 {
     let mut files = Vec::with_capacity(alloc.clone()?, folder.len())?;
     for file in folder {
-        files.push(EnvFile {
-            name: file.name.as_str(),
-            bytes: file.bytes.as_slice(),
-        })?;
+        files.push(file.change())?;
     }
     Ok(files)
 }

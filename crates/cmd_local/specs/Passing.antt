@@ -2,11 +2,11 @@
 --
 -- `inside` says that the bytes go on a line that has begun, and whose label, if it has one, was passed.
 use Rattle.std.specs.Prelude.{◌≡◌, ℕ, ◌-◌, ◌⊎◌, ◌&&◌, ◌==◌, nat_lt, Bool, true, false, List, [], ◌++◌, length, drop}
-use Rattle.std.specs.Prelude.{slice_index, Option, ℤ}
+use Rattle.std.specs.Prelude.{if◌then◌else◌, slice_index, Option, ℤ}
 use Rattle.std.specs.Io.BufRead.{take_through, drop_through}
 use Rattle.tai_status.specs.Counted.{Device, Gives, Wrote}
 use Rattle.tai_status.specs.Block.{Emits}
-use Rattle.cmd_local.specs.Lines.{leading_digits, localised}
+use Rattle.cmd_local.specs.Lines.{leading_digits, localised, localised_line}
 
 -- whether bytes that begin a line may go on to be a label
 abbrev pub is_open : List ℕ → Bool
@@ -17,6 +17,10 @@ is_open line =
 abbrev pub passed : (ahead : ℤ → ℤ) → Bool → List ℕ → List ℕ
 passed ahead false bytes = localised ahead bytes
 passed ahead true bytes = take_through 10 bytes ++ localised ahead (drop_through 10 bytes)
+
+-- what becomes of bytes of one line
+abbrev pub passed_part : (ahead : ℤ → ℤ) → Bool → List ℕ → List ℕ
+passed_part ahead inside part = if inside then part else localised_line ahead part
 
 -- Bytes of one line, whose newline they end with; or it may come after them.
 abbrev pub IsPart : List ℕ → (ends : Bool) → Type 0
@@ -38,6 +42,12 @@ pub record Passes (ahead : ℤ → ℤ) (inside : Bool) (bytes : List ℕ) (goes
   pub text : List ℕ
   pub makes : Makes ahead inside bytes text goes_on held
   pub puts : Emits old new pending left text
+
+-- Bytes were put behind what was pending, up to a place, so that those from there on are held.
+abbrev pub PassesUpTo : (at : ℕ) (ahead : ℤ → ℤ) (inside : Bool) (bytes : List ℕ) (goes_on : Bool) (old new : Device)
+    (pending left : List ℕ) → Type 0
+PassesUpTo at ahead inside bytes goes_on old new pending left =
+    Passes ahead inside bytes goes_on (drop at bytes) old.bytes new.bytes pending left
 
 -- Bytes were written, so that these are held.
 pub record Moves (ahead : ℤ → ℤ) (inside : Bool) (bytes : List ℕ) (goes_on : Bool) (held : List ℕ)

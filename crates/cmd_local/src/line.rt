@@ -1,6 +1,6 @@
 //! The lines of a text, one part after another.
 ghost use Rattle.std.specs.Prelude.{◌≡◌, ◌+◌, ◌<◌, ◌≤◌, ◌-◌, ◌++◌, ◌∷◌, [], min, drop, take, length, true, false};
-ghost use Rattle.std.specs.Prelude.{not, ◌&&◌, if◌then◌else◌};
+ghost use Rattle.std.specs.Prelude.{not, ◌&&◌};
 ghost use Rattle.std.specs.Prelude.{OnOk, OnErr, IfOk, IfSome};
 ghost use Rattle.hex.specs.Hex.{decode_sized};
 ghost use Rattle.tai_status.specs.Block.{Puts};
@@ -9,7 +9,7 @@ ghost use Rattle.tai_status.specs.Reading.{is_lower_digit};
 ghost use Rattle.cmd_local.specs.Digits.{digit, fraction, nine_digits};
 ghost use Rattle.cmd_local.specs.Lines.{has_label, label_of, leading_digits, localised_line, unpacked};
 ghost use Rattle.cmd_local.specs.Local.{local_text};
-ghost use Rattle.cmd_local.specs.Passing.{IsHeld, IsPart, Passes, is_open, passed};
+ghost use Rattle.cmd_local.specs.Passing.{IsHeld, IsPart, PassesUpTo, is_open, passed, passed_part};
 
 use crate::civil::{digit, nine_digits};
 use crate::zone::{TIME_LEN, Zone, second_text};
@@ -270,10 +270,10 @@ fn put_part<Z: Zone, W: Write>(
 ) -> Result<(), DeviceFault>
     requires { last.old.text ≡ local_text (Z.ahead_at zone.now) last.old.sec }
     ensures kept { last.new.text ≡ local_text (Z.ahead_at zone.now) last.new.sec }
-    ensures ok { OnOk result (Puts writer.old writer.new block.old block.new
-        (if inside then part.now else localised_line (Z.ahead_at zone.now) part.now)) }
-    ensures err { OnErr result (WroteFront writer.old writer.new
-        (block.old ++ (if inside then part.now else localised_line (Z.ahead_at zone.now) part.now))) }
+    ensures ok { OnOk result
+        (Puts writer.old writer.new block.old block.new (passed_part (Z.ahead_at zone.now) inside part.now)) }
+    ensures err { OnErr result
+        (WroteFront writer.old writer.new (block.old ++ passed_part (Z.ahead_at zone.now) inside part.now)) }
     ensures faults { OnOk result (Works writer.old writer.new) }
     ensures fault { OnErr result (Fails writer.old writer.new) }
 {
@@ -295,8 +295,8 @@ pub fn put_lines<Z: Zone, W: Write>(
 ) -> Result<usize, DeviceFault>
     requires { last.old.text ≡ local_text (Z.ahead_at zone.now) last.old.sec }
     ensures kept { last.new.text ≡ local_text (Z.ahead_at zone.now) last.new.sec }
-    ensures ok { IfOk result (λ at. Passes (Z.ahead_at zone.now) inside.old bytes.now inside.new (drop at bytes.now)
-        writer.old.bytes writer.new.bytes block.old block.new) }
+    ensures ok { IfOk result (λ at. PassesUpTo at (Z.ahead_at zone.now) inside.old bytes.now inside.new
+        writer.old writer.new block.old block.new) }
     ensures held { IfOk result (λ at. IsHeld inside.new (drop at bytes.now)) }
     ensures within { IfOk result (λ at. (at ≤ length bytes.now) × (length bytes.now ≤ at + 25)) }
     ensures err { OnErr result

@@ -89,9 +89,10 @@ abbrev pub TellsRun : Option RunFault → Device → Device → Type 0
 TellsRun None old new = new ≡ old
 TellsRun (Some fault) old new = Tells old new (run_told fault)
 
--- The script was run over opened logs, part by part of the input, and its fault is told.
+-- The script was run over opened logs, part by part of the input, no folder was asked for, and the fault is told.
 pub record RunsOpened (script : List Act) (status : ℕ) (old new : Stage) : Type 0 where
   pub ran : Option RunFault
+  pub asked : new.store.asked ≡ old.store.asked
   pub runs : RunsParts ran script (play_of old) (play_of new)
   pub status_is : status ≡ run_status ran
   pub told : TellsRun ran old.faults new.faults

@@ -1,8 +1,12 @@
 -- The folder of a log, as the system tells it, and what calls do to it.
-use Rattle.std.specs.Prelude.{◌≡◌, ⊤, ℕ, Bool, true, false, if◌then◌else◌, List, [], ◌∷◌, ◌++◌, map, length, bytes_eq}
+use Rattle.std.specs.Prelude.{◌≡◌, ◌⊎◌, ⊤, ℕ, Bool, true, false, if◌then◌else◌, List, [], ◌∷◌, ◌++◌, map, length, bytes_eq}
 use Rattle.std.specs.Prelude.{unwrap_or, Option, Some, None, IfSome, MatchOption}
 use Rattle.std.specs.List.{list_any}
 use Rattle.std.specs.Option.{option_map}
+use Rattle.std.specs.IoError.{error_kind}
+use Rattle.std.specs.declared.io.Error.{Error}
+use Rattle.std.specs.declared.io.ErrorKind.TheVariants.{OutOfMemory}
+use Rattle.tai_status.specs.Extended.{Extended}
 use Rattle.mlog_files.specs.Files.{Old, Files, with_old}
 use Rattle.cmd_multilog.specs.Names.{old_names}
 
@@ -111,6 +115,12 @@ Begins old new = new ≡ record {
   olds = old.olds;
 }
 
+-- Why a log is not opened: a call on its folder gave this error, and no other call failed; or none did, and there was
+-- no memory.
+abbrev pub IsCause : Error → (past now : Option (List Error)) → Type 0
+IsCause error past now =
+    Extended past now (error ∷ []) ⊎ ((now ≡ past) × (error_kind error ≡ OutOfMemory))
+
 -- Conditions, and what is read
 
 -- This process holds the lock.
@@ -144,24 +154,17 @@ StaysAt (Some old) (Some new) = new.path ≡ old.path
 
 -- Status files, and the disk
 
--- a status file: its path, and what it holds
+-- a status file: its path, and the contents that it was given, of which it holds the last
 pub record Status : Type 0 where
   pub path : List ℕ
-  pub content : List ℕ
+  pub given : List (List ℕ)
 
-abbrev pub content_of : Option Status → Option (List ℕ)
-content_of status = option_map (λ s. s.content) status
+abbrev pub given_of : Option Status → Option (List (List ℕ))
+given_of status = option_map (λ s. s.given) status
 
--- The file stays at its path. It goes on being told.
-abbrev pub StaysThere : Option Status → Option Status → Type 0
-StaysThere None None = ⊤
-StaysThere None (Some new) = ⊥
-StaysThere (Some old) None = ⊥
-StaysThere (Some old) (Some new) = new.path ≡ old.path
-
--- The file holds this content.
-abbrev pub Holds : Option Status → Option Status → List ℕ → Type 0
-Holds None None content = ⊤
-Holds None (Some new) content = ⊥
-Holds (Some old) None content = ⊥
-Holds (Some old) (Some new) content = new ≡ record { path = old.path; content = content }
+-- The file was given this content, once. It goes on being told.
+abbrev pub Receives : Option Status → Option Status → List ℕ → Type 0
+Receives None None content = ⊤
+Receives None (Some new) content = ⊥
+Receives (Some old) None content = ⊥
+Receives (Some old) (Some new) content = new ≡ record { path = old.path; given = old.given ++ content ∷ [] }

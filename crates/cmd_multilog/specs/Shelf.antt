@@ -2,7 +2,7 @@
 use Rattle.std.specs.Prelude.{◌≡◌, ⊤, ℕ, List, [], ◌∷◌, ◌++◌, length, Option, Some, None, IfSome, slice_get}
 use Rattle.mlog_files.specs.Files.{Files}
 use Rattle.mlog_files.specs.Store.{StoreState}
-use Rattle.cmd_multilog.specs.Folder.{Folder, files_of, Begins, Status, content_of}
+use Rattle.cmd_multilog.specs.Folder.{Folder, files_of, Begins, Status, given_of}
 use Rattle.tai_status.specs.Extended.{Extended}
 
 -- The folders of the logs and the status files, as far as the system tells them; the alerts; the folders that the
@@ -19,20 +19,21 @@ abbrev pub files_at : Option (Option Folder) → Option Files
 files_at None = None
 files_at (Some folder) = files_of folder
 
--- the content of the status file at a place
-abbrev pub content_at : Option (Option Status) → Option (List ℕ)
-content_at None = None
-content_at (Some status) = content_of status
+-- the contents that the status file at a place was given
+abbrev pub given_at : Option (Option Status) → Option (List (List ℕ))
+given_at None = None
+given_at (Some status) = given_of status
 
 -- the store that it is
 abbrev pub state_of : Shelf → StoreState
 state_of shelf = record {
   logs = length shelf.logs;
   status_files = length shelf.statuses;
+  asked = shelf.asked;
   failures = shelf.failures;
   told = record {
     files = λ log. files_at (slice_get shelf.logs log);
-    statuses = λ file. content_at (slice_get shelf.statuses file);
+    statuses = λ file. given_at (slice_get shelf.statuses file);
     alerts = shelf.alerts;
   };
 }

@@ -1,5 +1,6 @@
 //! A log in a folder.
-ghost use Rattle.std.specs.Prelude.{◌≡◌};
+ghost use Rattle.std.specs.Prelude.{◌≡◌, IfOk, IfErr, OnOk};
+ghost use Rattle.cmd_multilog.specs.Folder.{Changes, Begins, IsKept, IsCause};
 
 use crate::log_system::LogFolder;
 use crate::names::{FileName, OldNames, greatest_in, old_names};
@@ -29,6 +30,24 @@ impl<F: LogFolder + Drop, A: Allocator> Model for FolderLog<F, A> {
     ghost invariant = { λ log. IsKept (F.folder log.folder) log.olds.names.items log.length };
 }
 
+/// Locks a folder, opens its current file, and lists it. Answers how many bytes that file has, and the names of old
+/// files. Want of memory comes only where no call on the folder failed.
+fn begin<F: LogFolder, A: Allocator + Clone>(
+    folder: &mut F,
+    alloc: &A,
+) -> io::Result<(u64, OldNames<A>)>
+    ensures begun { OnOk result (Changes (F.folder folder.old) (F.folder folder.new) Begins) }
+    ensures kept { IfOk result (λ (length, olds). IsKept (F.folder folder.new) olds.names.items length) }
+    ensures why { IfErr result (λ error. IsCause error (F.gave folder.old) (F.gave folder.new)) }
+{
+    folder.lock()?;
+    folder.open_current()?;
+    let length = folder.length()?;
+    let names = folder.names(alloc)?;
+    let olds = old_names(alloc, names)?;
+    Ok((length, olds))
+}
+
 impl<F: LogFolder + Drop, A: Allocator + Clone> FolderLog<F, A> {
     ghost use Rattle.std.specs.Prelude.{◌≡◌, ◌<◌, ◌≤◌, ◌∷◌, [], length, take, IfOk, IfSome, IsSome, OnOk, OnErr};
     ghost use Rattle.mlog_files.specs.Files.{Finish, Remove, append_steps};
@@ -41,11 +60,7 @@ impl<F: LogFolder + Drop, A: Allocator + Clone> FolderLog<F, A> {
         ensures { IfOk result (λ log. Changes (F.folder folder) log Begins) }
     {
         let mut folder = folder;
-        folder.lock()?;
-        folder.open_current()?;
-        let length = folder.length()?;
-        let names = folder.names(alloc)?;
-        let olds = old_names(alloc, names)?;
+        let (length, olds) = begin(&mut folder, alloc)?;
         Ok(FolderLog {
             folder,
             olds,

@@ -5,32 +5,49 @@ use crate::names::FileName;
 use std::alloc::{AllocError, Allocator};
 use std::io;
 
-/// The folder of a log. Contracts see what stands in it, where it tells that. A call that fails changed nothing.
+/// The folder of a log. Contracts see what stands in it, and which errors the calls gave by which it is opened, where
+/// it tells that. A call that fails changed nothing.
 pub trait LogFolder {
-    ghost use Rattle.std.specs.Prelude.{◌≡◌, ◌<◌, ◌≤◌, Option, None, length, take, IfOk, OnOk, OnErr};
+    ghost use Rattle.std.specs.Prelude.{◌≡◌, ◌<◌, ◌≤◌, ◌∷◌, [], List, Option, None, length, take, IfOk, IfErr};
+    ghost use Rattle.std.specs.Prelude.{OnOk, OnErr};
+    ghost use Rattle.std.specs.declared.io.Error.{Error};
+    ghost use Rattle.tai_status.specs.Extended.{Extended};
     ghost use Rattle.cmd_multilog.specs.Folder.{Folder, Changes, IsLocked, IsSynced, HasLength, HasNames};
     ghost use Rattle.cmd_multilog.specs.Folder.{Locks, Opens, Extends, Syncs, Renames, Removes};
 
     ghost folder: { Self → Option Folder } = { λ _. None };
 
+    // the errors that its calls gave, in order
+    ghost gave: { Self → Option (List Error) } = { λ _. None };
+
     /// Takes the lock, without waiting for another process that has it. It is held until the folder is let go.
     fn lock(&mut self) -> io::Result<()>
         ensures ok { OnOk result (Changes (folder self.old) (folder self.new) Locks) }
-        ensures err { OnErr result (folder self.new ≡ folder self.old) };
+        ensures err { OnErr result (folder self.new ≡ folder self.old) }
+        ensures well { OnOk result (gave self.new ≡ gave self.old) }
+        ensures gave { IfErr result (λ error. Extended (gave self.old) (gave self.new) (error ∷ [])) };
 
     /// Opens the current file for appending, and makes it where it is missing.
     fn open_current(&mut self) -> io::Result<()>
         requires locked { IsLocked (folder self.old) }
         ensures ok { OnOk result (Changes (folder self.old) (folder self.new) Opens) }
-        ensures err { OnErr result (folder self.new ≡ folder self.old) };
+        ensures err { OnErr result (folder self.new ≡ folder self.old) }
+        ensures well { OnOk result (gave self.new ≡ gave self.old) }
+        ensures gave { IfErr result (λ error. Extended (gave self.old) (gave self.new) (error ∷ [])) };
 
     /// How many bytes the current file has.
-    fn length(&self) -> io::Result<u64>
-        ensures { IfOk result (HasLength (folder self.now)) };
+    fn length(&mut self) -> io::Result<u64>
+        ensures ok { IfOk result (HasLength (folder self.new)) }
+        ensures same { folder self.new ≡ folder self.old }
+        ensures well { OnOk result (gave self.new ≡ gave self.old) }
+        ensures gave { IfErr result (λ error. Extended (gave self.old) (gave self.new) (error ∷ [])) };
 
     /// All names in the folder. One that is no text is a fault.
-    fn names<A: Allocator + Clone>(&self, alloc: &A) -> io::Result<Vec<FileName<A>, A>>
-        ensures { IfOk result (λ names. HasNames (folder self.now) names.items) };
+    fn names<A: Allocator + Clone>(&mut self, alloc: &A) -> io::Result<Vec<FileName<A>, A>>
+        ensures ok { IfOk result (λ names. HasNames (folder self.new) names.items) }
+        ensures same { folder self.new ≡ folder self.old }
+        ensures well { OnOk result (gave self.new ≡ gave self.old) }
+        ensures gave { IfErr result (λ error. Extended (gave self.old) (gave self.new) (error ∷ [])) };
 
     /// Appends a front of the piece to the current file, and tells how long it is.
     fn append(&mut self, piece: &[u8]) -> io::Result<usize>
@@ -57,17 +74,17 @@ pub trait LogFolder {
         ensures err { OnErr result (folder self.new ≡ folder self.old) };
 }
 
-/// The place of a status file. Contracts see its path and what it holds, where it tells that.
+/// The place of a status file. Contracts see its path and the contents that it was given, where it tells that.
 pub trait StatusFile {
     ghost use Rattle.std.specs.Prelude.{◌≡◌, Option, None, OnOk, OnErr};
-    ghost use Rattle.cmd_multilog.specs.Folder.{Status, Holds, StaysThere};
+    ghost use Rattle.cmd_multilog.specs.Folder.{Status, Receives};
 
     ghost status: { Self → Option Status } = { λ _. None };
 
-    /// Replaces what the file holds. After a fault it may hold anything.
+    /// Replaces what the file holds. After a fault it holds what it held.
     fn replace(&mut self, content: &[u8]) -> io::Result<()>
-        ensures ok { OnOk result (Holds (status self.old) (status self.new) content.now) }
-        ensures err { OnErr result (StaysThere (status self.old) (status self.new)) };
+        ensures ok { OnOk result (Receives (status self.old) (status self.new) content.now) }
+        ensures err { OnErr result (status self.new ≡ status self.old) };
 }
 
 /// What the operating system does for logs, and standard error. Contracts see which folders it was asked for, and what

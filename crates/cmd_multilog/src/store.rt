@@ -27,7 +27,7 @@ impl<S: StatusFile + Drop> Model for PlacedStatus<S> {
 
 impl<S: StatusFile + Drop> PlacedStatus<S> {
     ghost use Rattle.std.specs.Prelude.{◌≡◌, OnOk, OnErr};
-    ghost use Rattle.cmd_multilog.specs.Folder.{Holds, StaysThere};
+    ghost use Rattle.cmd_multilog.specs.Folder.{Receives};
 
     fn new(file: S) -> PlacedStatus<S>
         ensures { result ≡ S.status file }
@@ -37,8 +37,8 @@ impl<S: StatusFile + Drop> PlacedStatus<S> {
 
     // Replaces what the file holds.
     fn replace(&mut self, content: &[u8]) -> io::Result<()>
-        ensures ok { OnOk result (Holds self.old self.new content.now) }
-        ensures err { OnErr result (StaysThere self.old self.new) }
+        ensures ok { OnOk result (Receives self.old self.new content.now) }
+        ensures err { OnErr result (self.new ≡ self.old) }
     {
         self.file.replace(content)
     }
@@ -125,6 +125,7 @@ impl<D: LogSystem + Drop, A: Allocator + Clone> FolderStore<D, A> {
         ensures logs { self.new.logs ≡ self.old.logs }
         ensures statuses { self.new.statuses ≡ self.old.statuses }
         ensures alerts { self.new.alerts ≡ self.old.alerts }
+        ensures asked { self.new.asked ≡ self.old.asked }
     {
         self.failures = self.failures.saturating_add(1);
         StoreFault
@@ -157,7 +158,7 @@ impl<D: LogSystem + Drop, A: Allocator + Clone> LogStore for FolderStore<D, A> {
         }
     }
 
-    #[tactic(auto, using(crate::proofs::Shelves::holds_now))]
+    #[tactic(auto, using(crate::proofs::Shelves::received, crate::proofs::Shelves::unchanged))]
     fn replace_status(&mut self, file: usize, content: &[u8]) -> Result<(), StoreFault> {
         match self.statuses[file].replace(content) {
             Ok(()) => Ok(()),

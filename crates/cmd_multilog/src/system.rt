@@ -94,14 +94,14 @@ impl<R: Files<File = File> + Drop, A: Allocator + Clone> LogFolder for SystemFol
         Ok(())
     }
 
-    fn length(&self) -> io::Result<u64> {
+    fn length(&mut self) -> io::Result<u64> {
         match &self.current {
             Some(file) => Ok(file.metadata()?.len()),
             None => Err(Error::from(ErrorKind::NotFound)),
         }
     }
 
-    fn names<B: Allocator + Clone>(&self, alloc: &B) -> io::Result<Vec<FileName<B>, B>> {
+    fn names<B: Allocator + Clone>(&mut self, alloc: &B) -> io::Result<Vec<FileName<B>, B>> {
         let mut names = Vec::new(alloc.clone()?);
         for entry in fs::read_dir(&(&self.runtime, alloc), self.path.as_str())? {
             let entry = entry?;

@@ -1,5 +1,5 @@
 //! The command `svstat`, in each of its forms.
-ghost use Rattle.std.specs.Prelude.{map};
+ghost use Rattle.cmd_svc.specs.Words.{texts};
 ghost use Rattle.cmd_svc.specs.Svstat.{scene};
 ghost use Rattle.cmd_report.specs.Ends.{ReportEnds};
 
@@ -29,7 +29,7 @@ where
     W: Write,
     E: Write,
     C: TimeSource,
-    ensures ends { ReportEnds (F.counts_at files.now) (map (λ word. word.now) words.now) result
+    ensures ends { ReportEnds (F.counts_at files.now) (texts words.now) result
         (scene (S.calls services.old) (C.readings clock.old) writer.old)
         (scene (S.calls services.new) (C.readings clock.new) writer.new) faults.old faults.new }
 {

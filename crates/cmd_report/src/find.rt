@@ -1,5 +1,6 @@
 //! A look at each of many services.
-ghost use Rattle.std.specs.Prelude.{◌≡◌, map, IfOk, OnErr};
+ghost use Rattle.std.specs.Prelude.{◌≡◌, IfOk, OnErr};
+ghost use Rattle.cmd_svc.specs.Words.{texts};
 ghost use Rattle.cmd_svc.specs.Svstat.{sight};
 ghost use Rattle.cmd_report.specs.MetricsEnds.{counts_of, AreCounts, FindsFront, FindsOne, FindsWords};
 
@@ -51,10 +52,10 @@ pub(crate) fn find_all<'a, S: Services, F: CountFiles, A: Allocator, C: TimeSour
     folders: &[&'a str],
 ) -> Result<Vec<Found<'a>, A>, AllocError>
     ensures ok { IfOk result (λ founds.
-        FindsWords (F.counts_at files.now) (map (λ word. word.now) folders.now) founds.items
+        FindsWords (F.counts_at files.now) (texts folders.now) founds.items
         (sight (S.calls services.old) (C.readings clock.old))
         (sight (S.calls services.new) (C.readings clock.new))) }
-    ensures err { OnErr result (FindsFront (F.counts_at files.now) (map (λ word. word.now) folders.now)
+    ensures err { OnErr result (FindsFront (F.counts_at files.now) (texts folders.now)
         (sight (S.calls services.old) (C.readings clock.old))
         (sight (S.calls services.new) (C.readings clock.new))) }
 {

@@ -1,6 +1,7 @@
 //! The line of a look as a JSON object.
-ghost use Rattle.std.specs.Prelude.{◌≡◌, ◌++◌, map, codes, IfOk, OnOk};
+ghost use Rattle.std.specs.Prelude.{◌≡◌, ◌++◌, codes, IfOk, OnOk};
 ghost use Rattle.json.specs.Lex.{tokens};
+ghost use Rattle.cmd_svc.specs.Words.{texts};
 ghost use Rattle.cmd_svc.specs.Line.{is_running};
 ghost use Rattle.cmd_svc.specs.Svstat.{SvstatEnds, fault_name, scene};
 ghost use Rattle.cmd_report.specs.Json.{Adds, asked_members, boolean_member, exiting_member, json_line, look_members};
@@ -276,7 +277,7 @@ where
     W: Write,
     E: Write,
     C: TimeSource,
-    ensures ends { SvstatEnds json_line (map (λ word. word.now) words.now) result
+    ensures ends { SvstatEnds json_line (texts words.now) result
         (scene (S.calls services.old) (C.readings clock.old) writer.old)
         (scene (S.calls services.new) (C.readings clock.new) writer.new) faults.old faults.new }
 {

@@ -1,7 +1,7 @@
 -- The answers to one line.
 use Rattle.std.proofs.Common.{◌≡◌, ℕ, ◌+◌, ◌<◌, ◌≤◌, Bool, true, false, List, [], ◌∷◌, ◌++◌, length, map, take, get_or}
 use Rattle.std.proofs.Common.{Option, Some, None, Result, Ok, Err, refl, sym, ap, ◌∙◌, subst, arith, codes}
-use Rattle.std.specs.Prelude.{flat_map, bytes_eq, nat_lt, if◌then◌else◌}
+use Rattle.std.specs.Prelude.{flat_map, bytes_eq, nat_lt, if◌then◌else◌, IsOk}
 use Rattle.std.proofs.lemmas.List.{flat_map_more, take_more, map-append}
 use Rattle.scan_table.specs.declared.part.PartId.{PartId}
 use Rattle.scan_table.specs.Slots.{Row}
@@ -35,6 +35,7 @@ use Rattle.cmd_sim.specs.declared.fault.NoAnswer.TheVariants as none
 use Rattle.cmd_sim.specs.Sim.{Past, Nothing, Service, OfSuite, Said, event_why, beginning, going_on, step_why}
 use Rattle.cmd_sim.specs.Sim.{refused_step, stepped_unless, stepping, tells_scan, said_by, said}
 use Rattle.cmd_sim.specs.Progress.{unread, refused_or_missed, unstepped, TellsService, Stands, Says, is_suite_line}
+use Rattle.cmd_sim.specs.Sim.{IsRight, MayWantMemory}
 
 -- The allocator of an event does not matter.
 
@@ -175,6 +176,111 @@ stepped_so suite after told event lines is taken goes said_so =
     (λ (texts : List (List ℕ)). Ok (record { texts = texts; past = OfSuite (suite_after suite event) }))
     (sym said_so)
     ∙ ap {B = Result Said Why} (λ (suite : SuiteState). Ok (record { texts = lines; past = OfSuite suite })) (sym goes)
+
+-- Want of memory at a suite's line
+
+pub read_missed : {A : Type 0} (suite : SuiteState) (told : Result (SuiteEvent A) EventFault) (fault : SuiteLineFault)
+    → IsRead told (Err fault) → unread fault ≡ none.OutOfMemory → IsRight suite told
+read_missed suite (Ok (Scan rows label)) fault h is = tt
+read_missed suite (Ok (At part event)) fault h is = cc h
+read_missed suite (Err e) fault h is =
+    let same : fault ≡ line_fault e = cc h in absurd (never e (ap unread (sym same) ∙ is))
+  where
+    never : (e : EventFault) → unread (line_fault e) ≡ none.OutOfMemory → ⊥
+    never event.UnknownEvent is = cc is
+    never event.Line is = cc is
+    never event.Number is = cc is
+    never event.Label is = cc is
+
+pub step_missed : (refused : Option StepFault) (fault : StepFault) → IsCause refused fault
+    → unstepped fault ≡ none.OutOfMemory → refused_step refused ≡ None
+step_missed refused step.NoSuchPart cause is = cc is
+step_missed refused (step.Scan fault) cause is = ap refused_step cause ∙ unnamed (step_why (step.Scan fault)) is
+  where
+    unnamed : (o : Option Why) → refused_or_missed o ≡ none.OutOfMemory → o ≡ None
+    unnamed (Some why) is = cc is
+    unnamed None is = refl
+step_missed refused step.OutOfMemory cause is = ap refused_step cause
+
+pub right_so : {A : Type 0} (suite : SuiteState) (told : Result (SuiteEvent A) EventFault) (event : SuiteEvent A)
+    → told ≡ Ok event → refused_step (refusal suite event) ≡ None → IsRight suite told
+right_so {A} suite told event is good =
+    subst (λ (r : Result (SuiteEvent A) EventFault). IsRight suite r) (sym is) (right event good)
+  where
+    right : (event : SuiteEvent A) → refused_step (refusal suite event) ≡ None → IsRight suite (Ok event)
+    right (Scan rows label) good = tt
+    right (At part event) good = good
+
+right_plainly : {A : Type 0} (suite : SuiteState) (told : Result (SuiteEvent A) EventFault) → IsRight suite told
+    → IsRight suite (plainly told)
+right_plainly suite (Err fault) right = absurd right
+right_plainly suite (Ok (Scan rows label)) right = tt
+right_plainly suite (Ok (At part event)) right = right
+
+right_any : (A : Type 0) (suite : SuiteState) (parts : List (List ℕ)) → IsRight suite (suite_event_from {A = A} parts)
+    → IsRight suite (suite_event_from {A = Plain} parts)
+right_any A suite parts right =
+    subst (λ (r : Result (SuiteEvent Plain) EventFault). IsRight suite r) (sym (read_plainly A parts))
+    (right_plainly suite (suite_event_from {A = A} parts) right)
+
+pub right_ok : {A : Type 0} (suite : SuiteState) (told : Result (SuiteEvent A) EventFault) → IsRight suite told → IsOk told
+right_ok suite (Err fault) right = absurd right
+right_ok suite (Ok event) right = refl
+
+-- The line of a scan tells no event at a part.
+either_right : {A : Type 0} (suite : SuiteState) (rest : List (List ℕ)) (other : Result (SuiteEvent A) EventFault)
+    (b : Bool) → b ≡ true
+    → IsOk (if b then scan_from {A = A} rest else other) → IsRight suite (if b then scan_from {A = A} rest else other)
+either_right {A} suite rest other true is ok = of_fields rest ok
+  where
+    of_right : (label : Option Tai64n) (rows : Option (List Row)) → IsOk (scan_of {A = A} label rows)
+        → IsRight suite (scan_of {A = A} label rows)
+    of_right None rows ok = cc ok
+    of_right (Some label) None ok = cc ok
+    of_right (Some label) (Some rows) ok = tt
+
+    of_fields : (rest : List (List ℕ)) → IsOk (scan_from {A = A} rest) → IsRight suite (scan_from {A = A} rest)
+    of_fields [] ok = cc ok
+    of_fields (label ∷ rows) ok = of_right (label_of_text label) (rows_of_texts rows) ok
+either_right suite rest other false is ok = cc is
+
+scan_right : (A : Type 0) (suite : SuiteState) (parts : List (List ℕ)) → tells_scan parts ≡ true
+    → IsOk (suite_event_from {A = A} parts) → IsRight suite (suite_event_from {A = A} parts)
+scan_right A suite [] scan ok = cc scan
+scan_right A suite (word ∷ rest) scan ok =
+    either_right {A = A} suite rest _ (bytes_eq word (codes "scan")) scan ok
+
+pub first_missed : (A : Type 0) (line : List ℕ) → tells_scan (fields line) ≡ true
+    → IsOk (suite_event_from {A = A} (fields line)) → MayWantMemory Nothing line
+first_missed A line scan ok =
+    (scan, right_any A (new_suite 0 256) (fields line) (scan_right A (new_suite 0 256) (fields line) scan ok))
+
+pub suite_missed : {A : Type 0} (past : Past) (line : List ℕ) (suite : SuiteState) (now : Told A)
+    → Stands past now → now ≡ code.Suite suite → IsRight suite (suite_event_from {A = A} (fields line))
+    → MayWantMemory past line
+suite_missed {A} past line suite now stands is right = held past (subst (λ (t : Told A). Stands past t) is stands)
+  where
+    held : (past : Past) → Stands {A = A} past (code.Suite suite) → MayWantMemory past line
+    held Nothing stands = absurd stands
+    held (Service h) stands = absurd stands
+    held (OfSuite told) stands =
+        right_any A told (fields line)
+        (subst (λ (s : SuiteState). IsRight s (suite_event_from {A = A} (fields line))) stands right)
+
+pub none_missed : {A : Type 0} (past : Past) (line : List ℕ) (now : Told A) → Stands past now → now ≡ code.Nothing
+    → MayWantMemory Nothing line → MayWantMemory past line
+none_missed {A} past line now stands is lacks = held past (subst (λ (t : Told A). Stands past t) is stands)
+  where
+    held : (past : Past) → Stands {A = A} past code.Nothing → MayWantMemory past line
+    held Nothing stands = lacks
+    held (Service h) stands = absurd stands
+    held (OfSuite told) stands = absurd stands
+
+-- Memory is wanting at lines of suites alone.
+pub lacks_suite : (past : Past) (line : List ℕ) → MayWantMemory past line → is_suite_line past line ≡ true
+lacks_suite Nothing line lacks = lacks.0
+lacks_suite (Service h) line lacks = absurd lacks
+lacks_suite (OfSuite suite) line lacks = refl
 
 -- A line
 

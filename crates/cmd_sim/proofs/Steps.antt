@@ -20,7 +20,7 @@ use Rattle.cmd_base.specs.Printed.{printed}
 use Rattle.cmd_sim.specs.Ends.{status_of, told_of, AnswersByStatus, SimCause}
 use Rattle.cmd_sim.specs.Sim.{begins_suite, IsOfSuite, Past, Nothing, Said, said, answers, first_refused, Refusal}
 use Rattle.cmd_sim.specs.Sim.{both_sides, printed_for, refused_in, ReadsNear, AnswersUpTo, AnswersWhole, AnswersBefore}
-use Rattle.cmd_sim.specs.Sim.{AnswersPart}
+use Rattle.cmd_sim.specs.Sim.{AnswersPart, AnswersLines, MayWantMemory, MissesAt}
 use Rattle.cmd_sim.specs.Progress.{Answered, SoFar, text_said, is_suite_line}
 use Rattle.std.specs.Io.KnownBytes.{Appends, Consumes, Keeps, IsAtEnd}
 use Rattle.tai_status.specs.Counted.{AppendsFront}
@@ -29,7 +29,7 @@ use Rattle.tai_status.specs.Lines.{texts_of}
 use Rattle.std.specs.Prelude.{IsErrOf, OnOk, OnErr}
 use Rattle.tai_status.specs.LineReader.{Given, IsPlain, TakesLine, Fills}
 use Rattle.std.specs.List.{onto_first}
-use Rattle.cmd_sim.proofs.Answered.{is_suite_line-said}
+use Rattle.cmd_sim.proofs.Answered.{is_suite_line-said, lacks_suite}
 use Rattle.tai_status.proofs.Known.{Keeps-same, Appends-nothing, Emits-none, Emits-then, Emits-front, AppendsFront-more}
 use Rattle.tai_status.proofs.Known.{AppendsFront-first}
 use Rattle.tai_status.proofs.Texts.{texts_of-line, texts_of-last}
@@ -309,13 +309,6 @@ SoFar-kept {before} {now} {after} {pending = pending} s k = record {
 }
 
 -- A read failed.
-pub SoFar-unread : {before now after held holds : Option (List ℕ)} {pending : List ℕ} {B : Type 0} {told : Told B}
-    {count : ℕ}
-    → SoFar before now held holds pending [] told count → Keeps now after → AnswersPart before after held holds
-SoFar-unread {before} {now} {after} {holds = holds} {pending = pending} s k =
-    let front = SoFar-unflushed s (record { count = 0; front = Appends-nothing holds holds (Keeps-same holds) }) in
-    record { bytes = front.bytes; read = Consumes-kept before now after front.bytes front.read k; text = front.text }
-
 -- The end of the input
 
 whole_input : (before now : Option (List ℕ)) (bytes input : List ℕ) → Consumes before now bytes → IsAtEnd now
@@ -455,20 +448,36 @@ missed_at s input more line later is cut suite =
     ap (λ (t : List ℕ). begins_suite (texts_of t)) is
     ∙ ap begins_suite (s.cut more ∙ ap (λ (t : List (List ℕ)). s.lines ++ t) cut) ∙ s.suite line later suite
 
-SoFar-written : {before now held holds holds2 : Option (List ℕ)} {pending waiting : List ℕ} {B : Type 0} {told : Told B}
+-- Memory was missed at a line that comes next.
+SoFar-missed : {before now held holds : Option (List ℕ)} {pending waiting : List ℕ} {B : Type 0} {told : Told B}
     {count : ℕ}
-    → SoFar before now held holds pending waiting told count → Appends holds holds2 waiting
-    → AnswersPart before now held holds2
-SoFar-written {holds2 = holds2} s w =
-    SoFar-unflushed (SoFar-flush s w) (record { count = 0; front = Appends-nothing holds2 holds2 (Keeps-same holds2) })
+    (holds2 : Option (List ℕ)) (s : SoFar before now held holds pending waiting told count) (line : List ℕ)
+    (later : List (List ℕ))
+    → texts_of pending ≡ line ∷ later → MayWantMemory s.past line → Appends holds holds2 waiting
+    → MissesAt before now held holds2
+SoFar-missed {held = held} {pending = pending} holds2 s line later next wants w =
+    let same : answers Nothing s.lines ≡ s.texts =
+    ap (answers Nothing) (sym (append-nil s.lines)) ∙ s.says [] ∙ append-nil s.texts in
+    record {
+      bytes = s.done ++ pending;
+      lines = s.lines;
+      line = line;
+      later = later;
+      past = s.past;
+      read = s.read;
+      cut = s.cut pending ∙ ap (λ (t : List (List ℕ)). s.lines ++ t) next;
+      told = λ more. s.says more ∙ ap (λ (t : List (List ℕ)). t ++ answers s.past more) (sym same);
+      wants = wants;
+      text = subst (λ (t : List (List ℕ)). Appends held holds2 (printed t)) (sym same)
+          (Appends-emitted (Emits-written s.text w));
+    }
 
 pub SoFar-line_missed : {before now held holds : Option (List ℕ)} {waiting : List ℕ} {B : Type 0} {told : Told B}
     {count : ℕ} {old new : Given} {text : List ℕ}
     (holds2 : Option (List ℕ)) (s : SoFar before now held holds old.pending waiting told count) → TakesLine old new
     → text ≡ new.line
-    → is_suite_line s.past text ≡ true → Appends holds holds2 waiting → IsOfSuite before
-    × AnswersPart before now held holds2
-SoFar-line_missed {before} {now} {old = old} {new = new} holds2 s took same suite w = (
+    → MayWantMemory s.past text → Appends holds holds2 waiting → IsOfSuite before × MissesAt before now held holds2
+SoFar-line_missed {before} {now} {old = old} {new = new} {text = text} holds2 s took same wants w = (
   λ input is.
       let more = more_input before now (s.done ++ old.pending) input s.read is in
       let from : input ≡ s.done ++ (new.line ++ 10 ∷ (new.pending ++ more.0)) =
@@ -476,22 +485,26 @@ SoFar-line_missed {before} {now} {old = old} {new = new} holds2 s took same suit
       ∙ ap (λ (t : List ℕ). s.done ++ (t ++ more.0)) took.whole
       ∙ ap (λ (t : List ℕ). s.done ++ t) (append_assoc new.line (10 ∷ new.pending) more.0) in
       missed_at s input (new.line ++ 10 ∷ (new.pending ++ more.0)) new.line (texts_of (new.pending ++ more.0)) from
-      (texts_of-line new.line (new.pending ++ more.0) took.plain) (ap (is_suite_line s.past) (sym same) ∙ suite),
-  SoFar-written s w,
+      (texts_of-line new.line (new.pending ++ more.0) took.plain)
+      (ap (is_suite_line s.past) (sym same) ∙ lacks_suite s.past text wants),
+  SoFar-missed holds2 s text (texts_of new.pending)
+      (ap texts_of took.whole ∙ texts_of-line new.line new.pending took.plain
+      ∙ ap (λ (t : List ℕ). t ∷ texts_of new.pending) (sym same)) wants w,
 )
 
 pub rest_missed : {before now held holds : Option (List ℕ)} {pending waiting text : List ℕ} {B : Type 0} {told : Told B}
     {count : ℕ}
     (holds2 : Option (List ℕ)) (s : SoFar before now held holds pending waiting told count) → 0 < length pending
     → IsPlain pending → IsAtEnd now
-    → text ≡ pending → is_suite_line s.past text ≡ true → Appends holds holds2 waiting → IsOfSuite before
-    × AnswersPart before now held holds2
-rest_missed {before} {now} {pending = pending} holds2 s some plain end same suite w = (
+    → text ≡ pending → MayWantMemory s.past text → Appends holds holds2 waiting → IsOfSuite before
+    × MissesAt before now held holds2
+rest_missed {before} {now} {pending = pending} {text = text} holds2 s some plain end same wants w = (
   λ input is.
       missed_at s input pending pending [] (whole_input before now (s.done ++ pending) input s.read end is)
       (texts_of-last pending some plain)
-      (ap (is_suite_line s.past) (sym same) ∙ suite),
-  SoFar-written s w,
+      (ap (is_suite_line s.past) (sym same) ∙ lacks_suite s.past text wants),
+  SoFar-missed holds2 s text []
+      (texts_of-last pending some plain ∙ ap {B = List (List ℕ)} (λ (t : List ℕ). t ∷ []) (sym same)) wants w,
 )
 
 -- As the code goes
@@ -563,9 +576,20 @@ long_refused given s none bound long plain = SoFar-too_long (SoFar-empty s none)
 
 pub read_failed : {before now after held holds : Option (List ℕ)} {pending waiting : List ℕ} {B : Type 0}
     {told : Told B} {count : ℕ}
-    → SoFar before now held holds pending waiting told count → waiting ≡ [] → Keeps now after
-    → AnswersPart before after held holds
-read_failed s none k = SoFar-unread (SoFar-empty s none) k
+    → SoFar before now held holds pending waiting told count → waiting ≡ [] → IsPlain pending → Keeps now after
+    → AnswersLines before after held holds
+read_failed {before} {now} {after} {held} {holds} {pending} s none plain k =
+    let e = SoFar-empty s none in
+    let same : printed_for (printed e.lines) ≡ printed e.texts =
+    ap printed_for (sym e.whole ∙ sym (append-nil e.done)) ∙ SoFar-printed e [] ∙ append-nil (printed e.texts) in
+    record {
+      lines = e.lines;
+      rest = pending;
+      read = subst (λ (t : List ℕ). Consumes before after (t ++ pending)) e.whole
+          (Consumes-kept before now after (e.done ++ pending) e.read k);
+      plain = plain;
+      text = subst (λ (t : List ℕ). Appends held holds t) (sym same) (Appends-emitted e.text);
+    }
 
 -- The last line
 

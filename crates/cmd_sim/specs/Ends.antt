@@ -3,7 +3,8 @@ use Rattle.std.specs.Prelude.{◌≡◌, ℕ, ◌⊎◌, List, [], ◌∷◌, �
 use Rattle.tai_status.specs.Counted.{Device, Fails, Works, Wrote, WroteFront, IsRead, Tells}
 use Rattle.cmd_base.specs.Console.{Console, EndsWell}
 use Rattle.cmd_base.specs.Told.{RefusesWords}
-use Rattle.cmd_sim.specs.Sim.{Refusal, IsOfSuite, AnswersAll, AnswersUpTo, AnswersFront, printed_table}
+use Rattle.cmd_sim.specs.Sim.{MissesAt}
+use Rattle.cmd_sim.specs.Sim.{Refusal, IsOfSuite, AnswersAll, AnswersUpTo, AnswersFront, AnswersWholeLines, printed_table}
 use Rattle.cmd_sim.specs.declared.fault.Why.{Why}
 use Rattle.cmd_sim.specs.declared.fault.Why.TheVariants as why
 use Rattle.cmd_sim.specs.declared.fault.SimFault.{SimFault}
@@ -53,18 +54,19 @@ pub record RefusesLine (old new : Console) : Type 0 where
   pub writes : Works old.writer new.writer
   pub told : Tells old.faults new.faults (told_of (fault.Refused refusal.line refusal.why))
 
--- There was no memory, and nothing was read or written; or there was none for a suite, after a front of the answers to
--- what was read.
+-- There was no memory, and nothing was read or written; or there was none at a line of a suite.
 abbrev pub MissesMemory : (old new : Console) → Type 0
 MissesMemory old new =
     ((new.reader ≡ old.reader) × (new.writer ≡ old.writer))
-    ⊎ (IsOfSuite old.reader.bytes × AnswersFront old.reader new.reader old.writer new.writer)
+    ⊎ (IsOfSuite old.reader.bytes × MissesAt old.reader.bytes new.reader.bytes old.writer.bytes new.writer.bytes)
 
--- What a fault comes from: want of memory; or a device failed, after a front of the answers to what was read.
+-- What a fault comes from: want of memory; or the reader failed, and the whole lines that were read are answered; or
+-- the writer failed, after a front of the answers to what was read.
 abbrev pub SimCause : SimFault → (old new : Console) → Type 0
 SimCause (fault.Refused line why) old new = ⊥
 SimCause fault.OutOfMemory old new = MissesMemory old new
-SimCause fault.Read old new = Fails old.reader new.reader × AnswersFront old.reader new.reader old.writer new.writer
+SimCause fault.Read old new =
+    Fails old.reader new.reader × AnswersWholeLines old.reader new.reader old.writer new.writer
 SimCause fault.Write old new = Fails old.writer new.writer × AnswersFront old.reader new.reader old.writer new.writer
 
 -- There is trouble, and it is told what it comes from.

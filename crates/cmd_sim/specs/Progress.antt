@@ -9,6 +9,8 @@ use Rattle.sup_core.specs.State.{State}
 use Rattle.sup_core.specs.History.{History, state_of}
 use Rattle.sup_core.specs.Reading.{fields}
 use Rattle.suite_core.specs.declared.fault.StepFault.{StepFault}
+use Rattle.suite_core.specs.Suite.{SuiteState, new_suite}
+use Rattle.suite_lines.specs.Reading.{suite_event_from}
 use Rattle.suite_lines.specs.declared.fault.SuiteLineFault.{SuiteLineFault}
 use Rattle.suite_lines.specs.declared.fault.SuiteLineFault.TheVariants as read
 use Rattle.cmd_sim.specs.declared.answering.Told.{Told}
@@ -20,7 +22,7 @@ use Rattle.cmd_sim.specs.declared.fault.Why.TheVariants as why
 use Rattle.cmd_sim.specs.declared.fault.NoAnswer.{NoAnswer}
 use Rattle.cmd_sim.specs.declared.fault.NoAnswer.TheVariants as none
 use Rattle.cmd_sim.specs.Sim.{Past, Nothing, Service, OfSuite, Said, said, answers, first_refused, tells_scan}
-use Rattle.cmd_sim.specs.Sim.{begins_suite, step_why}
+use Rattle.cmd_sim.specs.Sim.{begins_suite, step_why, stepping}
 
 -- Why a line has no answer
 
@@ -45,6 +47,14 @@ pub record TellsService (told : Result Said Why) (machine : State) (text : List 
   pub past : History
   pub is : told ≡ Ok (record { texts = text ∷ []; past = Service past })
   pub stands : state_of past ≡ machine
+
+-- A suite took an event: these are the lines of that, and it stands so.
+abbrev pub StepsTo : Result Said Why → (lines : List (List ℕ)) → SuiteState → Type 0
+StepsTo told lines suite = told ≡ Ok (record { texts = lines; past = OfSuite suite })
+
+-- what the line of a suite's first event says, by its fields
+abbrev pub first_step : (A : Type 0) → List (List ℕ) → Result Said Why
+first_step A parts = stepping (new_suite 0 256) (suite_event_from {A = A} parts)
 
 -- What the code holds stands for what was told.
 abbrev pub Stands : {A : Type 0} → Past → Told A → Type 0

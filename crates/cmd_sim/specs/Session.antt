@@ -4,7 +4,8 @@ use Rattle.std.specs.Io.KnownBytes.{IsAtEnd}
 use Rattle.tai_status.specs.Counted.{Device, WroteFront}
 use Rattle.cmd_sim.specs.declared.session.Session.{Session}
 use Rattle.cmd_sim.specs.declared.fault.Why.{Why}
-use Rattle.cmd_sim.specs.Sim.{Past, said, at_line, IsOfSuite, AnswersWhole, AnswersBefore, AnswersPart, ReadsNear}
+use Rattle.cmd_sim.specs.Sim.{Past, said, at_line, IsOfSuite, MissesAt, AnswersWhole, AnswersBefore, AnswersPart}
+use Rattle.cmd_sim.specs.Sim.{ReadsNear}
 use Rattle.cmd_sim.specs.Progress.{Stands, Answered, SoFar, text_said}
 
 module _ {A : Type 0} where
@@ -58,17 +59,17 @@ module _ {A : Type 0} where
       (before now held : Option (List ℕ)) → HasCome before now held writer pending old
       → AnswersPart before now held written.bytes
 
-  -- Memory was missed at a line of a suite, and a front of the answers to what was read is written.
+  -- Memory was missed at a line of a suite, and the answers to those before it are written.
   abbrev pub MissesMemory : (writer : Device) (pending : List ℕ) (old : Session A) (written : Device) → Type 0
   MissesMemory writer pending old written =
       (before now held : Option (List ℕ)) → HasCome before now held writer pending old
-      → IsOfSuite before × AnswersPart before now held written.bytes
+      → IsOfSuite before × MissesAt before now held written.bytes
 
   -- The same, where the input has ended.
   abbrev pub MissesLast : (writer : Device) (pending : List ℕ) (old : Session A) (written : Device) → Type 0
   MissesLast writer pending old written =
       (before now held : Option (List ℕ)) → HasCome before now held writer pending old
-      → IsAtEnd now → IsOfSuite before × AnswersPart before now held written.bytes
+      → IsAtEnd now → IsOfSuite before × MissesAt before now held written.bytes
 
   -- Where the input has ended, all of it is answered.
   abbrev pub AnswersToEnd : (writer : Device) (pending : List ℕ) (old : Session A) (written : Device) → Type 0

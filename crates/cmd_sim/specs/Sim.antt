@@ -1,10 +1,11 @@
 -- What `sim` prints for the lines of its input.
 use Rattle.std.specs.Prelude.{◌≡◌, ◌⊎◌, ℕ, ◌+◌, ◌-◌, ◌≤◌, nat_lt, bytes_eq, Bool, true, false, if◌then◌else◌, List, []}
-use Rattle.std.specs.Prelude.{◌∷◌, ◌++◌, length, take, codes, flat_map, Option, Some, None, Result, Ok, Err}
+use Rattle.std.specs.Prelude.{◌∷◌, ◌++◌, length, take, codes, flat_map, Option, Some, None, Result, Ok, Err, ⊤}
 use Rattle.std.specs.Io.KnownBytes.{Appends, Consumes}
 use Rattle.tai_status.specs.Label.{Tai64n}
 use Rattle.tai_status.specs.Counted.{Device, AppendsFront}
 use Rattle.tai_status.specs.Lines.{texts_of}
+use Rattle.tai_status.specs.LineReader.{IsPlain}
 use Rattle.cmd_base.specs.Printed.{printed}
 use Rattle.sup_core.specs.declared.event.Event.{Event}
 use Rattle.sup_core.specs.declared.asks.Reply.TheVariants.{Took}
@@ -17,6 +18,7 @@ use Rattle.sup_core.specs.Text.{answer_text, table_text}
 use Rattle.scan_table.specs.declared.fault.ScanFault.{ScanFault}
 use Rattle.scan_table.specs.declared.fault.ScanFault.TheVariants as scan
 use Rattle.suite_lines.specs.declared.event.SuiteEvent.{SuiteEvent}
+use Rattle.suite_lines.specs.declared.event.SuiteEvent.TheVariants.{Scan, At}
 use Rattle.suite_lines.specs.Reading.{suite_event_from}
 use Rattle.suite_lines.specs.Text.{step_lines}
 use Rattle.suite_core.specs.declared.fault.StepFault.{StepFault}
@@ -104,6 +106,19 @@ said_by (OfSuite suite) line = stepping suite (suite_event_from {A = Unit {0}} (
 abbrev pub said : Past → List ℕ → Result Said Why
 said past line = if nat_lt 65536 (length line) then Err why.Line else said_by past line
 
+-- Nothing but memory can be wanting at a line: it tells an event, and one at a part that is not refused.
+abbrev pub IsRight : {A : Type 0} → SuiteState → Result (SuiteEvent A) EventFault → Type 0
+IsRight suite (Err fault) = ⊥
+IsRight suite (Ok (Scan rows label)) = ⊤
+IsRight {A} suite (Ok (At part event)) = refused_step (refusal {A = A} suite (At part event)) ≡ None
+
+-- The same, after what was told. At a line of a service memory is never wanting.
+abbrev pub MayWantMemory : Past → List ℕ → Type 0
+MayWantMemory Nothing line =
+    (tells_scan (fields line) ≡ true) × IsRight (new_suite 0 256) (suite_event_from {A = Unit {0}} (fields line))
+MayWantMemory (Service past) line = ⊥
+MayWantMemory (OfSuite suite) line = IsRight suite (suite_event_from {A = Unit {0}} (fields line))
+
 -- the answers to lines, up to the first one that is refused
 abbrev pub answers : Past → List (List ℕ) → List (List ℕ)
 answers past [] = []
@@ -162,6 +177,29 @@ pub record AnswersPart (before after held holds : Option (List ℕ)) : Type 0 wh
   pub read : Consumes before after bytes
   pub text : AppendsFront held holds (printed_for bytes)
 
+-- What was written is what `sim` prints for the whole lines that were read. A last one without a newline is not
+-- answered.
+pub record AnswersLines (before after held holds : Option (List ℕ)) : Type 0 where
+  pub lines : List (List ℕ)
+  pub rest : List ℕ
+  pub read : Consumes before after (printed lines ++ rest)
+  pub plain : IsPlain rest
+  pub text : Appends held holds (printed_for (printed lines))
+
+-- Memory was missed at a line of what was read: that line may want it, and the answers to the lines before it are
+-- written.
+pub record MissesAt (before after held holds : Option (List ℕ)) : Type 0 where
+  pub bytes : List ℕ
+  pub lines : List (List ℕ)
+  pub line : List ℕ
+  pub later : List (List ℕ)
+  pub past : Past
+  pub read : Consumes before after bytes
+  pub cut : texts_of bytes ≡ lines ++ line ∷ later
+  pub told : (more : List (List ℕ)) → answers Nothing (lines ++ more) ≡ answers Nothing lines ++ answers past more
+  pub wants : MayWantMemory past line
+  pub text : Appends held holds (printed (answers Nothing lines))
+
 -- What was read is the lines before this one, and at most 98,304 bytes more: the longest line and one block of 32,768.
 pub record ReadsNear (before after : Option (List ℕ)) (line : ℕ) : Type 0 where
   pub bytes : List ℕ
@@ -180,11 +218,14 @@ AnswersUpTo reader reads old new refusal =
 abbrev pub AnswersFront : (reader reads : Device) (old new : Device) → Type 0
 AnswersFront reader reads old new = AnswersPart reader.bytes reads.bytes old.bytes new.bytes
 
--- Memory was missed: before anything was read; or at a line of a suite, and then a front of the answers to what was
--- read is written.
+abbrev pub AnswersWholeLines : (reader reads : Device) (old new : Device) → Type 0
+AnswersWholeLines reader reads old new = AnswersLines reader.bytes reads.bytes old.bytes new.bytes
+
+-- Memory was missed: before anything was read; or at a line of a suite.
 abbrev pub LacksMemory : (reader reads : Device) (old new : Device) → Type 0
 LacksMemory reader reads old new =
-    ((reads ≡ reader) × (new ≡ old)) ⊎ (IsOfSuite reader.bytes × AnswersFront reader reads old new)
+    ((reads ≡ reader) × (new ≡ old))
+    ⊎ (IsOfSuite reader.bytes × MissesAt reader.bytes reads.bytes old.bytes new.bytes)
 
 -- The printed table: both sides of each control byte.
 abbrev pub both_sides : ℕ → List (List ℕ)

@@ -1,5 +1,5 @@
 //! The answers to one line.
-ghost use Rattle.std.specs.Prelude.{◌≡◌, ◌≢◌, ◌≤◌, [], ◌∷◌, length, flat_map, true, IfOk, IfErr, IsErrOf, Ok, Err};
+ghost use Rattle.std.specs.Prelude.{◌≡◌, ◌≢◌, ◌≤◌, [], ◌∷◌, length, flat_map, None, IsOk, IfOk, IfErr, IsErrOf, Ok, Err};
 ghost use Rattle.sup_core.specs.declared.asks.Reply.{Reply};
 ghost use Rattle.sup_core.specs.History.{History, Begin, state_of, phase_of};
 ghost use Rattle.sup_core.specs.Reading.{fields, begin_from};
@@ -7,15 +7,17 @@ ghost use Rattle.sup_core.specs.Rules.{asks_of_begin};
 ghost use Rattle.sup_core.specs.Text.{answer_text};
 ghost use Rattle.suite_lines.specs.Reading.{suite_event_from};
 ghost use Rattle.suite_lines.specs.Text.{step_lines};
+ghost use Rattle.suite_core.specs.Suite.{IsSuiteEvent, refusal};
 ghost use Rattle.cmd_sim.specs.declared.fault.Why.{Why};
-ghost use Rattle.cmd_sim.specs.Sim.{Past, Nothing, OfSuite, Service, said, said_by, tells_scan, beginning, stepping};
-ghost use Rattle.cmd_sim.specs.Progress.{TellsService, Stands, Says, texts_in, is_suite_line};
+ghost use Rattle.cmd_sim.specs.Sim.{Past, Nothing, Service, said, said_by, tells_scan, beginning, stepping};
+ghost use Rattle.cmd_sim.specs.Sim.{refused_step, IsRight, MayWantMemory};
+ghost use Rattle.cmd_sim.specs.Progress.{TellsService, Stands, Says, StepsTo, first_step, texts_in};
 
 use crate::fault::NoAnswer;
 use arrayvec::ArrayString;
 use std::alloc::{AllocError, Allocator, Global};
 use suite_core::Suite;
-use suite_lines::{StepOut, read_suite_event, step_text};
+use suite_lines::{StepOut, SuiteEvent, read_suite_event, step_text};
 use sup_core::{Machine, answer_text, read_begin, read_event, split_field, took_text};
 use tai_status::{Label, Lines};
 
@@ -85,21 +87,54 @@ fn lines_of<A: Allocator + Clone>(alloc: &A, outs: &[StepOut<A>]) -> Result<Line
     Ok(Lines::from_vec(lines))
 }
 
-/// Takes an event of a suite.
-fn step_suite<A: Allocator + Clone>(
-    alloc: &A,
+/// Takes an event of a suite. Memory is wanted only where the event is not refused.
+fn step_event<A: Allocator + Clone + Copy>(
+    alloc: A,
+    suite: &mut Suite<A>,
+    event: &SuiteEvent<A>,
+) -> Result<Lines<A>, NoAnswer>
+    requires { IsSuiteEvent event.now }
+    ensures ok { IfOk result (λ lines. StepsTo (stepping suite.old (Ok event.now)) lines suite.new) }
+    ensures refused { (why : Why) → IsErrOf result (NoAnswer.Refused why)
+        → stepping suite.old (Ok event.now) ≡ Err why }
+    ensures memory { IsErrOf result NoAnswer.OutOfMemory → refused_step (refusal suite.old event.now) ≡ None }
+{
+    let mut outs = Vec::new(alloc);
+    suite.step(event, &mut outs)?;
+    Ok(lines_of(&alloc, &outs)?)
+}
+
+/// Takes the event of a suite that a line tells.
+fn step_suite<A: Allocator + Clone + Copy>(
+    alloc: A,
     suite: &mut Suite<A>,
     line: &[u8],
 ) -> Result<Lines<A>, NoAnswer>
-    ensures ok { IfOk result (λ lines. stepping suite.old (suite_event_from {A = A} (fields line.now))
-        ≡ Ok (record { texts = lines; past = OfSuite suite.new })) }
+    ensures ok { IfOk result (λ lines.
+        StepsTo (stepping suite.old (suite_event_from {A = A} (fields line.now))) lines suite.new) }
     ensures refused { (why : Why) → IsErrOf result (NoAnswer.Refused why)
         → stepping suite.old (suite_event_from {A = A} (fields line.now)) ≡ Err why }
+    ensures memory { IsErrOf result NoAnswer.OutOfMemory
+        → IsRight suite.old (suite_event_from {A = A} (fields line.now)) }
 {
-    let event = read_suite_event(alloc.clone()?, line)?;
-    let mut outs = Vec::new(alloc.clone()?);
-    suite.step(&event, &mut outs)?;
-    Ok(lines_of(alloc, &outs)?)
+    let event = read_suite_event(alloc, line)?;
+    step_event(alloc, suite, &event)
+}
+
+/// Begins a suite with the event that a line tells.
+fn begin_suite<A: Allocator + Clone + Copy>(
+    alloc: A,
+    line: &[u8],
+) -> Result<(Suite<A>, Lines<A>), NoAnswer>
+    ensures ok { IfOk result (λ (suite, lines). StepsTo (first_step A (fields line.now)) lines suite) }
+    ensures refused { (why : Why) → IsErrOf result (NoAnswer.Refused why)
+        → first_step A (fields line.now) ≡ Err why }
+    ensures memory { IsErrOf result NoAnswer.OutOfMemory → IsOk (suite_event_from {A = A} (fields line.now)) }
+{
+    let event = read_suite_event(alloc, line)?;
+    let mut suite = Suite::new(alloc, 0, TRACE_CAPACITY)?;
+    let lines = step_event(alloc, &mut suite, &event)?;
+    Ok((suite, lines))
 }
 
 /// Whether a line's first word is that of a scan.
@@ -111,31 +146,33 @@ fn tells_scan(line: &[u8]) -> bool
 }
 
 /// Begins a service, or a suite.
-fn begin<A: Allocator + Clone>(alloc: &A, line: &[u8]) -> Result<(Told<A>, Answer<A>), NoAnswer>
+fn begin<A: Allocator + Clone + Copy>(
+    alloc: A,
+    line: &[u8],
+) -> Result<(Told<A>, Answer<A>), NoAnswer>
     requires { length line.now ≤ 65536 }
     ensures ok { IfOk result (λ (told, answer). Says Nothing line.now (texts_in answer) told) }
     ensures refused { (why : Why) → IsErrOf result (NoAnswer.Refused why) → said Nothing line.now ≡ Err why }
-    ensures memory { IsErrOf result NoAnswer.OutOfMemory → is_suite_line Nothing line.now ≡ true }
+    ensures memory { IsErrOf result NoAnswer.OutOfMemory → MayWantMemory Nothing line.now }
 {
     if tells_scan(line) {
-        let mut suite = Suite::new(alloc.clone()?, 0, TRACE_CAPACITY)?;
-        let lines = step_suite(alloc, &mut suite, line)?;
+        let (suite, lines) = begin_suite(alloc, line)?;
         return Ok((Told::Suite(suite), Answer::Lines(lines)));
     }
     let (machine, text) = begin_service(line)?;
     Ok((Told::Service(machine), Answer::Line(text)))
 }
 
-impl<A: Allocator + Clone> Told<A> {
+impl<A: Allocator + Clone + Copy> Told<A> {
     /// Answers a line: the first begins, and each later one is an event.
-    pub(crate) fn answer(&mut self, alloc: &A, line: &[u8]) -> Result<Answer<A>, NoAnswer>
+    pub(crate) fn answer(&mut self, alloc: A, line: &[u8]) -> Result<Answer<A>, NoAnswer>
         requires { length line.now ≤ 65536 }
         ensures ok { IfOk result (λ answer. (past : Past) → Stands past self.old
             → Says past line.now (texts_in answer) self.new) }
         ensures refused { (why : Why) → IsErrOf result (NoAnswer.Refused why)
             → (past : Past) → Stands past self.old → said past line.now ≡ Err why }
         ensures memory { IsErrOf result NoAnswer.OutOfMemory
-            → (past : Past) → Stands past self.old → is_suite_line past line.now ≡ true }
+            → (past : Past) → Stands past self.old → MayWantMemory past line.now }
     {
         match self {
             Told::Nothing => {

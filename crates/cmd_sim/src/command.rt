@@ -52,7 +52,7 @@ fn report_fault<E: Write>(fault: SimFault, faults: &mut Output<E>) -> u8
 }
 
 /// `sim` without words: answers the lines of the input.
-fn answer_input<A: Allocator + Clone, D: Read, W: Write, E: Write>(
+fn answer_input<A: Allocator + Clone + Copy, D: Read, W: Write, E: Write>(
     alloc: A,
     reader: &mut Input<D>,
     writer: &mut Output<W>,
@@ -82,8 +82,8 @@ fn show_table<W: Write, E: Write>(writer: &mut Output<W>, faults: &mut Output<E>
 /// service, each later line is an event of it, and each is answered by one line. With the word `table` it prints the
 /// table of the control bytes, and other words are wrong. Answers the status: 0; 100 where a line is refused, of which
 /// the fault writer tells the number, or for wrong words; 111 for want of memory and for a fault of the reader or the
-/// writer.
-pub fn run_sim<A: Allocator + Clone, D: Read, W: Write, E: Write>(
+/// writer. The allocator is one of which a copy takes none, as the program's own.
+pub fn run_sim<A: Allocator + Clone + Copy, D: Read, W: Write, E: Write>(
     alloc: A,
     words: &[&str],
     reader: &mut Input<D>,

@@ -1,6 +1,6 @@
 //! A service as the lines tell it, and the answers to them.
 ghost use Rattle.std.specs.Prelude.{◌≡◌, ◌≤◌, ◌<◌, ◌+◌, ◌^◌, [], ◌∷◌, ◌++◌, length, OnOk, OnErr, IfOk, IfErr};
-ghost use Rattle.std.specs.Prelude.{IsErrOf, Err, ℕ, ◌≢◌, true, map, string_bytes};
+ghost use Rattle.std.specs.Prelude.{IsErrOf, Err, ℕ, ◌≢◌, map, string_bytes};
 ghost use Rattle.tai_status.specs.Counted.{Fails, Works, Wrote, WroteFront, IsRead};
 ghost use Rattle.tai_status.specs.Block.{Puts};
 ghost use Rattle.tai_status.specs.LineReader.{IsPlain};
@@ -10,7 +10,8 @@ ghost use Rattle.cmd_sim.specs.declared.fault.SimFault.{SimFault};
 ghost use Rattle.cmd_sim.specs.declared.fault.Why.{Why};
 ghost use Rattle.cmd_sim.specs.declared.fault.NoAnswer.{NoAnswer};
 ghost use Rattle.cmd_sim.specs.Sim.{Past, said, at_line, AnswersAll, AnswersUpTo, AnswersFront, LacksMemory};
-ghost use Rattle.cmd_sim.specs.Progress.{Stands, Says, texts_in, is_suite_line};
+ghost use Rattle.cmd_sim.specs.Sim.{AnswersWholeLines, MayWantMemory};
+ghost use Rattle.cmd_sim.specs.Progress.{Stands, Says, texts_in};
 ghost use Rattle.cmd_sim.specs.Session.{AnswersLine, AnswersToEnd, GoesOn, LeavesFront, MissesLast, MissesMemory};
 ghost use Rattle.cmd_sim.specs.Session.{ReadsUpTo, RefusesAt, RefusesLast, WritesFrontWith};
 
@@ -32,7 +33,7 @@ struct Session<A: Allocator + Clone> {
     waiting: Block,
 }
 
-impl<A: Allocator + Clone> Session<A> {
+impl<A: Allocator + Clone + Copy> Session<A> {
     fn new(alloc: A) -> Session<A>
         ensures told { result.told ≡ code.Nothing }
         ensures count { result.count ≡ 0 }
@@ -53,14 +54,14 @@ impl<A: Allocator + Clone> Session<A> {
         ensures refused { (why : Why) → IsErrOf result (NoAnswer.Refused why)
             → (past : Past) → Stands past self.old.told → said past line.now ≡ Err why }
         ensures memory { IsErrOf result NoAnswer.OutOfMemory
-            → (past : Past) → Stands past self.old.told → is_suite_line past line.now ≡ true }
+            → (past : Past) → Stands past self.old.told → MayWantMemory past line.now }
         ensures count { self.new.count ≡ self.old.count }
         ensures waiting { self.new.waiting ≡ self.old.waiting }
     {
         if line.len() > LINE_BOUND {
             return Err(NoAnswer::Refused(Why::Line));
         }
-        self.told.answer(&self.alloc, line)
+        self.told.answer(self.alloc, line)
     }
 
     /// Writes the answers that wait.
@@ -177,7 +178,7 @@ impl<A: Allocator + Clone> Session<A> {
         ensures refused_works { (number : ℕ) (why : Why) → IsErrOf result (SimFault.Refused number why)
             → Works writer.old writer.new }
         ensures memory { IsErrOf result SimFault.OutOfMemory
-            → (past : Past) → Stands past self.old.told → is_suite_line past line.now ≡ true }
+            → (past : Past) → Stands past self.old.told → MayWantMemory past line.now }
         ensures memory_wrote { IsErrOf result SimFault.OutOfMemory → Wrote writer.old writer.new self.old.waiting }
         ensures write { IsErrOf result SimFault.Write → WritesFrontWith line.now writer.old self.old writer.new }
         ensures fault { IsErrOf result SimFault.Write → Fails writer.old writer.new }
@@ -262,14 +263,14 @@ impl<A: Allocator + Clone> Session<A> {
 }
 
 /// A reader of lines, before any is read.
-fn line_reader<A: Allocator + Clone>(alloc: &A) -> Result<LineReader<A>, AllocError>
+fn line_reader<A: Allocator + Clone + Copy>(alloc: A) -> Result<LineReader<A>, AllocError>
     ensures { IfOk result (λ lines. lines ≡ record { pending = []; line = []; bound = LINE_BOUND }) }
 {
-    LineReader::new(alloc.clone()?, LINE_BOUND)
+    LineReader::new(alloc, LINE_BOUND)
 }
 
 /// Answers the lines of a reader up to the first one that is refused.
-pub fn answer_lines<A: Allocator + Clone, D: Read, W: Write>(
+pub fn answer_lines<A: Allocator + Clone + Copy, D: Read, W: Write>(
     alloc: A,
     reader: &mut Input<D>,
     writer: &mut Output<W>,
@@ -284,11 +285,11 @@ pub fn answer_lines<A: Allocator + Clone, D: Read, W: Write>(
     ensures memory { IsErrOf result SimFault.OutOfMemory
         → LacksMemory reader.old reader.new writer.old writer.new }
     ensures read { IsErrOf result SimFault.Read
-        → Fails reader.old reader.new × AnswersFront reader.old reader.new writer.old writer.new }
+        → Fails reader.old reader.new × AnswersWholeLines reader.old reader.new writer.old writer.new }
     ensures write { IsErrOf result SimFault.Write
         → Fails writer.old writer.new × AnswersFront reader.old reader.new writer.old writer.new }
 {
-    let Ok(mut lines) = line_reader(&alloc) else {
+    let Ok(mut lines) = line_reader(alloc) else {
         return Err(SimFault::OutOfMemory);
     };
     let mut session = Session::new(alloc);

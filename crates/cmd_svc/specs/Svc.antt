@@ -1,12 +1,14 @@
 -- What `svc` sends, and how it ends (cr.yp.to/daemontools/svc.html).
 use Rattle.std.specs.Prelude.{◌≡◌, ◌<◌, ◌⊎◌, ℕ, Bool, false, ◌||◌, if◌then◌else◌, List, [], ◌∷◌, ◌++◌, length}
 use Rattle.std.specs.Prelude.{codes}
-use Rattle.std.specs.Prelude.{bytes_eq, Option, Some, None, is_some, MatchOption}
+use Rattle.std.specs.Prelude.{bytes_eq, Option, Some, None, is_some, MatchOption, Result, IsErrOf, IsOkUnless}
 use Rattle.hex.specs.Hex.{encode_lower}
 use Rattle.tai_status.specs.Counted.{Device, Tells}
-use Rattle.cmd_svc.specs.Words.{option_letters, order_bytes, service_words, first_unknown}
+use Rattle.cmd_svc.specs.Words.{order_bytes, service_words, unknown_in}
 use Rattle.cmd_svc.specs.Calls.{Call, Sent}
 use Rattle.tai_status.specs.Extended.{Extended}
+use Rattle.cmd_svc.specs.declared.order.SvcFault.{SvcFault}
+use Rattle.cmd_svc.specs.declared.order.SvcFault.TheVariants as cause
 use Rattle.cmd_svc.specs.declared.services.Unreached.{Unreached}
 use Rattle.cmd_svc.specs.declared.services.Unreached.TheVariants as unreached
 use Rattle.cmd_svc.specs.Turns.{InTurn}
@@ -24,8 +26,8 @@ pub record Sending : Type 0 where
   pub effects : Effects
   pub missed : Bool
 
-abbrev pub sending : (effects : Effects) (missed : Bool) → Sending
-sending effects missed = record { effects = effects; missed = missed }
+abbrev pub sending : (calls : Option (List Call)) (faults : Device) (missed : Bool) → Sending
+sending calls faults missed = record { effects = effects calls faults; missed = missed }
 
 -- Sayings
 
@@ -73,7 +75,13 @@ ServesAll (byte ∷ bytes) services old new = InTurn (Serves (byte ∷ bytes)) s
 pub record ServesWords (missed_status : ℕ) (words : List (List ℕ)) (status : ℕ) (old new : Effects) : Type 0 where
   pub missed : Bool
   pub status_is : status ≡ (if missed then missed_status else 0)
-  pub serves : ServesAll (order_bytes words) (service_words words) (sending old false) (sending new missed)
+  pub serves : ServesAll (order_bytes words) (service_words words)
+      (sending old.calls old.faults false) (sending new.calls new.faults missed)
+
+-- Words are refused for their first unknown letter, and else only for want of memory.
+abbrev pub RefusesUnknown : {T : Type 0} → (words : List (List ℕ)) (order : Result T SvcFault) → Type 0
+RefusesUnknown words order = MatchOption (unknown_in words) (IsOkUnless order cause.OutOfMemory)
+    (λ letter. IsErrOf order (cause.UnknownLetter letter))
 
 -- There is no memory for the names of the services: nothing is sent, and it is told.
 pub record LacksMemory (words : List (List ℕ)) (status : ℕ) (old new : Effects) : Type 0 where
@@ -91,7 +99,7 @@ pub record RefusesLetter (letter : ℕ) (status : ℕ) (old new : Effects) : Typ
 -- `svc`, by its words, with this status where a service could not be reached: the first letter that it does not know is
 -- refused.
 abbrev pub OrderEnds : (missed_status : ℕ) (words : List (List ℕ)) (status : ℕ) (old new : Effects) → Type 0
-OrderEnds missed_status words status old new = MatchOption (first_unknown (option_letters words))
+OrderEnds missed_status words status old new = MatchOption (unknown_in words)
     (ServesWords missed_status words status old new ⊎ LacksMemory words status old new)
     (λ letter. RefusesLetter letter status old new)
 

@@ -55,6 +55,10 @@ option_letters words = flat_map (λ word. drop 1 word) (option_words words)
 abbrev pub first_unknown : List ℕ → Option ℕ
 first_unknown letters = find (λ letter. not (is_known letter)) letters
 
+-- the first letter of the option words that svc does not know
+abbrev pub unknown_in : List (List ℕ) → Option ℕ
+unknown_in words = first_unknown (option_letters words)
+
 -- the letters, without each one that stands earlier
 abbrev pub without_earlier : List ℕ → List ℕ
 without_earlier [] = []

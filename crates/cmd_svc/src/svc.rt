@@ -44,8 +44,8 @@ fn serve<S: Services, E: Write>(
     missed: bool,
     faults: &mut Output<E>,
 ) -> bool
-    ensures { Serves bytes.now folder.now (sending (effects (S.calls services.old) faults.old) missed)
-        (sending (effects (S.calls services.new) faults.new) result) }
+    ensures { Serves bytes.now folder.now (sending (S.calls services.old) faults.old missed)
+        (sending (S.calls services.new) faults.new result) }
 {
     match services.send(folder, bytes) {
         Ok(()) => missed,
@@ -69,8 +69,8 @@ fn serve_each<S: Services, A: Allocator, E: Write>(
     bytes: &[u8],
     faults: &mut Output<E>,
 ) -> bool
-    ensures { InTurn (Serves bytes.now) names.now (sending (effects (S.calls services.old) faults.old) false)
-        (sending (effects (S.calls services.new) faults.new) result) }
+    ensures { InTurn (Serves bytes.now) names.now (sending (S.calls services.old) faults.old false)
+        (sending (S.calls services.new) faults.new result) }
 {
     let mut missed = false;
     for name in names {
@@ -86,8 +86,8 @@ fn serve_all<S: Services, A: Allocator, E: Write>(
     bytes: &[u8],
     faults: &mut Output<E>,
 ) -> bool
-    ensures { ServesAll bytes.now names.now (sending (effects (S.calls services.old) faults.old) false)
-        (sending (effects (S.calls services.new) faults.new) result) }
+    ensures { ServesAll bytes.now names.now (sending (S.calls services.old) faults.old false)
+        (sending (S.calls services.new) faults.new result) }
 {
     if bytes.is_empty() {
         return false;

@@ -1,5 +1,5 @@
 //! The command `svok`.
-ghost use Rattle.std.specs.Prelude.{map};
+ghost use Rattle.cmd_svc.specs.Words.{texts};
 ghost use Rattle.cmd_svc.specs.Svok.{SvokEnds};
 
 use crate::services::Services;
@@ -9,7 +9,7 @@ use cmd_base::{DONE, REFUSED};
 /// where it is, else 100 (<https://cr.yp.to/daemontools/svok.html>). It says nothing and takes no memory. No word, or
 /// more than one, is 100 too, and nothing is asked.
 pub fn run_svok<S: Services>(services: &mut S, words: &[&str]) -> u8
-    ensures ends { SvokEnds (map (λ word. word.now) words.now) result (S.calls services.old) (S.calls services.new) }
+    ensures ends { SvokEnds (texts words.now) result (S.calls services.old) (S.calls services.new) }
 {
     match words {
         [folder] if services.reach(folder).is_ok() => DONE,

@@ -1,6 +1,7 @@
 //! The command `svstat`.
-ghost use Rattle.std.specs.Prelude.{◌≡◌, ◌∷◌, [], ◌++◌, map, OnOk, IfOk, IfErr};
+ghost use Rattle.std.specs.Prelude.{◌≡◌, ◌∷◌, [], ◌++◌, OnOk, IfOk, IfErr};
 ghost use Rattle.tai_status.specs.Counted.{Wrote, Works};
+ghost use Rattle.cmd_svc.specs.Words.{texts};
 ghost use Rattle.cmd_svc.specs.Turns.{InTurn};
 ghost use Rattle.cmd_svc.specs.Svstat.{scene, look_line, Shows, ShowsNot, ShowsUpTo};
 ghost use Rattle.cmd_svc.specs.Svstat.{SvstatEnds, WritesNot, svstat_told};
@@ -88,11 +89,11 @@ fn show_all<F: LineForm, S: Services, A: Allocator + Clone, W: Write, C: TimeSou
     writer: &mut Output<W>,
     clock: &mut C,
 ) -> Result<(), SvstatFault>
-    ensures ok { OnOk result (InTurn (Shows (F.line_of form.now)) (map (λ word. word.now) folders.now)
+    ensures ok { OnOk result (InTurn (Shows (F.line_of form.now)) (texts folders.now)
         (scene (S.calls services.old) (C.readings clock.old) writer.old)
         (scene (S.calls services.new) (C.readings clock.new) writer.new)) }
     ensures err { IfErr result (λ cause.
-        ShowsUpTo (F.line_of form.now) (map (λ word. word.now) folders.now) cause
+        ShowsUpTo (F.line_of form.now) (texts folders.now) cause
         (scene (S.calls services.old) (C.readings clock.old) writer.old)
         (scene (S.calls services.new) (C.readings clock.new) writer.new)) }
 {
@@ -129,7 +130,7 @@ where
     W: Write,
     E: Write,
     C: TimeSource,
-    ensures ends { SvstatEnds (F.line_of form.now) (map (λ word. word.now) words.now) result
+    ensures ends { SvstatEnds (F.line_of form.now) (texts words.now) result
         (scene (S.calls services.old) (C.readings clock.old) writer.old)
         (scene (S.calls services.new) (C.readings clock.new) writer.new) faults.old faults.new }
 {
@@ -152,7 +153,7 @@ pub fn run_svstat<S: Services, A: Allocator + Clone, W: Write, E: Write, C: Time
     faults: &mut Output<E>,
     clock: &mut C,
 ) -> u8
-    ensures ends { SvstatEnds look_line (map (λ word. word.now) words.now) result
+    ensures ends { SvstatEnds look_line (texts words.now) result
         (scene (S.calls services.old) (C.readings clock.old) writer.old)
         (scene (S.calls services.new) (C.readings clock.new) writer.new) faults.old faults.new }
 {

@@ -1,6 +1,8 @@
 //! The system's own folders of services.
-ghost use Rattle.std.specs.Prelude.{◌≡◌, ◌↔◌, ◌≤◌, ◌<◌, ◌+◌, ◌++◌, length, IsTrue, IfOk, OnErr};
+ghost use Rattle.std.specs.Prelude.{◌≡◌, ◌↔◌, ◌≤◌, ◌<◌, ◌+◌, ◌*◌, ◌^◌, ◌++◌, length, IsTrue, IfOk, OnErr, SomeIff};
+ghost use Rattle.std.specs.IoError.{error_kind};
 ghost use Rattle.cmd_svc.specs.Paths.{FitsAddress};
+ghost use Rattle.cmd_svc.specs.Connecting.{unreached_by};
 
 use crate::services::{Services, Unreached};
 use arrayvec::ArrayString;
@@ -78,7 +80,9 @@ fn connect<R: Files<File = File> + Net>(
 }
 
 /// What a fault of a connection says of the service.
-fn unreached(fault: &Error) -> Unreached {
+fn unreached(fault: &Error) -> Unreached
+    ensures { result ≡ unreached_by (error_kind fault.now) }
+{
     match fault.kind() {
         ErrorKind::PermissionDenied => Unreached::Denied,
         ErrorKind::WouldBlock | ErrorKind::BrokenPipe | ErrorKind::ConnectionReset => {
@@ -97,11 +101,18 @@ fn send_bytes<R: Files<File = File> + Net>(
     connect(runtime, folder, "control")?.write_all(bytes)
 }
 
+/// So many seconds and nanoseconds, in nanoseconds, where these fit into 64 bits.
+fn nanoseconds(seconds: u64, rest: u64) -> Option<u64>
+    ensures { SomeIff result (seconds * 1000000000 + rest < 2 ^ 64) (seconds * 1000000000 + rest) }
+{
+    seconds.checked_mul(1_000_000_000)?.checked_add(rest)
+}
+
 /// When a folder was changed last, in nanoseconds since 1970. None before that, and beyond the year 2554.
 fn changed_at(folder: &Metadata) -> Option<u64> {
     let seconds = u64::try_from(folder.mtime()).ok()?;
     let rest = u64::try_from(folder.mtime_nsec()).ok()?;
-    seconds.checked_mul(1_000_000_000)?.checked_add(rest)
+    nanoseconds(seconds, rest)
 }
 
 impl<R: Files<File = File> + Net + Drop> Services for SystemServices<R> {

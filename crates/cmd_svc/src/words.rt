@@ -1,6 +1,6 @@
-ghost use Rattle.std.specs.Prelude.{◌≡◌, ◌<◌, true, drop, length, IsOk, IsErr, IsErrOf, IfOk, IsOkUnless, MatchOption};
-ghost use Rattle.cmd_svc.specs.Words.{texts, is_option, after_options, option_letters, order_bytes, service_words};
-ghost use Rattle.cmd_svc.specs.Words.{first_unknown};
+ghost use Rattle.std.specs.Prelude.{◌≡◌, ◌<◌, true, drop, length, IsOk, IsErr, IsErrOf, IfOk, MatchOption};
+ghost use Rattle.cmd_svc.specs.Words.{texts, is_option, after_options, order_bytes, service_words, unknown_in};
+ghost use Rattle.cmd_svc.specs.Svc.{RefusesUnknown};
 
 use crate::order::{Order, OrderBytes, SvcFault};
 use std::alloc::{AllocError, Allocator};
@@ -17,9 +17,7 @@ use tai_status::{Name, Names};
 pub fn assemble<A: Allocator + Clone>(alloc: A, words: &[&str]) -> Result<Order<A>, SvcFault>
     ensures bytes { IfOk result (λ order. order.bytes ≡ order_bytes (texts words.now)) }
     ensures services { IfOk result (λ order. order.services ≡ service_words (texts words.now)) }
-    ensures refuses { MatchOption (first_unknown (option_letters (texts words.now)))
-        (IsOkUnless result SvcFault.OutOfMemory)
-        (λ letter. IsErrOf result (SvcFault.UnknownLetter letter)) }
+    ensures refuses { RefusesUnknown (texts words.now) result }
     ensures memory { IsErrOf result SvcFault.OutOfMemory → 0 < length (service_words (texts words.now)) }
 {
     let bytes = read_letters(words)?;
@@ -44,8 +42,7 @@ fn letters_of(word: &str) -> &[u8]
 
 /// The bytes of the option words in front.
 fn read_letters(words: &[&str]) -> Result<OrderBytes, SvcFault>
-    ensures fault { MatchOption (first_unknown (option_letters (texts words.now)))
-        (IsOk result)
+    ensures fault { MatchOption (unknown_in (texts words.now)) (IsOk result)
         (λ letter. IsErrOf result (SvcFault.UnknownLetter letter)) }
     ensures bytes { IfOk result (λ bytes. bytes ≡ order_bytes (texts words.now)) }
 {

@@ -4,6 +4,7 @@ use Rattle.scan_table.specs.Slots.{Row}
 use Rattle.scan_table.specs.declared.fault.ScanFault.{ScanFault}
 use Rattle.cmd_svscan.specs.declared.service_set.Begun.{Begun}
 use Rattle.cmd_svscan.specs.declared.service_set.ListFault.{ListFault}
+use Rattle.cmd_svscan.specs.declared.service_set.Listing.{Listing}
 use Rattle.cmd_svscan.specs.declared.service_set.Remaining.{Remaining}
 use Rattle.cmd_svscan.specs.declared.service_set.RoundOut.{RoundOut}
 use Rattle.cmd_svscan.specs.declared.service_set.Unlogged.{Unlogged}
@@ -13,7 +14,7 @@ use Rattle.cmd_svscan.specs.declared.service_set.Unlogged.{Unlogged}
 -- after five seconds these still ran, or all had ended; svscan left the services, and this was not logged.
 pub data Call : Type 0 where
   Began : (folder : List ℕ) → (begun : Begun) → Call
-  Listed : (folder : List ℕ) → (found : Result (List Row) ListFault) → Call
+  Listed : (folder : List ℕ) → (found : Result Listing ListFault) → Call
   Scanned : (folder : List ℕ) → (rows : List Row) → (out : Result RoundOut ScanFault) → Call
   Heard : (byte : Option ℕ) → Call
   Ended : (left : Option (List Remaining)) → Call

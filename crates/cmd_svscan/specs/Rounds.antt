@@ -1,20 +1,27 @@
 -- What svscan does, as a list of rounds (cr.yp.to/daemontools/svscan.html).
 use Rattle.std.specs.Prelude.{◌≡◌, ⊤, ℕ, ◌+◌, ◌≤◌, ◌⊎◌, Bool, true, false, List, [], ◌∷◌, ◌++◌, map, length, flat_map}
-use Rattle.std.specs.Prelude.{codes, decimal, All, Option, None, Some, IfSome, Ok, Err}
+use Rattle.std.specs.Prelude.{codes, decimal, ◌==◌, if◌then◌else◌, All, Option, None, Some, IfSome, Ok, Err}
 use Rattle.tai_status.specs.Counted.{Device, Tells}
 use Rattle.scan_table.specs.Slots.{Row}
 use Rattle.scan_table.specs.declared.fault.ScanFault.{ScanFault}
 use Rattle.scan_table.specs.declared.fault.ScanFault.TheVariants.{Unsorted, Twice, Exhausted, OutOfMemory}
 use Rattle.cmd_base.specs.Told.{usage_text}
+use Rattle.cmd_base.specs.Causes.{cause_words}
+use Rattle.cmd_base.specs.declared.cause.Cause.{Cause}
+use Rattle.svc_host.specs.declared.maker.PartFault.{PartFault}
+use Rattle.svc_host.specs.declared.maker.PartFault.TheVariants as part
 use Rattle.cmd_svscan.specs.declared.orders.Order.{Order}
 use Rattle.cmd_svscan.specs.declared.orders.Order.TheVariants as order
 use Rattle.cmd_svscan.specs.declared.service_set.Begun.{Begun}
 use Rattle.cmd_svscan.specs.declared.service_set.Begun.TheVariants.{Served, Unserved, Locked}
 use Rattle.cmd_svscan.specs.declared.service_set.ListFault.{ListFault}
 use Rattle.cmd_svscan.specs.declared.service_set.ListFault.TheVariants as list
+use Rattle.cmd_svscan.specs.declared.service_set.Listing.{Listing}
 use Rattle.cmd_svscan.specs.declared.service_set.Remaining.{Remaining}
 use Rattle.cmd_svscan.specs.declared.service_set.RoundOut.{RoundOut}
+use Rattle.cmd_svscan.specs.declared.service_set.Shortage.{Shortage}
 use Rattle.cmd_svscan.specs.declared.service_set.Unlogged.{Unlogged}
+use Rattle.cmd_svscan.specs.declared.service_set.Unmade.{Unmade}
 use Rattle.cmd_svscan.specs.declared.service_set.Untaken.{Untaken}
 use Rattle.cmd_svscan.specs.Calls.{Call, Began, Listed, Scanned, Heard, Ended, Left}
 use Rattle.cmd_svscan.specs.Orders.{Rest, Decides}
@@ -29,18 +36,18 @@ pub record Effects : Type 0 where
 abbrev pub effects : (calls : Option (List Call)) (faults : Device) → Effects
 effects calls faults = record { calls = calls; faults = faults }
 
--- A round: the folder was not listed; its rows were scanned, with what could not be done; or the scan of its rows
--- failed.
+-- A round: the folder was not listed; it was, and its rows were scanned, with what could not be done; or the scan of its
+-- rows failed.
 pub data Round : Type 0 where
   Unlisted : (fault : ListFault) → Round
-  Scan : (rows : List Row) → (out : RoundOut) → Round
-  Fails : (rows : List Row) → (fault : ScanFault) → Round
+  Scan : (listing : Listing) → (out : RoundOut) → Round
+  Fails : (listing : Listing) → (fault : ScanFault) → Round
 
 -- Whether svscan goes on after a round: but for a scan that failed, and not for want of memory.
 abbrev pub GoesOn : Round → Type 0
 GoesOn (Unlisted fault) = ⊤
-GoesOn (Scan rows out) = ⊤
-GoesOn (Fails rows fault) = fault ≡ OutOfMemory
+GoesOn (Scan listing out) = ⊤
+GoesOn (Fails listing fault) = fault ≡ OutOfMemory
 
 -- Whether it goes on is the answer.
 abbrev pub Answers : (on : Bool) → Round → Type 0
@@ -50,8 +57,9 @@ Answers false round = GoesOn round → ⊥
 -- the calls of a round
 abbrev pub calls_of : (folder : List ℕ) → Round → List Call
 calls_of folder (Unlisted fault) = Listed folder (Err fault) ∷ []
-calls_of folder (Scan rows out) = Listed folder (Ok rows) ∷ Scanned folder rows (Ok out) ∷ []
-calls_of folder (Fails rows fault) = Listed folder (Ok rows) ∷ Scanned folder rows (Err fault) ∷ []
+calls_of folder (Scan listing out) = Listed folder (Ok listing) ∷ Scanned folder listing.rows.items (Ok out) ∷ []
+calls_of folder (Fails listing fault) =
+    Listed folder (Ok listing) ∷ Scanned folder listing.rows.items (Err fault) ∷ []
 
 -- Sayings
 
@@ -73,11 +81,17 @@ name_told what name = codes "svscan: " ++ (name ++ what)
 abbrev pub too_many : List ℕ
 too_many = codes ": TooMany" ++ 10 ∷ []
 
-abbrev pub unable_to_lock : List ℕ
-unable_to_lock = codes ": unable to lock" ++ 10 ∷ []
+-- a part can't be supervised, for this cause
+abbrev pub unable_to_supervise : Cause → List ℕ
+unable_to_supervise cause = codes ": unable to supervise: " ++ (cause_words cause ++ 10 ∷ [])
 
-abbrev pub unable_to_supervise : List ℕ
-unable_to_supervise = codes ": unable to supervise" ++ 10 ∷ []
+-- why a part was not made
+abbrev pub not_made : PartFault → List ℕ
+not_made part.Locked = codes ": unable to lock" ++ 10 ∷ []
+not_made (part.Refused cause) = unable_to_supervise cause
+
+abbrev pub unmade_told : Unmade → List ℕ
+unmade_told unmade = name_told (not_made unmade.fault) unmade.name
 
 -- so many control bytes were not taken
 abbrev pub not_taken : ℕ → List ℕ
@@ -94,14 +108,37 @@ abbrev pub lines_of_out : RoundOut → List (List ℕ)
 lines_of_out out =
     map untaken_told out.untaken.items
     ++ (map (name_told unable_to_trace) out.untraced
-    ++ (map (name_told too_many) out.refused
-    ++ (map (name_told unable_to_lock) out.locked ++ map (name_told unable_to_supervise) out.failed)))
+    ++ (map (name_told too_many) out.refused ++ map unmade_told out.unmade.items))
+
+-- so many names are not text
+abbrev pub not_text : ℕ → List ℕ
+not_text count = codes "svscan: " ++ (decimal count ++ (codes " names are not text" ++ 10 ∷ []))
+
+abbrev pub lines_of_unnamed : (count : ℕ) → List (List ℕ)
+lines_of_unnamed count = if count == 0 then [] else not_text count ∷ []
+
+-- too few descriptors are allowed
+abbrev pub too_few : Shortage → List ℕ
+too_few shortage =
+    codes "svscan: " ++ (decimal shortage.needed ++ (codes " descriptors are needed, "
+    ++ (decimal shortage.allowed ++ (codes " are allowed" ++ 10 ∷ []))))
+
+abbrev pub lines_of_shortage : Option Shortage → List (List ℕ)
+lines_of_shortage None = []
+lines_of_shortage (Some shortage) = too_few shortage ∷ []
+
+-- what is told of what a folder has
+abbrev pub lines_of_listing : (unnamed : ℕ) → Option Shortage → List (List ℕ)
+lines_of_listing unnamed shortage = lines_of_unnamed unnamed ++ lines_of_shortage shortage
+
+abbrev pub lines_of_fault : ScanFault → List (List ℕ)
+lines_of_fault fault = (codes "svscan: " ++ (kind_name fault ++ 10 ∷ [])) ∷ []
 
 -- the lines that a round tells
 abbrev pub lines_of : Round → List (List ℕ)
 lines_of (Unlisted fault) = unlisted fault ∷ []
-lines_of (Scan rows out) = lines_of_out out
-lines_of (Fails rows fault) = (codes "svscan: " ++ (kind_name fault ++ 10 ∷ [])) ∷ []
+lines_of (Scan listing out) = lines_of_listing listing.unnamed listing.shortage ++ lines_of_out out
+lines_of (Fails listing fault) = lines_of_listing listing.unnamed listing.shortage ++ lines_of_fault fault
 
 -- These lines were told, one after the other.
 abbrev pub TellsAll : List (List ℕ) → (old new : Device) → Type 0
@@ -219,7 +256,7 @@ pub record Runs (folder : List ℕ) (limit : Option ℕ) (status : ℕ) (old new
 -- What is told where svscan is to be served in a folder.
 abbrev pub lines_of_begun : (folder : List ℕ) → Begun → List (List ℕ)
 lines_of_begun folder Served = []
-lines_of_begun folder Unserved = (codes "svscan: .svscan: unable to supervise" ++ 10 ∷ []) ∷ []
+lines_of_begun folder (Unserved cause) = name_told (unable_to_supervise cause) (codes ".svscan") ∷ []
 lines_of_begun folder Locked = (codes "svscan: unable to lock " ++ (folder ++ 10 ∷ [])) ∷ []
 
 -- It runs, unless another svscan has the folder.

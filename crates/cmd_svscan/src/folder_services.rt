@@ -3,9 +3,13 @@ ghost use Rattle.std.specs.Prelude.{◌≡◌, map, string_bytes, IfOk};
 ghost use Rattle.cmd_svscan.specs.Listing.{needed};
 ghost use Rattle.cmd_svscan.specs.Requests.{IsReplyTo};
 
-use crate::listing::{list_names, list_rows};
-use crate::service_set::{Begun, ListFault, Remaining, RoundOut, ServiceSet, Unlogged, Untaken};
-use cmd_base::SystemClock;
+use crate::descriptors::{allowed_descriptors, shortage};
+use crate::listing::{FolderNames, has_names, list_names, list_rows};
+use crate::own_status::own_status;
+use crate::service_set::{
+    Begun, ListFault, Listing, Remaining, RoundOut, ServiceSet, Unlogged, Unmade, Untaken,
+};
+use cmd_base::{Cause, SystemClock};
 use scan_table::{DirRow, PartId, Role, ScanFault};
 use std::alloc::{AllocError, Global};
 use std::fs::Files;
@@ -19,8 +23,8 @@ use svc_door::Door;
 use svc_host::{Host, Maker};
 use svc_house::{Inbox, MailInbox};
 use svc_maker::{FolderHolder, FolderMaker, OwnFault, SystemParts, part_name};
-use svc_world::FolderFault;
-use tai_status::{Full, Name, Names, Phase, TimeSource, View, Want, encode_full};
+use svc_world::{AdoptionWatch, FolderFault};
+use tai_status::{Name, Names, TimeSource, encode_full};
 
 /// How long it rests between two rounds, in seconds, and how long one look at the end of all services takes.
 const REST_SECONDS: u64 = 5;
@@ -39,7 +43,7 @@ const TRACE: usize = 256;
 pub enum Request {
     /// That svscan itself is served in a folder.
     Begin(String),
-    /// The rows of a folder.
+    /// What a folder has.
     List(String),
     /// One round over these rows of a folder.
     Round { folder: String, rows: Vec<DirRow> },
@@ -57,7 +61,7 @@ pub enum Reply {
     /// To `Begin`.
     Begun(Begun),
     /// To `List`.
-    Rows(Result<Vec<DirRow>, ListFault>),
+    Rows(Result<Listing, ListFault>),
     /// To `Round`.
     Round(Result<RoundOut, ScanFault>),
     /// To `Hear`.
@@ -72,38 +76,69 @@ pub enum Reply {
 fn needed<M: Maker + Drop, R: Threads + Wait + Clock + Copy + Drop + Send + 'static>(
     alloc: Global,
     host: &Host<M, R>,
-    names: Vec<String>,
+    names: &[String],
 ) -> Result<Vec<String>, AllocError>
     ensures { IfOk result (λ found.
-        map string_bytes found.items ≡ needed host.now.table.slots (map string_bytes names.items)) }
+        map string_bytes found.items ≡ needed host.now.table.slots (map string_bytes names.now)) }
 {
-    let mut found = Vec::with_capacity(alloc, names.len())?;
+    let mut found = Vec::new(alloc);
     for name in names {
         if !host.is_whole(name.as_str()) {
-            found.push(name)?;
+            found.push(String::from_str(alloc, name.as_str())?)?;
         }
     }
     Ok(found)
 }
 
-/// The rows of a folder of which a scan has need, after the threads of what ended are joined: what ends from now on is
-/// the next round's. The traces of what runs are kept once a round. A rest may begin.
+/// The rows of these names of a folder of which a scan has need.
+fn needed_rows<R: Files + Threads + Wait + Clock + Copy + Drop + Send + 'static, M: Maker + Drop>(
+    rt: &R,
+    alloc: Global,
+    host: &Host<M, R>,
+    folder: &str,
+    names: &[String],
+) -> Result<Vec<DirRow>, ListFault> {
+    match needed(alloc, host, names) {
+        Ok(names) => list_rows(rt, alloc, folder, names),
+        Err(AllocError) => Err(ListFault::OutOfMemory),
+    }
+}
+
+/// What a folder has, after the threads of what ended are joined: what ends from now on is the next round's. The traces
+/// of what runs are kept once a round. A folder that did not change is not listed again. A rest may begin.
 fn list<R: Files + Threads + Wait + Clock + Copy + Drop + Send + 'static, M: Maker + Drop>(
     rt: &R,
     alloc: Global,
     running: &mut Option<Running<M, R>>,
     folder: &str,
-) -> Result<Vec<DirRow>, ListFault> {
+) -> Result<Listing, ListFault> {
     let Some(running) = running else {
-        return list_rows(rt, alloc, folder, list_names(rt, alloc, folder)?);
+        return Err(ListFault::OutOfMemory);
     };
     running.rests_since = rt.monotonic().ok();
     running.host.collect();
     running.host.keep_traces();
-    match needed(alloc, &running.host, list_names(rt, alloc, folder)?) {
-        Ok(names) => list_rows(rt, alloc, folder, names),
-        Err(AllocError) => Err(ListFault::OutOfMemory),
-    }
+    let is_first = running.names.is_none();
+    let names = match running.names.take() {
+        Some(names) if has_names(rt, folder, &names) => names,
+        names => {
+            running.names = names;
+            list_names(rt, alloc, folder, SystemClock::new(*rt).now())?
+        }
+    };
+    let rows = needed_rows(rt, alloc, &running.host, folder, &names.names);
+    let unnamed = names.unnamed;
+    running.names = Some(names);
+    let rows = rows?;
+    Ok(Listing {
+        shortage: if is_first {
+            shortage(&rows, allowed_descriptors())
+        } else {
+            None
+        },
+        rows,
+        unnamed,
+    })
 }
 
 /// The name of a part of a service in a slot, as it is told.
@@ -143,28 +178,24 @@ fn take_losses<M: Maker + Drop, R: Threads + Wait + Clock + Copy + Drop + Send +
     Ok((untaken, Names::from_vec(untraced)))
 }
 
-/// The names of parts that could not be made, but for those that are locked: as many as there is memory for, since the
-/// next round makes them or fails again.
-fn failed_names<M: Maker + Drop, R: Threads + Wait + Clock + Copy + Drop + Send + 'static>(
+/// The parts that could not be made, by name: as many as there is memory for, since the next round makes them or fails
+/// again.
+fn unmade<M: Maker + Drop, R: Threads + Wait + Clock + Copy + Drop + Send + 'static>(
     alloc: Global,
     host: &Host<M, R>,
-    failed: &[PartId],
-    locked: &Names,
-) -> Names {
-    let mut names = Vec::new(alloc);
-    for part in failed {
-        let Ok(name) = name_of(alloc, host, *part) else {
+    failed: &[svc_host::Unmade],
+) -> Vec<Unmade> {
+    let mut all = Vec::new(alloc);
+    for one in failed {
+        let Ok(name) = name_of(alloc, host, one.part) else {
             break;
         };
-        let is_locked = locked
-            .as_slice()
-            .iter()
-            .any(|other| other.as_str() == name.as_str());
-        if !is_locked && names.push(name).is_err() {
+        let fault = one.fault;
+        if all.push(Unmade { name, fault }).is_err() {
             break;
         }
     }
-    Names::from_vec(names)
+    all
 }
 
 /// One scan of the rows of a folder, and what parts lost that ended before. Then a rest begins.
@@ -198,16 +229,14 @@ fn scan<M: FolderHolder + Drop, R: Threads + Wait + Clock + Copy + Drop + Send +
     if host.ask_maker(|maker| maker.set_folder(folder)).is_err() {
         return Err(ScanFault::OutOfMemory);
     }
+    host.ask_maker(|maker| maker.prepare(rows));
     let label = SystemClock::new(rt).now();
     let out = host.scan(rows, label)?;
-    let locked = host.ask_maker(|maker| maker.take_locked());
-    let failed = failed_names(alloc, host, out.failed.as_slice(), &locked);
     Ok(RoundOut {
         untaken,
         untraced,
+        unmade: unmade(alloc, host, &out.failed),
         refused: out.scan.refused,
-        locked,
-        failed,
     })
 }
 
@@ -335,20 +364,9 @@ fn leave<M: FolderHolder + Drop, R: Threads + Wait + Clock + Copy + Drop + Send 
     all
 }
 
-/// The status record of svscan itself, whose process has this number; 0: which is gone.
+/// The status record of svscan itself, now, whose process has this number; 0: which is gone.
 fn own_record<R: Clock + Drop>(rt: R, pid: u32) -> [u8; 20] {
-    let view = View {
-        label: SystemClock::new(rt).now(),
-        pid,
-        paused: false,
-        want: Want::Up,
-    };
-    let (phase, exiting) = if pid > 0 {
-        (Phase::Up, false)
-    } else {
-        (Phase::Gone, true)
-    };
-    encode_full(&Full::new(view, phase, exiting).unwrap())
+    encode_full(&own_status(SystemClock::new(rt).now(), pid))
 }
 
 /// The services of this system that run: their host, and where svscan's own control bytes come.
@@ -358,6 +376,8 @@ pub struct Running<M: Maker + Drop, R: Threads + Wait + Clock + Copy + Drop + Se
     inbox: Option<MailInbox>,
     // When the last round was over, by the running clock.
     rests_since: Option<Duration>,
+    // What the folder had when it was listed last, where that was.
+    names: Option<FolderNames>,
 }
 
 /// The services of this system that run.
@@ -370,11 +390,13 @@ where
     R: Threads + Wait + Clock + Copy + Send + Sync + Drop + 'static,
 {
     let door = Door::open(&rt, alloc)?;
-    let system = SystemParts::new(rt, files, alloc, door)?;
+    let adoptions = AdoptionWatch::open(&rt, alloc)?;
+    let system = SystemParts::new(rt, files, alloc, door, adoptions)?;
     Ok(Running {
         host: Host::new(rt, alloc, FolderMaker::new(alloc, system), MAIL, TRACE)?,
         inbox: None,
         rests_since: None,
+        names: None,
     })
 }
 
@@ -387,10 +409,10 @@ fn begin<M: FolderHolder + Drop, R: Threads + Wait + Clock + Copy + Drop + Send 
     folder: &str,
 ) -> Begun {
     let Ok(path) = format!(in alloc; "{folder}/.svscan") else {
-        return Begun::Unserved;
+        return Begun::Unserved(Cause::NoMemory);
     };
     let Some((sender, inbox)) = running.host.own_mailbox(MAIL) else {
-        return Begun::Unserved;
+        return Begun::Unserved(Cause::NoMemory);
     };
     let record = own_record(rt, process::id(files.process()));
     let served = running
@@ -402,7 +424,8 @@ fn begin<M: FolderHolder + Drop, R: Threads + Wait + Clock + Copy + Drop + Send 
             Begun::Served
         }
         Err(OwnFault::Unopened(FolderFault::Locked)) => Begun::Locked,
-        Err(_) => Begun::Unserved,
+        Err(OwnFault::Unopened(FolderFault::NotOpened(cause)) | OwnFault::NotAdmitted(cause)) =>
+            Begun::Unserved(cause),
     }
 }
 
@@ -427,7 +450,7 @@ fn try_begin<M: FolderHolder + Drop, R: Threads + Wait + Clock + Copy + Drop + S
 ) -> Begun {
     match running {
         Some(running) => begin(rt, files, alloc, running, folder),
-        None => Begun::Unserved,
+        None => Begun::Unserved(Cause::NoMemory),
     }
 }
 
@@ -469,7 +492,7 @@ fn try_leave<M: FolderHolder + Drop, R: Threads + Wait + Clock + Copy + Drop + S
     }
 }
 
-/// Does what is requested. The host is made at the beginning, or where that fails at the first round for which it can
+/// Does what is requested. The host is made at the beginning, or where that fails at the first listing for which it can
 /// be.
 pub fn handle<R>(
     rt: R,
@@ -488,9 +511,11 @@ where
             open(rt, files, alloc, running);
             Reply::Begun(try_begin(rt, files, alloc, running, folder.as_str()))
         }
-        Request::List(folder) => Reply::Rows(list(&rt, alloc, running, folder.as_str())),
-        Request::Round { folder, rows } => {
+        Request::List(folder) => {
             open(rt, files, alloc, running);
+            Reply::Rows(list(&rt, alloc, running, folder.as_str()))
+        }
+        Request::Round { folder, rows } => {
             Reply::Round(round(rt, alloc, running, folder.as_str(), &rows))
         }
         Request::Hear => Reply::Heard(hear_or_sleep(rt, running)),
@@ -523,20 +548,20 @@ impl<F: FnMut(Request) -> Reply + Drop> ServiceSet for FolderServices<F> {
 
     fn begin(&mut self, folder: &str) -> Begun {
         let Ok(folder) = String::from_str(self.alloc, folder) else {
-            return Begun::Unserved;
+            return Begun::Unserved(Cause::NoMemory);
         };
         match (self.handle)(Request::Begin(folder)) {
             Reply::Begun(begun) => begun,
-            _ => Begun::Unserved,
+            _ => Begun::Unserved(Cause::Other),
         }
     }
 
-    fn list(&mut self, folder: &str) -> Result<Vec<DirRow>, ListFault> {
+    fn list(&mut self, folder: &str) -> Result<Listing, ListFault> {
         let Ok(folder) = String::from_str(self.alloc, folder) else {
             return Err(ListFault::OutOfMemory);
         };
         match (self.handle)(Request::List(folder)) {
-            Reply::Rows(rows) => rows,
+            Reply::Rows(listing) => listing,
             _ => Err(ListFault::Unlisted),
         }
     }

@@ -7,17 +7,21 @@
 //! What no contract here says, and is only tested: that the system's listing finds what the folder holds.
 #![tactic(auto)]
 
+mod descriptors;
 mod folder_services;
 mod listing;
 mod orders;
+mod own_status;
 mod rounds;
 mod rows;
 mod service_set;
 mod words;
 
 pub use folder_services::{FolderServices, Reply, Request, SystemHost, handle};
-pub use listing::{list_names, list_rows};
+pub use listing::{FolderNames, list_names, list_rows};
 pub use orders::Order;
 pub use rounds::run_svscan;
 pub use rows::{Entry, Folder, rows_of};
-pub use service_set::{Begun, ListFault, Remaining, RoundOut, ServiceSet, Unlogged};
+pub use service_set::{
+    Begun, ListFault, Listing, Remaining, RoundOut, ServiceSet, Shortage, Unlogged, Unmade, Untaken,
+};

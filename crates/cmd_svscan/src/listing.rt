@@ -4,7 +4,9 @@ use crate::service_set::ListFault;
 use scan_table::DirRow;
 use std::alloc::{AllocError, Global};
 use std::fs::Files;
+use std::os::unix::fs::MetadataExt;
 use std::{fs, io};
+use tai_status::Label;
 
 /// A folder on this system, by its path.
 #[derive(Drop)]
@@ -59,21 +61,86 @@ fn fault_of(fault: &io::Error) -> ListFault {
     }
 }
 
-fn read_names<R: Files>(rt: &R, alloc: Global, path: &str) -> io::Result<Vec<String>> {
-    let mut names = Vec::new(alloc);
-    for entry in fs::read_dir(&(rt, &alloc), path)? {
-        let entry = entry?;
-        names.push(String::from_str(alloc, entry.file_name())?)?;
-    }
-    Ok(names)
+/// Which folder a path names, and when something in it changed last.
+#[derive(Clone, Copy, Debug, PartialEq, Eq)]
+struct FolderState {
+    device: u64,
+    inode: u64,
+    changed: Label,
 }
 
-/// The names in a folder on this system.
-pub fn list_names<R: Files>(rt: &R, alloc: Global, path: &str) -> Result<Vec<String>, ListFault> {
-    match read_names(rt, alloc, path) {
+/// The names in a folder on this system, as it was when it was listed.
+#[derive(Drop)]
+pub struct FolderNames {
+    /// Those that are text.
+    pub names: Vec<String>,
+    /// How many others it has.
+    pub unnamed: u64,
+    // None where it may have changed unnoticed since.
+    state: Option<FolderState>,
+}
+
+/// The state of the folder at a path, where it can be told.
+fn state_of<R: Files>(rt: &R, path: &str) -> Option<FolderState> {
+    let found = fs::metadata(rt, path).ok()?;
+    let seconds = u64::try_from(found.mtime()).ok()?;
+    let nanos = u32::try_from(found.mtime_nsec()).ok()?;
+    Some(FolderState {
+        device: found.dev(),
+        inode: found.ino(),
+        changed: Label::from_unix(seconds, nanos)?,
+    })
+}
+
+/// Whether a folder that changed last then, changes its time by another change now: some systems tell whole seconds, or
+/// every second one.
+fn is_past(changed: Label, now: Label) -> bool {
+    changed.plus_second().plus_second() < now
+}
+
+/// The names in the folder at a path, of which this is the state.
+fn read_names<R: Files>(
+    rt: &R,
+    alloc: Global,
+    path: &str,
+    state: Option<FolderState>,
+) -> io::Result<FolderNames> {
+    let mut names = Vec::new(alloc);
+    let mut unnamed: u64 = 0;
+    for entry in fs::read_dir(&(rt, &alloc), path)? {
+        match entry {
+            Ok(entry) => names.push(String::from_str(alloc, entry.file_name())?)?,
+            Err(fault) if fault.kind() == io::ErrorKind::InvalidFilename => {
+                unnamed = unnamed.saturating_add(1);
+            }
+            Err(fault) => return Err(fault),
+        }
+    }
+    Ok(FolderNames {
+        names,
+        unnamed,
+        state,
+    })
+}
+
+/// The names in the folder at a path on this system, now.
+pub fn list_names<R: Files>(
+    rt: &R,
+    alloc: Global,
+    path: &str,
+    now: Label,
+) -> Result<FolderNames, ListFault> {
+    // Before the names, so that a change meanwhile is seen the next time.
+    let state = state_of(rt, path).filter(|state| is_past(state.changed, now));
+    match read_names(rt, alloc, path, state) {
         Ok(names) => Ok(names),
         Err(fault) => Err(fault_of(&fault)),
     }
+}
+
+/// Whether the folder at a path has these names still.
+pub fn has_names<R: Files>(rt: &R, path: &str, names: &FolderNames) -> bool {
+    names.state.is_some() && names.state == state_of(rt, path)
 }
 
 /// The rows of these names in a folder on this system, in the byte order of the names. Nothing else in it is looked at.

@@ -3,19 +3,23 @@ ghost use Rattle.std.specs.Prelude.{◌≡◌, ◌<◌, ◌++◌, ◌∷◌, [],
 ghost use Rattle.tai_status.specs.Counted.{Tells};
 ghost use Rattle.tai_status.specs.Extended.{Extended};
 ghost use Rattle.cmd_svscan.specs.Rounds.{effects, kind_name, name_told, not_taken, unlisted, untaken_told};
-ghost use Rattle.cmd_svscan.specs.Rounds.{lines_of_out};
+ghost use Rattle.cmd_svscan.specs.Rounds.{lines_of_listing, lines_of_out, lines_of_shortage, lines_of_unnamed};
 ghost use Rattle.cmd_svscan.specs.Rounds.{lines_of_begun, not_logged, remaining_told, still_runs, unlogged_told};
+ghost use Rattle.cmd_svscan.specs.Rounds.{not_made, not_text, too_few, unable_to_supervise, unmade_told};
 ghost use Rattle.cmd_svscan.specs.Rounds.{BeginsAndRuns, EndsAll, Leaves, Rests, Runs, SvscanEnds, TakesRound};
 ghost use Rattle.cmd_svscan.specs.Rounds.{TellsAll};
 
 use crate::orders::{Order, order_of};
-use crate::service_set::{Begun, ListFault, Remaining, RoundOut, ServiceSet, Unlogged, Untaken};
+use crate::service_set::{
+    Begun, ListFault, Listing, Remaining, RoundOut, ServiceSet, Shortage, Unlogged, Unmade, Untaken,
+};
 use crate::words::read_words;
 use arrayvec::ArrayString;
-use cmd_base::{DONE, TROUBLE, print_fault, push_number, report, report_parts, usage};
+use cmd_base::{Cause, DONE, TROUBLE, print_fault, push_number, report, report_parts, usage};
 use scan_table::ScanFault;
 use std::io::Write;
 use std::sync::Wait;
+use svc_host::PartFault;
 use tai_status::{Name, Output};
 
 /// The name of a fault.
@@ -61,6 +65,92 @@ fn report_untaken<E: Write>(all: &[Untaken], faults: &mut Output<E>)
     }
 }
 
+/// What is told of a part that can't be supervised, behind its name.
+fn unable_to_supervise(cause: Cause) -> ArrayString<64>
+    ensures { result.bytes ≡ unable_to_supervise cause }
+{
+    let mut text = ArrayString::new();
+    text.push_str(": unable to supervise: ");
+    text.push_str(cause.words());
+    text.push_str("\n");
+    text
+}
+
+/// What is told of a part that was not made, behind its name.
+fn not_made(fault: PartFault) -> ArrayString<64>
+    ensures { result.bytes ≡ not_made fault }
+{
+    match fault {
+        PartFault::Locked => {
+            let mut text = ArrayString::new();
+            text.push_str(": unable to lock\n");
+            text
+        }
+        PartFault::Refused(cause) => unable_to_supervise(cause),
+    }
+}
+
+/// Reports parts that were not made, a line for each.
+fn report_unmade<E: Write>(all: &[Unmade], faults: &mut Output<E>)
+    ensures { TellsAll (map unmade_told all.now) faults.old faults.new }
+{
+    for unmade in all {
+        let text = not_made(unmade.fault);
+        let name = unmade.name.as_str();
+        report_parts(faults, b"svscan: ", name.as_bytes(), text.as_bytes(), DONE);
+    }
+}
+
+/// What is told of so many names that are not text.
+fn not_text(count: u64) -> ArrayString<64>
+    ensures { result.bytes ≡ not_text count }
+{
+    let mut text = ArrayString::new();
+    text.push_str("svscan: ");
+    push_number(&mut text, count);
+    text.push_str(" names are not text\n");
+    text
+}
+
+/// Reports names that are not text.
+fn report_unnamed<E: Write>(count: u64, faults: &mut Output<E>)
+    ensures { TellsAll (lines_of_unnamed count) faults.old faults.new }
+{
+    if count > 0 {
+        print_fault(faults, not_text(count).as_bytes());
+    }
+}
+
+/// What is told where there are too few descriptors.
+fn too_few(shortage: Shortage) -> ArrayString<128>
+    ensures { result.bytes ≡ too_few shortage }
+{
+    let mut text = ArrayString::new();
+    text.push_str("svscan: ");
+    push_number(&mut text, shortage.needed);
+    text.push_str(" descriptors are needed, ");
+    push_number(&mut text, shortage.allowed);
+    text.push_str(" are allowed\n");
+    text
+}
+
+/// Reports that there are too few descriptors, where that is so.
+fn report_shortage<E: Write>(shortage: Option<Shortage>, faults: &mut Output<E>)
+    ensures { TellsAll (lines_of_shortage shortage) faults.old faults.new }
+{
+    if let Some(shortage) = shortage {
+        print_fault(faults, too_few(shortage).as_bytes());
+    }
+}
+
+/// Reports what is amiss with what a folder has.
+fn report_listing<E: Write>(unnamed: u64, shortage: Option<Shortage>, faults: &mut Output<E>)
+    ensures { TellsAll (lines_of_listing unnamed shortage) faults.old faults.new }
+{
+    report_unnamed(unnamed, faults);
+    report_shortage(shortage, faults);
+}
+
 /// Reports what was lost, and what a round could not do.
 fn report_out<E: Write>(out: &RoundOut, faults: &mut Output<E>)
     ensures { TellsAll (lines_of_out out.now) faults.old faults.new }
@@ -72,8 +162,7 @@ fn report_out<E: Write>(out: &RoundOut, faults: &mut Output<E>)
         faults,
     );
     report_names(out.refused.as_slice(), b": TooMany\n", faults);
-    report_names(out.locked.as_slice(), b": unable to lock\n", faults);
-    report_names(out.failed.as_slice(), b": unable to supervise\n", faults);
+    report_unmade(&out.unmade, faults);
 }
 
 /// What is told of a folder that was not listed.
@@ -97,13 +186,18 @@ fn take_round<K: ServiceSet, E: Write>(
     ensures round { TakesRound folder.now result
         (effects (K.calls services.old) faults.old) (effects (K.calls services.new) faults.new) }
 {
-    let rows = match services.list(folder) {
-        Ok(rows) => rows,
+    let Listing {
+        rows,
+        unnamed,
+        shortage,
+    } = match services.list(folder) {
+        Ok(listing) => listing,
         Err(fault) => {
             print_fault(faults, unlisted(fault));
             return true;
         }
     };
+    report_listing(unnamed, shortage, faults);
     match services.round(folder, rows) {
         Ok(out) => {
             report_out(&out, faults);
@@ -256,7 +350,10 @@ fn report_begun<E: Write>(folder: &str, begun: Begun, faults: &mut Output<E>)
 {
     match begun {
         Begun::Served => {}
-        Begun::Unserved => print_fault(faults, b"svscan: .svscan: unable to supervise\n"),
+        Begun::Unserved(cause) => {
+            let text = unable_to_supervise(cause);
+            report_parts(faults, b"svscan: ", b".svscan", text.as_bytes(), DONE);
+        }
         Begun::Locked => {
             report_parts(
                 faults,
@@ -286,7 +383,7 @@ fn begin_and_run<R: Wait, K: ServiceSet, E: Write>(
     report_begun(folder, begun, faults);
     match begun {
         Begun::Locked => TROUBLE,
-        Begun::Served | Begun::Unserved => take_rounds(rt, services, folder, rounds, faults),
+        Begun::Served | Begun::Unserved(_) => take_rounds(rt, services, folder, rounds, faults),
     }
 }
 
@@ -298,12 +395,14 @@ fn begin_and_run<R: Wait, K: ServiceSet, E: Write>(
 /// rounds; else it doesn't come back, unless by these two or a fault.
 ///
 /// Told on `faults`: `svscan: unable to lock DIR`, where another svscan has the folder; `svscan: .svscan: unable to
-/// supervise`, where it can't be served itself; `svscan: unable to list`, where the folder or a name in it can't be
-/// read, and `svscan: OutOfMemory` of want of memory: the round does nothing more, and the next one tries again;
-/// `svscan: NAME: N bytes were not taken` of control bytes that came to a service which ended without them, and
-/// `svscan: NAME: unable to write the trace` of one whose last trace is not whole; `svscan: NAME: TooMany` of each name
-/// that gets no service, `svscan: NAME: unable to lock` of each that another svscan has, and `svscan: NAME: unable to
-/// supervise` of each other one that a round could not begin; `svscan: KIND` of another fault of the scan, which ends
+/// supervise: CAUSE`, where it can't be served itself; `svscan: unable to list`, where the folder can't be read, and
+/// `svscan: OutOfMemory` of want of memory: the round does nothing more, and the next one tries again; `svscan: N names
+/// are not text` of names that get no service; `svscan: N descriptors are needed, M are allowed`, where the first
+/// listing has more services than that; `svscan: NAME: N bytes were not taken` of control bytes that came to a service
+/// which ended without them, and `svscan: NAME: unable to write the trace` of one whose last trace is not whole;
+/// `svscan: NAME: TooMany` of each name that gets no service, `svscan: NAME: unable to lock` of each that another
+/// svscan has, and `svscan: NAME: unable to supervise: CAUSE` of each other one that a round could not begin, where
+/// CAUSE is what the C library says of it; `svscan: KIND` of another fault of the scan, which ends
 /// all services; `svscan: NAME: process PID still runs`, each five seconds, of what does not end; `svscan: NAME: N
 /// bytes were not logged`, of lines that did not reach their logger. Answers the status: 0; 111 after such a fault, and
 /// where another svscan has the folder; 100 for wrong words: then nothing is asked of the system.

@@ -1,11 +1,31 @@
 //! The services of a folder.
+use cmd_base::Cause;
 use scan_table::{DirRow, ScanFault};
+use svc_host::PartFault;
 use tai_status::{Name, Names};
+
+/// More descriptors than there may be are needed for the services of a folder.
+#[derive(Clone, Copy, Debug, PartialEq, Eq)]
+pub struct Shortage {
+    pub needed: u64,
+    pub allowed: u64,
+}
+
+/// What a folder has.
+#[derive(Drop)]
+pub struct Listing {
+    /// The rows of its names, in the byte order of the names.
+    pub rows: Vec<DirRow>,
+    /// How many more names it has, which are not text: no service has such a name.
+    pub unnamed: u64,
+    /// Where it is listed for the first time, and there are too few descriptors for its services.
+    pub shortage: Option<Shortage>,
+}
 
 /// Why a folder was not listed.
 #[derive(Clone, Copy, Debug, PartialEq, Eq)]
 pub enum ListFault {
-    /// It can't be read, or a name in it is not text.
+    /// It can't be read.
     Unlisted,
     /// There is no memory for its rows.
     OutOfMemory,
@@ -20,6 +40,15 @@ pub struct Untaken {
     pub count: u64,
 }
 
+/// A part that a round could not make.
+#[derive(Drop)]
+pub struct Unmade {
+    /// The part: the name of its service, for a logger with `/log` behind it.
+    pub name: Name,
+    /// Why.
+    pub fault: PartFault,
+}
+
 /// What was lost at the ends of parts, and what a round could not do.
 #[derive(Drop)]
 pub struct RoundOut {
@@ -29,11 +58,8 @@ pub struct RoundOut {
     pub untraced: Names,
     /// The names that get no service since there are too many.
     pub refused: Names,
-    /// The names whose folder another svscan has locked.
-    pub locked: Names,
-    /// The names of the other parts that could not be made: for want of a folder, of a permission, of a descriptor, of
-    /// memory.
-    pub failed: Names,
+    /// The parts that could not be made.
+    pub unmade: Vec<Unmade>,
 }
 
 /// Whether svscan itself is served in a folder.
@@ -41,8 +67,8 @@ pub struct RoundOut {
 pub enum Begun {
     /// It is, and no other svscan will be.
     Served,
-    /// It is not, since its own folder can't be made there.
-    Unserved,
+    /// It is not, since the system refused something that its own folder stands on.
+    Unserved(Cause),
     /// Another svscan is.
     Locked,
 }
@@ -68,7 +94,7 @@ pub struct Unlogged {
 /// The services of a folder, which it keeps running. Contracts see which calls were made and what came of them, where
 /// it keeps that.
 pub trait ServiceSet {
-    ghost use Rattle.std.specs.Prelude.{◌∷◌, [], ⊤, Option, None, List, Ok, Err, IfOk, IfErr, option_map};
+    ghost use Rattle.std.specs.Prelude.{◌∷◌, [], ⊤, Option, None, List, option_map};
     ghost use Rattle.cmd_svscan.specs.Calls.{Call, Began, Listed, Scanned, Heard, Ended, Left};
     ghost use Rattle.tai_status.specs.Extended.{Extended};
 
@@ -84,15 +110,12 @@ pub trait ServiceSet {
         ensures ready { ready self.new }
         ensures began { Extended (calls self.old) (calls self.new) (Began folder.now result ∷ []) };
 
-    /// The rows of a folder, in the byte order of their names. It may leave out services of which every part runs: the
-    /// round after it does the same without.
-    fn list(&mut self, folder: &str) -> Result<Vec<DirRow>, ListFault>
+    /// What a folder has. It may leave out the rows of services of which every part runs: the round after it does the
+    /// same without.
+    fn list(&mut self, folder: &str) -> Result<Listing, ListFault>
         requires { ready self.old }
         ensures ready { ready self.new }
-        ensures ok { IfOk result (λ rows.
-            Extended (calls self.old) (calls self.new) (Listed folder.now (Ok rows.items) ∷ [])) }
-        ensures err { IfErr result (λ fault.
-            Extended (calls self.old) (calls self.new) (Listed folder.now (Err fault) ∷ [])) };
+        ensures listed { Extended (calls self.old) (calls self.new) (Listed folder.now result ∷ []) };
 
     /// One round over these rows of the folder: what is new starts, what ended starts again, and what went goes.
     fn round(&mut self, folder: &str, rows: Vec<DirRow>) -> Result<RoundOut, ScanFault>

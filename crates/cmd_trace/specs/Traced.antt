@@ -1,6 +1,9 @@
 -- What `trace` prints of the text of a trace, what its word after `--break` means, and what it tells of its faults.
 use Rattle.std.specs.Prelude.{◌≡◌, ◌≢◌, ◌<◌, ◌^◌, ⊤, ℕ, ℤ, ◌⊎◌, Bool, true, false, List, [], ◌∷◌, ◌++◌, codes, decimal}
 use Rattle.std.specs.Prelude.{Option, Some, None, Err}
+use Rattle.std.specs.IoError.{error_kind}
+use Rattle.std.specs.declared.io.Error.{Error}
+use Rattle.std.specs.declared.io.ErrorKind.TheVariants.{OutOfMemory}
 use Rattle.tai_status.specs.Counted.{Device, Fails, Works, Wrote, WroteFront, Tells}
 use Rattle.tai_status.specs.Phase.{phase_name}
 use Rattle.sup_core.specs.State.{State}
@@ -169,6 +172,12 @@ pub record TellsUnread (file_at : List ℕ → Option (List ℕ)) (file : List �
   pub unwritten : writes ≡ writer
   pub told : Tells faults tells (unread_text file)
   pub status_is : status ≡ 111
+
+-- It is told why a file is not read: there was no memory, where the error says so; else that it can't be read.
+abbrev pub TellsMissed : Error → (file : List ℕ) → (faults tells : Device) → Type 0
+TellsMissed error file faults tells =
+    ((error_kind error ≡ OutOfMemory) × Tells faults tells (trouble_text trouble.OutOfMemory))
+    ⊎ ((error_kind error ≢ OutOfMemory) × Tells faults tells (unread_text file))
 
 -- There was no memory for the words or the file; nothing is written, and that is told.
 pub record TellsStarved (status : ℕ) (writer writes faults tells : Device) : Type 0 where

@@ -1,7 +1,7 @@
 //! The command `trace`.
 ghost use Rattle.std.specs.Prelude.{◌≡◌, map, option_map, None, OnOk, IfErr};
 ghost use Rattle.tai_status.specs.Counted.{Works, Tells};
-ghost use Rattle.cmd_trace.specs.Traced.{FileEnds, Shows, TextEnds, TraceCause, TraceEnds};
+ghost use Rattle.cmd_trace.specs.Traced.{FileEnds, Shows, TellsMissed, TextEnds, TraceCause, TraceEnds};
 ghost use Rattle.cmd_trace.specs.Traced.{times_asked, trouble_text, unread_text};
 
 use crate::break_word::read_spec;
@@ -11,7 +11,7 @@ use arrayvec::ArrayString;
 use cmd_base::{DONE, FileSource, TROUBLE, push_number, report, report_parts, usage};
 use cmd_local::{LocalZone, Zone};
 use std::alloc::{Allocator, Global};
-use std::io::{ErrorKind, Write};
+use std::io::{Error, ErrorKind, Write};
 use sup_trace::{Break, kind_name, read_text};
 use tai_status::Output;
 use trace_words::{WordsFault, parse_words};
@@ -120,11 +120,19 @@ fn trace_file<R: FileSource, W: Write, E: Write, Z: Zone>(
 {
     match files.read_file(alloc, file) {
         Ok(text) => show_bytes(alloc, zone, &text, at, writer, faults),
-        Err(fault) if fault.kind() == ErrorKind::OutOfMemory => {
-            report_trouble(TraceTrouble::OutOfMemory, faults)
-        }
-        Err(_) => report_unread(file, faults),
+        Err(error) => report_missed(error, file, faults),
     }
+}
+
+/// Tells why a file is not read, and answers the status of that. Memory is wanted only where its error says so.
+fn report_missed<E: Write>(error: Error, file: &str, faults: &mut Output<E>) -> u8
+    ensures status { result ≡ 111 }
+    ensures told { TellsMissed error file.now faults.old faults.new }
+{
+    if error.kind() == ErrorKind::OutOfMemory {
+        return report_trouble(TraceTrouble::OutOfMemory, faults);
+    }
+    report_unread(file, faults)
 }
 
 /// Tells that a file can't be read, and answers the status of that.

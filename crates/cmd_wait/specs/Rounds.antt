@@ -10,6 +10,7 @@ use Rattle.cmd_wait.specs.declared.finding.Goal.{Goal}
 use Rattle.cmd_wait.specs.declared.finding.Finding.{Finding}
 use Rattle.cmd_wait.specs.declared.finding.Finding.TheVariants.{Reached, Waiting, Failed}
 use Rattle.cmd_wait.specs.declared.finding.WaitFault.{WaitFault}
+use Rattle.cmd_wait.specs.declared.rounds.Failure.{Failure}
 
 -- Looks at services, one after the other
 
@@ -58,6 +59,11 @@ pub record FailsAt (goal : Goal) (services : List (List ℕ)) (folder : List ℕ
   pub middle : Option (List Call)
   pub looked : LooksAt goal services left (folder ∷ after) old middle
   pub fails : Finds goal folder (Failed fault) middle new
+
+-- A look failed so.
+abbrev pub FailsWith : (failure : Failure) (goal : Goal) (services : List (List ℕ)) (old new : Option (List Call))
+    → Type 0
+FailsWith failure goal services old new = FailsAt goal services failure.folder.now failure.fault old new
 
 -- Rounds, one after the other
 

@@ -1,7 +1,7 @@
 //! A round over the services that are left.
 ghost use Rattle.std.specs.Prelude.{◌≡◌, ◌↔◌, [], IsTrue, OnOk, IfErr};
 ghost use Rattle.cmd_svc.specs.Words.{texts};
-ghost use Rattle.cmd_wait.specs.Rounds.{FailsAt, LooksAt};
+ghost use Rattle.cmd_wait.specs.Rounds.{FailsWith, LooksAt};
 ghost use Rattle.cmd_wait.specs.Steps.{IsOver};
 
 use crate::finding::{Finding, Goal, WaitFault, look};
@@ -24,8 +24,8 @@ pub(crate) fn look_at_each<'a, S: Services, A: Allocator>(
 ) -> Result<(), Failure<'a>>
     ensures ok { OnOk result (LooksAt goal (texts left.old.items) (texts left.new.items) []
         (S.calls services.old) (S.calls services.new)) }
-    ensures err { IfErr result (λ failure. FailsAt goal (texts left.old.items) failure.folder.now failure.fault
-        (S.calls services.old) (S.calls services.new)) }
+    ensures err { IfErr result (λ failure.
+        FailsWith failure goal (texts left.old.items) (S.calls services.old) (S.calls services.new)) }
 {
     let mut at = 0;
     while at < left.len() {

@@ -1,8 +1,9 @@
 //! The command `why`.
-ghost use Rattle.std.specs.Prelude.{◌≡◌, false, map, OnOk, IfOk, IfErr};
+ghost use Rattle.std.specs.Prelude.{◌≡◌, false, OnOk, IfOk, IfErr};
 ghost use Rattle.std.specs.Option.{option_copied};
 ghost use Rattle.std.specs.Prelude.{option_map};
 ghost use Rattle.tai_status.specs.Counted.{Wrote, Works};
+ghost use Rattle.cmd_svc.specs.Words.{texts};
 ghost use Rattle.cmd_svc.specs.Turns.{InTurn};
 ghost use Rattle.cmd_why.specs.Facts.{ended_in, facts_of};
 ghost use Rattle.cmd_why.specs.Why.{found_text, is_unread, knowledge, scene, why_told, Finds, FindsStanding, IsDrawing};
@@ -301,12 +302,12 @@ where
     C: TimeSource,
     ensures ok { IfOk result (λ unread.
         InTurn (Shows (knowledge (F.texts files.now) (T.text_at times.now)) timeline)
-        (map (λ word. word.now) folders.now)
+        (texts folders.now)
         (scene (S.calls services.old) (C.readings clock.old) writer.old false)
         (scene (S.calls services.new) (C.readings clock.new) writer.new unread)) }
     ensures err { IfErr result (λ cause.
         ShowsUpTo (knowledge (F.texts files.now) (T.text_at times.now)) timeline
-        (map (λ word. word.now) folders.now) cause
+        (texts folders.now) cause
         (scene (S.calls services.old) (C.readings clock.old) writer.old false)
         (scene (S.calls services.new) (C.readings clock.new) writer.new false)) }
 {
@@ -350,7 +351,7 @@ where
     E: Write,
     C: TimeSource,
     ensures ends { ServicesEnd (knowledge (F.texts files.now) (T.text_at times.now))
-        timeline (map (λ word. word.now) folders.now) result
+        timeline (texts folders.now) result
         (scene (S.calls services.old) (C.readings clock.old) writer.old)
         (scene (S.calls services.new) (C.readings clock.new) writer.new) faults.old faults.new }
 {
@@ -392,7 +393,7 @@ where
     E: Write,
     C: TimeSource,
     ensures ends { WhyEnds (knowledge (F.texts files.now) (T.text_at times.now))
-        (map (λ word. word.now) words.now) result
+        (texts words.now) result
         (scene (S.calls services.old) (C.readings clock.old) writer.old)
         (scene (S.calls services.new) (C.readings clock.new) writer.new) faults.old faults.new }
 {

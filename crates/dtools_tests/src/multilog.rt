@@ -30,6 +30,15 @@ struct Ran {
     answer: Result<Counts, RunFault>,
 }
 
+/// What a status file holds: the last content that it was given, or nothing.
+fn held(alloc: Global, status: StatusFile) -> Vec<u8> {
+    let mut contents = status.contents;
+    match contents.pop() {
+        Some(content) => content.bytes,
+        None => Vec::new(alloc),
+    }
+}
+
 /// Runs a script of at most one log and one status file, in this memory, over an input that comes in reads of so many
 /// bytes, and then ends or fails. The clock stands at the beginning of 1970.
 fn run_in<A: Allocator + Clone>(
@@ -51,7 +60,7 @@ fn run_in<A: Allocator + Clone>(
     })?;
     let mut statuses = Vec::new(alloc);
     statuses.push(StatusFile {
-        bytes: Vec::new(alloc),
+        contents: Vec::new(alloc),
     })?;
     let mut store = MemoryStore::new(alloc, logs, statuses);
     let mut clock = Still {
@@ -62,7 +71,7 @@ fn run_in<A: Allocator + Clone>(
     let (mut logs, mut statuses, alerts) = store.take_apart();
     Ok(Ran {
         log: logs.pop().ok_or("a log")?,
-        status: statuses.pop().ok_or("a status file")?.bytes,
+        status: held(alloc, statuses.pop().ok_or("a status file")?),
         alerts,
         reads: reader.reads(),
         failures: 0,
@@ -179,7 +188,7 @@ fn run_faulty(
     })?;
     let mut statuses = Vec::new(alloc);
     statuses.push(StatusFile {
-        bytes: Vec::new(alloc),
+        contents: Vec::new(alloc),
     })?;
     let memory = MemoryStore::new(alloc, logs, statuses);
     let mut store = Faulty::new(memory, most, failing);
@@ -192,7 +201,7 @@ fn run_faulty(
     let (mut logs, mut statuses, alerts) = store.take_apart();
     Ok(Ran {
         log: logs.pop().ok_or("a log")?,
-        status: statuses.pop().ok_or("a status file")?.bytes,
+        status: held(alloc, statuses.pop().ok_or("a status file")?),
         alerts,
         reads: reader.reads(),
         failures,

@@ -1,11 +1,12 @@
 -- The first fault among files, file by file.
-use Rattle.std.proofs.Common.{◌≡◌, ℕ, ◌+◌, true, false, List, ◌∷◌, refl}
-use Rattle.std.specs.Prelude.{Option, Some, None, Result, Err, IsOk, MatchOption, slice_get, if◌then◌else◌}
+use Rattle.std.proofs.Common.{◌≡◌, ℕ, ◌+◌, Bool, true, false, List, [], ◌∷◌, refl, sym, ap, ◌∙◌}
+use Rattle.std.specs.Prelude.{Option, Some, None, Result, Ok, Err, IsOk, MatchOption, slice_get, if◌then◌else◌}
+use Rattle.std.specs.Result.{result_err}
 use Rattle.std.specs.Str.{is_utf8}
 use Rattle.env_title.specs.Files.{File, is_hidden, file_value}
-use Rattle.env_title.specs.Faults.{has_equals, fault_at, faults_from}
+use Rattle.env_title.specs.Faults.{has_equals, fault_at, faults_from, first_fault}
 use Rattle.env_title.specs.declared.fault.EnvFault.{EnvFault}
-use Rattle.env_title.specs.declared.fault.EnvFault.TheVariants.{NotText}
+use Rattle.env_title.specs.declared.fault.EnvFault.TheVariants.{NameHasEquals, NotText, OutOfMemory}
 
 -- what is wrong with a file whose name is good
 pub fault_at-named : (place : ℕ) (file : File) → is_hidden file ≡ false → has_equals file.name ≡ false
@@ -25,6 +26,35 @@ pub told : (o : Option EnvFault) (r : Result (Unit {0}) EnvFault) (fault : EnvFa
     → MatchOption o (IsOk r) (λ f. r ≡ Err f) → r ≡ Err fault → o ≡ Some fault
 told None r fault good is = let never = rw is at good in cc
 told (Some f) r fault bad is = cc
+
+-- what is told as an error is what is wrong
+pub told_err : (o : Option EnvFault) (r : Result (Unit {0}) EnvFault) → MatchOption o (IsOk r) (λ f. r ≡ Err f)
+    → result_err r ≡ o
+told_err None (Ok x) h = refl
+told_err None (Err f) h = cc h
+told_err (Some f) r h = rw h refl
+
+-- No file is at fault for want of memory.
+never_at : (place : ℕ) (file : File) (b c d : Bool) → (if b then None else (if c then Some (NameHasEquals place)
+    else (if d then None else Some (NotText place)))) ≡ Some OutOfMemory → ⊥
+never_at place file true c d h = cc h
+never_at place file false true d h = cc h
+never_at place file false false true h = cc h
+never_at place file false false false h = cc h
+
+never_from : (place : ℕ) (files : List File) → slice_get (faults_from place files) 0 ≡ Some OutOfMemory → ⊥
+never_from place [] h = cc h
+never_from place (file ∷ files) h =
+    elim (fault_at place file) as (λ o. fault_at place file ≡ o → ⊥) [
+      | None ↦ λ good. never_from (place + 1) files (sym (first-good place file files good) ∙ h)
+      | Some fault ↦ λ bad.
+          let same : fault ≡ OutOfMemory = cc (sym (first-bad place file files fault bad) ∙ h) in
+          never_at place file (is_hidden file) (has_equals file.name) (is_utf8 (file_value file.bytes))
+          (bad ∙ ap {B = Option EnvFault} (λ (f : EnvFault). Some f) same)
+    ] refl
+
+pub never_memory : (files : List File) → first_fault files ≡ Some OutOfMemory → ⊥
+never_memory files h = never_from 0 files h
 
 -- where the first fault is none, the first file has none, and the others have none
 pub none_parts : (place : ℕ) (file : File) (files : List File) → slice_get (faults_from place (file ∷ files)) 0 ≡ None

@@ -32,7 +32,14 @@ impl EnvFile<'_> {
         matches!(self.name.as_bytes(), [b'.', ..])
     }
 
-    /// Tells what is wrong with the file, which stands at this place.
+    /// What is wrong with the file, which stands at this place, if anything. It takes no memory.
+    pub fn fault(&self, place: usize) -> Option<EnvFault>
+        ensures { result ≡ fault_at place self.now }
+    {
+        self.check(place).err()
+    }
+
+    // Tells what is wrong with the file, which stands at this place.
     pub(crate) fn check(&self, place: usize) -> Result<(), EnvFault>
         ensures { MatchOption (fault_at place self.now) (IsOk result) (λ fault. result ≡ Err fault) }
     {

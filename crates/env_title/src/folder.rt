@@ -37,6 +37,13 @@ pub fn apply<A: Allocator + Clone>(
     after(alloc, files, env).map_err(|_| EnvFault::OutOfMemory)
 }
 
+/// What is wrong with the first file that cannot be applied, where one cannot. It takes no memory.
+pub fn first_fault(files: &[EnvFile<'_>]) -> Option<EnvFault>
+    ensures { result ≡ first_fault files.now }
+{
+    check(files).err()
+}
+
 /// Tells what is wrong with the first file that cannot be applied.
 fn check(files: &[EnvFile<'_>]) -> Result<(), EnvFault>
     ensures { MatchOption (first_fault files.now) (IsOk result) (λ fault. result ≡ Err fault) }

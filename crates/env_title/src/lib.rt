@@ -17,5 +17,5 @@ mod value;
 pub use env::{Env, Variable};
 pub use fault::EnvFault;
 pub use file::EnvFile;
-pub use folder::apply;
+pub use folder::{apply, first_fault};
 pub use title::{Title, TitleFault};

@@ -21,7 +21,7 @@ use Rattle.svc_host.specs.Parts.{HostPart, stays}
 use Rattle.svc_host.specs.Begun.{Begins, IsBegun, is_down, row_at}
 use Rattle.svc_left.specs.declared.opening.Opening.{Opening}
 use Rattle.svc_left.specs.Opening.{beginning as begins_so}
-use Rattle.svc_host.specs.Rounds.{HostState, IsParted, IsScan, IsScanned, staying}
+use Rattle.svc_host.specs.Rounds.{HostState, IsParted, IsScan, IsScanned, staying, unmade_ids}
 use Rattle.host_law.specs.Alike.{BeginsAlike, IsScanAlike, ScansAreAlike, part_of}
 
 answer : {A : Type 0} (out : ScanOut A) (table : TableState) (rows : List Row) → IsScan table rows out
@@ -104,7 +104,7 @@ scans-same suite rows label old out new is =
           (begins suite rows label)
           is.begun.begun is.begun.each;
       all = subst (λ (parts : List PartId). IsParted parts (map (λ (part : HostPart). part.id) is.begun.begun)
-          out.failed)
+          (unmade_ids out.failed.items))
           (sym all) is.begun.parted;
     }
 

@@ -24,7 +24,7 @@ use Rattle.svc_left.specs.declared.opening.Opening.TheVariants.{ByRow}
 use Rattle.svc_host.specs.declared.host.HostOut.{HostOut}
 use Rattle.svc_host.specs.Parts.{HostPart}
 use Rattle.svc_host.specs.Begun.{IsBegun}
-use Rattle.svc_host.specs.Rounds.{HostState, IsParted, IsScanned, after_ends}
+use Rattle.svc_host.specs.Rounds.{HostState, IsParted, IsScanned, after_ends, unmade_ids}
 
 -- Scans
 
@@ -45,14 +45,14 @@ pub record IsScanAlike (suite : SuiteState) (rows : List Row) (label : Tai64n)
   -- They answer the same starts, restarts, drops and refusals.
   pub answer : out.scan ≡ scan_out suite.table rows
   -- They come to the same table, but for the parts that the host could not make: these have ended.
-  pub table : new.table ≡ after_ends out.failed (suite_scanned suite rows label).table
+  pub table : new.table ≡ after_ends (unmade_ids out.failed.items) (suite_scanned suite rows label).table
   -- The parts that stay are those that the suite doesn't take away, and the begun ones come behind them.
   pub begun : List HostPart
   pub parts : new.parts ≡ filter (λ (part : HostPart). not (is_taken_away suite rows part.id)) old.parts ++ begun
   pub each : All (BeginsAlike suite rows label) begun
   -- Those and the ones that could not be made are all that the suite begins, in its order.
   pub all : IsParted (map part_of (scan_starts suite.table rows ++ scan_restarts suite.table rows))
-      (map (λ (part : HostPart). part.id) begun) out.failed
+      (map (λ (part : HostPart). part.id) begun) (unmade_ids out.failed.items)
 
 abbrev pub ScansAreAlike : Type 0
 ScansAreAlike =

@@ -4,7 +4,7 @@ use crate::meeting::{Flag, Meeting};
 use scan_table::PartId;
 use std::alloc::{AllocError, Global};
 use std::sync::Arc;
-use svc_host::{Maker, PartResources};
+use svc_host::{Maker, PartFault, PartResources};
 use svc_house::{ControlSender, Notifier};
 use svc_left::Opening;
 use tai_status::Label;
@@ -87,25 +87,25 @@ impl Maker for Cast {
         part: PartId,
         _sender: ControlSender,
         notifier: Arc<Notifier, Global>,
-    ) -> Option<PartResources<Actor, Meeting, Nobody>> {
+    ) -> Result<PartResources<Actor, Meeting, Nobody>, PartFault> {
         let gate = if part.slot == 0 {
-            self.first.copy()
+            self.first.copy()?
         } else {
-            self.second.copy()
+            self.second.copy()?
         };
         let world = Actor {
             notifier,
             pid: self.next_pid,
-            start: Label::from_unix(1, 0)?,
-            clock: Label::from_unix(2, 0)?,
-            death: Label::from_unix(3, 0)?,
+            start: Label::from_unix(1, 0).unwrap(),
+            clock: Label::from_unix(2, 0).unwrap(),
+            death: Label::from_unix(3, 0).unwrap(),
             is_starting: false,
             is_dying: false,
         };
         self.next_pid = self.next_pid.saturating_add(1);
-        Some(PartResources {
+        Ok(PartResources {
             world,
-            gate: gate.ok()?,
+            gate,
             reaper: Nobody,
             opening: Opening::ByRow,
         })
@@ -116,13 +116,13 @@ impl Maker for Cast {
         _name: &str,
         slot: u64,
         _notifier: Arc<Notifier, Global>,
-    ) -> Option<(Said, Lives)> {
+    ) -> Result<(Said, Lives), PartFault> {
         let (bytes, taken) = if slot == 0 {
-            (*b"abcdef", Arc::try_clone(&self.taken[0]).ok()?)
+            (*b"abcdef", Arc::try_clone(&self.taken[0])?)
         } else {
-            (*b"uvwxyz", Arc::try_clone(&self.taken[1]).ok()?)
+            (*b"uvwxyz", Arc::try_clone(&self.taken[1])?)
         };
-        Some((Said { bytes, place: 0 }, Lives { taken, given: 0 }))
+        Ok((Said { bytes, place: 0 }, Lives { taken, given: 0 }))
     }
 
     fn keep_trace(&mut self, _part: PartId, _text: &[u8]) -> bool {

@@ -16,7 +16,8 @@ use Rattle.mlog_line.specs.Given.{Given, nothing, joined, of_text}
 use Rattle.mlog_line.specs.Outputs.{Outputs, Takes, Stops, Grows, StopsAt}
 use Rattle.mlog_line.proofs.Taking.{Takes-same, Stops-same}
 use Rattle.mlog_line.proofs.Growing.{Grows-then, Grows-same, Grows-behind, StopsAt-then, StopsAt-same, StopsAt-behind}
-use Rattle.mlog_core.specs.Scene.{Scene, outputs_of, labels_of, IsInLine, IsIn, given_in, Went, WentUpTo}
+use Rattle.mlog_core.specs.Run.{labels_of, given_in}
+use Rattle.mlog_core.specs.Scene.{Scene, outputs_of, IsInLine, IsIn, Went, WentUpTo}
 use Rattle.mlog_core.specs.Story.{Came, Done, Halted}
 use Rattle.mlog_core.proofs.Lines.{text_turn}
 use Rattle.mlog_core.proofs.Going.{no_bytes, Went-then, WentUpTo-then}

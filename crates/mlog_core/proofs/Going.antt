@@ -20,7 +20,8 @@ use Rattle.mlog_line.specs.Outputs.{Outputs, outputs, Takes, Stops, SameGiven, G
 use Rattle.mlog_line.proofs.Growing.{Same-then, Same-sym, Same-nothing, Same-moved, Same-joined, Same-behind}
 use Rattle.mlog_line.proofs.Growing.{Grows-none, Grows-then, Grows-same, Grows-behind, StopsAt-then, StopsAt-more}
 use Rattle.mlog_line.proofs.Growing.{StopsAt-same, StopsAt-behind}
-use Rattle.mlog_core.specs.Scene.{Scene, scene, outputs_of, labels_of, IsInLine, IsIn, given_in, Went, WentUpTo}
+use Rattle.mlog_core.specs.Run.{labels_of, given_in}
+use Rattle.mlog_core.specs.Scene.{Scene, scene, outputs_of, IsInLine, IsIn, Went, WentUpTo}
 use Rattle.mlog_core.specs.Scene.{LineOpen, LineEnded, left_of}
 use Rattle.mlog_core.proofs.Lines.{plain_both, whole_end, whole_both, cut_one, first_line, last_line, text_turn, ahead}
 use Rattle.mlog_core.proofs.Lines.{begun_nothing, text_line}

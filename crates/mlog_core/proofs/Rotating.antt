@@ -85,7 +85,7 @@ does_nothing o log = record {
   others = λ other apart. refl;
   statuses = refl;
   alerts = refl;
-  stays = record { logs = refl; status_files = refl; steady = omega arith };
+  stays = record { logs = refl; status_files = refl; asked = refl; steady = omega arith };
 }
 
 -- The logs below a number
@@ -105,7 +105,7 @@ none_rotated script reading o = record {
   beyond = λ log high. refl;
   statuses = refl;
   alerts = refl;
-  stays = record { logs = refl; status_files = refl; steady = omega arith };
+  stays = record { logs = refl; status_files = refl; asked = refl; steady = omega arith };
 }
 
 not_same : (i j : ℕ) → (i == j) ≡ false → i ≢ j

@@ -1,7 +1,6 @@
 -- What a run tells of the logs, alerts and status files.
-use Rattle.std.proofs.Common.{◌≡◌, ℕ, ◌+◌, ◌-◌, ◌^◌, min, List, [], ◌∷◌, ◌++◌, length, take, map, fold, Option, Some}
-use Rattle.std.proofs.Common.{None, refl, sym, subst, ap, ◌∙◌, arith, append-nil, length-append}
-use Rattle.std.proofs.Math.Seq.{take-append_seam}
+use Rattle.std.proofs.Common.{◌≡◌, ℕ, ◌+◌, ◌-◌, ◌^◌, min, List, [], ◌∷◌, ◌++◌, take, map, fold, Option, Some}
+use Rattle.std.proofs.Common.{None, refl, sym, subst, ap, ◌∙◌, arith, append-nil}
 use Rattle.std.proofs.lemmas.Option.{slice_get-map}
 use Rattle.std.specs.Prelude.{slice_get, IfSome}
 use Rattle.std.specs.Option.{option_map}
@@ -10,8 +9,7 @@ use Rattle.tai_status.specs.Label.{Tai64n}
 use Rattle.tai_status.specs.Lines.{Sent}
 use Rattle.tai_status.specs.Extended.{Extended}
 use Rattle.tai_status.specs.LineReader.{IsPlain}
-use Rattle.tai_status.specs.Counted.{Device, AppendsFront}
-use Rattle.tai_status.proofs.Known.{AppendsFront-whole, AppendsFront-more}
+use Rattle.tai_status.specs.Counted.{Device}
 use Rattle.mlog_script.specs.Script.{Act, Plan, log_plans}
 use Rattle.mlog_script.specs.Selection.{log_text}
 use Rattle.mlog_files.specs.Files.{Files, Step, append_steps}
@@ -21,22 +19,19 @@ use Rattle.mlog_files.specs.Tails.{keep_of, waiting_in, standing, found}
 use Rattle.mlog_files.specs.declared.tail.Tail.{Tail}
 use Rattle.mlog_files.specs.declared.tail.LogFault.{LogFault}
 use Rattle.mlog_files.specs.declared.tail.LogFault.TheVariants as log_fault
-use Rattle.mlog_files.proofs.Goings.{steps_on-append}
 use Rattle.mlog_line.specs.LineRouter.{Place, IsOpened, IsOpenedAt, AreOpened, IsWrittenAt, IsWritten, total_finished}
 use Rattle.mlog_line.specs.LineRouter.{total_removed}
 use Rattle.mlog_line.specs.Given.{joined, of_text}
-use Rattle.mlog_line.specs.Outputs.{steps_for, after, TakesIn, TakesInAt, TakesFrontAt, Takes, IsSpent, SameGiven}
+use Rattle.mlog_line.specs.Outputs.{steps_for, after, TakesIn, TakesInAt, TakesFrontAt, Takes, IsSpent}
 use Rattle.mlog_line.proofs.Taking.{Takes-same}
-use Rattle.mlog_line.proofs.Growing.{Same-then, Same-sym, Same-moved, Same-behind}
-use Rattle.mlog_core.specs.Run.{world, AreFound, planned_steps, log_steps, IsPlanSpent, IsEnd, RunsAll, ReachesFront}
+use Rattle.mlog_core.specs.Run.{world, AreFound, planned_steps, IsPlanSpent, IsEnd, RunsAll, ReachesFront}
 use Rattle.mlog_core.specs.Run.{RunsLines, RunsUpTo}
-use Rattle.mlog_core.specs.Scene.{scene, outputs_of, labels_of, IsInLine, given_in}
+use Rattle.mlog_core.specs.Run.{given_in, IsBegun}
+use Rattle.mlog_core.specs.Scene.{scene, outputs_of, IsInLine}
 use Rattle.mlog_core.specs.Story.{Came, Done, Halted}
 use Rattle.mlog_core.specs.declared.stream.Counts.{Counts}
 use Rattle.mlog_core.specs.declared.stream.RunFault.{RunFault}
 use Rattle.mlog_core.specs.declared.stream.RunFault.TheVariants as fault
-use Rattle.mlog_core.proofs.Lines.{text_turn}
-use Rattle.mlog_core.proofs.Going.{the_end}
 
 -- Where logs stood
 
@@ -142,34 +137,6 @@ log_spent None a (Some t) text o k = absurd o
 log_spent (Some plan) a None text o k = absurd o
 log_spent (Some plan) a (Some t) text o k = sym (after_planned plan a t text o) ∙ k
 
--- All steps of the first text are done, and perhaps some of the others.
-log_lines : (plan : Option Plan) (a b : Option Files) (t u : Option Tail) (xs more rest : List Sent)
-    → IsOpenedAt plan a t → TakesInAt t u a b (xs ++ more) → IsWrittenAt u
-    → ReachesFront a b (length (planned_steps plan (stood_at t a) xs))
-    (planned_steps plan (stood_at t a) ((xs ++ more) ++ rest))
-unfolding stood_at
-log_lines None a b None None xs more rest o k w = record { count = 0; enough = omega arith; reaches = k }
-log_lines None a b None (Some u) xs more rest o k w = absurd k
-log_lines None a b (Some t) u xs more rest o k w = absurd o
-log_lines (Some plan) a b None u xs more rest o k w = absurd o
-log_lines (Some plan) a b (Some t) None xs more rest o k w = absurd k
-log_lines (Some plan) a b (Some t) (Some u) xs more rest o k w =
-    let stood : Option Standing = Some (standing t) in
-    let first = steps_on plan.size plan.keep stood xs in
-    let second = steps_on plan.size plan.keep (standing_on plan.size plan.keep stood xs) more in
-    let upto = steps_on plan.size plan.keep stood (xs ++ more) in
-    let later = steps_on plan.size plan.keep (standing_on plan.size plan.keep stood (xs ++ more)) rest in
-    let parts = ap length (steps_on-append plan.size plan.keep stood xs more) in
-    let sum = length-append first second in
-    record {
-      count = length upto;
-      enough = omega (arith, parts, sum);
-      reaches = subst (λ (s : List Step). Reaches a b s)
-          (sym (ap (take (length upto)) (steps_on-append plan.size plan.keep stood (xs ++ more) rest)
-          ∙ take-append_seam upto later))
-          (all_done plan t u a b (xs ++ more) o k w);
-    }
-
 -- Counts
 
 fold_map : {X Y : Type 0} (f : ℕ → Y → ℕ) (g : X → Y) (n : ℕ) (xs : List X)
@@ -231,12 +198,18 @@ runs_up_to script r p old new a b p0 p1 why tells opened same h = record {
       (slice_get p0.tails log) (log_text script log h.labels h.bytes)
       (opened log) (h.stops.logs log);
   alerts = h.stops.alerts;
+  files = h.stops.files;
   spent = λ is. let s = h.stops.spent (same is) in (
     s.log,
     log_spent (slice_get (log_plans script) s.log) (old.told.files s.log) (slice_get p0.tails s.log)
         (log_text script s.log h.labels h.bytes) (opened s.log) s.spent,
   );
 }
+
+begun_left : (script : List Act) (p : Place) (i : Option Tai64n) (left : List ℕ) → IsInLine script p i left
+    → IsBegun i left
+begun_left script p None left is = is
+begun_left script p (Some label) left is = is.2
 
 plain_left : (script : List Act) (p : Place) (i : Option Tai64n) (left : List ℕ) → IsInLine script p i left
     → IsPlain left
@@ -253,39 +226,27 @@ runs_lines script r p old new a b p0 p1 i n opened written c =
     let w = c.went in
     let t1 = of_text script w.names w.whole in
     let s1 = given_in script i w.left in
-    let end = the_end script p1 i w.left w.at in
-    let all = of_text script (w.names ++ labels_of i) (w.whole ++ w.left) in
     let first = outputs_of (scene None p0 old a) in
     let last = outputs_of (scene i p1 new b) in
     let takes : Takes first last (joined t1 s1) =
     Takes-same first last w.grows.more (joined t1 s1) w.grows.takes
     (record { logs = w.grows.whole.logs; alerts = w.grows.whole.alerts; files = w.grows.whole.files }) in
-    let whole : SameGiven (joined (joined t1 s1) end.rest) all =
-    Same-then (joined (joined t1 s1) end.rest) (joined t1 (joined s1 end.rest)) all
-    (Same-sym (joined t1 (joined s1 end.rest)) (joined (joined t1 s1) end.rest) (Same-moved t1 s1 end.rest))
-    (Same-then (joined t1 (joined s1 end.rest)) (joined t1 (of_text script (labels_of i) w.left)) all
-    (Same-behind t1 (joined s1 end.rest) (of_text script (labels_of i) w.left) end.whole)
-    (text_turn script w.names (labels_of i) w.whole w.left w.lines w.each)) in
     record {
       lines = w.whole;
       front = w.left;
       labels = w.names;
-      more = labels_of i;
+      begun = i;
       stood = stood_of p0.tails old.told;
       read = subst (λ (t : List ℕ). Consumes r.bytes p.bytes t) w.cut c.read;
       gave = subst (λ (t : List Tai64n). Extended a b t) w.named w.gave;
       whole = w.lines;
       plain = plain_left script p1 i w.left w.at;
+      is_begun = begun_left script p1 i w.left w.at;
       each = w.each;
       are_found = all_found script old.told p0.tails opened;
-      logs = λ log. subst (λ (t : List Sent).
-          ReachesFront (old.told.files log) (new.told.files log)
-          (length (log_steps script (stood_of p0.tails old.told) w.names w.whole log))
-          (planned_steps (slice_get (log_plans script) log) (stood_of p0.tails old.told log) t)) (whole.logs log)
-          (log_lines (slice_get (log_plans script) log) (old.told.files log) (new.told.files log)
-          (slice_get p0.tails log) (slice_get p1.tails log) (t1.logs log) (s1.logs log) (end.rest.logs log)
-          (opened log) (takes.logs log) (written log));
-      alerts = subst (λ (t : List ℕ). AppendsFront old.told.alerts new.told.alerts t) whole.alerts
-          (AppendsFront-more end.rest.alerts
-          (AppendsFront-whole old.told.alerts new.told.alerts (t1.alerts ++ s1.alerts) takes.alerts));
+      logs = λ log. log_done (slice_get (log_plans script) log) (old.told.files log) (new.told.files log)
+          (slice_get p0.tails log) (slice_get p1.tails log) (t1.logs log ++ s1.logs log)
+          (opened log) (takes.logs log) (written log);
+      alerts = takes.alerts;
+      files = takes.files;
     }

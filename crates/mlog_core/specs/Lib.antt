@@ -1,5 +1,5 @@
-pub mod Scene
 pub mod Run
+pub mod Scene
 pub mod Story
 pub mod Laws
 pub mod Feed

@@ -1,5 +1,5 @@
 -- What a run of multilog does.
-use Rattle.std.specs.Prelude.{◌≡◌, ℕ, ◌+◌, ◌-◌, ◌^◌, ◌≤◌, min, true, List, [], ◌++◌, length, take, fold, slice_get}
+use Rattle.std.specs.Prelude.{◌≡◌, ℕ, ◌+◌, ◌-◌, ◌^◌, ◌<◌, ◌≤◌, min, true, List, [], ◌∷◌, ◌++◌, length, take, fold, slice_get}
 use Rattle.std.specs.Prelude.{Option, Some, None, IfSome, Result, IfOk, IsErrOf}
 use Rattle.std.specs.Io.KnownBytes.{Appends}
 use Rattle.tai_status.specs.Label.{Tai64n}
@@ -11,9 +11,10 @@ use Rattle.mlog_script.specs.Script.{Act, Plan, log_plans}
 use Rattle.mlog_script.specs.Selection.{log_text, alert_text, file_contents, is_whole}
 use Rattle.mlog_files.specs.Files.{Files, Step}
 use Rattle.mlog_files.specs.Going.{Standing, steps_on, standing_on}
-use Rattle.mlog_files.specs.Store.{StoreState, Told, Reaches}
+use Rattle.mlog_files.specs.Store.{StoreState, Told, Reaches, WasGiven}
 use Rattle.mlog_files.specs.Tails.{found}
-use Rattle.mlog_line.specs.Outputs.{Becomes}
+use Rattle.mlog_line.specs.Given.{Given, nothing, so_far}
+use Rattle.mlog_line.specs.Outputs.{GivenFront}
 use Rattle.mlog_core.specs.declared.stream.Counts.{Counts}
 use Rattle.mlog_core.specs.declared.stream.RunFault.{RunFault}
 use Rattle.mlog_core.specs.declared.stream.RunFault.TheVariants as fault
@@ -59,7 +60,7 @@ abbrev pub all_removed : List Standing → ℕ
 all_removed ends = fold (λ total end. min (2 ^ 64 - 1) (total + end.marks.removed)) 0 ends
 
 -- All the input was handed out: each log's files went through the steps of its text, the alerts were alerted, and each
--- status file has its last content. There was one reading of the clock for each line.
+-- status file was given its contents. There was one reading of the clock for each line.
 pub record RunsAll (script : List Act) (old new : World) (counts : Counts) : Type 0 where
   pub bytes : List ℕ
   pub labels : List Tai64n
@@ -72,7 +73,7 @@ pub record RunsAll (script : List Act) (old new : World) (counts : Counts) : Typ
   pub logs : (log : ℕ)
       → Reaches (old.store.told.files log) (new.store.told.files log) (log_steps script stood labels bytes log)
   pub alerts : Appends old.store.told.alerts new.store.told.alerts (alert_text script labels bytes)
-  pub files : (file : ℕ) → Becomes (old.store.told.statuses file) (new.store.told.statuses file)
+  pub files : (file : ℕ) → WasGiven (old.store.told.statuses file) (new.store.told.statuses file)
       (file_contents script file labels bytes)
   pub lines : counts.lines ≡ length (texts_of bytes)
   pub are_ends : (log : ℕ)
@@ -86,27 +87,47 @@ pub record ReachesFront (old new : Option Files) (least : ℕ) (steps : List Ste
   pub enough : least ≤ count
   pub reaches : Reaches old new (take count steps)
 
--- The reader failed. What it gave is whole lines and the front of a last one. All steps of the lines are done, and
--- perhaps some of the front.
+-- the label of a line that has begun, where one has
+abbrev pub labels_of : Option Tai64n → List Tai64n
+labels_of None = []
+labels_of (Some label) = label ∷ []
+
+-- What a line has given that has begun and not ended, where one has: nothing, until its first 1000 bytes are there and
+-- decide.
+abbrev pub given_in : List Act → Option Tai64n → List ℕ → Given
+given_in script None front = nothing
+given_in script (Some label) front = so_far script label front
+
+-- These are the bytes of a line that has begun, where one has.
+abbrev pub IsBegun : Option Tai64n → List ℕ → Type 0
+IsBegun None front = front ≡ []
+IsBegun (Some label) front = 0 < length front
+
+-- The reader failed. What it gave is whole lines and the front of a last one, where that has begun. The lines were
+-- handed out, and of the front what it gives before its end.
 pub record RunsLines (script : List Act) (old new : World) : Type 0 where
   pub lines : List ℕ
   pub front : List ℕ
   pub labels : List Tai64n
-  pub more : List Tai64n
+  pub begun : Option Tai64n
   pub stood : ℕ → Standing
   pub read : Gives old.reader new.reader (lines ++ front)
-  pub gave : Extended old.readings new.readings (labels ++ more)
+  pub gave : Extended old.readings new.readings (labels ++ labels_of begun)
   pub whole : is_whole lines ≡ true
   pub plain : IsPlain front
+  pub is_begun : IsBegun begun front
   pub each : length labels ≡ length (texts_of lines)
   pub are_found : AreFound old.store.told stood
-  pub logs : (log : ℕ) → ReachesFront (old.store.told.files log) (new.store.told.files log)
-      (length (log_steps script stood labels lines log)) (log_steps script stood (labels ++ more) (lines ++ front) log)
-  pub alerts : AppendsFront old.store.told.alerts new.store.told.alerts
-      (alert_text script (labels ++ more) (lines ++ front))
+  pub logs : (log : ℕ) → Reaches (old.store.told.files log) (new.store.told.files log)
+      (planned_steps (slice_get (log_plans script) log) (stood log)
+      (log_text script log labels lines ++ (given_in script begun front).logs log))
+  pub alerts : Appends old.store.told.alerts new.store.told.alerts
+      (alert_text script labels lines ++ (given_in script begun front).alerts)
+  pub files : (file : ℕ) → WasGiven (old.store.told.statuses file) (new.store.told.statuses file)
+      (file_contents script file labels lines ++ (given_in script begun front).files file)
 
--- The store failed, or there was no label for an old file: a front of the steps of each log is done, and a front of
--- the alerts was alerted.
+-- The store failed, or there was no label for an old file: a front of the steps of each log is done, a front of the
+-- alerts was alerted, and each status file was given a front of its contents.
 pub record RunsUpTo (script : List Act) (old new : World) (why : RunFault) : Type 0 where
   pub bytes : List ℕ
   pub labels : List Tai64n
@@ -117,12 +138,14 @@ pub record RunsUpTo (script : List Act) (old new : World) (why : RunFault) : Typ
   pub logs : (log : ℕ)
       → ReachesFront (old.store.told.files log) (new.store.told.files log) 0 (log_steps script stood labels bytes log)
   pub alerts : AppendsFront old.store.told.alerts new.store.told.alerts (alert_text script labels bytes)
+  pub files : (file : ℕ) → GivenFront (old.store.told.statuses file) (new.store.told.statuses file)
+      (file_contents script file labels bytes)
   pub spent : why ≡ fault.LabelsSpent → (log : ℕ)
       × IsPlanSpent (slice_get (log_plans script) log) (stood log) (log_text script log labels bytes)
 
--- How a run ends. At Ok all the input was handed out. The reader failed, and all steps of the lines that it gave are
--- done; or the store failed, or a log has no label for an old file, after a front of the steps; or there was no memory,
--- and nothing was done.
+-- How a run ends. At Ok all the input was handed out. The reader failed, and what it gave was handed out; or the store
+-- failed, or a log has no label for an old file, after a front of the steps; or there was no memory, and nothing was
+-- done.
 pub record RunEnds (result : Result Counts RunFault) (script : List Act) (old new : World) : Type 0 where
   pub done : IfOk result (λ counts. RunsAll script old new counts)
   pub read : IsErrOf result fault.Read → RunsLines script old new

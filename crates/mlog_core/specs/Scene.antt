@@ -10,10 +10,11 @@ use Rattle.mlog_script.specs.Selection.{is_whole}
 use Rattle.mlog_files.specs.Store.{StoreState, Stays}
 use Rattle.mlog_files.specs.declared.tail.LogFault.{LogFault}
 use Rattle.mlog_line.specs.LineRouter.{Place, IsAt, Serves}
-use Rattle.mlog_line.specs.Given.{Given, nothing, joined, of_line, of_text, so_far, to_first, bytes_of}
+use Rattle.mlog_line.specs.Given.{joined, of_line, of_text, so_far, to_first, bytes_of}
 use Rattle.mlog_line.specs.Outputs.{Outputs, outputs, SameGiven, Grows, StopsAt}
 use Rattle.mlog_line.specs.Reach.{AllOrNone, logs_in}
 use Rattle.mlog_line.specs.declared.line_router.Reach.{Reach}
+use Rattle.mlog_core.specs.Run.{labels_of, given_in}
 use Rattle.mlog_core.specs.declared.feed.Lines.{Lines}
 use Rattle.mlog_core.specs.declared.feed.Taken.{Taken}
 use Rattle.mlog_core.specs.declared.feed.Fed.{Fed}
@@ -31,10 +32,6 @@ scene line place store readings = record { line = line; place = place; store = s
 abbrev pub outputs_of : Scene → Outputs
 outputs_of s = outputs s.place.tails s.store
 
-abbrev pub labels_of : Option Tai64n → List Tai64n
-labels_of None = []
-labels_of (Some label) = label ∷ []
-
 -- These bytes of a line have come, none of which is a newline.
 abbrev pub IsInLine : List Act → Place → Option Tai64n → List ℕ → Type 0
 IsInLine script place None line = line ≡ []
@@ -42,11 +39,6 @@ IsInLine script place (Some label) line = IsAt script place label line × IsPlai
 
 abbrev pub IsIn : List Act → Scene → List ℕ → Type 0
 IsIn script s line = IsInLine script s.place s.line line
-
--- what they have given
-abbrev pub given_in : List Act → Option Tai64n → List ℕ → Given
-given_in script None line = nothing
-given_in script (Some label) line = so_far script label line
 
 -- Bytes went on behind the bytes of a line: some lines are whole then, and a last one may have begun.
 pub record Went (script : List Act) (old new : Scene) (line bytes : List ℕ) (count : ℕ) : Type 0 where

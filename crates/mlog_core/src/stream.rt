@@ -68,6 +68,7 @@ pub fn run<A: Allocator + Clone, B: Allocator + Clone, D: Read, S: LogStore, C: 
         (world reader.new (S.state store.new) (C.readings clock.new)) }
     ensures end { OnOk result (IsRead reader.new) }
     ensures works { OnOk result (Works reader.old reader.new) }
+    ensures stays { Stays (S.state store.old) (S.state store.new) }
     ensures unread { IsErrOf result RunFault.Read → Fails reader.old reader.new }
     ensures unwritten { IsErrOf result RunFault.Store
         → Rose (S.state store.old).failures (S.state store.new).failures }
@@ -97,7 +98,7 @@ where
     ensures end { OnOk result (IsRead (I.feed input.new).device) }
     ensures works { OnOk result (Works (I.feed input.old).device (I.feed input.new).device) }
     ensures reads { OnOk result (CountsRead (I.feed input.old).device (I.feed input.new).device) }
-    ensures stays { OnOk result (Stays (S.state store.old) (S.state store.new)) }
+    ensures stays { Stays (S.state store.old) (S.state store.new) }
     ensures behind { (I.feed input.new).behind ≡ (I.feed input.old).behind }
     ensures unread { IsErrOf result RunFault.Read → Fails (I.feed input.old).device (I.feed input.new).device }
     ensures unwritten { IsErrOf result RunFault.Store
@@ -152,7 +153,7 @@ where
     ensures end { OnOk result (IsRead (I.feed input.new).device) }
     ensures works { OnOk result (Works (I.feed input.old).device (I.feed input.new).device) }
     ensures reads { OnOk result (CountsRead (I.feed input.old).device (I.feed input.new).device) }
-    ensures stays { OnOk result (Stays (S.state store.old) (S.state store.new)) }
+    ensures stays { Stays (S.state store.old) (S.state store.new) }
     ensures behind { (I.feed input.new).behind ≡ (I.feed input.old).behind }
     ensures unread { IsErrOf result RunFault.Read → Fails (I.feed input.old).device (I.feed input.new).device }
     ensures memory { ¬ (IsErrOf result RunFault.OutOfMemory) }

@@ -31,6 +31,7 @@ pub Stays-then : {o p q : StoreState} → Stays o p → Stays p q → Stays o q
 Stays-then {o} {p} {q} a b = record {
   logs = b.logs ∙ a.logs;
   status_files = b.status_files ∙ a.status_files;
+  asked = b.asked ∙ a.asked;
   steady = let x = a.steady in let y = b.steady in omega (arith, x, y);
 }
 
@@ -65,9 +66,9 @@ pub Fails-none : {o p q : StoreState} {log : ℕ} {a : List Step} (b : List Step
 Fails-none {o} {p} {q} {log} {a} b d e =
     Fails-then b d (record { front = record { count = 0; front = e.nothing }; rose = e.rose })
 
-pub front_stays : (a b : List Step) (n : ℕ) → take n a ≡ take (length (take n a)) (a ++ b)
-front_stays a b n =
-    sym (ap (take (length (take n a))) (ap (λ (t : List Step). t ++ b) (sym (take-append-drop n a))
+pub front_stays : {X : Type 0} (a b : List X) (n : ℕ) → take n a ≡ take (length (take n a)) (a ++ b)
+front_stays {X} a b n =
+    sym (ap (take (length (take n a))) (ap (λ (t : List X). t ++ b) (sym (take-append-drop n a))
     ∙ append_assoc (take n a) (drop n a) b)
     ∙ take-append_seam (take n a) (drop n a ++ b))
 

@@ -308,7 +308,7 @@ put_nothing o log waited = record {
     others = λ other apart. refl;
     statuses = refl;
     alerts = refl;
-    stays = record { logs = refl; status_files = refl; steady = omega arith };
+    stays = record { logs = refl; status_files = refl; asked = refl; steady = omega arith };
   };
   whole = sym (append-nil (append_steps waited));
 }

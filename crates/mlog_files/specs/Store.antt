@@ -4,16 +4,19 @@ use Rattle.std.specs.Io.KnownBytes.{Appends}
 use Rattle.tai_status.specs.Counted.{Rose}
 use Rattle.mlog_files.specs.Files.{Files, Step, files_after, append_steps}
 
--- What a store tells, as far as it tells it: the files of each log, each status file, and all alerts.
+-- What a store tells, as far as it tells it: the files of each log, the contents that each status file was given, in
+-- order, and all alerts.
 pub record Told : Type 0 where
   pub files : ℕ → Option Files
-  pub statuses : ℕ → Option (List ℕ)
+  pub statuses : ℕ → Option (List (List ℕ))
   pub alerts : Option (List ℕ)
 
--- A store: how many logs and how many status files it has, how many of its calls failed, and what it tells.
+-- A store: how many logs and how many status files it has; the folders that it asked the system for, in order, where it
+-- tells that; how many of its calls failed; and what it tells.
 pub record StoreState : Type 0 where
   pub logs : ℕ
   pub status_files : ℕ
+  pub asked : Option (List (List ℕ))
   pub failures : ℕ
   pub told : Told
 
@@ -22,14 +25,16 @@ abbrev pub tells_nothing : ℕ → ℕ → ℕ → StoreState
 tells_nothing logs status_files failures = record {
   logs = logs;
   status_files = status_files;
+  asked = None;
   failures = failures;
   told = record { files = λ _. None; statuses = λ _. None; alerts = None };
 }
 
--- The logs and status files are as many as before, and no failed call is forgotten.
+-- The logs and status files are as many as before, no folder was asked for, and no failed call is forgotten.
 pub record Stays (old new : StoreState) : Type 0 where
   pub logs : new.logs ≡ old.logs
   pub status_files : new.status_files ≡ old.status_files
+  pub asked : new.asked ≡ old.asked
   pub steady : old.failures ≤ new.failures
 
 -- Files that are told went through these steps. A store may stop to tell them, and doesn't begin again.
@@ -74,27 +79,24 @@ pub record FailsAt (old new : StoreState) (log : ℕ) : Type 0 where
   pub nothing : Does old new log []
   pub rose : Rose old.failures new.failures
 
--- A file that is told is this now. A store may stop to tell it.
-abbrev pub IsNow : Option (List ℕ) → Option (List ℕ) → List ℕ → Type 0
-IsNow None None content = ⊤
-IsNow None (Some new) content = ⊥
-IsNow (Some old) None content = ⊤
-IsNow (Some old) (Some new) content = new ≡ content
+-- A status file that is told was given these contents, one after another. It goes on being told.
+abbrev pub WasGiven : Option (List (List ℕ)) → Option (List (List ℕ)) → List (List ℕ) → Type 0
+WasGiven None None contents = ⊤
+WasGiven None (Some new) contents = ⊥
+WasGiven (Some old) None contents = ⊥
+WasGiven (Some old) (Some new) contents = new ≡ old ++ contents
 
--- One status file was replaced by this content, and all else is as before.
-pub record Replaces (old new : StoreState) (file : ℕ) (content : List ℕ) : Type 0 where
-  pub here : IsNow (old.told.statuses file) (new.told.statuses file) content
+-- One status file was given these contents, and all else is as before.
+pub record Replaces (old new : StoreState) (file : ℕ) (contents : List (List ℕ)) : Type 0 where
+  pub here : WasGiven (old.told.statuses file) (new.told.statuses file) contents
   pub others : (other : ℕ) → other ≢ file → new.told.statuses other ≡ old.told.statuses other
   pub files : new.told.files ≡ old.told.files
   pub alerts : new.told.alerts ≡ old.told.alerts
   pub stays : Stays old new
 
--- A status file was not replaced: it may have any content, all else is as before, and the failure is counted.
+-- A status file was not replaced: it was given nothing, and the failure is counted.
 pub record FailsToReplace (old new : StoreState) (file : ℕ) : Type 0 where
-  pub others : (other : ℕ) → other ≢ file → new.told.statuses other ≡ old.told.statuses other
-  pub files : new.told.files ≡ old.told.files
-  pub alerts : new.told.alerts ≡ old.told.alerts
-  pub stays : Stays old new
+  pub nothing : Replaces old new file []
   pub rose : Rose old.failures new.failures
 
 -- This was alerted, and all else is as before.

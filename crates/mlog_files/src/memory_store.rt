@@ -8,31 +8,46 @@ use std::alloc::{AllocError, Allocator, Global};
 use std::marker::Model;
 use tai_status::Label;
 
-/// The content of a status file.
+/// A content of a status file.
+#[derive(Drop)]
+pub struct Content<A: Allocator = Global> {
+    pub bytes: Vec<u8, A>,
+}
+
+impl<A: Allocator> Model for Content<A> {
+    ghost use Rattle.std.specs.Prelude.{ℕ, List};
+
+    ghost Value = { List ℕ };
+
+    ghost view = { λ content. content.bytes.items };
+}
+
+/// A status file: the contents that it was given, in order. The last one is what it holds.
 #[derive(Drop)]
 pub struct StatusFile<A: Allocator = Global> {
-    pub bytes: Vec<u8, A>,
+    pub contents: Vec<Content<A>, A>,
 }
 
 impl<A: Allocator> Model for StatusFile<A> {
     ghost use Rattle.std.specs.Prelude.{ℕ, List};
 
-    ghost Value = { List ℕ };
+    ghost Value = { List (List ℕ) };
 
-    ghost view = { λ status. status.bytes.items };
+    ghost view = { λ status. status.contents.items };
 }
 
-impl<A: Allocator> StatusFile<A> {
-    ghost use Rattle.std.specs.Prelude.{◌≡◌, OnOk, OnErr};
+impl<A: Allocator + Clone> StatusFile<A> {
+    ghost use Rattle.std.specs.Prelude.{◌≡◌, ◌++◌, ◌∷◌, [], OnOk, OnErr};
 
-    // Replaces the content, where there is memory for it.
-    fn replace(&mut self, content: &[u8]) -> Result<(), AllocError>
-        ensures ok { OnOk result (self.new ≡ content.now) }
+    // Gives it a content, where there is memory for it.
+    fn give(&mut self, content: &[u8]) -> Result<(), AllocError>
+        ensures ok { OnOk result (self.new ≡ self.old ++ content.now ∷ []) }
         ensures err { OnErr result (self.new ≡ self.old) }
     {
-        self.bytes.reserve(content.len())?;
-        self.bytes.clear();
-        self.bytes.extend_from_slice(content)
+        let mut bytes = Vec::new(self.contents.allocator().clone()?);
+        bytes.extend_from_slice(content)?;
+        self.contents.push(Content { bytes })?;
+        Ok(())
     }
 }
 
@@ -125,7 +140,7 @@ impl<A: Allocator + Clone> LogStore for MemoryStore<A> {
     }
 
     fn replace_status(&mut self, file: usize, content: &[u8]) -> Result<(), StoreFault> {
-        match self.statuses[file].replace(content) {
+        match self.statuses[file].give(content) {
             Ok(()) => Ok(()),
             Err(_) => Err(self.fail()),
         }

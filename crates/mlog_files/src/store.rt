@@ -12,7 +12,7 @@ use thiserror::Error;
 pub struct StoreFault;
 
 /// The files of logs, by the number of the log, status files, by their number, and where alerts go: over folders, or in
-/// memory. A call that fails changed nothing but, at most, the status file that it was to replace.
+/// memory. A call that fails changed nothing. No call asks the system for a folder.
 pub trait LogStore {
     ghost use Rattle.std.specs.Prelude.{◌≡◌, ◌<◌, ◌∷◌, [], length, IfOk, IfSome, OnOk, OnErr};
     ghost use Rattle.mlog_files.specs.Files.{Finish, Remove};
@@ -20,7 +20,7 @@ pub trait LogStore {
     ghost use Rattle.mlog_files.specs.Store.{StoreState, Does, AppendsPart, FailsAt, Replaces, FailsToReplace};
     ghost use Rattle.mlog_files.specs.Store.{AlertsPart, FailsToAlert};
 
-    // How many logs and status files there are, how many calls failed, and what is told.
+    // How many logs and status files there are, which folders were asked for, how many calls failed, and what is told.
     ghost state: { Self → StoreState };
 
     /// Appends a front of the piece to a log's current file, and tells how long it is.
@@ -44,7 +44,7 @@ pub trait LogStore {
     /// Replaces a status file.
     fn replace_status(&mut self, file: usize, content: &[u8]) -> Result<(), StoreFault>
         requires { file < (state self.old).status_files }
-        ensures ok { OnOk result (Replaces (state self.old) (state self.new) file content.now) }
+        ensures ok { OnOk result (Replaces (state self.old) (state self.new) file (content.now ∷ [])) }
         ensures err { OnErr result (FailsToReplace (state self.old) (state self.new) file) };
 
     /// Alerts a front of the piece, and tells how long it is.

@@ -1,6 +1,6 @@
 -- Alerts and status files, one after another.
 use Rattle.std.proofs.Common.{◌≡◌, ◌≢◌, ℕ, suc, ◌+◌, ◌-◌, min, replicate, ◌<◌, ◌≤◌, ◌==◌, if◌then◌else◌, Bool, true}
-use Rattle.std.proofs.Common.{false, List, [], ◌∷◌, ◌++◌, length, take, drop, get_or, Option, Some, None, refl, sym}
+use Rattle.std.proofs.Common.{false, List, [], ◌∷◌, ◌++◌, length, take, drop, get_or, Option, refl, sym}
 use Rattle.std.proofs.Common.{subst, ap, ◌∙◌, arith, append-nil}
 use Rattle.std.proofs.lemmas.List.{take_more, take_all, take_min, take-append-drop, length-take, drop-replicate}
 use Rattle.std.proofs.Math.Seq.{take-append-add}
@@ -8,13 +8,13 @@ use Rattle.std.proofs.lemmas.List.Concat.{flat_map-append}
 use Rattle.std.specs.List.{flat_map}
 use Rattle.tai_status.proofs.Known.{Appends-then, Appends-further, AppendsFront-more}
 use Rattle.mlog_script.specs.Selection.{flag_at, alert, padded}
-use Rattle.mlog_files.specs.Store.{StoreState, Alerts, AlertsPart, FailsToAlert, Replaces, IsNow}
+use Rattle.mlog_files.specs.Store.{StoreState, Alerts, AlertsPart, FailsToAlert, Replaces, FailsToReplace, WasGiven}
 use Rattle.mlog_files.proofs.Doing.{Stays-then, rose_since}
 use Rattle.mlog_line.specs.Given.{alerts_for}
-use Rattle.mlog_line.specs.Outputs.{Becomes}
-use Rattle.mlog_line.specs.Several.{AlertsFront, Replaced}
-use Rattle.mlog_line.proofs.Taking.{Appends-front, Appends-none, Becomes-then, Becomes-none, Stays-same}
-use Rattle.mlog_line.proofs.Ones.{flag_next}
+use Rattle.mlog_line.specs.Several.{AlertsFront, Replaced, ReplacedSome, given_to}
+use Rattle.mlog_line.proofs.Taking.{Appends-front, Appends-none, WasGiven-then, WasGiven-none, GivenFront-of}
+use Rattle.mlog_line.proofs.Taking.{Stays-same}
+use Rattle.mlog_line.proofs.Ones.{flag_next, later_flags}
 
 pub Alerts-none : (a : StoreState) → Alerts a a []
 Alerts-none a = record { here = Appends-none a.told.alerts; files = refl; statuses = refl; stays = Stays-same a }
@@ -112,26 +112,21 @@ alerted_no_further a b c flags k flag front within is k' l =
 
 -- Status files
 
-becomes_now : (a b : Option (List ℕ)) (content : List ℕ) → IsNow a b content → Becomes a b (content ∷ [])
-becomes_now None None content k = tt
-becomes_now None (Some b) content k = absurd k
-becomes_now (Some a) None content k = tt
-becomes_now (Some a) (Some b) content k = k
-
-becomes_at : (a b : StoreState) (k n : ℕ) (content : List ℕ) (t : Bool) → (n == k) ≡ t → Replaces a b k content
-    → Becomes (a.told.statuses n) (b.told.statuses n) (if n == k then content ∷ [] else [])
-becomes_at a b k n content true e r =
+-- What one status file was given, each was given.
+given_at : (a b : StoreState) (k n : ℕ) (contents : List (List ℕ)) (t : Bool) → (n == k) ≡ t
+    → Replaces a b k contents
+    → WasGiven (a.told.statuses n) (b.told.statuses n) (if n == k then contents else [])
+given_at a b k n contents true e r =
     let same : n ≡ k = grind (arith, e) in
-    rw e (subst (λ (m : ℕ). Becomes (a.told.statuses m) (b.told.statuses m) (content ∷ [])) (sym same)
-    (becomes_now (a.told.statuses k) (b.told.statuses k) content r.here))
-becomes_at a b k n content false e r =
+    rw e (subst (λ (m : ℕ). WasGiven (a.told.statuses m) (b.told.statuses m) contents) (sym same) r.here)
+given_at a b k n contents false e r =
     let apart : n ≢ k = λ is. grind (arith, e, is) in
-    rw e (subst (λ (f : Option (List ℕ)). Becomes (a.told.statuses n) f []) (sym (r.others n apart))
-    (Becomes-none (a.told.statuses n)))
+    rw e (subst (λ (f : Option (List (List ℕ))). WasGiven (a.told.statuses n) f []) (sym (r.others n apart))
+    (WasGiven-none (a.told.statuses n)))
 
 pub replaced_none : (a : StoreState) (content : List ℕ) → Replaced a a [] content
 replaced_none a content = record {
-  here = λ file. Becomes-none (a.told.statuses file);
+  here = λ file. WasGiven-none (a.told.statuses file);
   files = refl;
   alerts = refl;
   stays = Stays-same a;
@@ -139,17 +134,41 @@ replaced_none a content = record {
 
 pub replaced_next : (a b c : StoreState) (flags : List Bool) (k : ℕ) (flag : Bool) (content : List ℕ) → k < length flags
     → flag ≡ get_or flags k flag → flag ≡ true
-    → Replaced a b (take k flags) content → Replaces b c k content → Replaced a c (take (k + 1) flags) content
+    → Replaced a b (take k flags) content → Replaces b c k (content ∷ []) → Replaced a c (take (k + 1) flags) content
 replaced_next a b c flags k flag content within is set r s = record {
-  here = λ n. subst (λ (t : List (List ℕ)). Becomes (a.told.statuses n) (c.told.statuses n) t)
+  here = λ n. subst (λ (t : List (List ℕ)). WasGiven (a.told.statuses n) (c.told.statuses n) t)
       (ap (λ (t : Bool). (if flag_at (take k flags) n then content ∷ [] else [])
       ++ (if n == k then (if t then content ∷ [] else []) else [])) (sym set)
       ∙ flag_next flags k flag n (content ∷ []) within is)
-      (Becomes-then (a.told.statuses n) (b.told.statuses n) (c.told.statuses n) _ _ (r.here n)
-      (becomes_at b c k n content (n == k) refl s));
+      (WasGiven-then (a.told.statuses n) (b.told.statuses n) (c.told.statuses n) _ _ (r.here n)
+      (given_at b c k n (content ∷ []) (n == k) refl s));
   files = s.files ∙ r.files;
   alerts = s.alerts ∙ r.alerts;
   stays = Stays-then r.stays s.stays;
+}
+
+if_nothing : (b : Bool) → ◌≡◌ {A = List (List ℕ)} (if b then [] else []) []
+if_nothing true = refl
+if_nothing false = refl
+
+-- The store failed at the status file of a number.
+pub replaced_some : (a b c : StoreState) (flags : List Bool) (k : ℕ) (content : List ℕ)
+    → Replaced a b (take k flags) content → FailsToReplace b c k → ReplacedSome a c flags content
+replaced_some a b c flags k content r f = record {
+  here = λ n.
+      let later = later_flags flags k n (content ∷ []) in
+      let none : WasGiven (b.told.statuses n) (c.told.statuses n) [] =
+      subst (λ (t : List (List ℕ)). WasGiven (b.told.statuses n) (c.told.statuses n) t) (if_nothing (n == k))
+      (given_at b c k n [] (n == k) refl f.nothing) in
+      GivenFront-of (a.told.statuses n) (c.told.statuses n) (given_to n (take k flags) content) later.0
+      (given_to n flags content)
+      (subst (λ (t : List (List ℕ)). WasGiven (a.told.statuses n) (c.told.statuses n) t)
+      (append-nil (given_to n (take k flags) content))
+      (WasGiven-then (a.told.statuses n) (b.told.statuses n) (c.told.statuses n) _ _ (r.here n) none)) later.1;
+  files = f.nothing.files ∙ r.files;
+  alerts = f.nothing.alerts ∙ r.alerts;
+  stays = Stays-then r.stays f.nothing.stays;
+  rose = rose_since a.failures b.failures c.failures r.stays.steady f.rose;
 }
 
 nothing_at : {X : Type 0} (b : Bool) (flag : Bool) (x : X) → flag ≡ false
@@ -170,7 +189,7 @@ pub replaced_not : (a b : StoreState) (flags : List Bool) (k : ℕ) (flag : Bool
     → flag ≡ get_or flags k flag → flag ≡ false
     → Replaced a b (take k flags) content → Replaced a b (take (k + 1) flags) content
 replaced_not a b flags k flag content within is unset r = record {
-  here = λ n. subst (λ (t : List (List ℕ)). Becomes (a.told.statuses n) (b.told.statuses n) t)
+  here = λ n. subst (λ (t : List (List ℕ)). WasGiven (a.told.statuses n) (b.told.statuses n) t)
       (sym (no_more flags k flag content n unset) ∙ flag_next flags k flag n (content ∷ []) within is) (r.here n);
   files = r.files;
   alerts = r.alerts;

@@ -10,15 +10,15 @@ use Rattle.tai_status.specs.Lines.{sent}
 use Rattle.mlog_script.specs.Script.{Act}
 use Rattle.mlog_script.specs.Selection.{chosen, flag_at, padded}
 use Rattle.mlog_files.specs.Files.{Files}
-use Rattle.mlog_files.specs.Store.{StoreState, Alerts}
+use Rattle.mlog_files.specs.Store.{StoreState, Alerts, WasGiven}
 use Rattle.mlog_files.specs.declared.tail.Tail.{Tail}
 use Rattle.mlog_files.specs.declared.tail.LogFault.{LogFault}
 use Rattle.mlog_files.specs.declared.tail.LogFault.TheVariants as fault
 use Rattle.mlog_files.proofs.Doing.{rose_since}
 use Rattle.mlog_line.specs.Given.{Given, joined, of_put, to_logs, alerts_for}
-use Rattle.mlog_line.specs.Outputs.{outputs, TakesInAt, TakesFrontAt, Becomes, Takes, Stops, SameGiven}
-use Rattle.mlog_line.specs.Several.{Replaced, OnlyStatuses}
-use Rattle.mlog_line.proofs.Taking.{TakesInAt-none, TakesFrontAt-none, Becomes-none, Appends-none, Takes-then}
+use Rattle.mlog_line.specs.Outputs.{outputs, TakesInAt, TakesFrontAt, GivenFront, Takes, Stops, SameGiven}
+use Rattle.mlog_line.specs.Several.{Replaced, ReplacedSome, given_to}
+use Rattle.mlog_line.proofs.Taking.{TakesInAt-none, TakesFrontAt-none, WasGiven-none, Appends-none, Takes-then}
 use Rattle.mlog_line.proofs.Taking.{Takes-same, Stops-then, Stops-same}
 
 to_alert : List ℕ → Given
@@ -41,8 +41,8 @@ unfolding to_alert
 alerts_given tails a b text k = record {
   logs = same_logs tails a b k.files;
   alerts = k.here;
-  files = λ file. subst (λ (files : ℕ → Option (List ℕ)). Becomes (a.told.statuses file) (files file) [])
-      (sym k.statuses) (Becomes-none (a.told.statuses file));
+  files = λ file. subst (λ (files : ℕ → Option (List (List ℕ))). WasGiven (a.told.statuses file) (files file) [])
+      (sym k.statuses) (WasGiven-none (a.told.statuses file));
   steady = k.stays.steady;
 }
 
@@ -59,10 +59,11 @@ files_given tails a b flags content k = record {
 
 -- Status files could not be replaced.
 pub decided_half : (tails now : List Tail) (a b c : StoreState) (script : List Act) (label : Tai64n)
-    (front kept text : List ℕ) (flags : List Bool)
-    → flags ≡ (chosen script front).alerts → kept ≡ front → Alerts a b (alerts_for flags kept) → OnlyStatuses b c
+    (front kept text : List ℕ) (flags files : List Bool)
+    → flags ≡ (chosen script front).alerts → files ≡ (chosen script front).files → kept ≡ front
+    → Alerts a b (alerts_for flags kept) → ReplacedSome b c files (padded kept)
     → Stops (outputs tails a) (outputs now c) (of_put script label front text) fault.Store
-decided_half tails now a b c script label front kept text flags is same k o = record {
+decided_half tails now a b c script label front kept text flags files is sf same k o = record {
   logs = λ log. subst (λ (files : ℕ → Option Files). TakesFrontAt (slice_get tails log) (a.told.files log) (files log)
       (if flag_at (chosen script front).logs log then sent label text else []))
       (sym (o.files ∙ k.files))
@@ -73,6 +74,12 @@ decided_half tails now a b c script label front kept text flags is same k o = re
       (AppendsFront-whole a.told.alerts b.told.alerts (alerts_for (chosen script front).alerts front)
       (subst (λ (t : List Bool). Appends a.told.alerts b.told.alerts (alerts_for t front)) is
       (subst (λ (t : List ℕ). Appends a.told.alerts b.told.alerts (alerts_for flags t)) same k.here)));
+  files = λ file. subst (λ (was : ℕ → Option (List (List ℕ))). GivenFront (was file) (c.told.statuses file)
+      (given_to file (chosen script front).files (padded front))) k.statuses
+      (subst (λ (t : List Bool). GivenFront (b.told.statuses file) (c.told.statuses file)
+      (given_to file t (padded front))) sf
+      (subst (λ (t : List ℕ). GivenFront (b.told.statuses file) (c.told.statuses file)
+      (given_to file files (padded t))) same (o.here file)));
   store = λ e. rose_since a.failures b.failures c.failures k.stays.steady o.rose;
   spent = λ e. absurd cc;
 }

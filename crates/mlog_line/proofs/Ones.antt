@@ -20,7 +20,8 @@ use Rattle.mlog_files.specs.declared.tail.LogFault.TheVariants as fault
 use Rattle.mlog_line.specs.Outputs.{Outputs, outputs, steps_for, after, TakesIn, TakesFront, TakesInAt, TakesFrontAt}
 use Rattle.mlog_line.specs.Outputs.{Takes, IsSpent, Stops, SameGiven}
 use Rattle.mlog_line.specs.LineRouter.{IsWrittenAt, IsWritten, IsWrittenUpTo}
-use Rattle.mlog_line.proofs.Taking.{TakesInAt-none, TakesFrontAt-none, Becomes-none, Appends-none, AppendsFront-none}
+use Rattle.mlog_line.proofs.Taking.{TakesInAt-none, TakesFrontAt-none, WasGiven-none, GivenFront-none, Appends-none}
+use Rattle.mlog_line.proofs.Taking.{AppendsFront-none}
 use Rattle.mlog_line.proofs.Taking.{Takes-none, Takes-same, Takes-then, Stops-same, Stops-then, Stops-more}
 
 pub set_here : {X : Type 0} (xs : List X) (i : ℕ) (y : X) → i < length xs → slice_get (set xs i y) i ≡ Some y
@@ -98,7 +99,7 @@ one_takes tails now old new log t u text was is rest files statuses alerts stead
   logs = λ other. one_at tails now old new log other text (other == log) refl
       (at_here tails now log t u (old.told.files log) (new.told.files log) text was is k) rest files;
   alerts = rw alerts (Appends-none old.told.alerts);
-  files = λ file. rw statuses (Becomes-none (old.told.statuses file));
+  files = λ file. rw statuses (WasGiven-none (old.told.statuses file));
   steady = steady;
 }
 
@@ -110,14 +111,16 @@ spent_here tails log t text was none =
 
 pub one_stops : (tails now : List Tail) (old new : StoreState) (log : ℕ) (t : Tail) (text : List Sent) (why : LogFault)
     → slice_get tails log ≡ Some t
-    → ((n : ℕ) → n ≢ log → new.told.files n ≡ old.told.files n) → new.told.alerts ≡ old.told.alerts
+    → ((n : ℕ) → n ≢ log → new.told.files n ≡ old.told.files n)
+    → new.told.statuses ≡ old.told.statuses → new.told.alerts ≡ old.told.alerts
     → TakesFront t (old.told.files log) (new.told.files log) text
     → (why ≡ fault.Store → Rose old.failures new.failures) → (why ≡ fault.LabelsSpent → after t text ≡ None)
     → Stops (outputs tails old) (outputs now new) (to_one log text) why
-one_stops tails now old new log t text why was files alerts k store spent = record {
+one_stops tails now old new log t text why was files statuses alerts k store spent = record {
   logs = λ other. front_at tails old new log other text (other == log) refl
       (front_here tails log t (old.told.files log) (new.told.files log) text was k) files;
   alerts = rw alerts (AppendsFront-none old.told.alerts []);
+  files = λ file. rw statuses (GivenFront-none (old.told.statuses file) []);
   store = store;
   spent = λ is. record { log = log; spent = spent_here tails log t text was (spent is) };
 }
@@ -149,7 +152,8 @@ pub put_stops : (tails now : List Tail) (old new : StoreState) (log : ℕ) (t : 
     → slice_get tails log ≡ Some t → PutsUpTo old new log t label bytes why
     → Stops (outputs tails old) (outputs now new) (to_one log (sent label bytes)) why
 put_stops tails now old new log t label bytes why was s =
-    one_stops tails now old new log t (sent label bytes) why was s.front.front.others s.front.front.alerts
+    one_stops tails now old new log t (sent label bytes) why was s.front.front.others s.front.front.statuses
+    s.front.front.alerts
     (record { count = s.front.count; reaches = s.front.front.here }) s.store s.nowhere
 
 one_nothing : (log : ℕ) → SameGiven nothing (to_one log [])
@@ -196,7 +200,7 @@ pub flush_stops : (tails now : List Tail) (old new : StoreState) (log : ℕ) (t 
 flush_stops tails now old new log t why was f is_store =
     let k = f.front in
     Stops-same (outputs tails old) (outputs now new) (to_one log []) nothing why
-    (one_stops tails now old new log t [] why was k.front.others k.front.alerts
+    (one_stops tails now old new log t [] why was k.front.others k.front.statuses k.front.alerts
     (record {
       count = k.count;
       reaches = subst (λ (s : List Step). Reaches (old.told.files log) (new.told.files log) (take k.count s))
@@ -263,7 +267,7 @@ chosen_further a b c chosen k flag label bytes within is t u =
     (chosen_next chosen k flag label bytes within is)
 
 -- Flags that come later change nothing at the earlier ones.
-later_flags : {X : Type 0} (flags : List Bool) (k n : ℕ) (text : List X)
+pub later_flags : {X : Type 0} (flags : List Bool) (k n : ℕ) (text : List X)
     → (rest : List X) × ((if flag_at (take k flags) n then text else []) ++ rest
     ≡ (if flag_at flags n then text else []))
 later_flags [] zero n text = ([], append-nil _)

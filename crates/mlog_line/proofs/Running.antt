@@ -72,7 +72,7 @@ pub within_stops : (tails now : List Tail) (old new : StoreState) (log : ℕ) (t
 within_stops tails now old new log t bytes text why was room f is_store bytes_are =
     let k = f.front in
     let s = steps_are t bytes text (room_at tails log (length bytes) t was room) bytes_are in
-    one_stops tails now old new log t text why was k.front.others k.front.alerts
+    one_stops tails now old new log t text why was k.front.others k.front.statuses k.front.alerts
     (record {
       count = k.count;
       reaches = subst (λ (w : List Step).

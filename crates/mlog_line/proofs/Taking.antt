@@ -1,8 +1,7 @@
 -- Outputs that are given one thing after another.
 use Rattle.std.proofs.Common.{◌≡◌, ℕ, ◌+◌, List, [], ◌++◌, length, take, Option, Some, None, refl, sym, subst, ap, ◌∙◌}
-use Rattle.std.proofs.Common.{arith, append_assoc, append-nil, fold}
-use Rattle.std.proofs.Math.Seq.{take-append-add}
-use Rattle.std.proofs.lemmas.List.Sums.{fold-append}
+use Rattle.std.proofs.Common.{arith, append_assoc, append-nil}
+use Rattle.std.proofs.Math.Seq.{take-append-add, take-append_seam}
 use Rattle.std.specs.Prelude.{slice_get, Result, Ok, Err, OnOk, OnErr, IfErr}
 use Rattle.std.specs.Io.KnownBytes.{Appends}
 use Rattle.tai_status.specs.Counted.{AppendsFront}
@@ -10,7 +9,7 @@ use Rattle.tai_status.specs.Lines.{Sent}
 use Rattle.tai_status.proofs.Known.{Appends-then, AppendsFront-more}
 use Rattle.mlog_files.specs.Files.{Files, Step, append_steps}
 use Rattle.mlog_files.specs.Going.{Standing, steps_on, standing_on}
-use Rattle.mlog_files.specs.Store.{StoreState, Stays, Reaches}
+use Rattle.mlog_files.specs.Store.{StoreState, Stays, Reaches, WasGiven}
 use Rattle.mlog_files.specs.Tails.{size_of, keep_of, waiting_in, standing}
 use Rattle.mlog_files.specs.declared.tail.Tail.{Tail}
 use Rattle.mlog_files.specs.declared.tail.LogFault.{LogFault}
@@ -18,7 +17,7 @@ use Rattle.mlog_files.proofs.Doing.{Reaches-then, front_stays, rose_since}
 use Rattle.mlog_files.proofs.Goings.{steps_on-none, standing_on-none}
 use Rattle.mlog_files.proofs.Putting.{steps_parted, stands_parted, same_files}
 use Rattle.mlog_line.specs.Given.{Given, nothing, joined}
-use Rattle.mlog_line.specs.Outputs.{Outputs, steps_for, after, TakesIn, TakesFront, TakesInAt, TakesFrontAt, Becomes}
+use Rattle.mlog_line.specs.Outputs.{Outputs, steps_for, after, TakesIn, TakesFront, TakesInAt, TakesFrontAt, GivenFront}
 use Rattle.mlog_line.specs.Outputs.{Takes, IsSpent, Stops, SameGiven}
 
 -- One log
@@ -151,21 +150,45 @@ TakesFrontAt-whole t u a b xs k =
 
 -- Status files
 
-pub Becomes-then : (a b c : Option (List ℕ)) (xs ys : List (List ℕ)) → Becomes a b xs → Becomes b c ys
-    → Becomes a c (xs ++ ys)
-Becomes-then None None None xs ys k l = tt
-Becomes-then None None (Some c) xs ys k l = absurd l
-Becomes-then None (Some b) c xs ys k l = absurd k
-Becomes-then (Some a) None None xs ys k l = tt
-Becomes-then (Some a) None (Some c) xs ys k l = absurd l
-Becomes-then (Some a) (Some b) None xs ys k l = tt
-Becomes-then (Some a) (Some b) (Some c) xs ys k l =
-    l ∙ ap (λ (before : List ℕ). fold (λ (old : List ℕ) (new : List ℕ). new) before ys) k
-    ∙ sym (fold-append (λ (old : List ℕ) (new : List ℕ). new) a xs ys)
+pub WasGiven-then : (a b c : Option (List (List ℕ))) (xs ys : List (List ℕ)) → WasGiven a b xs → WasGiven b c ys
+    → WasGiven a c (xs ++ ys)
+WasGiven-then None None None xs ys k l = tt
+WasGiven-then None None (Some c) xs ys k l = absurd l
+WasGiven-then None (Some b) c xs ys k l = absurd k
+WasGiven-then (Some a) None c xs ys k l = absurd k
+WasGiven-then (Some a) (Some b) None xs ys k l = absurd l
+WasGiven-then (Some a) (Some b) (Some c) xs ys k l =
+    l ∙ ap (λ (t : List (List ℕ)). t ++ ys) k ∙ append_assoc a xs ys
 
-pub Becomes-none : (a : Option (List ℕ)) → Becomes a a []
-Becomes-none None = tt
-Becomes-none (Some a) = refl
+pub WasGiven-none : (a : Option (List (List ℕ))) → WasGiven a a []
+WasGiven-none None = tt
+WasGiven-none (Some a) = sym (append-nil a)
+
+pub WasGiven-front : (a b c : Option (List (List ℕ))) (xs ys : List (List ℕ)) → WasGiven a b xs → GivenFront b c ys
+    → GivenFront a c (xs ++ ys)
+WasGiven-front a b c xs ys k f = record {
+  count = length xs + f.count;
+  front = subst (λ (t : List (List ℕ)). WasGiven a c t) (sym (take-append-add xs ys f.count))
+      (WasGiven-then a b c xs (take f.count ys) k f.front);
+}
+
+pub GivenFront-none : (a : Option (List (List ℕ))) (xs : List (List ℕ)) → GivenFront a a xs
+GivenFront-none a xs = record { count = 0; front = WasGiven-none a }
+
+GivenFront-more : (a b : Option (List (List ℕ))) (xs ys : List (List ℕ)) → GivenFront a b xs → GivenFront a b (xs ++ ys)
+GivenFront-more a b xs ys f = record {
+  count = length (take f.count xs);
+  front = subst (λ (t : List (List ℕ)). WasGiven a b t) (front_stays xs ys f.count) f.front;
+}
+
+-- The first of some contents are a front of them.
+pub GivenFront-of : (a b : Option (List (List ℕ))) (xs rest all : List (List ℕ)) → WasGiven a b xs → xs ++ rest ≡ all
+    → GivenFront a b all
+GivenFront-of a b xs rest all k is = record {
+  count = length xs;
+  front = subst (λ (t : List (List ℕ)). WasGiven a b t)
+      (sym (ap (take (length xs)) (sym is) ∙ take-append_seam xs rest)) k;
+}
 
 -- Alerts
 
@@ -192,7 +215,7 @@ Takes-then a b c x y k l = record {
       (a.store.told.files log) (b.store.told.files log) (c.store.told.files log)
       (x.logs log) (y.logs log) (k.logs log) (l.logs log);
   alerts = Appends-then a.store.told.alerts b.store.told.alerts c.store.told.alerts x.alerts y.alerts k.alerts l.alerts;
-  files = λ file. Becomes-then (a.store.told.statuses file) (b.store.told.statuses file) (c.store.told.statuses file)
+  files = λ file. WasGiven-then (a.store.told.statuses file) (b.store.told.statuses file) (c.store.told.statuses file)
       (x.files file) (y.files file) (k.files file) (l.files file);
   steady = let s = k.steady in let t = l.steady in omega (arith, s, t);
 }
@@ -201,7 +224,7 @@ pub Takes-none : (a : Outputs) → Takes a a nothing
 Takes-none a = record {
   logs = λ log. TakesInAt-none (slice_get a.tails log) (a.store.told.files log);
   alerts = Appends-none a.store.told.alerts;
-  files = λ file. Becomes-none (a.store.told.statuses file);
+  files = λ file. WasGiven-none (a.store.told.statuses file);
   steady = omega arith;
 }
 
@@ -210,7 +233,7 @@ Takes-same a b x y k s = record {
   logs = λ log. subst (λ (text : List Sent). TakesInAt (slice_get a.tails log) (slice_get b.tails log)
       (a.store.told.files log) (b.store.told.files log) text) (s.logs log) (k.logs log);
   alerts = subst (λ (text : List ℕ). Appends a.store.told.alerts b.store.told.alerts text) s.alerts k.alerts;
-  files = λ file. subst (λ (contents : List (List ℕ)). Becomes (a.store.told.statuses file) (b.store.told.statuses file)
+  files = λ file. subst (λ (contents : List (List ℕ)). WasGiven (a.store.told.statuses file) (b.store.told.statuses file)
       contents) (s.files file) (k.files file);
   steady = k.steady;
 }
@@ -223,6 +246,8 @@ Stops-then a b c x y why k f = record {
       (x.logs log) (y.logs log) (k.logs log) (f.logs log);
   alerts = Appends-front a.store.told.alerts b.store.told.alerts c.store.told.alerts x.alerts y.alerts k.alerts
       f.alerts;
+  files = λ file. WasGiven-front (a.store.told.statuses file) (b.store.told.statuses file) (c.store.told.statuses file)
+      (x.files file) (y.files file) (k.files file) (f.files file);
   store = λ is. rose_since a.store.failures b.store.failures c.store.failures k.steady (f.store is);
   spent = λ is. let s = f.spent is in record {
     log = s.log;
@@ -237,6 +262,8 @@ Stops-more a b x y why f = record {
   logs = λ log. TakesFrontAt-more (slice_get a.tails log) (a.store.told.files log) (b.store.told.files log) (x.logs log)
       (y.logs log) (f.logs log);
   alerts = AppendsFront-more y.alerts f.alerts;
+  files = λ file. GivenFront-more (a.store.told.statuses file) (b.store.told.statuses file) (x.files file)
+      (y.files file) (f.files file);
   store = f.store;
   spent = λ is. let s = f.spent is in record {
     log = s.log;
@@ -249,6 +276,8 @@ Stops-same a b x y why f s = record {
   logs = λ log. subst (λ (text : List Sent). TakesFrontAt (slice_get a.tails log) (a.store.told.files log)
       (b.store.told.files log) text) (s.logs log) (f.logs log);
   alerts = subst (λ (text : List ℕ). AppendsFront a.store.told.alerts b.store.told.alerts text) s.alerts f.alerts;
+  files = λ file. subst (λ (contents : List (List ℕ)). GivenFront (a.store.told.statuses file)
+      (b.store.told.statuses file) contents) (s.files file) (f.files file);
   store = f.store;
   spent = λ is. let p = f.spent is in record {
     log = p.log;
@@ -284,4 +313,4 @@ either_so (Err e) f h p q = h q
 -- Numbers that stay.
 
 pub Stays-same : (s : StoreState) → Stays s s
-Stays-same s = record { logs = refl; status_files = refl; steady = omega arith }
+Stays-same s = record { logs = refl; status_files = refl; asked = refl; steady = omega arith }

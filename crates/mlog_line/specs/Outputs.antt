@@ -1,12 +1,12 @@
 -- The logs, alerts and status files of a script, and what happens to them.
-use Rattle.std.specs.Prelude.{◌≡◌, ℕ, ◌≤◌, List, [], ◌++◌, length, take, fold, slice_get, Option, Some, None, ⊤}
+use Rattle.std.specs.Prelude.{◌≡◌, ℕ, ◌≤◌, List, [], ◌++◌, length, take, slice_get, Option, Some, None}
 use Rattle.std.specs.Prelude.{Result, OnOk, IfErr}
 use Rattle.std.specs.Io.KnownBytes.{Appends}
 use Rattle.tai_status.specs.Counted.{AppendsFront, Rose}
 use Rattle.tai_status.specs.Lines.{Sent}
 use Rattle.mlog_files.specs.Files.{Files, Step, append_steps}
 use Rattle.mlog_files.specs.Going.{Standing, steps_on, standing_on}
-use Rattle.mlog_files.specs.Store.{StoreState, Stays, Reaches}
+use Rattle.mlog_files.specs.Store.{StoreState, Stays, Reaches, WasGiven}
 use Rattle.mlog_files.specs.Tails.{size_of, keep_of, waiting_in, standing}
 use Rattle.mlog_files.specs.declared.tail.Tail.{Tail}
 use Rattle.mlog_files.specs.declared.tail.LogFault.{LogFault}
@@ -54,19 +54,17 @@ abbrev pub TakesFrontAt : Option Tail → (was are : Option Files) → List Sent
 TakesFrontAt None was are text = Reaches was are []
 TakesFrontAt (Some tail) was are text = TakesFront tail was are text
 
--- A status file was given these contents, one after another: it has the last. A store may stop to tell it.
-abbrev pub Becomes : (old new : Option (List ℕ)) → List (List ℕ) → Type 0
-Becomes None None contents = ⊤
-Becomes None (Some new) contents = ⊥
-Becomes (Some old) None contents = ⊤
-Becomes (Some old) (Some new) contents = new ≡ fold (λ before content. content) old contents
+-- A status file was given a front of these contents.
+pub record GivenFront (old new : Option (List (List ℕ))) (contents : List (List ℕ)) : Type 0 where
+  pub count : ℕ
+  pub front : WasGiven old new (take count contents)
 
 -- This was given to the outputs.
 pub record Takes (old new : Outputs) (given : Given) : Type 0 where
   pub logs : (log : ℕ) → TakesInAt (slice_get old.tails log) (slice_get new.tails log)
       (old.store.told.files log) (new.store.told.files log) (given.logs log)
   pub alerts : Appends old.store.told.alerts new.store.told.alerts given.alerts
-  pub files : (file : ℕ) → Becomes (old.store.told.statuses file) (new.store.told.statuses file) (given.files file)
+  pub files : (file : ℕ) → WasGiven (old.store.told.statuses file) (new.store.told.statuses file) (given.files file)
   pub steady : old.store.failures ≤ new.store.failures
 
 -- There is no label for an old file that a text fills.
@@ -79,11 +77,13 @@ pub record Spends (old : Outputs) (given : Given) : Type 0 where
   pub log : ℕ
   pub spent : IsSpent (slice_get old.tails log) (given.logs log)
 
--- Giving this ended early: each log took a front of the steps, and a front was alerted; and why.
+-- Giving this ended early: each log took a front of the steps, a front was alerted, and each status file was given a
+-- front of its contents; and why.
 pub record Stops (old new : Outputs) (given : Given) (why : LogFault) : Type 0 where
   pub logs : (log : ℕ)
       → TakesFrontAt (slice_get old.tails log) (old.store.told.files log) (new.store.told.files log) (given.logs log)
   pub alerts : AppendsFront old.store.told.alerts new.store.told.alerts given.alerts
+  pub files : (file : ℕ) → GivenFront (old.store.told.statuses file) (new.store.told.statuses file) (given.files file)
   pub store : why ≡ fault.Store → Rose old.store.failures new.store.failures
   pub spent : why ≡ fault.LabelsSpent → Spends old given
 

@@ -2,8 +2,8 @@
 use Rattle.std.specs.Prelude.{◌≡◌, ℕ, List, [], ◌∷◌, if◌then◌else◌, Bool}
 use Rattle.tai_status.specs.Counted.{AppendsFront, Rose}
 use Rattle.mlog_script.specs.Selection.{flag_at}
-use Rattle.mlog_files.specs.Store.{StoreState, Stays}
-use Rattle.mlog_line.specs.Outputs.{Becomes}
+use Rattle.mlog_files.specs.Store.{StoreState, Stays, WasGiven}
+use Rattle.mlog_line.specs.Outputs.{GivenFront}
 
 -- The store failed on the way of an alert: a front of this was alerted, all else is as before, and the failure is
 -- counted.
@@ -14,16 +14,21 @@ pub record AlertsFront (old new : StoreState) (text : List ℕ) : Type 0 where
   pub stays : Stays old new
   pub rose : Rose old.failures new.failures
 
--- Each status file whose flag is set was given this content, and all else is as before.
+-- the contents that a status file is given, where this one goes to each whose flag is set
+abbrev pub given_to : ℕ → List Bool → List ℕ → List (List ℕ)
+given_to file chosen content = if flag_at chosen file then content ∷ [] else []
+
+-- Each status file whose flag is set was given this content, once, and all else is as before.
 pub record Replaced (old new : StoreState) (chosen : List Bool) (content : List ℕ) : Type 0 where
-  pub here : (file : ℕ) → Becomes (old.told.statuses file) (new.told.statuses file)
-      (if flag_at chosen file then content ∷ [] else [])
+  pub here : (file : ℕ) → WasGiven (old.told.statuses file) (new.told.statuses file) (given_to file chosen content)
   pub files : new.told.files ≡ old.told.files
   pub alerts : new.told.alerts ≡ old.told.alerts
   pub stays : Stays old new
 
--- The store failed on the way of status files: the logs and the alerts are as before, and the failure is counted.
-pub record OnlyStatuses (old new : StoreState) : Type 0 where
+-- The store failed on the way of status files: some of those whose flag is set were given this content, once, all else
+-- is as before, and the failure is counted.
+pub record ReplacedSome (old new : StoreState) (chosen : List Bool) (content : List ℕ) : Type 0 where
+  pub here : (file : ℕ) → GivenFront (old.told.statuses file) (new.told.statuses file) (given_to file chosen content)
   pub files : new.told.files ≡ old.told.files
   pub alerts : new.told.alerts ≡ old.told.alerts
   pub stays : Stays old new

@@ -49,14 +49,14 @@ impl<A: Allocator> DirRow<A> {
     }
 
     /// Whether the row is of a service: a directory whose name is not empty and does not begin with a dot.
-    pub(crate) fn is_eligible(&self) -> bool
+    pub fn is_eligible(&self) -> bool
         ensures { result ≡ is_eligible self.now }
     {
         self.is_dir && !matches!(self.name().as_bytes(), [] | [b'.', ..])
     }
 
     /// Whether a new slot of the row is a pair.
-    pub(crate) fn is_pair(&self) -> bool
+    pub fn is_pair(&self) -> bool
         ensures { result ≡ is_pair self.now }
     {
         self.has_log && self.name().len() <= 255

@@ -1,3 +1,4 @@
 pub mod Hearing
 pub mod Rests
 pub mod Connection
+pub mod Dues

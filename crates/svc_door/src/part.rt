@@ -23,6 +23,8 @@ pub struct Part<P: ByteSink> {
 }
 
 impl<P: ByteSink + Drop> Part<P> {
+    ghost use Rattle.std.specs.Prelude.{◌≡◌, ◌↔◌, ◌≤◌, IsTrue, IsNone, IsSome, IsSomeAnd};
+
     /// A part with no connection.
     pub fn new(number: u64, sink: P, control: UnixListener, ok: UnixListener) -> Part<P> {
         Part {
@@ -47,9 +49,22 @@ impl<P: ByteSink + Drop> Part<P> {
         sink
     }
 
+    /// Whether it is to have its turn now.
+    pub fn is_due(&self, now: u64) -> bool
+        ensures { IsTrue result ↔ IsSomeAnd self.now.due (λ due. due ≤ now) }
+    {
+        match self.due {
+            Some(due) => due <= now,
+            None => false,
+        }
+    }
+
     /// Accepts some connections to `ok`, which are closed, and goes on with the control connection, or begins with the
     /// next one: at most 4096 bytes of one. Says when it is to have the next turn.
-    pub fn turn<R: Wait>(&mut self, rt: &R, registry: &Registry, token: Token, now: u64) {
+    /// While there is a connection it is due.
+    pub fn turn<R: Wait>(&mut self, rt: &R, registry: &Registry, token: Token, now: u64)
+        ensures due { IsSome self.new.connection → IsSome self.new.due }
+    {
         let greeted = self.greet(now);
         let served = self.serve(rt, registry, token, now);
         self.due = sooner(greeted, served);
@@ -65,20 +80,16 @@ impl<P: ByteSink + Drop> Part<P> {
         Some(now)
     }
 
-    fn serve<R: Wait>(
-        &mut self,
-        rt: &R,
-        registry: &Registry,
-        token: Token,
-        now: u64,
-    ) -> Option<u64> {
+    fn serve<R: Wait>(&mut self, rt: &R, registry: &Registry, token: Token, now: u64) -> Option<u64>
+        ensures due { IsSome self.new.connection → IsSome result }
+    {
         if self.connection.is_none() {
             match self.control.accept() {
                 Ok((stream, _)) => self.begin(stream, registry, token, now),
                 Err(fault) => return after_refusal(&fault, now),
             }
         }
-        self.hear(rt, now)
+        Some(self.hear(rt, now))
     }
 
     fn begin(&mut self, mut stream: UnixStream, registry: &Registry, token: Token, now: u64) {
@@ -88,16 +99,20 @@ impl<P: ByteSink + Drop> Part<P> {
         self.connection = Some(Connection::new(stream, watched, now));
     }
 
-    fn hear<R: Wait>(&mut self, rt: &R, now: u64) -> Option<u64> {
+    // Goes on with the connection. Where there is none any more, the next one is looked for at once.
+    fn hear<R: Wait>(&mut self, rt: &R, now: u64) -> u64
+        ensures over { IsNone self.new.connection → result ≡ now }
+    {
         let Some(connection) = &mut self.connection else {
-            return Some(now);
+            return now;
         };
         let turn = connection.turn(rt, &mut self.sink, now);
-        let due = connection.next_look(turn, now);
-        if due.is_some() {
-            return due;
+        match connection.next_look(turn, now) {
+            Some(due) => due,
+            None => {
+                self.connection = None;
+                now
+            }
         }
-        self.connection = None;
-        Some(now)
     }
 }

@@ -1,4 +1,7 @@
 //! The parts at the door.
+ghost use Rattle.std.specs.Prelude.{◌≡◌};
+ghost use Rattle.svc_door.specs.Dues.{due_at, due_slots, soonest_due};
+
 use crate::byte_sink::ByteSink;
 use crate::part::Part;
 use crate::rests::sooner;
@@ -75,34 +78,69 @@ impl<P: ByteSink + Drop> Table<P> {
         part.due = Some(now);
     }
 
-    /// Each part that is due has one turn. Answers when the next one is due.
-    pub fn turns<R: Wait>(&mut self, rt: &R, registry: &Registry, now: u64) -> Option<u64> {
-        let Table {
-            ends: _,
-            parts,
-            open,
-        } = self;
-        let mut soonest = None;
-        open.retain(|slot| {
-            let due = turn(rt, parts, registry, *slot, now);
-            soonest = sooner(soonest, due);
-            due.is_some()
-        });
-        soonest
+    /// Each part that is due has one turn. Then those stay that are due again, and this tells when the soonest is.
+    pub fn turns<R: Wait>(&mut self, rt: &R, registry: &Registry, now: u64) -> Option<u64>
+        ensures open { self.new.open.items ≡ due_slots self.new.parts self.old.open.items }
+        ensures soonest { result ≡ soonest_due self.new.parts self.new.open.items }
+    {
+        turn_each(rt, &mut self.parts, registry, &self.open, now);
+        keep_due(&self.parts, &mut self.open);
+        soonest_due(&self.parts, &self.open)
     }
 }
 
-// Gives a part its turn, where that is due, and answers when it is to have the next one.
+/// Gives each part of these slots its turn, where that is due.
+fn turn_each<R: Wait, P: ByteSink + Drop>(
+    rt: &R,
+    parts: &mut Slab<Part<P>>,
+    registry: &Registry,
+    slots: &[usize],
+    now: u64,
+) {
+    for slot in slots {
+        turn(rt, parts, registry, *slot, now);
+    }
+}
+
+/// Gives a part its turn, where that is due.
 fn turn<R: Wait, P: ByteSink + Drop>(
     rt: &R,
     parts: &mut Slab<Part<P>>,
     registry: &Registry,
     slot: usize,
     now: u64,
-) -> Option<u64> {
-    let part = parts.get_mut(slot)?;
-    if part.due? <= now {
-        part.turn(rt, registry, Token(slot), now);
+) {
+    if let Some(part) = parts.get_mut(slot) {
+        if part.is_due(now) {
+            part.turn(rt, registry, Token(slot), now);
+        }
     }
-    part.due
+}
+
+/// When the part in a slot is due.
+fn due_at<P: ByteSink + Drop>(parts: &Slab<Part<P>>, slot: usize) -> Option<u64>
+    ensures { result ≡ due_at parts.now slot }
+{
+    match parts.get(slot) {
+        Some(part) => part.due,
+        None => None,
+    }
+}
+
+/// Takes the slots out whose parts are not due.
+fn keep_due<P: ByteSink + Drop>(parts: &Slab<Part<P>>, slots: &mut Vec<usize>)
+    ensures { slots.new.items ≡ due_slots parts.now slots.old.items }
+{
+    slots.retain(|slot| due_at(parts, *slot).is_some());
+}
+
+/// When the first of these slots is due.
+fn soonest_due<P: ByteSink + Drop>(parts: &Slab<Part<P>>, slots: &[usize]) -> Option<u64>
+    ensures { result ≡ soonest_due parts.now slots.now }
+{
+    let mut soonest = None;
+    for slot in slots {
+        soonest = sooner(soonest, due_at(parts, *slot));
+    }
+    soonest
 }

@@ -1,7 +1,7 @@
 -- A part that begins by its row or as it was left.
-use Rattle.std.proofs.Common.{◌≡◌, ℕ, List, Option, Some, None, refl, sym, ap, ◌∙◌}
+use Rattle.std.proofs.Common.{◌≡◌, ℕ, List, Option, Some, None, Result, Ok, Err, refl, sym, ap, ◌∙◌}
 use Rattle.std.specs.Option.{option_map}
-use Rattle.std.specs.Prelude.{IfSome}
+use Rattle.std.specs.Prelude.{IfOk}
 use Rattle.sup_core.specs.History.{state_of}
 use Rattle.svc_left.specs.Opening.{beginning}
 use Rattle.tai_status.specs.Label.{Tai64n}
@@ -9,6 +9,7 @@ use Rattle.scan_table.specs.declared.part.PartId.{PartId}
 use Rattle.scan_table.specs.Slots.{Row, SlotState}
 use Rattle.scan_table.specs.Order.{row_of}
 use Rattle.scan_table.specs.Table.{name_of, slot_at}
+use Rattle.svc_host.specs.declared.maker.PartFault.{PartFault}
 use Rattle.svc_host.specs.Parts.{HostPart}
 use Rattle.svc_host.specs.Begun.{Begins, IsBegun, is_down, row_at}
 
@@ -38,10 +39,10 @@ begins slots rows label id name row part named found begun =
     }
 
 pub begins_if : (slots : List SlotState) (rows : List Row) (label : Tai64n) (id : PartId) (name : List ℕ) (row : Row)
-    (made : Option HostPart)
+    (made : Result HostPart PartFault)
     → option_map name_of (slot_at slots id.slot) ≡ Some name → row_of rows name ≡ Some row
-    → IfSome made (λ part. IsBegun id (beginning part.opening (is_down id.role row) label) part)
-    → IfSome made (λ part. Begins slots rows label part)
-begins_if slots rows label id name row None named found begun = tt
-begins_if slots rows label id name row (Some part) named found begun =
+    → IfOk made (λ part. IsBegun id (beginning part.opening (is_down id.role row) label) part)
+    → IfOk made (λ part. Begins slots rows label part)
+begins_if slots rows label id name row (Err fault) named found begun = tt
+begins_if slots rows label id name row (Ok part) named found begun =
     begins slots rows label id name row part named found begun

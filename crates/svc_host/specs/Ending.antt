@@ -1,5 +1,6 @@
 -- The end of all services, in order, and when svscan may leave them.
-use Rattle.std.specs.Prelude.{◌≡◌, ℕ, nat_le, nat_lt, Bool, true, false, ◌&&◌, if◌then◌else◌, List, [], ◌∷◌, ◌++◌}
+use Rattle.std.specs.Prelude.{◌≡◌, ℕ, ◌==◌, nat_le, nat_lt, Bool, true, false, ◌&&◌, if◌then◌else◌, List, [], ◌∷◌}
+use Rattle.std.specs.Prelude.{◌++◌}
 use Rattle.std.specs.Prelude.{codes}
 use Rattle.std.specs.Prelude.{slice_index_or, slice_set}
 use Rattle.std.specs.List.{All}
@@ -23,6 +24,10 @@ abbrev pub end_step : Role → (service_runs is_adopted : Bool) → (waited : �
 end_step Main service_runs is_adopted waited = Stop
 end_step Log true is_adopted waited = Wait
 end_step Log false is_adopted waited = if nat_le 5000 waited then Stop else if is_adopted then Wait else Exit
+
+-- whether the process of this number, of which 0 is none, is the one that was adopted
+abbrev pub is_adopted : (pid adopted : ℕ) → Bool
+is_adopted pid adopted = nat_lt 0 pid && pid == adopted
 
 -- of one without a process, in this phase
 abbrev pub sight_without : Phase → ProcessSight

@@ -11,6 +11,7 @@ use Rattle.scan_table.specs.Order.{scan_refusal}
 use Rattle.scan_table.specs.Scan.{starts, restarts, drops, refused}
 use Rattle.scan_table.specs.Table.{TableState, after_end, scanned}
 use Rattle.svc_host.specs.declared.host.HostOut.{HostOut}
+use Rattle.svc_host.specs.declared.host.Unmade.{Unmade}
 use Rattle.svc_host.specs.Parts.{HostPart, GoOn, IsPart, stays}
 use Rattle.svc_host.specs.Begun.{Begins}
 
@@ -26,6 +27,10 @@ host_of table parts = record { table = table; parts = parts }
 abbrev pub after_ends : List PartId → TableState → TableState
 after_ends [] table = table
 after_ends (id ∷ ids) table = after_ends ids (after_end table id)
+
+-- the parts that could not be made
+abbrev pub unmade_ids : List Unmade → List PartId
+unmade_ids failed = map (λ (unmade : Unmade). unmade.part) failed
 
 -- a part that was there and ran
 abbrev pub Ran : List HostPart → PartId → Type 0
@@ -87,9 +92,9 @@ IsBegunOne slots rows label id olds old news new =
 pub record IsScanned (old : HostState) (rows : List Row) (label : Tai64n) (out : HostOut) (new : HostState)
     : Type 0 where
   pub scan : IsScan old.table rows out.scan
-  pub table : new.table ≡ after_ends out.failed (scanned old.table rows)
+  pub table : new.table ≡ after_ends (unmade_ids out.failed.items) (scanned old.table rows)
   pub begun : AreBegun (scanned old.table rows).slots rows label (out.scan.starts ++ out.scan.restarts)
-      (staying out.scan old.parts) new.parts out.failed
+      (staying out.scan old.parts) new.parts (unmade_ids out.failed.items)
 
 -- Why a scan is refused: what the table says, and memory only where nothing else is wrong.
 abbrev pub IsCause : TableState → List Row → ScanFault → Type 0

@@ -1,6 +1,6 @@
 //! The ends of mailboxes and stations that were just opened.
 ghost use Rattle.std.specs.Prelude.{◌≡◌, ◌≤◌, ◌<◌, [], IfSome};
-ghost use Rattle.svc_mail.specs.Ends.{posted, taken_by};
+ghost use Rattle.svc_mail.specs.Ends.{home, posted, receiver_home, taken_by};
 ghost use Rattle.svc_station.specs.Ends.{known_to, opening_of, published, reader_station, station};
 
 use crate::running::{StatusReader, status_reader_of};
@@ -21,6 +21,7 @@ pub(crate) fn open_box<T: Copy + Drop>(
     requires { 0 < capacity }
     ensures unposted { IfSome result (λ ends. posted ends.0 ≡ []) }
     ensures untaken { IfSome result (λ ends. taken_by ends.1 ≡ []) }
+    ensures same { IfSome result (λ ends. home ends.0 ≡ receiver_home ends.1) }
 {
     let Ok((_mailbox, mut senders, receiver)) = Mailbox::open(alloc, capacity, 1) else {
         return None;
@@ -39,6 +40,8 @@ pub(crate) fn open_mailbox(
     requires { 0 < capacity }
     ensures unposted { IfSome result (λ ends. posted ends.0 ≡ []) }
     ensures untaken { IfSome result (λ ends. taken_by ends.2 ≡ []) }
+    ensures inside { IfSome result (λ ends. home ends.0 ≡ receiver_home ends.2) }
+    ensures outside { IfSome result (λ ends. home ends.1 ≡ receiver_home ends.2) }
 {
     let Ok((_mailbox, mut senders, receiver)) = Mailbox::open(alloc, capacity, 2) else {
         return None;

@@ -1,5 +1,5 @@
 //! The factory of parts.
-ghost use Rattle.std.specs.Prelude.{◌≡◌, ◌≤◌, ◌<◌, IfSome};
+ghost use Rattle.std.specs.Prelude.{◌≡◌, ◌≤◌, ◌<◌, IfOk};
 ghost use Rattle.svc_left.specs.Opening.{beginning};
 ghost use Rattle.scan_table.specs.Scan.{AreRising};
 ghost use Rattle.svc_host.specs.Parts.{PartGoesOn};
@@ -7,12 +7,13 @@ ghost use Rattle.svc_host.specs.Begun.{Begins, IsBegun, is_down};
 
 use crate::ends::{open_mailbox, open_station};
 use crate::growth::Growth;
-use crate::maker::{Maker, PartResources, Reaper};
+use crate::maker::{Maker, PartFault, PartResources, Reaper};
 use crate::pair::Pair;
 use crate::part::Part;
 use crate::running::{Running, end};
 use crate::service::{Beginning, Task};
 use crate::shared::PartShared;
+use cmd_base::Cause;
 use scan_table::{DirRow, PartId, Role, ScanTable, find_row};
 use std::alloc::Global;
 use std::io;
@@ -73,19 +74,26 @@ pub(crate) struct PartFactory<
 
 impl<M: Maker + Drop, R: Threads + Wait + Clock + Copy + Drop + Send + 'static> PartFactory<M, R> {
     /// Makes a part of the service of this name and starts its thread, or makes nothing.
-    fn make(&mut self, name: &str, id: PartId, down: bool, label: Label) -> Option<Part<R>>
-        ensures { IfSome result (λ part. IsBegun id (beginning part.opening down label) part) }
+    fn make(
+        &mut self,
+        name: &str,
+        id: PartId,
+        down: bool,
+        label: Label,
+    ) -> Result<Part<R>, PartFault>
+        ensures { IfOk result (λ part. IsBegun id (beginning part.opening down label) part) }
     {
-        let shared = Arc::new(
-            self.alloc,
-            PartShared::new(self.alloc, &self.notifier).ok()?,
-        )
-        .ok()?;
-        let (inside, outside, receiver) = open_mailbox(self.alloc, self.rooms.mail)?;
-        let outside = ControlSender::new(outside, Arc::try_clone(&shared.notifier).ok()?);
-        let inside = ControlSender::new(inside, Arc::try_clone(&shared.notifier).ok()?);
-        let notifier = Arc::try_clone(&shared.notifier).ok()?;
-        let own = Arc::try_clone(&shared).ok()?;
+        let shared = PartShared::new(self.alloc, &self.notifier)?;
+        let Ok(shared) = Arc::new(self.alloc, shared) else {
+            return Err(PartFault::Refused(Cause::NoMemory));
+        };
+        let Some((inside, outside, receiver)) = open_mailbox(self.alloc, self.rooms.mail) else {
+            return Err(PartFault::Refused(Cause::NoMemory));
+        };
+        let outside = ControlSender::new(outside, Arc::try_clone(&shared.notifier)?);
+        let inside = ControlSender::new(inside, Arc::try_clone(&shared.notifier)?);
+        let notifier = Arc::try_clone(&shared.notifier)?;
+        let own = Arc::try_clone(&shared)?;
         let PartResources {
             world,
             gate,
@@ -101,12 +109,12 @@ impl<M: Maker + Drop, R: Threads + Wait + Clock + Copy + Drop + Send + 'static> 
             self.rooms.trace,
         ) else {
             self.maker.ended(id);
-            return None;
+            return Err(PartFault::Refused(Cause::NoMemory));
         };
         if start_reaper(self.rt, reaper).is_err() {
             self.maker.ended(id);
             end(&self.rt, writer, status_reader);
-            return None;
+            return Err(PartFault::Refused(Cause::NoThread));
         }
         let task = Task {
             parked: Parked::new(writer, self.rt),
@@ -122,9 +130,9 @@ impl<M: Maker + Drop, R: Threads + Wait + Clock + Copy + Drop + Send + 'static> 
         };
         let Some(running) = Running::start(self.rt, task, status_reader, shared) else {
             self.maker.ended(id);
-            return None;
+            return Err(PartFault::Refused(Cause::NoThread));
         };
-        Some(Part::new(id, opening, adopted, inside, running))
+        Ok(Part::new(id, opening, adopted, inside, running))
     }
 
     /// Makes a part of the table, which begins by the row of its slot or as it was left, and starts its thread, or
@@ -135,30 +143,30 @@ impl<M: Maker + Drop, R: Threads + Wait + Clock + Copy + Drop + Send + 'static> 
         rows: &[DirRow],
         label: Label,
         id: PartId,
-    ) -> Option<Part<R>>
+    ) -> Result<Part<R>, PartFault>
         requires { AreRising rows.now }
-        ensures id { IfSome result (λ part. part.id ≡ id) }
-        ensures begun { IfSome result (λ part. Begins table.now.slots rows.now label part) }
+        ensures id { IfOk result (λ part. part.id ≡ id) }
+        ensures begun { IfOk result (λ part. Begins table.now.slots rows.now label part) }
     {
         let Some(name) = table.name(id.slot) else {
-            return None;
+            return Err(PartFault::Refused(Cause::Missing));
         };
         if table.is_pair(id.slot) {
             self.start_pair(name.as_str(), id.slot)?;
         }
         let Some(row) = find_row(rows, name.as_str()) else {
-            return None;
+            return Err(PartFault::Refused(Cause::Missing));
         };
         let down = is_down(row, id.role);
         self.make(name.as_str(), id, down, label)
     }
 
     // The threads of a pair run now, or can't be made.
-    fn start_pair(&mut self, name: &str, slot: u64) -> Option<()> {
+    fn start_pair(&mut self, name: &str, slot: u64) -> Result<(), PartFault> {
         if self.pairs.iter().any(|pair| pair.slot == slot) {
-            return Some(());
+            return Ok(());
         }
-        self.pairs.reserve(1).ok()?;
+        self.pairs.reserve(1)?;
         let pair = Pair::start(
             self.rt,
             self.alloc,
@@ -168,7 +176,7 @@ impl<M: Maker + Drop, R: Threads + Wait + Clock + Copy + Drop + Send + 'static> 
             self.rooms.mail,
         )?;
         self.pairs.push_reserved(pair);
-        Some(())
+        Ok(())
     }
 
     /// Forgets a slot: the threads of its pair are to end.

@@ -7,17 +7,17 @@ ghost use Rattle.scan_table.specs.Table.{after_end, scanned};
 ghost use Rattle.svc_host.specs.Ending.{IsEndStep};
 ghost use Rattle.svc_host.specs.Parts.{GoOn, HostPart, IsStep};
 ghost use Rattle.svc_host.specs.Rounds.{AreBegun, AreCollected, IsBegunOne, IsCause, IsScan, IsScanned};
-ghost use Rattle.svc_host.specs.Rounds.{after_ends, host_of, staying};
+ghost use Rattle.svc_host.specs.Rounds.{after_ends, host_of, staying, unmade_ids};
 
 use crate::ending::{ProcessSight, may_leave};
 use crate::ends::open_box;
 use crate::factory::{PartFactory, Rooms};
-use crate::maker::Maker;
+use crate::maker::{Maker, PartFault};
 use crate::part::{Loss, Part};
 use crate::parts::{
     post_to, running, running_ids, service_runs, sight_at, status_of, stays, take_loss,
 };
-use scan_table::{DirRow, PartId, Parts, Role, ScanFault, ScanOut, ScanTable};
+use scan_table::{DirRow, PartId, Role, ScanFault, ScanOut, ScanTable};
 use std::alloc::{AllocError, Global};
 use std::marker::Model;
 use std::sync::{Arc, Wait};
@@ -33,7 +33,14 @@ pub struct HostOut {
     /// What the scan started, restarted, dropped and refused.
     pub scan: ScanOut,
     /// The parts that it started or restarted and that could not be made. They have ended, and are not there.
-    pub failed: Parts,
+    pub failed: Vec<Unmade>,
+}
+
+/// A part that could not be made, and why.
+#[derive(Clone, Copy, Debug, PartialEq, Eq)]
+pub struct Unmade {
+    pub part: PartId,
+    pub fault: PartFault,
 }
 
 /// Why a control byte was not posted.
@@ -72,8 +79,8 @@ struct Scanned {
     scan: ScanOut,
     // The parts that start, and then those that restart.
     ids: Vec<PartId>,
-    // Room for as many parts.
-    failed: Vec<PartId>,
+    // Room for as many that can't be made.
+    failed: Vec<Unmade>,
 }
 
 /// Scans a copy of the table, and takes the room that the rest of the round needs: `OutOfMemory`, where the scan itself
@@ -136,21 +143,21 @@ fn begin_one<M: Maker + Drop, R: Threads + Wait + Clock + Copy + Drop + Send + '
     label: Label,
     id: PartId,
     parts: &mut Vec<Part<R>>,
-    failed: &mut Vec<PartId>,
+    failed: &mut Vec<Unmade>,
 )
     requires rising { AreRising rows.now }
     requires parts_room { vec_len parts.old < vec_capacity parts.old }
     requires failed_room { vec_len failed.old < vec_capacity failed.old }
     ensures begun { IsBegunOne table.now.slots rows.now label id
-        parts.old.items failed.old.items parts.new.items failed.new.items }
+        parts.old.items (unmade_ids failed.old.items) parts.new.items (unmade_ids failed.new.items) }
     ensures parts_len { vec_len parts.new ≤ vec_len parts.old + 1 }
     ensures failed_len { vec_len failed.new ≤ vec_len failed.old + 1 }
     ensures parts_room { vec_capacity parts.new ≡ vec_capacity parts.old }
     ensures failed_room { vec_capacity failed.new ≡ vec_capacity failed.old }
 {
     match factory.begin(table, rows, label, id) {
-        Some(part) => parts.push_reserved(part),
-        None => failed.push_reserved(id),
+        Ok(part) => parts.push_reserved(part),
+        Err(fault) => failed.push_reserved(Unmade { part: id, fault }),
     }
 }
 
@@ -162,25 +169,26 @@ fn begin_all<M: Maker + Drop, R: Threads + Wait + Clock + Copy + Drop + Send + '
     label: Label,
     ids: &[PartId],
     parts: &mut Vec<Part<R>>,
-    failed: &mut Vec<PartId>,
+    failed: &mut Vec<Unmade>,
 )
     requires rising { AreRising rows.now }
     requires parts_room { vec_len parts.old + length ids.now ≤ vec_capacity parts.old }
     requires failed_room { vec_len failed.old + length ids.now ≤ vec_capacity failed.old }
     requires failed { failed.old.items ≡ [] }
-    ensures { AreBegun table.now.slots rows.now label ids.now parts.old.items parts.new.items failed.new.items }
+    ensures { AreBegun table.now.slots rows.now label ids.now
+        parts.old.items parts.new.items (unmade_ids failed.new.items) }
 {
     for id in ids {
         begin_one(factory, table, rows, label, *id, parts, failed);
     }
 }
 
-/// Tells the table that parts have ended.
-fn end_all(table: &mut ScanTable, ids: &[PartId])
-    ensures { table.new ≡ after_ends ids.now table.old }
+/// Tells the table that the parts have ended which could not be made.
+fn end_all(table: &mut ScanTable, failed: &[Unmade])
+    ensures { table.new ≡ after_ends (unmade_ids failed.now) table.old }
 {
-    for id in ids {
-        table.ended(*id);
+    for unmade in failed {
+        table.ended(unmade.part);
     }
 }
 
@@ -280,10 +288,7 @@ fn run_scan<M: Maker + Drop, R: Threads + Wait + Clock + Copy + Drop + Send + 's
     take_away(factory, parts, &scan);
     begin_all(factory, table, rows, label, &ids, parts, &mut failed);
     end_all(table, &failed);
-    Ok(HostOut {
-        scan,
-        failed: Parts::from_vec(failed),
-    })
+    Ok(HostOut { scan, failed })
 }
 
 /// Posts to the part at a place what is next for it in the end of all services. Once a logger was told to end with its

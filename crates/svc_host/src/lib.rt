@@ -12,6 +12,7 @@
 mod ending;
 mod ends;
 mod factory;
+mod growing_reader;
 mod growth;
 mod host;
 mod maker;
@@ -24,6 +25,6 @@ mod running;
 mod service;
 mod shared;
 
-pub use host::{Host, HostOut, PostFault};
-pub use maker::{Maker, Outlets, PartResources, Reaper};
+pub use host::{Host, HostOut, PostFault, Unmade};
+pub use maker::{Maker, Outlets, PartFault, PartResources, Reaper};
 pub use part::Loss;

@@ -1,12 +1,28 @@
 //! The resources of the parts of services.
+use cmd_base::Cause;
 use scan_table::PartId;
-use std::alloc::Global;
+use std::alloc::{AllocError, Global};
 use std::io::Read;
 use std::sync::{Arc, Wait};
 use std::time::Clock;
 use svc_house::{ControlSender, Gate, Notifier, World};
 use svc_left::Opening;
 use svc_relay::outlet::Outlet;
+
+/// Why a part was not made.
+#[derive(Clone, Copy, Debug, PartialEq, Eq)]
+pub enum PartFault {
+    /// Another svscan has its folder.
+    Locked,
+    /// The system refused something that it stands on.
+    Refused(Cause),
+}
+
+impl From<AllocError> for PartFault {
+    fn from(_fault: AllocError) -> PartFault {
+        PartFault::Refused(Cause::NoMemory)
+    }
+}
 
 /// What waits beside a part for the deaths of its processes.
 pub trait Reaper {
@@ -37,7 +53,7 @@ pub trait Outlets<O: Outlet + Drop> {
 /// What makes the resources of each part. The parts of a slot that is a pair are made after `pair` was asked for
 /// it.
 pub trait Maker {
-    ghost use Rattle.std.specs.Prelude.{◌≡◌, [], IfSome};
+    ghost use Rattle.std.specs.Prelude.{◌≡◌, [], IfOk};
     ghost use Rattle.svc_host.specs.Answers.{answered};
 
     type World: World + Drop + Send + 'static;
@@ -52,7 +68,7 @@ pub trait Maker {
 
     type Outlets: Outlets<Self::Outlet> + Drop + Send + 'static;
 
-    /// The resources of a part of the service of this name, or none where they can't be made. By `sender` control bytes
+    /// The resources of a part of the service of this name, or why they can't be made. By `sender` control bytes
     /// come to it from outside. The part's thread waits for `notifier`: the world notifies it once it has an answer.
     fn part(
         &mut self,
@@ -60,18 +76,18 @@ pub trait Maker {
         id: PartId,
         sender: ControlSender,
         notifier: Arc<Notifier, Global>,
-    ) -> Option<PartResources<Self::World, Self::Gate, Self::Reaper>>
-        ensures fresh { IfSome result (λ resources. answered (Self.World.calls resources.world) ≡ []) };
+    ) -> Result<PartResources<Self::World, Self::Gate, Self::Reaper>, PartFault>
+        ensures fresh { IfOk result (λ resources. answered (Self.World.calls resources.world) ≡ []) };
 
-    /// The output of a pair's service of this name, which runs on from life to life, and where it goes, or none where
-    /// they can't be made. It may be asked again for a slot, where no thread could be made. What carries the output
+    /// The output of a pair's service of this name, which runs on from life to life, and where it goes, or why they
+    /// can't be made. It may be asked again for a slot, where no thread could be made. What carries the output
     /// waits for `notifier`.
     fn pair(
         &mut self,
         name: &str,
         slot: u64,
         notifier: Arc<Notifier, Global>,
-    ) -> Option<(Self::Output, Self::Outlets)>;
+    ) -> Result<(Self::Output, Self::Outlets), PartFault>;
 
     /// Keeps the trace of a part, and tells whether it could.
     fn keep_trace(&mut self, id: PartId, text: &[u8]) -> bool;

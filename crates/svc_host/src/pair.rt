@@ -1,15 +1,18 @@
-//! The two threads that carry a pair's output to its logger.
+//! The two threads that carry a pair's output to its logger. Until its first bytes they have no box, and no blocks.
 ghost use Rattle.std.specs.Prelude.{◌≡◌, ◌<◌, [], IfSome};
 ghost use Rattle.svc_mail.specs.Ends.{posted, taken_by};
 
 use crate::ends::open_box;
-use crate::maker::{Maker, Outlets};
-use crate::shared::PairShared;
-use std::alloc::{AllocError, Global};
-use std::io::{BufReader, Read};
+use crate::growing_reader::GrowingReader;
+use crate::maker::{Maker, Outlets, PartFault};
+use crate::shared::{NewReceiver, PairShared};
+use cmd_base::Cause;
+use std::alloc::Global;
+use std::io::Read;
 use std::sync::{Arc, Wait};
 use std::thread::{Builder, Threads};
 use std::time::{Clock, Duration};
+use svc_house::Notifier;
 use svc_mail::receiver::Receiver;
 use svc_mail::sender::Sender;
 use svc_relay::intake::Intake;
@@ -22,37 +25,81 @@ use tai_status::Input;
 /// The room of a stack: a relay gathers 32 KiB in it.
 const STACK: usize = 256 * 1024;
 
-/// How many bytes of a service's output are read at once.
-const BLOCK: usize = 32_768;
-
 /// How long a thread rests before it tries a call again that failed.
 const AGAIN_MILLIS: u64 = 100;
 
-/// What the thread of an intake is given: a sender that posted nothing.
+/// What the thread of an intake is given.
 #[derive(Drop)]
 struct Taking<D: Read + Drop> {
-    output: BufReader<D>,
-    sender: Sender<Piece>,
+    alloc: Global,
+    output: GrowingReader<D>,
+    // How many pieces wait at most.
+    capacity: usize,
     shared: Arc<PairShared, Global>,
-    ghost unposted: { posted sender ≡ [] },
+    ghost some: { 0 < capacity },
 }
 
-/// What the thread of a relay is given: a receiver that took nothing.
+/// What the thread of a relay is given.
 #[derive(Drop)]
 struct Putting<S: Drop> {
-    receiver: Receiver<Piece>,
     outlets: S,
     shared: Arc<PairShared, Global>,
-    ghost untaken: { taken_by receiver ≡ [] },
+}
+
+/// Rests before a call is tried again that failed.
+fn rest_before_again<R: Wait>(rt: &R, notifier: &Notifier) {
+    notifier.wait(rt, Some(Duration::from_millis(AGAIN_MILLIS)));
+}
+
+/// Waits for the first bytes of a pair's output. Whether there are any; else it has ended, or the pair leaves. A read that
+/// fails is tried again.
+fn has_begun<D: Read + Drop, R: Wait>(
+    rt: &R,
+    output: &mut GrowingReader<D>,
+    shared: &PairShared,
+) -> bool {
+    for _ in rt.forever() {
+        match output.fill() {
+            Ok(is_there) => return is_there,
+            Err(_) if shared.leaves() => return false,
+            Err(_) => rest_before_again(rt, &shared.emptied),
+        }
+    }
+    unreachable!()
+}
+
+/// A box of so many pieces, once there is memory for it, or none where the pair leaves before.
+fn open_in_time<R: Wait>(
+    rt: &R,
+    alloc: Global,
+    capacity: usize,
+    shared: &PairShared,
+) -> Option<(Sender<Piece>, Receiver<Piece>)>
+    requires { 0 < capacity }
+    ensures unposted { IfSome result (λ ends. posted ends.0 ≡ []) }
+    ensures untaken { IfSome result (λ ends. taken_by ends.1 ≡ []) }
+{
+    for _ in rt.forever() {
+        if let Some(ends) = open_box(alloc, capacity) {
+            return Some(ends);
+        }
+        if shared.leaves() {
+            return None;
+        }
+        rest_before_again(rt, &shared.emptied);
+    }
+    unreachable!()
 }
 
 /// Reads a pair's output until it ends. A read that fails is tried again.
-fn take_in<D: Read + Drop, R: Wait>(rt: &R, task: Taking<D>) {
-    let Taking {
-        output,
-        sender,
-        shared,
-    } = task;
+fn read_all<D: Read + Drop, R: Wait>(
+    rt: &R,
+    output: GrowingReader<D>,
+    sender: Sender<Piece>,
+    shared: &PairShared,
+)
+    requires { posted sender ≡ [] }
+{
     let mut intake = Intake::new(Input::new(output), sender);
     for _ in rt.forever() {
         match intake.turn(rt) {
@@ -71,12 +118,44 @@ fn take_in<D: Read + Drop, R: Wait>(rt: &R, task: Taking<D>) {
                 if shared.leaves() {
                     return;
                 }
-                shared
-                    .emptied
-                    .wait(rt, Some(Duration::from_millis(AGAIN_MILLIS)));
+                rest_before_again(rt, &shared.emptied);
             }
         }
     }
+}
+
+/// What the thread of an intake does.
+fn take_in<D: Read + Drop, R: Wait>(rt: &R, task: Taking<D>) {
+    let Taking {
+        alloc,
+        mut output,
+        capacity,
+        shared,
+    } = task;
+    if !has_begun(rt, &mut output, &shared) {
+        shared.end();
+        return;
+    }
+    if let Some((sender, receiver)) = open_in_time(rt, alloc, capacity, &shared) {
+        shared.give(rt, NewReceiver { receiver });
+        read_all(rt, output, sender, &shared);
+    }
+}
+
+/// The receiver of a pair's box, once that is open, or none where the output ends without any bytes or the pair leaves.
+fn next_receiver<R: Wait>(rt: &R, shared: &PairShared) -> Option<NewReceiver> {
+    for _ in rt.forever() {
+        // Before it is sought, so that one that was given before that is found.
+        let is_last = shared.has_ended() || shared.leaves();
+        if let Some(receiver) = shared.take(rt) {
+            return Some(receiver);
+        }
+        if is_last {
+            return None;
+        }
+        shared.filled.wait(rt, None);
+    }
+    unreachable!()
 }
 
 /// The logger's next input, once there is one, or none where the pair leaves.
@@ -101,6 +180,9 @@ fn next_outlet<O: Outlet + Drop, S: Outlets<O>, R: Wait>(
 
 /// Puts a pair's output into its logger, from life to life, until the pair leaves or the output has ended and all of it
 /// is put. A write that fails is tried again, where the logger has no next input yet. The logger's input ends with it.
+///
+/// It has a relay's block on its stack, which so is no part of that before it is called.
+#[inline(never)]
 fn put_all<O: Outlet + Drop, S: Outlets<O> + Drop, R: Wait>(
     rt: &R,
     receiver: Receiver<Piece>,
@@ -130,9 +212,7 @@ fn put_all<O: Outlet + Drop, S: Outlets<O> + Drop, R: Wait>(
                     if shared.leaves() {
                         return;
                     }
-                    shared
-                        .filled
-                        .wait(rt, Some(Duration::from_millis(AGAIN_MILLIS)));
+                    rest_before_again(rt, &shared.filled);
                 }
             },
         }
@@ -141,12 +221,11 @@ fn put_all<O: Outlet + Drop, S: Outlets<O> + Drop, R: Wait>(
 
 /// What the thread of a relay does.
 fn put_out<O: Outlet + Drop, S: Outlets<O> + Drop, R: Wait>(rt: &R, task: Putting<S>) {
-    let Putting {
-        receiver,
-        outlets,
-        shared,
-    } = task;
-    put_all::<O, S, R>(rt, receiver, outlets, &shared);
+    let Putting { outlets, shared } = task;
+    match next_receiver(rt, &shared) {
+        Some(NewReceiver { receiver }) => put_all::<O, S, R>(rt, receiver, outlets, &shared),
+        None => drop(outlets),
+    }
     shared.put();
 }
 
@@ -168,42 +247,43 @@ impl Pair {
         name: &str,
         slot: u64,
         capacity: usize,
-    ) -> Option<Pair>
+    ) -> Result<Pair, PartFault>
         requires { 0 < capacity }
     {
-        let shared = Arc::new(alloc, PairShared::new(alloc).ok()?).ok()?;
-        let (sender, receiver) = open_box(alloc, capacity)?;
-        let (output, outlets) = maker.pair(name, slot, Arc::try_clone(&shared.filled).ok()?)?;
+        let Ok(shared) = Arc::new(alloc, PairShared::new(alloc)?) else {
+            return Err(PartFault::Refused(Cause::NoMemory));
+        };
+        let (output, outlets) = maker.pair(name, slot, Arc::try_clone(&shared.filled)?)?;
         let taking = Taking {
-            output: BufReader::with_capacity(alloc, BLOCK, output).ok()?,
-            sender,
-            shared: Arc::try_clone(&shared).ok()?,
+            alloc,
+            output: GrowingReader::new(alloc, output)?,
+            capacity,
+            shared: Arc::try_clone(&shared)?,
         };
         let putting = Putting {
-            receiver,
             outlets,
-            shared: Arc::try_clone(&shared).ok()?,
+            shared: Arc::try_clone(&shared)?,
         };
         let pair = Pair {
             slot,
             shared,
             waits_since: None,
         };
-        Builder::new()
-            .stack_size(STACK)
-            .spawn(
-                &rt,
-                move || put_out::<M::Outlet, M::Outlets, R>(&rt, putting),
-            )
-            .ok()?;
+        let writing = Builder::new().stack_size(STACK).spawn(
+            &rt,
+            move || put_out::<M::Outlet, M::Outlets, R>(&rt, putting),
+        );
+        if writing.is_err() {
+            return Err(PartFault::Refused(Cause::NoThread));
+        }
         let reading = Builder::new()
             .stack_size(STACK)
             .spawn(&rt, move || take_in(&rt, taking));
         if reading.is_err() {
             pair.leave();
-            return None;
+            return Err(PartFault::Refused(Cause::NoThread));
         }
-        Some(pair)
+        Ok(pair)
     }
 
     /// Both threads end.

@@ -1,4 +1,7 @@
 //! A part that is there.
+ghost use Rattle.std.specs.Prelude.{◌≡◌};
+ghost use Rattle.svc_host.specs.Ending.{is_adopted};
+
 use crate::ending::{EndStep, end_step};
 use crate::growth::Growth;
 use crate::part_thread::PartThread;
@@ -29,6 +32,13 @@ impl Loss {
         untaken: 0,
         lacks_trace: false,
     };
+}
+
+/// Whether the process of this number, of which 0 is none, is the one that was adopted.
+fn is_adopted(pid: u32, adopted: u32) -> bool
+    ensures { result ≡ is_adopted pid adopted }
+{
+    pid > 0 && pid == adopted
 }
 
 /// A part that is there. Contracts see it as `HostPart`.
@@ -213,8 +223,7 @@ impl<R: Threads + Wait + Clock + Copy + Drop + Send + 'static> Part<R> {
         ensures ended { self.new.has_ended ≡ self.old.has_ended }
         ensures loss { self.new.loss ≡ self.old.loss }
     {
-        let pid = self.machine().view().pid;
-        pid > 0 && pid == self.adopted
+        is_adopted(self.machine().view().pid, self.adopted)
     }
 
     /// Whether it was told to end with its process.

@@ -1,5 +1,5 @@
 -- Events that were found and are not published yet.
-use Rattle.std.specs.Prelude.{Bool, true, false, List, [], ◌∷◌}
+use Rattle.std.specs.Prelude.{◌≡◌, Bool, true, false, List, [], ◌∷◌}
 use Rattle.sup_core.specs.declared.event.Event.{Event}
 use Rattle.sup_core.specs.declared.event.Event.TheVariants.{Byte, Death}
 use Rattle.svc_house.specs.declared.pending.Pending.{Pending}
@@ -19,6 +19,10 @@ is_empty other = false
 abbrev pub rest_of : Pending → Pending
 rest_of (ByteThenDeath byte label) = One (Death label)
 rest_of other = Empty
+
+-- This event is published next.
+abbrev pub IsNext : Event → Pending → Type 0
+IsNext event pending = events_in pending ≡ event ∷ events_in (rest_of pending)
 
 -- whether a control byte is pending
 abbrev pub has_byte : Pending → Bool

@@ -1,5 +1,5 @@
 //! The loop of one service.
-ghost use Rattle.std.specs.Prelude.{◌≡◌, ◌++◌, ◌∷◌, [], true, MatchResult, OnErr, OnOk};
+ghost use Rattle.std.specs.Prelude.{◌≡◌, ◌++◌, ◌∷◌, [], true, OnErr, OnOk};
 ghost use Rattle.sup_core.specs.Rules.{IsEvent, takes, asks_of};
 ghost use Rattle.svc_station.specs.Ends.{history_of, published, station};
 ghost use Rattle.svc_house.specs.Calls.{ExtendedWhileKept, told};
@@ -50,9 +50,8 @@ fn publish_and_tell<W: World, R: Wait>(
     requires event { IsEvent event }
     requires taken { takes (history_of writer.old) event ≡ true }
     ensures same { station writer.new ≡ station writer.old }
-    ensures published { MatchResult result
-        (λ _. published writer.new ≡ published writer.old ++ event ∷ [])
-        (λ _. published writer.new ≡ published writer.old) }
+    ensures published { OnOk result (published writer.new ≡ published writer.old ++ event ∷ []) }
+    ensures unpublished { OnErr result (published writer.new ≡ published writer.old) }
     ensures told { OnOk result
         (ExtendedWhileKept (W.calls world.old) (W.calls world.new) (told (asks_of (history_of writer.old) event))) }
     ensures untold { OnErr result (W.calls world.new ≡ W.calls world.old) }
@@ -73,7 +72,7 @@ impl<W: World, I: Inbox, G: Gate + Drop> House<W, I, G> {
     ghost use Rattle.sup_core.specs.State.{is_gone};
     ghost use Rattle.svc_station.specs.Ends.{history_of, published, station, opening_of};
     ghost use Rattle.svc_house.specs.Calls.{answers_in, IsAsk, IsLastReading};
-    ghost use Rattle.svc_house.specs.Pending.{events_in, rest_of};
+    ghost use Rattle.svc_house.specs.Pending.{IsNext, rest_of};
     ghost use Rattle.svc_house.specs.Standing.{Standing, IsHouse, past_of, state_in};
     ghost use Rattle.svc_house.specs.Turn.{IsSameHouse, IsTurn, IsIdle, IsRefused, Listens, PassesGate, phase_in};
     ghost use Rattle.svc_house.specs.Turn.{polls_of};
@@ -138,7 +137,7 @@ impl<W: World, I: Inbox, G: Gate + Drop> House<W, I, G> {
         ensures same { IsSameHouse self.old self.new }
         ensures events { self.new.events ≡ self.old.events }
         ensures pending { MatchOption result (self.new.pending ≡ pending.Empty)
-            (λ event. events_in self.new.pending ≡ event ∷ events_in (rest_of self.new.pending)) }
+            (λ event. IsNext event self.new.pending) }
         ensures polls { self.new.pending ≢ pending.Empty
             → ExtendedWhileKept self.old.calls self.new.calls (polls_of self.old self.new.pending) }
         ensures listens { Listens self.old self.new.pending self.new }
@@ -158,7 +157,7 @@ impl<W: World, I: Inbox, G: Gate + Drop> House<W, I, G> {
 
     // Publishes the next event pending, and then tells what it asks.
     fn publish<R: Wait>(&mut self, rt: &R, event: Event) -> Result<Turned, HouseFault>
-        requires { events_in self.old.pending ≡ event ∷ events_in (rest_of self.old.pending) }
+        requires { IsNext event self.old.pending }
         ensures same { IsSameHouse self.old self.new }
         ensures took { IfOk result (λ turned. turned ≡ Turned.Took event) }
         ensures published { OnOk result (self.new.events ≡ self.old.events ++ event ∷ []) }

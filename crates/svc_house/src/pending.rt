@@ -14,14 +14,13 @@ pub enum Pending {
 }
 
 impl Pending {
-    ghost use Rattle.std.specs.Prelude.{◌≡◌, ◌∷◌, MatchOption};
-    ghost use Rattle.svc_house.specs.Pending.{events_in, rest_of};
+    ghost use Rattle.std.specs.Prelude.{◌≡◌, MatchOption};
+    ghost use Rattle.svc_house.specs.Pending.{IsNext, rest_of};
     ghost use Rattle.svc_house.specs.declared.pending.Pending.TheVariants as pending;
 
     /// The event that is published next.
     pub fn next(&self) -> Option<Event>
-        ensures { MatchOption result (self.now ≡ pending.Empty)
-            (λ event. events_in self.now ≡ event ∷ events_in (rest_of self.now)) }
+        ensures { MatchOption result (self.now ≡ pending.Empty) (λ event. IsNext event self.now) }
     {
         match self {
             Pending::Empty => None,

@@ -1,32 +1,37 @@
 -- What was asked of the system for the parts of services, and what came of it.
-use Rattle.std.specs.Prelude.{ℕ, Bool, List, [], ◌∷◌, Option}
+use Rattle.std.specs.Prelude.{ℕ, Bool, List, [], ◌∷◌, Option, Result}
 use Rattle.std.specs.Borrow.{Bor}
 use Rattle.std.specs.Option.{option_copied}
 use Rattle.std.specs.declared.io.PipeReader.{PipeReader}
 use Rattle.std.specs.declared.fs.File.{File}
+use Rattle.cmd_base.specs.declared.cause.Cause.{Cause}
+use Rattle.scan_table.specs.Slots.{Row}
 use Rattle.svc_house.specs.Calls.{ExtendedWhileKept}
 use Rattle.svc_world.specs.declared.output.OutputEnds.{OutputEnds}
 use Rattle.svc_world.specs.declared.flow.LoggerInput.{LoggerInput}
 use Rattle.svc_left.specs.declared.opening.Left.{Left}
 use Rattle.svc_world.specs.declared.folder.FolderFault.{FolderFault}
 
--- One call, with its answer: a pipe was to be made, and these are its two ends; the output of the service in the folder
--- at a path was to be opened, and these are its ends; the folder at a path was to be opened
--- and locked, and was, or this came of it; this was found left of the service in the folder at a path; a world was to
--- be made over the folder at a path, told by this name, of which this was left, with these ends of pipes as standard
--- input and output; the part of this number was to be admitted to the door, with the
--- sockets of the folder at a path; the part of this number was dismissed from the door, and the sockets of the folder
+-- One call, with its answer: what the outputs of the services of these rows of a folder lacked was made, as far as it
+-- could be; a pipe was to be made, and these are its two ends, or this came of it; the output of the
+-- service in the folder at a path was to be opened, and these are its ends, or this came of it; the folder at a path was
+-- to be opened and locked, and was, or this came of it; this was found left of the service in the folder at a path; a
+-- world was to be made over the folder at a path, told by this name, of which this was left, with these ends of pipes as
+-- standard input and output, and was, or this came of it; the part of this number was to be admitted to the door, with
+-- the sockets of the folder at a path, and was, or this came of it; the part of this number was dismissed from the door,
+-- and the sockets of the folder
 -- at a path removed; a trace was to be kept in the folder at a path, and was or not; svscan's own folder at a path was
 -- to be opened and locked, and was, or this came of it; a status record was to be written in the folder at a path, and
 -- was or not; all outputs were to look after their flows.
 pub data Call : Type 0 where
-  MadePipe : (ends : Option (PipeReader × LoggerInput)) → Call
-  OpenedOutput : (path : List ℕ) → (ends : Option OutputEnds) → Call
+  Prepared : (folder : List ℕ) → (rows : List Row) → Call
+  MadePipe : (ends : Result (PipeReader × LoggerInput) Cause) → Call
+  OpenedOutput : (path : List ℕ) → (ends : Result OutputEnds Cause) → Call
   Opened : (path : List ℕ) → (fault : Option FolderFault) → Call
   FoundLeft : (path : List ℕ) → (left : Left) → Call
   MadeWorld : (path name : List ℕ) → (left : Left) → (input : Option PipeReader) → (output : Option File)
-      → (made : Bool) → Call
-  Admitted : (number : ℕ) → (path : List ℕ) → (admitted : Bool) → Call
+      → (fault : Option Cause) → Call
+  Admitted : (number : ℕ) → (path : List ℕ) → (fault : Option Cause) → Call
   Dismissed : (number : ℕ) → (path : List ℕ) → Call
   KeptTrace : (path : List ℕ) → (text : List ℕ) → (kept : Bool) → Call
   OpenedOwn : (path : List ℕ) → (fault : Option FolderFault) → Call
@@ -35,6 +40,6 @@ pub data Call : Type 0 where
 
 -- A world was to be made, with copies of these ends of pipes: that is one call more, while calls are kept.
 abbrev pub MakesWorld : (old new : Option (List Call)) (path name : List ℕ) (left : Left)
-    (input : Option (Bor PipeReader)) (output : Option (Bor File)) (made : Bool) → Type 0
-MakesWorld old new path name left input output made =
-    ExtendedWhileKept old new (MadeWorld path name left (option_copied input) (option_copied output) made ∷ [])
+    (input : Option (Bor PipeReader)) (output : Option (Bor File)) (fault : Option Cause) → Type 0
+MakesWorld old new path name left input output fault =
+    ExtendedWhileKept old new (MadeWorld path name left (option_copied input) (option_copied output) fault ∷ [])

@@ -1,14 +1,19 @@
 -- The parts of services over folders, and what each call of their maker does.
 use Rattle.std.specs.Prelude.{◌≡◌, ◌≢◌, ◌<◌, ◌⊎◌, ⊤, ℕ, Bool, true, false, List, [], ◌∷◌, ◌++◌, codes, length}
-use Rattle.std.specs.Prelude.{◌-◌, ◌^◌, remove, slice_index_or, Option, Some, None, MatchOption}
+use Rattle.std.specs.Prelude.{◌-◌, ◌^◌, remove, slice_index_or, Option, Some, None, MatchOption, Result, Ok, Err}
+use Rattle.std.specs.Prelude.{MatchResult}
 use Rattle.std.specs.List.{All}
 use Rattle.std.specs.declared.io.PipeReader.{PipeReader}
 use Rattle.std.specs.declared.fs.File.{File}
 use Rattle.scan_table.specs.declared.part.PartId.{PartId}
 use Rattle.scan_table.specs.declared.part.Role.{Role}
 use Rattle.scan_table.specs.declared.part.Role.TheVariants.{Main, Log}
+use Rattle.cmd_base.specs.declared.cause.Cause.{Cause}
+use Rattle.cmd_base.specs.declared.cause.Cause.TheVariants.{NoMemory}
+use Rattle.svc_host.specs.declared.maker.PartFault.{PartFault}
+use Rattle.svc_host.specs.declared.maker.PartFault.TheVariants as part
 use Rattle.svc_house.specs.Calls.{ExtendedWhileKept}
-use Rattle.svc_world.specs.declared.folder.FolderFault.TheVariants.{Locked}
+use Rattle.svc_world.specs.declared.folder.FolderFault.TheVariants.{Locked, NotOpened}
 use Rattle.svc_left.specs.declared.opening.Left.{Left}
 use Rattle.svc_left.specs.declared.opening.Opening.{Opening}
 use Rattle.svc_left.specs.Opening.{opening_left}
@@ -17,7 +22,8 @@ use Rattle.svc_world.specs.declared.flow.LoggerInput.{LoggerInput}
 use Rattle.svc_world.specs.declared.flow.ServiceOutput.{ServiceOutput}
 use Rattle.svc_maker.specs.Calls.{Call, MadePipe, OpenedOutput, Opened, FoundLeft, MadeWorld, Admitted, Dismissed}
 use Rattle.svc_maker.specs.Calls.{KeptTrace}
-use Rattle.svc_maker.specs.Calls.{OpenedOwn, Recorded, WatchedOutputs}
+use Rattle.svc_maker.specs.Calls.{OpenedOwn, Prepared, Recorded, WatchedOutputs}
+use Rattle.scan_table.specs.Slots.{Row}
 use Rattle.svc_maker.specs.declared.holder.OwnFault.{OwnFault}
 use Rattle.svc_maker.specs.declared.holder.OwnFault.TheVariants as own
 use Rattle.svc_maker.specs.Pipes.{pipes_of, pipes_without, input_of, output_of}
@@ -32,14 +38,13 @@ pub record KeptPart : Type 0 where
   pub path : List ℕ
 
 -- What a maker knows: what it asked of the system, where that is kept; the path of the folder that is scanned; the
--- parts that stand, in the order of their making; the pipes of the slots that are pairs; the names that were found
--- locked since they were last told; and the path of the folder in which svscan itself is served, where it is.
+-- parts that stand, in the order of their making; the pipes of the slots that are pairs; and the path of the folder in
+-- which svscan itself is served, where it is.
 pub record Making : Type 0 where
   pub calls : Option (List Call)
   pub folder : List ℕ
   pub kept : List KeptPart
   pub pipes : List PairPipes
-  pub locked : List (List ℕ)
   pub own : Option (List ℕ)
 
 -- Parts
@@ -82,10 +87,10 @@ plan_of making name part =
     plan_at (part_path making.folder name part.role) (part_name name part.role) part making.pipes
 
 -- the calls by which the world of a part was to be made, in whose own folder this was left
-abbrev pub world_made : Plan → Left → (made : Bool) → List Call
-world_made plan left made =
+abbrev pub world_made : Plan → Left → (fault : Option Cause) → List Call
+world_made plan left fault =
     Opened plan.path None ∷ FoundLeft plan.path left
-    ∷ MadeWorld plan.path plan.name left plan.input plan.output made ∷ []
+    ∷ MadeWorld plan.path plan.name left plan.input plan.output fault ∷ []
 
 -- How a part is set up by a plan: its folder is opened, what an earlier svscan left there is found, its world is made
 -- with that, and it is admitted to the door. It begins as what was found says. Where one of these fails, the next is
@@ -93,42 +98,50 @@ world_made plan left made =
 abbrev pub IsSetUp : Option MakeFault → Option Opening → Plan → (old new : Option (List Call)) → Type 0
 IsSetUp None opening plan old new =
     (left : Left) × (opening ≡ Some (opening_left left))
-    × ExtendedWhileKept old new (world_made plan left true ++ Admitted plan.number plan.path true ∷ [])
+    × ExtendedWhileKept old new (world_made plan left None ++ Admitted plan.number plan.path None ∷ [])
 IsSetUp (Some why.NoRoom) opening plan old new = (opening ≡ None) × ExtendedWhileKept old new []
 IsSetUp (Some (why.Unopened fault)) opening plan old new =
     (opening ≡ None) × ExtendedWhileKept old new (Opened plan.path (Some fault) ∷ [])
-IsSetUp (Some why.NoWorld) opening plan old new =
-    (opening ≡ None) × ((left : Left) × ExtendedWhileKept old new (world_made plan left false))
-IsSetUp (Some why.NotAdmitted) opening plan old new =
+IsSetUp (Some (why.NoWorld cause)) opening plan old new =
+    (opening ≡ None) × ((left : Left) × ExtendedWhileKept old new (world_made plan left (Some cause)))
+IsSetUp (Some (why.NotAdmitted cause)) opening plan old new =
     (opening ≡ None)
     × ((left : Left) × ExtendedWhileKept old new
-    (world_made plan left true ++ Admitted plan.number plan.path false ∷ Dismissed plan.number plan.path ∷ []))
+    (world_made plan left None
+    ++ Admitted plan.number plan.path (Some cause) ∷ Dismissed plan.number plan.path ∷ []))
 
 -- the parts that stand, after this one was set up or failed
 abbrev pub kept_after : Option MakeFault → KeptPart → List KeptPart → List KeptPart
 kept_after None kept_part kept = kept ++ kept_part ∷ []
 kept_after (Some fault) kept_part kept = kept
 
--- the names found locked, after this one was set up or failed
-abbrev pub locked_after : Option MakeFault → (name : List ℕ) → List (List ℕ) → List (List ℕ)
-locked_after (Some (why.Unopened Locked)) name locked = locked ++ name ∷ []
-locked_after fault name locked = locked
+-- what the host is told of a part that failed
+abbrev pub part_fault : MakeFault → PartFault
+part_fault why.NoRoom = part.Refused NoMemory
+part_fault (why.Unopened Locked) = part.Locked
+part_fault (why.Unopened (NotOpened cause)) = part.Refused cause
+part_fault (why.NoWorld cause) = part.Refused cause
+part_fault (why.NotAdmitted cause) = part.Refused cause
 
 -- A part of the service of this name was set up or failed, in the folder of its role. It stands where it was set up,
--- and begins as what was found there says; a name that was found locked is noted; nothing else changed.
+-- and begins as what was found there says; nothing else changed.
 pub record SetsUp (name : List ℕ) (part : PartId) (fault : Option MakeFault) (opening : Option Opening)
     (old new : Making) : Type 0 where
   pub is_set_up : IsSetUp fault opening (plan_of old name part) old.calls new.calls
   pub stands : new ≡ record old {
     calls = new.calls;
     kept = kept_after fault (record { part = part; path = part_path old.folder name part.role }) old.kept;
-    locked = locked_after fault (part_name name part.role) old.locked;
   }
 
--- A part was to be made. It stands exactly where it was set up, and begins so.
-pub record MakesPart (name : List ℕ) (part : PartId) (opening : Option Opening) (old new : Making) : Type 0 where
-  pub fault : Option MakeFault
-  pub sets_up : SetsUp name part fault opening old new
+-- A part was made: it was set up, stands, and begins so.
+abbrev pub MakesPart : (name : List ℕ) → PartId → Opening → (old new : Making) → Type 0
+MakesPart name part opening old new = SetsUp name part None (Some opening) old new
+
+-- A part was not made, and this is what the host is told: why it was not set up.
+pub record FailsToMake (name : List ℕ) (part : PartId) (fault : PartFault) (old new : Making) : Type 0 where
+  pub failure : MakeFault
+  pub is : fault ≡ part_fault failure
+  pub sets_up : SetsUp name part (Some failure) None old new
 
 -- Pairs
 
@@ -143,32 +156,39 @@ pub record JoinsPair (name : List ℕ) (slot : ℕ) (read : ServiceOutput) (outl
   pub reads : read ≡ ends.read
   pub outlet : outlets.outlet ≡ Some written
   pub calls : ExtendedWhileKept old.calls new.calls
-      (OpenedOutput (part_path old.folder name Main) (Some ends) ∷ MadePipe (Some (input, written)) ∷ [])
+      (OpenedOutput (part_path old.folder name Main) (Ok ends) ∷ MadePipe (Ok (input, written)) ∷ [])
   pub stands : new ≡ record old {
     calls = new.calls;
     pipes = pipes_without slot old.pipes
         ++ record { slot = slot; output = ends.write; input = input; flow = ends.flow } ∷ [];
   }
 
--- An output at this path and a pipe were not made: for want of memory none was tried, or the first or the second one
--- was refused.
-abbrev pub HaveFailed : (path : List ℕ) → List Call → Type 0
-HaveFailed path [] = ⊤
-HaveFailed path (OpenedOutput there None ∷ []) = there ≡ path
-HaveFailed path (OpenedOutput there (Some ends) ∷ MadePipe None ∷ []) = there ≡ path
-HaveFailed path calls = ⊥
+-- An output at this path and a pipe were not made, for this cause: for want of memory none was tried, or the first or
+-- the second one was refused.
+abbrev pub HaveFailed : (path : List ℕ) → Cause → List Call → Type 0
+HaveFailed path cause [] = cause ≡ NoMemory
+HaveFailed path cause (OpenedOutput there (Err refused) ∷ []) = (there ≡ path) × (cause ≡ refused)
+HaveFailed path cause (OpenedOutput there (Ok ends) ∷ MadePipe (Err refused) ∷ []) =
+    (there ≡ path) × (cause ≡ refused)
+HaveFailed path cause calls = ⊥
 
--- The pipes of a pair were not made, and nothing else came of it: an output that was opened is let go.
-pub record LacksPair (name : List ℕ) (old new : Making) : Type 0 where
+-- The pipes of a pair were not made, for this cause, and nothing else came of it: an output that was opened is let go.
+pub record LacksPair (name : List ℕ) (cause : Cause) (old new : Making) : Type 0 where
   pub tried : List Call
-  pub failed : HaveFailed (part_path old.folder name Main) tried
+  pub failed : HaveFailed (part_path old.folder name Main) cause tried
   pub calls : ExtendedWhileKept old.calls new.calls tried
   pub stands : new ≡ record old { calls = new.calls }
 
+-- The pipes of a pair were not made, and the host is told so.
+abbrev pub LacksPairFor : (name : List ℕ) → PartFault → (old new : Making) → Type 0
+LacksPairFor name part.Locked old new = ⊥
+LacksPairFor name (part.Refused cause) old new = LacksPair name cause old new
+
 -- The pipes of a pair were to be made.
-abbrev pub MakesPair : (name : List ℕ) (slot : ℕ) → Option (ServiceOutput × PairOutlets) → (old new : Making) → Type 0
-MakesPair name slot made old new =
-    MatchOption made (LacksPair name old new) (λ ends. JoinsPair name slot ends.0 ends.1 old new)
+abbrev pub MakesPair : (name : List ℕ) (slot : ℕ) → Result (ServiceOutput × PairOutlets) PartFault
+    → (old new : Making) → Type 0
+MakesPair name slot made old new = MatchResult made
+    (λ ends. JoinsPair name slot ends.0 ends.1 old new) (λ fault. LacksPairFor name fault old new)
 
 -- Traces and ends
 
@@ -218,14 +238,14 @@ own_number = 2 ^ 64 - 1
 abbrev pub ServesOwn : (path bytes : List ℕ) → Option OwnFault → (old new : Making) → Type 0
 ServesOwn path bytes None old new =
     ((written : Bool) × ExtendedWhileKept old.calls new.calls
-    (OpenedOwn path None ∷ Recorded path bytes written ∷ Admitted own_number path true ∷ []))
+    (OpenedOwn path None ∷ Recorded path bytes written ∷ Admitted own_number path None ∷ []))
     × (new ≡ record old { calls = new.calls; own = Some path })
 ServesOwn path bytes (Some (own.Unopened fault)) old new =
     ExtendedWhileKept old.calls new.calls (OpenedOwn path (Some fault) ∷ [])
     × (new ≡ record old { calls = new.calls })
-ServesOwn path bytes (Some own.NotAdmitted) old new =
+ServesOwn path bytes (Some (own.NotAdmitted cause)) old new =
     ((written : Bool) × ExtendedWhileKept old.calls new.calls
-    (OpenedOwn path None ∷ Recorded path bytes written ∷ Admitted own_number path false
+    (OpenedOwn path None ∷ Recorded path bytes written ∷ Admitted own_number path (Some cause)
     ∷ Dismissed own_number path ∷ []))
     × (new ≡ record old { calls = new.calls })
 
@@ -235,6 +255,11 @@ LeavesOwn bytes old new = MatchOption old.own (new ≡ old) (λ path.
     ((written : Bool) × ExtendedWhileKept old.calls new.calls
     (Dismissed own_number path ∷ Recorded path bytes written ∷ []))
     × (new ≡ record old { calls = new.calls; own = None }))
+
+-- The outputs of the services of these rows were prepared, in the folder that is scanned, and nothing else.
+pub record Prepares (rows : List Row) (old new : Making) : Type 0 where
+  pub calls : ExtendedWhileKept old.calls new.calls (Prepared old.folder rows ∷ [])
+  pub stands : new ≡ record old { calls = new.calls }
 
 -- The outputs were told to look after their flows, and nothing else.
 pub record WatchesOutputs (old new : Making) : Type 0 where

@@ -1,9 +1,10 @@
 //! A maker of parts over the folders of a folder.
+use cmd_base::Cause;
+use scan_table::DirRow;
 use std::alloc::AllocError;
 use svc_host::Maker;
 use svc_house::ControlSender;
 use svc_world::FolderFault;
-use tai_status::Names;
 
 /// Why svscan itself is not served.
 #[derive(Clone, Copy, Debug, PartialEq, Eq)]
@@ -11,7 +12,7 @@ pub enum OwnFault {
     /// Its folder was not opened.
     Unopened(FolderFault),
     /// It was not admitted to the door.
-    NotAdmitted,
+    NotAdmitted(Cause),
 }
 
 /// A maker of parts over the folders of a folder, each with its lock.
@@ -20,8 +21,8 @@ pub trait FolderHolder: Maker {
     /// were.
     fn set_folder(&mut self, folder: &str) -> Result<(), AllocError>;
 
-    /// The names whose folder was found locked since the last time: for a logger with `/log` behind the service's.
-    fn take_locked(&mut self) -> Names;
+    /// What the outputs of the services of these rows lack is made, all at once, as far as it can be.
+    fn prepare(&mut self, rows: &[DirRow]);
 
     /// Has svscan itself served in the folder at a path, with this status record: by `sender` its control bytes come.
     fn serve_own(

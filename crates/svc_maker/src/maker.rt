@@ -9,15 +9,16 @@ use crate::holder::{FolderHolder, OwnFault};
 use crate::kept_folder::{KeptFolder, LockedFolder, place_of};
 use crate::part_system::PartSystem;
 use crate::pipes::{PairOutlets, PairPipes, leave_pipes, pipes_of};
-use crate::set_up::{MakeFault, PartSetup, part_name, part_path, set_up};
-use scan_table::PartId;
+use crate::set_up::{MakeFault, PartSetup, part_fault, part_name, part_path, set_up};
+use cmd_base::Cause;
+use scan_table::{DirRow, PartId};
 use std::alloc::{AllocError, Global};
 use std::marker::Model;
 use std::sync::Arc;
-use svc_host::{Maker, PartResources};
+use svc_host::{Maker, PartFault, PartResources};
 use svc_house::{ControlSender, Notifier, OpenGate};
-use svc_world::{FolderFault, LoggerInput, OutputEnds, ServiceOutput, drain, is_read};
-use tai_status::{Name, Names, Output};
+use svc_world::{LoggerInput, OutputEnds, ServiceOutput, drain, is_read};
+use tai_status::Output;
 
 /// The number at the door of svscan itself. No life has it.
 const OWN_NUMBER: u64 = u64::MAX;
@@ -31,7 +32,6 @@ pub struct FolderMaker<S: PartSystem + Drop> {
     folder: String,
     kept: Vec<KeptFolder<S::Folder>>,
     pipes: Vec<PairPipes>,
-    locked: Vec<Name>,
     // The folder in which svscan itself is served.
     own: Option<S::Folder>,
 }
@@ -47,7 +47,6 @@ impl<S: PartSystem + Drop> Model for FolderMaker<S> {
       folder = string_bytes maker.folder;
       kept = maker.kept.items;
       pipes = maker.pipes.items;
-      locked = maker.locked.items;
       own = option_map S.Folder.path maker.own;
     } };
 }
@@ -58,7 +57,7 @@ impl<S: PartSystem + Drop> FolderMaker<S> {
     /// A maker over a system, with no part.
     pub fn new(alloc: Global, system: S) -> FolderMaker<S>
         ensures { result
-            ≡ record { calls = S.calls system; folder = []; kept = []; pipes = []; locked = []; own = None } }
+            ≡ record { calls = S.calls system; folder = []; kept = []; pipes = []; own = None } }
     {
         FolderMaker {
             alloc,
@@ -66,12 +65,11 @@ impl<S: PartSystem + Drop> FolderMaker<S> {
             folder: String::new(alloc),
             kept: Vec::new(alloc),
             pipes: Vec::new(alloc),
-            locked: Vec::new(alloc),
             own: None,
         }
     }
 
-    // Sets a part up, and notes that it stands, or that it is locked.
+    // Sets a part up, and notes that it stands.
     fn try_part(
         &mut self,
         name: &str,
@@ -89,7 +87,7 @@ impl<S: PartSystem + Drop> FolderMaker<S> {
         let Ok(path) = part_path(self.alloc, self.folder.as_str(), shown.as_str()) else {
             return Err(MakeFault::NoRoom);
         };
-        if self.kept.reserve(1).is_err() || self.locked.reserve(1).is_err() {
+        if self.kept.reserve(1).is_err() {
             return Err(MakeFault::NoRoom);
         }
         match set_up(
@@ -117,10 +115,6 @@ impl<S: PartSystem + Drop> FolderMaker<S> {
                     opening,
                 })
             }
-            Err(MakeFault::Unopened(FolderFault::Locked)) => {
-                self.locked.push_reserved(Name::new(shown));
-                Err(MakeFault::Unopened(FolderFault::Locked))
-            }
             Err(fault) => Err(fault),
         }
     }
@@ -131,11 +125,10 @@ where
     S::World: Send + 'static,
     S::Reaper: Send + 'static,
 {
-    ghost use Rattle.std.specs.Prelude.{◌≡◌, ◌∷◌, [], option_map, IfSome};
+    ghost use Rattle.std.specs.Prelude.{◌≡◌, [], true, None, IfErr, IfOk};
     ghost use Rattle.svc_host.specs.Answers.{answered};
-    ghost use Rattle.svc_house.specs.Calls.{ExtendedWhileKept};
-    ghost use Rattle.svc_maker.specs.Making.{EndsPart, KeepsTrace, MakesPair, MakesPart, Making, WatchesOutputs};
-    ghost use Rattle.svc_maker.specs.Pipes.{pipes_without};
+    ghost use Rattle.svc_maker.specs.Making.{EndsPart, FailsToMake, KeepsTrace, MakesPair, MakesPart, WatchesOutputs};
+    ghost use Rattle.svc_maker.specs.Pipes.{pipes_of, pipes_without};
 
     type World = S::World;
 
@@ -158,13 +151,14 @@ where
         part: PartId,
         sender: ControlSender,
         notifier: Arc<Notifier, Global>,
-    ) -> Option<PartResources<S::World, OpenGate, S::Reaper>>
-        ensures made { MakesPart name.now part (option_map (λ resources. resources.opening) result) self.old self.new }
-        ensures fresh { IfSome result (λ resources. answered (S.World.calls resources.world) ≡ []) }
+    ) -> Result<PartResources<S::World, OpenGate, S::Reaper>, PartFault>
+        ensures made { IfOk result (λ resources. MakesPart name.now part resources.opening self.old self.new) }
+        ensures unmade { IfErr result (λ fault. FailsToMake name.now part fault self.old self.new) }
+        ensures fresh { IfOk result (λ resources. answered (S.World.calls resources.world) ≡ []) }
     {
         match self.try_part(name, part, sender, notifier) {
-            Ok(resources) => Some(resources),
-            Err(_fault) => None,
+            Ok(resources) => Ok(resources),
+            Err(fault) => Err(part_fault(fault)),
         }
     }
 
@@ -175,27 +169,26 @@ where
         name: &str,
         slot: u64,
         _notifier: Arc<Notifier, Global>,
-    ) -> Option<(ServiceOutput, PairOutlets)>
+    ) -> Result<(ServiceOutput, PairOutlets), PartFault>
         ensures { MakesPair name.now slot result self.old self.new }
     {
         if self.pipes.reserve(1).is_err() {
-            return None;
+            return Err(PartFault::Refused(Cause::NoMemory));
         }
         let Ok(path) = part_path(self.alloc, self.folder.as_str(), name) else {
-            return None;
+            return Err(PartFault::Refused(Cause::NoMemory));
         };
-        let Some(
-            OutputEnds {
-                read: from_service,
-                write: output,
-                flow,
-            },
-        ) = self.system.output(path.as_str())
-        else {
-            return None;
+        let OutputEnds {
+            read: from_service,
+            write: output,
+            flow,
+        } = match self.system.output(path.as_str()) {
+            Ok(ends) => ends,
+            Err(cause) => return Err(PartFault::Refused(cause)),
         };
-        let Some((input, to_logger)) = self.system.pipe(&flow) else {
-            return None;
+        let (input, to_logger) = match self.system.pipe(&flow) {
+            Ok(ends) => ends,
+            Err(cause) => return Err(PartFault::Refused(cause)),
         };
         let pipes = &mut self.pipes;
         leave_pipes(pipes, slot);
@@ -206,7 +199,7 @@ where
             flow,
         });
         let outlet = Some(to_logger);
-        Some((from_service, PairOutlets { outlet }))
+        Ok((from_service, PairOutlets { outlet }))
     }
 
     fn keep_trace(&mut self, part: PartId, text: &[u8]) -> bool
@@ -251,7 +244,8 @@ where
     }
 
     fn is_read(&mut self, slot: u64) -> bool
-        ensures { self.new ≡ self.old }
+        ensures same { self.new ≡ self.old }
+        ensures no_pipes { pipes_of slot self.old.pipes ≡ None → result ≡ true }
     {
         match pipes_of(&self.pipes, slot) {
             Some(pair) => is_read(&pair.input),
@@ -260,16 +254,16 @@ where
     }
 
     fn lost(&mut self, slot: u64, has_logger: bool) -> u64
-        ensures { self.new ≡ self.old }
+        ensures same { self.new ≡ self.old }
+        ensures no_pipes { pipes_of slot self.old.pipes ≡ None → result ≡ 0 }
     {
         let Some(pair) = pipes_of(&self.pipes, slot) else {
             return 0;
         };
-        let unread = if has_logger {
-            0
-        } else {
-            drain(&pair.input).unwrap_or(0)
-        };
+        if has_logger {
+            return pair.flow.between();
+        }
+        let unread = drain(&pair.input).unwrap_or(0);
         pair.flow.between().saturating_add(unread)
     }
 }
@@ -281,7 +275,7 @@ where
 {
     ghost use Rattle.std.specs.Prelude.{◌≡◌, [], OnOk, OnErr, string_bytes};
     ghost use Rattle.std.specs.Result.{result_err};
-    ghost use Rattle.svc_maker.specs.Making.{LeavesOwn, ServesOwn};
+    ghost use Rattle.svc_maker.specs.Making.{LeavesOwn, Prepares, ServesOwn};
 
     /// The folders of services are sought in this folder from now on. At want of memory they are sought where they
     /// were.
@@ -293,13 +287,12 @@ where
         Ok(())
     }
 
-    /// The names whose folder was found locked since the last time: for a logger with `/log` behind the service's.
-    fn take_locked(&mut self) -> Names
-        ensures told { result ≡ self.old.locked }
-        ensures once { self.new ≡ record self.old { locked = [] } }
+    /// What the outputs of the services of these rows lack, in the folder that is scanned, is made at once, as far as it
+    /// can be.
+    fn prepare(&mut self, rows: &[DirRow])
+        ensures { Prepares rows.now self.old self.new }
     {
-        let locked = core::mem::replace(&mut self.locked, Vec::new(self.alloc));
-        Names::from_vec(locked)
+        self.system.prepare(self.folder.as_str(), rows);
     }
 
     /// svscan itself is served exactly where its folder was opened and locked, its record was written, and it was
@@ -317,9 +310,9 @@ where
             Err(fault) => return Err(OwnFault::Unopened(fault)),
         };
         self.system.record(&folder, bytes);
-        if !self.system.admit(OWN_NUMBER, &folder, sender) {
+        if let Err(cause) = self.system.admit(OWN_NUMBER, &folder, sender) {
             self.system.dismiss(OWN_NUMBER, &folder);
-            return Err(OwnFault::NotAdmitted);
+            return Err(OwnFault::NotAdmitted(cause));
         }
         self.own = Some(folder);
         Ok(())

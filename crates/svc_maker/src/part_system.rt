@@ -1,5 +1,7 @@
 //! What the operating system does for the parts of services.
 use crate::kept_folder::LockedFolder;
+use cmd_base::Cause;
+use scan_table::DirRow;
 use std::alloc::Global;
 use std::fs::File;
 use std::io::PipeReader;
@@ -13,13 +15,14 @@ use svc_world::{Flow, FolderFault, LoggerInput, OutputEnds};
 /// (`calls`), where they are kept. They may stop to be kept, as where there is no memory for more, and are not kept
 /// again.
 pub trait PartSystem {
-    ghost use Rattle.std.specs.Prelude.{◌≡◌, Option, Some, None, List, [], ◌∷◌, is_some};
-    ghost use Rattle.std.specs.Prelude.{string_bytes, IfOk, IfErr, IfSome, OnOk};
+    ghost use Rattle.std.specs.Prelude.{◌≡◌, Option, Some, None, List, [], ◌∷◌};
+    ghost use Rattle.std.specs.Prelude.{string_bytes, IfOk, IfErr, OnOk};
+    ghost use Rattle.std.specs.Result.{result_err};
     ghost use Rattle.svc_host.specs.Answers.{answered};
     ghost use Rattle.svc_house.specs.Calls.{ExtendedWhileKept};
     ghost use Rattle.svc_left.specs.Process.{IsLiving};
     ghost use Rattle.svc_maker.specs.Calls.{Call, MadePipe, OpenedOutput, Opened, FoundLeft, Admitted, Dismissed};
-    ghost use Rattle.svc_maker.specs.Calls.{KeptTrace, MakesWorld, OpenedOwn, Recorded, WatchedOutputs};
+    ghost use Rattle.svc_maker.specs.Calls.{KeptTrace, MakesWorld, OpenedOwn, Prepared, Recorded, WatchedOutputs};
 
     ghost calls: { Self → Option (List Call) } = { λ _. None };
 
@@ -29,12 +32,17 @@ pub trait PartSystem {
 
     type Reaper: Reaper + Drop;
 
-    /// Makes a pipe for the input of a logger, or none. What it takes is counted in the flow.
-    fn pipe(&mut self, flow: &Arc<Flow, Global>) -> Option<(PipeReader, LoggerInput)>
+    /// Makes what the outputs of the services of these rows of a folder need and lack, all at once, as far as it can:
+    /// each is made by itself else, as it is opened.
+    fn prepare(&mut self, folder: &str, rows: &[DirRow])
+        ensures calls { ExtendedWhileKept (calls self.old) (calls self.new) (Prepared folder.now rows.now ∷ []) };
+
+    /// Makes a pipe for the input of a logger. What it takes is counted in the flow.
+    fn pipe(&mut self, flow: &Arc<Flow, Global>) -> Result<(PipeReader, LoggerInput), Cause>
         ensures calls { ExtendedWhileKept (calls self.old) (calls self.new) (MadePipe result ∷ []) };
 
-    /// Opens the output of the service in the folder at a path, or none.
-    fn output(&mut self, path: &str) -> Option<OutputEnds>
+    /// Opens the output of the service in the folder at a path.
+    fn output(&mut self, path: &str) -> Result<OutputEnds, Cause>
         ensures calls { ExtendedWhileKept (calls self.old) (calls self.new) (OpenedOutput path.now result ∷ []) };
 
     /// Opens the folder at a path and takes its lock. Both are kept until the folder is let go.
@@ -69,7 +77,7 @@ pub trait PartSystem {
             (FoundLeft (Self.Folder.path folder.now) result ∷ []) }
         ensures process { IsLiving result.process };
 
-    /// The world of the service in a folder of which this was left, and what waits for its processes, or none where it
+    /// The world of the service in a folder of which this was left, and what waits for its processes, or why it
     /// can't be made. A process that lives on is adopted. Each child has copies of these ends of pipes as standard
     /// input and output, and svscan's own where there is none. The notifier is notified where there is news. By this
     /// name the service is told.
@@ -81,15 +89,21 @@ pub trait PartSystem {
         input: Option<&PipeReader>,
         output: Option<&File>,
         notifier: Arc<Notifier, Global>,
-    ) -> Option<(Self::World, Self::Reaper)>
+    ) -> Result<(Self::World, Self::Reaper), Cause>
         ensures calls { MakesWorld (calls self.old) (calls self.new) (Self.Folder.path folder.now) name.now left.now
-            input.entry output.entry (is_some result) }
-        ensures fresh { IfSome result (λ made. answered (Self.World.calls made.0) ≡ []) };
+            input.entry output.entry (result_err result) }
+        ensures fresh { IfOk result (λ made. answered (Self.World.calls made.0) ≡ []) };
 
-    /// Admits a part to the door, by the sockets of its folder, or not. The number is one that no other part there has.
-    fn admit(&mut self, number: u64, folder: &Self::Folder, sender: ControlSender) -> bool
+    /// Admits a part to the door, by the sockets of its folder, or says why not. The number is one that no other part
+    /// there has.
+    fn admit(
+        &mut self,
+        number: u64,
+        folder: &Self::Folder,
+        sender: ControlSender,
+    ) -> Result<(), Cause>
         ensures calls { ExtendedWhileKept (calls self.old) (calls self.new)
-            (Admitted number (Self.Folder.path folder.now) result ∷ []) };
+            (Admitted number (Self.Folder.path folder.now) (result_err result) ∷ []) };
 
     /// Dismisses a part from the door, where it is there, and removes the sockets of its folder.
     fn dismiss(&mut self, number: u64, folder: &Self::Folder)

@@ -3,14 +3,16 @@ ghost use Rattle.std.specs.Prelude.{◌≡◌, ◌≢◌, ◌++◌, ◌∷◌, [
 ghost use Rattle.std.specs.Result.{result_err, result_ok};
 ghost use Rattle.svc_maker.specs.declared.set_up.MakeFault.{MakeFault};
 ghost use Rattle.svc_host.specs.Answers.{answered};
-ghost use Rattle.svc_maker.specs.Making.{IsSetUp, behind, part_name, plan_at};
+ghost use Rattle.svc_maker.specs.Making.{IsSetUp, behind, part_fault, part_name, plan_at};
 
 use crate::kept_folder::LockedFolder;
 use crate::part_system::PartSystem;
 use crate::pipes::{PairPipes, input_of, output_of, pipes_of};
+use cmd_base::Cause;
 use scan_table::{PartId, Role};
 use std::alloc::{AllocError, Global};
 use std::sync::Arc;
+use svc_host::PartFault;
 use svc_house::{ControlSender, Notifier};
 use svc_left::Opening;
 use svc_world::FolderFault;
@@ -23,9 +25,22 @@ pub(crate) enum MakeFault {
     /// Its folder was not opened.
     Unopened(FolderFault),
     /// Its world was not made.
-    NoWorld,
+    NoWorld(Cause),
     /// It was not admitted to the door.
-    NotAdmitted,
+    NotAdmitted(Cause),
+}
+
+/// Why a part was not made, as its host is told.
+pub(crate) fn part_fault(fault: MakeFault) -> PartFault
+    ensures { result ≡ part_fault fault }
+{
+    match fault {
+        MakeFault::NoRoom => PartFault::Refused(Cause::NoMemory),
+        MakeFault::Unopened(FolderFault::Locked) => PartFault::Locked,
+        MakeFault::Unopened(FolderFault::NotOpened(cause))
+        | MakeFault::NoWorld(cause)
+        | MakeFault::NotAdmitted(cause) => PartFault::Refused(cause),
+    }
 }
 
 /// What a part that was set up has.
@@ -92,12 +107,13 @@ pub(crate) fn set_up<S: PartSystem>(
     let pair = pipes_of(pipes, part.slot);
     let input = input_of(pair, part.role);
     let output = output_of(pair, part.role);
-    let Some((world, reaper)) = system.world(&folder, name, &left, input, output, notifier) else {
-        return Err(MakeFault::NoWorld);
+    let (world, reaper) = match system.world(&folder, name, &left, input, output, notifier) {
+        Ok(made) => made,
+        Err(cause) => return Err(MakeFault::NoWorld(cause)),
     };
-    if !system.admit(part.life, &folder, sender) {
+    if let Err(cause) = system.admit(part.life, &folder, sender) {
         system.dismiss(part.life, &folder);
-        return Err(MakeFault::NotAdmitted);
+        return Err(MakeFault::NotAdmitted(cause));
     }
     Ok(PartSetup {
         folder,

@@ -4,7 +4,9 @@ ghost use Rattle.std.specs.Prelude.{◌≡◌, string_bytes, IfOk};
 use crate::kept_folder::LockedFolder;
 use crate::part_system::PartSystem;
 use crate::reaper::PartReaper;
-use cmd_base::SystemClock;
+use crate::set_up::part_path;
+use cmd_base::{Cause, SystemClock};
+use scan_table::DirRow;
 use std::alloc::{AllocError, Global};
 use std::fs::{File, Files};
 use std::io;
@@ -18,8 +20,8 @@ use svc_door::Door;
 use svc_house::{ControlSender, Notifier};
 use svc_left::{BootId, Found, Left};
 use svc_world::{
-    ChildReaper, ChildWorld, Flow, FolderFault, LoggerInput, OutputEnds, ServiceFolder,
-    SignalShell, Streams, SystemChildren, boot_id, open_output,
+    AdoptionWatch, ChildReaper, ChildWorld, Flow, FolderFault, LoggerInput, OutputEnds,
+    ServiceFolder, SignalShell, Streams, SystemChildren, boot_id, open_output, prepare_outputs,
 };
 use tai_status::TimeSource;
 
@@ -50,6 +52,7 @@ where
     clock: SystemClock<R>,
     shell: Arc<SignalShell<R>, Global>,
     door: Door<ControlSender>,
+    adoptions: AdoptionWatch,
     // At its end once the other end is let go: then outputs look after their flows.
     watch: Arc<PipeReader, Global>,
     unwatched: Option<PipeWriter>,
@@ -59,12 +62,14 @@ impl<R> SystemParts<R>
 where
     R: Files + Net + Processes<Started = SystemProcess> + Wait + Clock + Copy + Drop,
 {
-    /// With a door at which parts are called. Its shell for signals is started.
+    /// With a door at which parts are called, and what looks after the processes that are adopted. Its shell for signals
+    /// is started.
     pub fn new(
         runtime: R,
         files: HostRuntime,
         alloc: Global,
         door: Door<ControlSender>,
+        adoptions: AdoptionWatch,
     ) -> io::Result<SystemParts<R>> {
         let (watch, unwatched) = io::pipe(&runtime)?;
         Ok(SystemParts {
@@ -75,6 +80,7 @@ where
             clock: SystemClock::new(runtime),
             shell: Arc::new(alloc, SignalShell::new(runtime, alloc))?,
             door,
+            adoptions,
             watch: Arc::new(alloc, watch)?,
             unwatched: Some(unwatched),
         })
@@ -111,8 +117,19 @@ where
                 folder,
                 path: Snapshot::of(path),
             }),
-            Err(_) => Err(FolderFault::NotOpened),
+            Err(_) => Err(FolderFault::NotOpened(Cause::NoMemory)),
         }
+    }
+
+    // Prepares the outputs of the services of rows that have loggers.
+    fn try_prepare(&self, folder: &str, rows: &[DirRow]) -> io::Result<()> {
+        let mut folders = Vec::new(self.alloc);
+        for row in rows {
+            if row.is_eligible() && row.is_pair() {
+                folders.push(part_path(self.alloc, folder, row.name.as_str())?)?;
+            }
+        }
+        prepare_outputs(&self.runtime, &self.files, self.alloc, &folders)
     }
 
     // Admits a part to the door, where there is one.
@@ -151,14 +168,18 @@ where
 
     type Reaper = PartReaper;
 
-    fn pipe(&mut self, flow: &Arc<Flow, Global>) -> Option<(PipeReader, LoggerInput)> {
-        let flow = Arc::try_clone(flow).ok()?;
-        let (reader, writer) = io::pipe(&self.runtime).ok()?;
-        Some((reader, LoggerInput::new(writer, flow)))
+    fn prepare(&mut self, folder: &str, rows: &[DirRow]) {
+        let _ = self.try_prepare(folder, rows);
     }
 
-    fn output(&mut self, path: &str) -> Option<OutputEnds> {
-        open_output(&self.runtime, &self.files, self.alloc, path, &self.watch).ok()
+    fn pipe(&mut self, flow: &Arc<Flow, Global>) -> Result<(PipeReader, LoggerInput), Cause> {
+        let flow = Arc::try_clone(flow)?;
+        let (reader, writer) = io::pipe(&self.runtime)?;
+        Ok((reader, LoggerInput::new(writer, flow)))
+    }
+
+    fn output(&mut self, path: &str) -> Result<OutputEnds, Cause> {
+        Ok(open_output(&self.runtime, &self.files, self.alloc, path, &self.watch)?)
     }
 
     fn open(&mut self, path: String) -> Result<OpenFolder, FolderFault> {
@@ -191,16 +212,15 @@ where
         input: Option<&PipeReader>,
         output: Option<&File>,
         notifier: Arc<Notifier, Global>,
-    ) -> Option<(ChildWorld<SystemChildren<R>>, PartReaper)> {
-        let Ok(streams) = copies(input, output) else {
-            return None;
-        };
+    ) -> Result<(ChildWorld<SystemChildren<R>>, PartReaper), Cause> {
+        let streams = copies(input, output)?;
         let _ = folder.folder.remove_counts();
-        let Ok((mut children, reaper)) = self.children(folder, name, streams, notifier) else {
-            return None;
-        };
+        let theirs = Arc::try_clone(&notifier)?;
+        let (mut children, reaper) = self.children(folder, name, streams, notifier)?;
         let adopted = match &left.process {
             Found::Lives(process) => {
+                self.adoptions
+                    .add(&self.runtime, self.files, process, theirs)?;
                 children.adopt(process);
                 Some(process.pid)
             }
@@ -208,11 +228,16 @@ where
         };
         let earlier = folder.folder.earlier(self.alloc, adopted);
         let world = ChildWorld::new(children, self.boot, earlier, adopted);
-        Some((world, PartReaper { reaper }))
+        Ok((world, PartReaper { reaper }))
     }
 
-    fn admit(&mut self, number: u64, folder: &OpenFolder, sender: ControlSender) -> bool {
-        self.try_admit(number, &folder.folder, sender).is_ok()
+    fn admit(
+        &mut self,
+        number: u64,
+        folder: &OpenFolder,
+        sender: ControlSender,
+    ) -> Result<(), Cause> {
+        Ok(self.try_admit(number, &folder.folder, sender)?)
     }
 
     fn dismiss(&mut self, number: u64, folder: &OpenFolder) {

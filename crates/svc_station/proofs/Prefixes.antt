@@ -3,7 +3,7 @@ use Rattle.std.proofs.Common.{◌≡◌, ◌≤◌, ℕ, nat_le, Bool, true, fal
 use Rattle.std.proofs.Common.{subst, take, ◌∙◌, arith, append_assoc}
 use Rattle.std.proofs.lemmas.List.{take_all}
 use mathlib.Core.List.{IsPrefix}
-use Rattle.std.specs.Prelude.{MatchBool}
+use Rattle.std.specs.Prelude.{◌↔◌}
 
 -- each list begins with itself
 pub prefix_self : {A : Type 0} (xs : List A) → IsPrefix xs xs
@@ -41,13 +41,32 @@ begins_all mine other both all key own theirs goes_on few is =
     (sym (prefix_whole mine all (prefix_trans mine both all own goes_on) (omega (arith, few, is))))
     (prefix_trans other both all theirs goes_on)
 
--- Of two prefixes of one list the one that is not longer begins the other.
+-- what begins a list is not longer than that
+pub le_of_prefix : {A : Type 0} (xs ys : List A) → IsPrefix xs ys → length xs ≤ length ys
+le_of_prefix [] ys p = omega arith
+le_of_prefix (x ∷ xs) [] p = absurd (cc (p.1))
+le_of_prefix (x ∷ xs) (y ∷ ys) p = let rest = le_of_prefix xs ys (p.0, cc (p.1)) in omega arith
+
+-- One beginning of a list begins another exactly where it is not longer.
 pub begins_by_length : {A : Type 0} (mine theirs whole : List A) (a b : ℕ) (answer : Bool) → a ≡ length mine
     → b ≡ length theirs → nat_le a b ≡ answer
-    → IsPrefix mine whole → IsPrefix theirs whole → MatchBool answer (IsPrefix mine theirs) (IsPrefix theirs mine)
-begins_by_length mine theirs whole a b true long other is own learnt =
-    let less : length mine ≤ length theirs = grind (arith, long, other, is) in
-    prefix_shorter mine theirs whole own learnt less
-begins_by_length mine theirs whole a b false long other is own learnt =
-    let less : length theirs ≤ length mine = grind (arith, long, other, is) in
+    → IsPrefix mine whole → IsPrefix theirs whole → (answer ≡ true) ↔ IsPrefix mine theirs
+begins_by_length mine theirs whole a b answer other is long own learnt = (
+  λ yes.
+      let le : nat_le a b ≡ true = long ∙ yes in
+      let less : length mine ≤ length theirs = grind (arith, le, other, is) in
+      prefix_shorter mine theirs whole own learnt less,
+  λ begins.
+      let less : length mine ≤ length theirs = le_of_prefix mine theirs begins in
+      let le : nat_le a b ≡ true = grind (arith, less, other, is) in
+      sym long ∙ le,
+)
+
+-- and where it doesn't the other begins it
+pub else_by_length : {A : Type 0} (mine theirs whole : List A) (a b : ℕ) (answer : Bool) → a ≡ length mine
+    → b ≡ length theirs → nat_le a b ≡ answer
+    → IsPrefix mine whole → IsPrefix theirs whole → answer ≡ false → IsPrefix theirs mine
+else_by_length mine theirs whole a b answer other is long own learnt longer =
+    let le : nat_le a b ≡ false = long ∙ longer in
+    let less : length theirs ≤ length mine = grind (arith, le, other, is) in
     prefix_shorter theirs mine whole learnt own less

@@ -47,7 +47,7 @@ pub struct Prefix {
 }
 
 impl Prefix {
-    ghost use Rattle.std.specs.Prelude.{◌≡◌, MatchBool};
+    ghost use Rattle.std.specs.Prelude.{◌≡◌, ◌↔◌, true, false};
     ghost use mathlib.Core.List.{IsPrefix};
 
     /// A copy.
@@ -63,9 +63,8 @@ impl Prefix {
     /// Whether the other goes at least as far: of two beginnings of one history the shorter begins the longer.
     pub(crate) fn begins(&self, other: &Prefix) -> bool
         requires { other.now.seen.book ≡ self.now.seen.book }
-        ensures { let mine = self.now.seen.log in
-            let theirs = other.now.seen.log in
-            MatchBool result (IsPrefix mine theirs) (IsPrefix theirs mine) }
+        ensures begins { (result ≡ true) ↔ IsPrefix self.now.seen.log other.now.seen.log }
+        ensures other { result ≡ false → IsPrefix other.now.seen.log self.now.seen.log }
     {
         let mut both = self.seen.again();
         both.learn(&other.seen);

@@ -1,12 +1,11 @@
 //! What waits for the children of a service.
 use crate::begin::Death;
-use crate::processes::AdoptedProcess;
 use cmd_base::SystemClock;
 use std::alloc::{AllocError, Global};
 use std::process::{Child, SystemProcess};
 use std::sync::atomic::{AtomicBool, Ordering};
 use std::sync::{Arc, Mutex, OnceLock, Wait};
-use std::time::{Clock, Duration};
+use std::time::Clock;
 use svc_exit::ending_of;
 use svc_house::Notifier;
 use tai_status::TimeSource;
@@ -14,22 +13,17 @@ use tai_status::TimeSource;
 /// Where a child's death is put.
 pub(crate) type DeathSlot = Arc<OnceLock<Death>, Global>;
 
-/// After how many seconds is looked again whether a process lives that was adopted.
-const LOOK_SECONDS: u64 = 1;
-
-/// A process that is handed to the reaper.
+/// A child that is handed to the reaper, and where its death is put.
 #[derive(Drop)]
-pub(crate) enum Watched {
-    /// A child, and where its death is put.
-    Child(Child<SystemProcess>, DeathSlot),
-    /// A process that was adopted. Whoever has it finds itself that it is gone.
-    Adopted(AdoptedProcess),
+pub(crate) struct WatchedChild {
+    pub(crate) child: Child<SystemProcess>,
+    pub(crate) death: DeathSlot,
 }
 
-/// What the slot and the reaper share: the process that is handed over, and the notifier that the reaper waits for.
+/// What the slot and the reaper share: the child that is handed over, and the notifier that the reaper waits for.
 #[derive(Drop)]
 struct SlotState {
-    watched: Mutex<Option<Watched>>,
+    watched: Mutex<Option<WatchedChild>>,
     closed: AtomicBool,
     notifier: Notifier,
 }
@@ -48,8 +42,8 @@ impl Drop for ChildSlot {
 }
 
 impl ChildSlot {
-    /// Hands a process over.
-    pub(crate) fn put<R: Wait>(&self, rt: &R, watched: Watched) {
+    /// Hands a child over.
+    pub(crate) fn put<R: Wait>(&self, rt: &R, watched: WatchedChild) {
         *self.state.watched.lock(rt) = Some(watched);
         self.state.notifier.notify();
     }
@@ -85,8 +79,7 @@ impl ChildReaper {
         ))
     }
 
-    /// Waits for each child of the service, puts its death in its place, and then notifies the service's notifier.
-    /// Where a process was adopted, it looks once a second whether that lives, and notifies once it doesn't. It
+    /// Waits for each child of the service, puts its death in its place, and then notifies the service's notifier. It
     /// returns once the service's children are let go and the child that it waits for has died.
     pub fn run<R: Wait + Clock + Copy + Drop>(self, rt: R) {
         let ChildReaper { state, notifier } = self;
@@ -94,31 +87,15 @@ impl ChildReaper {
         for _ in rt.forever() {
             let handed = state.watched.lock(&rt).take();
             match handed {
-                Some(Watched::Child(mut child, death)) => {
+                Some(WatchedChild { mut child, death }) => {
                     let ending = ending_of(child.wait());
                     let label = clock.now();
                     let _ = death.set(&rt, Death { ending, label });
-                    notifier.notify();
-                }
-                Some(Watched::Adopted(process)) => {
-                    watch(rt, &state, &process);
                     notifier.notify();
                 }
                 None if state.closed.load(Ordering::SeqCst) => return,
                 None => state.notifier.wait(&rt, None),
             }
         }
-    }
-}
-
-/// Returns once a process that was adopted is gone, or the service's children are let go.
-fn watch<R: Wait + Clock + Copy + Drop>(rt: R, state: &SlotState, process: &AdoptedProcess) {
-    for _ in rt.forever() {
-        if state.closed.load(Ordering::SeqCst) || !process.lives() {
-            return;
-        }
-        state
-            .notifier
-            .wait(&rt, Some(Duration::from_secs(LOOK_SECONDS)));
     }
 }

@@ -5,10 +5,10 @@ ghost use Rattle.svc_left.specs.Process.{IsLiving};
 
 use crate::processes::{find_orphan, path_of_process, read_front, tick_of};
 use arrayvec::ArrayString;
-use cmd_base::{StatusFront, path_by_descriptor, read_status_front};
+use cmd_base::{Cause, StatusFront, path_by_descriptor, read_status_front};
 use mio::net::UnixListener;
 use std::alloc::Global;
-use std::fs::{DirBuilder, File, Files, OpenOptions, Permissions, TryLockError};
+use std::fs::{DirBuilder, File, Files, Metadata, OpenOptions, Permissions, TryLockError};
 use std::io::{Error, ErrorKind, Write};
 use std::net::Net;
 use std::os::fd::AsRawFd;
@@ -37,7 +37,30 @@ pub enum FolderFault {
     Locked,
     /// It is no folder, or something in it could not be opened or made.
     #[error("unable to open")]
-    NotOpened,
+    NotOpened(Cause),
+}
+
+impl From<Error> for FolderFault {
+    fn from(fault: Error) -> FolderFault {
+        FolderFault::NotOpened(Cause::of(&fault))
+    }
+}
+
+/// By what a file is known, whatever its names.
+#[derive(Clone, Copy, Debug, PartialEq, Eq)]
+struct FileId {
+    device: u64,
+    inode: u64,
+}
+
+impl FileId {
+    /// That of a file of which this was found.
+    fn of(found: &Metadata) -> FileId {
+        FileId {
+            device: found.dev(),
+            inode: found.ino(),
+        }
+    }
 }
 
 /// The folder of a service, with its lock. It is held by descriptor, so that it is reached whatever becomes of its
@@ -67,7 +90,7 @@ fn open_folder<R: Files<File = File>>(runtime: &R, path: &str) -> io::Result<Fil
 }
 
 /// Makes a folder that is its owner's alone. One that is there becomes so.
-pub(crate) fn make_private<R: Files<File = File>>(runtime: &R, path: &str) -> io::Result<()> {
+fn make_private<R: Files<File = File>>(runtime: &R, path: &str) -> io::Result<()> {
     let mut how = DirBuilder::new();
     how.mode(FOLDER_MODE);
     match how.create(runtime, path) {
@@ -76,6 +99,38 @@ pub(crate) fn make_private<R: Files<File = File>>(runtime: &R, path: &str) -> io
         Err(fault) => return Err(fault),
     }
     fs::set_permissions(runtime, path, Permissions::from_mode(FOLDER_MODE))
+}
+
+/// Makes what a link in a folder names, as a folder that is its owner's alone. Its own folder has to be there.
+fn make_linked<R: Files<File = File>>(
+    runtime: &R,
+    alloc: Global,
+    folder: &str,
+    link: &str,
+) -> io::Result<()> {
+    let named = fs::read_link(&(runtime, &alloc), link)?;
+    let named = named.as_str();
+    if named.starts_with('/') {
+        return make_private(runtime, named);
+    }
+    let path = format!(in alloc; "{folder}/{named}")?;
+    make_private(runtime, path.as_str())
+}
+
+/// Makes the folder `supervise` in a folder, which is its owner's alone. Where a link to nothing has its name, what that
+/// names is made.
+pub(crate) fn make_supervise<R: Files<File = File>>(
+    runtime: &R,
+    alloc: Global,
+    folder: &str,
+) -> io::Result<()> {
+    let path = format!(in alloc; "{folder}/supervise")?;
+    match make_private(runtime, path.as_str()) {
+        Err(fault) if fault.kind() == ErrorKind::NotFound => {
+            make_linked(runtime, alloc, folder, path.as_str())
+        }
+        made => made,
+    }
 }
 
 /// Opens a file for appending, which is its owner's alone, and makes it where it is missing.
@@ -146,24 +201,16 @@ impl ServiceFolder {
         if is_held(&files, path) {
             return Err(FolderFault::Locked);
         }
-        if make_missing(&files, path).is_err() {
-            return Err(FolderFault::NotOpened);
-        }
+        make_missing(&files, path)?;
         ServiceFolder::open(files, path)
     }
 
     /// Opens the folder at a path, makes its folder `supervise`, and takes the lock in that, without waiting for
     /// another that has it. The lock is held until this is let go.
     pub fn open(files: HostRuntime, path: &str) -> Result<ServiceFolder, FolderFault> {
-        let Ok(service) = open_folder(&files, path) else {
-            return Err(FolderFault::NotOpened);
-        };
-        if make_private(&files, path_in(&service, "supervise").as_str()).is_err() {
-            return Err(FolderFault::NotOpened);
-        }
-        let Ok(lock) = open_lock(&files, path_in(&service, "supervise/lock").as_str()) else {
-            return Err(FolderFault::NotOpened);
-        };
+        let service = open_folder(&files, path)?;
+        make_supervise(&files, files.alloc(), path_in(&service, ".").as_str())?;
+        let lock = open_lock(&files, path_in(&service, "supervise/lock").as_str())?;
         match lock.try_lock() {
             Ok(()) => Ok(ServiceFolder {
                 files,
@@ -171,7 +218,7 @@ impl ServiceFolder {
                 _lock: lock,
             }),
             Err(TryLockError::WouldBlock) => Err(FolderFault::Locked),
-            Err(TryLockError::Error(_)) => Err(FolderFault::NotOpened),
+            Err(TryLockError::Error(fault)) => Err(FolderFault::from(fault)),
         }
     }
 
@@ -356,7 +403,7 @@ impl ServiceFolder {
             fs::metadata(&self.files, path_of_process(pid, "cwd").as_str()),
             self.service.metadata(),
         ) {
-            (Ok(there), Ok(here)) => there.dev() == here.dev() && there.ino() == here.ino(),
+            (Ok(there), Ok(here)) => FileId::of(&there) == FileId::of(&here),
             _ => false,
         }
     }

@@ -4,9 +4,10 @@
 //! of a service that still runs, no signal to a process that may be another's, each start and each death told once,
 //! which process the service has is recorded at each start, and how it ended at each death, beside how many began and
 //! ended. Below that trait is the system's own layer, which tells contracts nothing: `ServiceFolder`, `SystemChildren`
-//! with their `ChildReaper`, `SignalShell`.
+//! with their `ChildReaper`, `AdoptionWatch`, `SignalShell`.
 #![tactic(auto)]
 
+mod adoption;
 mod begin;
 mod child_reaper;
 mod child_system;
@@ -18,12 +19,13 @@ mod shell;
 mod system;
 mod world;
 
+pub use adoption::AdoptionWatch;
 pub use begin::{Begin, Death, LastChild};
 pub use child_reaper::ChildReaper;
 pub use child_system::ChildSystem;
 pub use flow::{Flow, LoggerInput, ServiceOutput, drain, is_read};
 pub use folder::{FolderFault, ServiceFolder};
-pub use output::{OutputEnds, open_output};
+pub use output::{OutputEnds, open_output, prepare_outputs};
 pub use processes::boot_id;
 pub use shell::SignalShell;
 pub use system::{Streams, SystemChildren};

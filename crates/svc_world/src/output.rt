@@ -4,7 +4,7 @@
 //! writes while there is no svscan gets no signal and no error: it waits once the FIFO is full, and goes on with the
 //! next svscan. Where there can be no FIFO, or another svscan has the service, it is a pipe, which ends with svscan.
 use crate::flow::{Flow, ServiceOutput};
-use crate::folder::{make_private, open_lock, remove};
+use crate::folder::{make_supervise, open_lock, remove};
 use std::alloc::Global;
 use std::fs::{File, Files, OpenOptions};
 use std::io::{Error, ErrorKind, PipeReader};
@@ -29,28 +29,65 @@ fn is_fifo<R: Files<File = File>>(files: &R, path: &str) -> bool {
     }
 }
 
-/// Makes a FIFO that is its owner's alone, by the system's own tool, where it is not there. A file in its place is
-/// removed.
-fn make_fifo<R: Processes<Started = SystemProcess> + Wait>(
+/// Makes FIFOs at these paths that are their owner's alone, by one call of the system's own tool.
+fn make_fifos<R: Processes<Started = SystemProcess> + Wait>(
     rt: &R,
-    files: &HostRuntime,
     alloc: Global,
-    path: &str,
+    paths: &[String],
 ) -> io::Result<()> {
-    if is_fifo(files, path) {
-        return Ok(());
-    }
-    remove(files, path)?;
     let mut command = Command::new(alloc, "mkfifo")?;
-    command.arg("-m")?.arg("600")?.arg(path)?;
+    command.arg("-m")?.arg("600")?;
+    for path in paths {
+        command.arg(path.as_str())?;
+    }
     command.stderr(Stdio::null()).spawn(rt)?.wait()?;
     Ok(())
 }
 
+/// Whether the FIFO of the service in a folder is to be made: it is missing, and no svscan has the service. A file in its
+/// place is removed.
+fn lacks_fifo<R: Files<File = File>>(
+    files: &R,
+    alloc: Global,
+    folder: &str,
+    path: &str,
+) -> io::Result<bool> {
+    if is_fifo(files, path) || !is_free(files, alloc, folder)? {
+        return Ok(false);
+    }
+    remove(files, path)?;
+    Ok(true)
+}
+
+/// Makes the FIFOs of the services in these folders, where they are missing, by one call. Those that can't be made now are
+/// tried again one by one, as each output is opened.
+pub fn prepare_outputs<R: Processes<Started = SystemProcess> + Wait>(
+    rt: &R,
+    files: &HostRuntime,
+    alloc: Global,
+    folders: &[String],
+) -> io::Result<()> {
+    let mut paths = Vec::new(alloc);
+    for folder in folders {
+        let path = path_of_output(alloc, folder.as_str())?;
+        if lacks_fifo(files, alloc, folder.as_str(), path.as_str()).unwrap_or(false) {
+            paths.push(path)?;
+        }
+    }
+    if paths.is_empty() {
+        return Ok(());
+    }
+    make_fifos(rt, alloc, &paths)
+}
+
+/// The path of the FIFO of the service in a folder.
+fn path_of_output(alloc: Global, folder: &str) -> io::Result<String> {
+    Ok(format!(in alloc; "{folder}/supervise/out")?)
+}
+
 /// Whether no svscan has the service in a folder.
 fn is_free<R: Files<File = File>>(files: &R, alloc: Global, folder: &str) -> io::Result<bool> {
-    let supervise = format!(in alloc; "{folder}/supervise")?;
-    make_private(files, supervise.as_str())?;
+    make_supervise(files, alloc, folder)?;
     let lock = format!(in alloc; "{folder}/supervise/lock")?;
     let file = open_lock(files, lock.as_str())?;
     if file.try_lock().is_err() {
@@ -71,8 +108,12 @@ fn open_fifo<R: Processes<Started = SystemProcess> + Wait>(
     if !is_free(files, alloc, folder)? {
         return Err(Error::from(ErrorKind::WouldBlock));
     }
-    let path = format!(in alloc; "{folder}/supervise/out")?;
-    make_fifo(rt, files, alloc, path.as_str())?;
+    let path = path_of_output(alloc, folder)?;
+    if !is_fifo(files, path.as_str()) {
+        remove(files, path.as_str())?;
+        let paths = [path_of_output(alloc, folder)?];
+        make_fifos(rt, alloc, &paths)?;
+    }
     if !is_fifo(files, path.as_str()) {
         return Err(Error::from(ErrorKind::InvalidInput));
     }

@@ -74,11 +74,13 @@ fn read_stat(line: &[u8]) -> Option<Stat> {
     })
 }
 
-/// What the kernel tells of the process of this number, if there is one.
+/// What the kernel tells of the process of this number, if there is one: it does so in one read.
 fn stat_of<R: Files<File = File>>(files: &R, pid: u32) -> Option<Stat> {
     let path = path_of_process(pid, "stat");
-    let line = read_front::<R, STAT_BYTES>(files, path.as_str()).ok()?;
-    read_stat(line.as_slice())
+    let mut file = fs::open(files, path.as_str()).ok()?;
+    let mut line = [0; STAT_BYTES];
+    let count = file.read(&mut line).ok()?.min(STAT_BYTES);
+    read_stat(&line[..count])
 }
 
 /// The tick at which the process of this number began that lives now, if there is one.

@@ -1,14 +1,17 @@
 //! The system's own children of one service.
-ghost use Rattle.std.specs.Prelude.{◌≡◌, [], ◌∷◌, codes, IfOk};
+ghost use Rattle.std.specs.Prelude.{◌≡◌, [], ◌∷◌, codes, option_copied, IfOk};
+ghost use Rattle.std.specs.IoError.{error_kind};
 ghost use Rattle.std.specs.Process.{command_args, command_program};
+ghost use Rattle.svc_world.specs.Commands.{first_program, first_words, still_runs, unable_to_run};
 
 use crate::begin::{Begin, Death};
-use crate::child_reaper::{ChildReaper, ChildSlot, DeathSlot, Watched};
+use crate::child_reaper::{ChildReaper, ChildSlot, DeathSlot, WatchedChild};
 use crate::child_system::ChildSystem;
 use crate::folder::ServiceFolder;
 use crate::processes::{AdoptedProcess, tick_of};
 use crate::shell::SignalShell;
-use cmd_base::SystemClock;
+use arrayvec::ArrayString;
+use cmd_base::{SystemClock, push_number};
 use std::alloc::{AllocError, Global};
 use std::fs::File;
 use std::io;
@@ -98,8 +101,32 @@ fn say(alloc: Global, name: &str, what: &str) -> Result<Command, AllocError>
     Ok(command)
 }
 
+/// What is said where the process of this number still runs.
+fn still_runs(pid: u32) -> ArrayString<64>
+    ensures { result.bytes ≡ still_runs pid }
+{
+    let mut text = ArrayString::new();
+    text.push_str("process ");
+    push_number(&mut text, u64::from(pid));
+    text.push_str(" still runs");
+    text
+}
+
+/// What a child that is begun so runs at first, of the service of this name.
+fn first_command(alloc: Global, name: &str, begin: Begin) -> Result<Command, AllocError>
+    ensures program { IfOk result (λ command. command_program command ≡ first_program begin) }
+    ensures words { IfOk result (λ command. command_args command ≡ first_words SAY.now name.now begin) }
+{
+    match begin {
+        Begin::Run => run(alloc),
+        Begin::StillRuns(pid) => say(alloc, name, still_runs(pid).as_str()),
+    }
+}
+
 /// What is said of a `run` that can't be executed, or none where a shell may still run it.
-fn unable_to_run(fault: &io::Error) -> Option<&'static str> {
+fn unable_to_run(fault: &io::Error) -> Option<&'static str>
+    ensures { option_copied result ≡ unable_to_run (error_kind fault.now) }
+{
     match fault.kind() {
         ErrorKind::NotFound => Some("unable to run ./run: No such file or directory"),
         ErrorKind::PermissionDenied => Some("unable to run ./run: Permission denied"),
@@ -139,15 +166,13 @@ where
         Ok((children, reaper))
     }
 
-    /// The process is adopted that runs for the service already.
+    /// The process is adopted that runs for the service already. That it is gone is found when its death is sought.
     pub fn adopt(&mut self, process: &ProcessId) {
-        let adopted = AdoptedProcess {
+        self.death = DeathSource::Process(AdoptedProcess {
             files: self.files,
             pid: process.pid,
             tick: process.tick,
-        };
-        self.slot.put(&self.runtime, Watched::Adopted(adopted));
-        self.death = DeathSource::Process(adopted);
+        });
     }
 
     /// Starts a command in the folder, with the streams.
@@ -172,15 +197,10 @@ where
 
     /// Makes a child. Where `./run` can't be executed it is a shell, which says why.
     fn make(&self, begin: Begin) -> io::Result<Child<SystemProcess>> {
-        match begin {
-            Begin::Run => match self.launch(run(self.alloc)?) {
-                Ok(child) => Ok(child),
-                Err(fault) => self.launch(self.in_place_of_run(&fault)?),
-            },
-            Begin::StillRuns(pid) => {
-                let what = format!(in self.alloc; "process {pid} still runs")?;
-                self.launch(say(self.alloc, self.name.as_str(), what.as_str())?)
-            }
+        let first = first_command(self.alloc, self.name.as_str(), begin)?;
+        match (self.launch(first), begin) {
+            (Err(fault), Begin::Run) => self.launch(self.in_place_of_run(&fault)?),
+            (made, _) => made,
         }
     }
 
@@ -197,7 +217,11 @@ where
         let theirs = Arc::try_clone(&death)?;
         let child = self.make(begin)?;
         let pid = child.id();
-        self.slot.put(&self.runtime, Watched::Child(child, theirs));
+        let watched = WatchedChild {
+            child,
+            death: theirs,
+        };
+        self.slot.put(&self.runtime, watched);
         self.death = DeathSource::Slot(death);
         Ok(pid)
     }

@@ -4,12 +4,21 @@ use Rattle.std.specs.Prelude.{List, ℕ, [], ◌∷◌, Bool, true, false, bytes
 use Rattle.clap.specs.Kinds.{Kinds}
 use Rattle.clap.specs.Words.{App, Row, Rule, fault_of, first_of, matches_of, new_app, new_rule, with_rule}
 use Rattle.clap.specs.declared.builder.action.ArgAction.TheVariants.{Set, SetTrue}
+use Rattle.trace_words.specs.declared.TraceWords.{TraceWords}
 
 -- What words ask for: a file; what to break at, where that is asked; and whether local times are.
 pub record Request : Type 0 where
   pub file : List ℕ
   pub at : Option (List ℕ)
   pub local : Bool
+
+-- what the words that were read ask for
+abbrev pub request_of : TraceWords → Request
+request_of words = record {
+  file = words.file.now;
+  at = option_map (λ at. at.now) words.at;
+  local = words.local;
+}
 
 -- the word FILE, which must be there
 abbrev pub file_rule : Rule

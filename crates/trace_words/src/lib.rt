@@ -6,7 +6,7 @@
 
 ghost use Rattle.std.specs.Prelude.{◌≡◌, map, IfOk, IfErr, Some, None, option_map};
 ghost use Rattle.clap.specs.Words.{FailsBy, fault_of, found_of, matches_of, rows_of};
-ghost use Rattle.trace_words.specs.Words.{asked_of, is_set, trace_line};
+ghost use Rattle.trace_words.specs.Words.{asked_of, is_set, request_of, trace_line};
 
 mod laws;
 
@@ -33,8 +33,8 @@ pub enum WordsFault {
 /// What words ask for, read as `FILE [--break SPEC] [--local]`, the options before the file or after it, the
 /// value of `--break` in the next word or behind `=`. What the command line does not take is `Wrong`.
 pub fn parse_words<'a>(alloc: Global, words: &'a [&'a str]) -> Result<TraceWords<'a>, WordsFault>
-    ensures asked { IfOk result (λ asked. asked_of (map (λ word. word.now) words.entry.now)
-        ≡ Some (record { file = asked.file.now; at = option_map (λ at. at.now) asked.at; local = asked.local })) }
+    ensures asked { IfOk result (λ asked.
+        asked_of (map (λ word. word.now) words.entry.now) ≡ Some (request_of asked)) }
     ensures wrong { IfErr result (λ fault. fault ≡ WordsFault.Wrong
         → asked_of (map (λ word. word.now) words.entry.now) ≡ None) }
 {

@@ -7,7 +7,7 @@ use Rattle.cmd_envdir.proofs.command.write_words.Goals as goal
 pub returns-in-Err : goal.returns-in-Err
 returns-in-Err g c =
     let cause = c.fault_of.result in
-    let of_none = of_no_file cause [] c.fault_of.ensures.either in
+    let of_none = of_no_file cause c.fault_of.ensures.either in
     let folder = (g.R.EnvSystem.state c.args.rt.now).folder c.args.dir.now in
     record {
       ends = inr (record {

@@ -11,7 +11,13 @@ returns-in-Ok-run_parts g c =
         inr (record {
           opened = c.open_all.new.store;
           opens = c.in-Ok-open_all.ensures.ok;
-          runs = record { ran = None; runs = c.in-Ok-run_parts.ensures; status_is = refl; told = refl };
+          runs = record {
+            ran = None;
+            asked = c.in-Ok-run_parts.ensures.stays.asked;
+            runs = c.in-Ok-run_parts.ensures.runs;
+            status_is = refl;
+            told = refl;
+          };
         }),
       );
     }
@@ -27,7 +33,8 @@ returns g c =
           opens = c.in-Ok-open_all.ensures.ok;
           runs = record {
             ran = Some c.in-Err-run_parts.fault;
-            runs = c.in-Err-run_parts.ensures;
+            asked = c.in-Err-run_parts.ensures.stays.asked;
+            runs = c.in-Err-run_parts.ensures.runs;
             status_is = c.report.ensures.status;
             told = subst (λ (t : List ℕ). Tells c.args.faults.now c.report.new.faults t) c.run_text.ensures
                 c.report.ensures.told;

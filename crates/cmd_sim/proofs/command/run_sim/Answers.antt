@@ -3,8 +3,8 @@ use Rattle.cmd_base.specs.Console.{console}
 use Rattle.cmd_sim.proofs.Words.{wrong_word}
 use Rattle.cmd_sim.proofs.command.run_sim.Goals as goal
 
-pub returns-in-len1 : goal.returns-in-len1
-returns-in-len1 g c = record {
+pub returns-in_default : goal.returns-in_default
+returns-in_default g c = record {
   ends = wrong_word (λ word. word.now) c.args.words.now _ c.usage.result
       (console c.args.reader.now c.args.writer.now c.args.faults.now)
       (console c.args.reader.now c.args.writer.now c.usage.new.faults) c.in-len1.len_below c.in-len1.len_at_least

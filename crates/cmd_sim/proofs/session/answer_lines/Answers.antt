@@ -103,7 +103,8 @@ returns-in-Err-Read-clause-read g c = λ is.
     let s = c.in_ok-answer_pending.ensures.ok _ _ _ c.reads.invariant.0 in (
       subst (λ (n : ℕ). Rose n c.fill.new.reader.faults) c.reads.invariant.4
           (c.in-Err-Read.ensures.read (ap Err c.in-Err-Read.field-0-is)),
-      read_failed s c.in_ok-answer_pending.ensures.waiting c.in-Err-Read.ensures.kept.1,
+      read_failed s c.in_ok-answer_pending.ensures.waiting c.in_ok-answer_pending.ensures.plain
+          c.in-Err-Read.ensures.kept.1,
     )
 
 pub returns-in-Err-TooLong-clause-refused_works : goal.returns-in-Err-TooLong-clause-refused_works

@@ -1,7 +1,7 @@
 use Rattle.std.proofs.Common.{rules, ◌≡◌, ◌∙◌, ◌+◌, ◌<◌, ℕ, List, [], ◌∷◌, ◌++◌, take, length, ap, sym, subst, false}
 use Rattle.std.proofs.lemmas.List.{take_more}
 use Rattle.cmd_svc.specs.Turns.{InTurn}
-use Rattle.cmd_svc.specs.Svc.{effects, sending, Serves}
+use Rattle.cmd_svc.specs.Svc.{sending, Serves}
 use Rattle.cmd_svc.proofs.Turns.{in_turn-then}
 use Rattle.cmd_svc.proofs.svc.serve_each.Goals as goal
 
@@ -10,9 +10,9 @@ loop-name-preserved g c =
     let names = c.args.names.now in
     let i = c.loop-name.name-index in
     let bytes = c.args.bytes.now in
-    let old = sending (effects (g.S.Services.calls c.args.services.now) c.args.faults.now) false in
-    let middle = sending (effects (g.S.Services.calls c.loop-name.services) c.loop-name.faults) c.loop-name.missed in
-    let new = sending (effects (g.S.Services.calls c.serve-missed.new.services) c.serve-missed.new.faults)
+    let old = sending (g.S.Services.calls c.args.services.now) c.args.faults.now false in
+    let middle = sending (g.S.Services.calls c.loop-name.services) c.loop-name.faults c.loop-name.missed in
+    let new = sending (g.S.Services.calls c.serve-missed.new.services) c.serve-missed.new.faults
     c.serve-missed.result in
     let name = c.as_str.result.now in
     let within : i < length names = search rules in

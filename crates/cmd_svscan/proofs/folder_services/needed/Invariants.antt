@@ -1,8 +1,9 @@
-use Rattle.std.proofs.Common.{◌≡◌, map}
+use Rattle.std.proofs.Common.{◌≡◌, map, take}
 use Rattle.std.specs.Prelude.{string_bytes}
 use Rattle.cmd_svscan.specs.Listing.{needed}
 use Rattle.cmd_svscan.proofs.folder_services.needed.Given as goal
 
 -- those found are the ones that are needed of the names so far
 abbrev pub invariant-loop-name : goal.invariant-loop-name
-invariant-loop-name g l = map string_bytes l.found.items ≡ needed l.host.table.slots (map string_bytes l.yielded)
+invariant-loop-name g l =
+    map string_bytes l.found.items ≡ needed l.host.table.slots (map string_bytes (take l.name-index l.names))

@@ -1,17 +1,29 @@
-use Rattle.std.proofs.Common.{subst, sym, List, ℕ, ◌++◌, [], ◌∷◌}
+use Rattle.std.proofs.Common.{rules, ◌≡◌, subst, sym, List, ℕ, ◌++◌, [], ◌∷◌}
 use Rattle.std.specs.Prelude.{codes}
 use Rattle.tai_status.specs.Counted.{Tells}
 use Rattle.cmd_svscan.specs.declared.service_set.Begun.{Begun}
-use Rattle.cmd_svscan.specs.Rounds.{TellsAll, lines_of_begun}
+use Rattle.cmd_svscan.specs.Rounds.{TellsAll, lines_of_begun, name_told, unable_to_supervise}
 use Rattle.cmd_svscan.proofs.Telling.{tells-one}
 use Rattle.cmd_svscan.proofs.rounds.report_begun.Goals as goal
+
+pub returns-in-Unserved : goal.returns-in-Unserved
+returns-in-Unserved g c =
+    let folder = c.args.folder.now in
+    let cause = c.in-Unserved.cause in
+    let old = c.args.faults.now in
+    let new = c.report_parts.new.faults in
+    let text = c.as_bytes.result.now in
+    let what : text ≡ unable_to_supervise cause = search rules in
+    let told = subst (λ (t : List ℕ). Tells old new (name_told t (codes ".svscan"))) what c.report_parts.ensures.told in
+    subst (λ (begun : Begun). TellsAll (lines_of_begun folder begun) old new) (sym c.in-Unserved.is)
+    (tells-one (name_told (unable_to_supervise cause) (codes ".svscan")) old new told)
 
 pub returns-in-Locked : goal.returns-in-Locked
 returns-in-Locked g c =
     let folder = c.args.folder.now in
     let old = c.args.faults.now in
-    let new = c.report_parts.new.faults in
+    let new = c.report_parts-in-Locked.new.faults in
     let told = subst (λ (f : List ℕ). Tells old new (codes "svscan: unable to lock " ++ (f ++ 10 ∷ [])))
-    c.as_bytes.ensures.value c.report_parts.ensures.told in
+    c.as_bytes-in-Locked.ensures.value c.report_parts-in-Locked.ensures.told in
     subst (λ (begun : Begun). TellsAll (lines_of_begun folder begun) old new) (sym c.in-Locked.is)
     (tells-one (codes "svscan: unable to lock " ++ (folder ++ 10 ∷ [])) old new told)

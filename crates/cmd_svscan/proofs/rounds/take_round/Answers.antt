@@ -3,7 +3,8 @@ use Rattle.std.specs.Prelude.{codes}
 use Rattle.tai_status.specs.Counted.{Tells}
 use Rattle.cmd_svscan.specs.Calls.{Listed, Scanned}
 use Rattle.cmd_svscan.specs.Rounds.{Fails, Scan, Unlisted, kind_name, unlisted}
-use Rattle.cmd_svscan.proofs.Telling.{extended-then, tells-one}
+use Rattle.cmd_svscan.specs.Rounds.{lines_of_fault, lines_of_listing, lines_of_out}
+use Rattle.cmd_svscan.proofs.Telling.{extended-then, tells-one, tells-then}
 use Rattle.cmd_svscan.proofs.rounds.take_round.Goals as goal
 
 pub returns-in-Err-clause-round : goal.returns-in-Err-clause-round
@@ -14,41 +15,45 @@ returns-in-Err-clause-round g c =
     let told = subst (λ (line : List ℕ). Tells old new line) c.unlisted.ensures c.print_fault.ensures in (
       Unlisted fault,
       tt,
-      record { calls = c.in-Err.ensures.err; told = tells-one (unlisted fault) old new told },
+      record { calls = c.in-Err.ensures.listed; told = tells-one (unlisted fault) old new told },
     )
 
 pub returns-in-Ok-round-clause-round : goal.returns-in-Ok-round-clause-round
 returns-in-Ok-round-clause-round g c =
     let folder = c.args.folder.now in
-    let rows = c.in-Ok.rows.items in
+    let listing = c.in-Ok.listing in
     let out = c.in-Ok-round.out in
-    let calls = g.K.ServiceSet.calls in
-    let scanned = c.in-Ok-round.ensures.scanned in (
-      Scan rows out,
+    let calls = g.K.ServiceSet.calls in (
+      Scan listing out,
       tt,
       record {
         calls = extended-then (calls c.args.services.now) (calls c.list.new.self) (calls c.round.new.self)
-            (Listed folder (Ok rows) ∷ []) (Scanned folder rows (Ok out) ∷ []) c.in-Ok.ensures.ok scanned;
-        told = c.report_out.ensures;
+            (Listed folder (Ok listing) ∷ []) (Scanned folder listing.rows.items (Ok out) ∷ [])
+            c.in-Ok.ensures.listed c.in-Ok-round.ensures.scanned;
+        told = tells-then (lines_of_listing listing.unnamed listing.shortage) (lines_of_out out)
+            c.args.faults.now c.report_listing.new.faults c.report_out.new.faults
+            c.report_listing.ensures c.report_out.ensures;
       },
     )
 
 pub returns-in-Err-round-clause-round : goal.returns-in-Err-round-clause-round
 returns-in-Err-round-clause-round g c =
     let folder = c.args.folder.now in
-    let rows = c.in-Ok.rows.items in
+    let listing = c.in-Ok.listing in
     let fault = c.in-Err-round.fault in
     let calls = g.K.ServiceSet.calls in
-    let scanned = c.in-Err-round.ensures.scanned in
-    let told = subst (λ (k : List ℕ).
-    Tells c.args.faults.now c.report_parts.new.faults (codes "svscan: " ++ (k ++ 10 ∷ []))) c.kind.ensures
+    let middle = c.report_listing.new.faults in
+    let new = c.report_parts.new.faults in
+    let told = subst (λ (k : List ℕ). Tells middle new (codes "svscan: " ++ (k ++ 10 ∷ []))) c.kind.ensures
     c.report_parts.ensures.told in (
-      Fails rows fault,
+      Fails listing fault,
       search rules,
       record {
         calls = extended-then (calls c.args.services.now) (calls c.list.new.self) (calls c.round.new.self)
-            (Listed folder (Ok rows) ∷ []) (Scanned folder rows (Err fault) ∷ []) c.in-Ok.ensures.ok scanned;
-        told = tells-one (codes "svscan: " ++ (kind_name fault ++ 10 ∷ [])) c.args.faults.now c.report_parts.new.faults
-            told;
+            (Listed folder (Ok listing) ∷ []) (Scanned folder listing.rows.items (Err fault) ∷ [])
+            c.in-Ok.ensures.listed c.in-Err-round.ensures.scanned;
+        told = tells-then (lines_of_listing listing.unnamed listing.shortage) (lines_of_fault fault)
+            c.args.faults.now middle new c.report_listing.ensures
+            (tells-one (codes "svscan: " ++ (kind_name fault ++ 10 ∷ [])) middle new told);
       },
     )

@@ -1,12 +1,19 @@
-use Rattle.std.proofs.Common.{rules, refl, inl, inr}
+use Rattle.std.proofs.Common.{refl, inl, inr}
 use Rattle.cmd_trace.proofs.command.trace_file.Goals as goal
 
-pub returns-in-Err-2 : goal.returns-in-Err-2
-returns-in-Err-2 g c = record {
-  ends = inr (inl (record {
-    unknown = c.in-Err-2.ensures.missing (search rules);
-    unwritten = refl;
-    told = c.report_unread.ensures.told;
-    status_is = c.report_unread.ensures.status;
-  }));
+pub returns-in-Err : goal.returns-in-Err
+returns-in-Err g c = record {
+  ends = elim c.report_missed.ensures.told [
+    | inl starved ↦ inr (inr (record {
+      unwritten = refl;
+      told = starved.1;
+      status_is = c.report_missed.ensures.status;
+    }))
+    | inr unread ↦ inr (inl (record {
+      unknown = c.in-Err.ensures.missing unread.0;
+      unwritten = refl;
+      told = unread.1;
+      status_is = c.report_missed.ensures.status;
+    }))
+  ];
 }

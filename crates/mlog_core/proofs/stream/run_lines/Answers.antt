@@ -15,7 +15,7 @@ reads-init g c = record {
   faults = refl;
   reads = omega arith;
   behind = refl;
-  stays = record { logs = refl; status_files = refl; steady = omega arith };
+  stays = record { logs = refl; status_files = refl; asked = refl; steady = omega arith };
 }
 
 pub returns-in-Ok-feed_end-clause-runs : goal.returns-in-Ok-feed_end-clause-runs

@@ -1,10 +1,18 @@
 use Rattle.std.proofs.Common.{◌≡◌, true, refl, arith, ◌∙◌, sym, [], ◌∷◌}
+use Rattle.mlog_files.proofs.Doing.{Stays-then}
+use Rattle.mlog_line.proofs.Taking.{Stays-same}
 use Rattle.mlog_core.specs.Parts.{play}
 use Rattle.mlog_core.proofs.Partly.{ran_part, rotation_stopped}
 use Rattle.mlog_core.proofs.turns.run_parts.Goals as goal
 
 pub parts-init : goal.parts-init
-parts-init g c = record { begun = []; turns = refl; logs = c.requires.logs; files = c.requires.files }
+parts-init g c = record {
+  begun = [];
+  turns = refl;
+  logs = c.requires.logs;
+  files = c.requires.files;
+  stays = Stays-same _;
+}
 
 pub parts-preserved : goal.parts-preserved
 parts-preserved g c =
@@ -33,10 +41,11 @@ parts-preserved g c =
       logs = let l = before.logs in let a = first.logs in let b = second.logs in omega (arith, l, a, b);
       files = let l = before.files in let a = first.status_files in let b = second.status_files in
           omega (arith, l, a, b);
+      stays = Stays-then before.stays (Stays-then first second);
     }
 
-pub returns-in-Err-rotate_all : goal.returns-in-Err-rotate_all
-returns-in-Err-rotate_all g c =
+pub returns-in-Err-rotate_all-clause-runs : goal.returns-in-Err-rotate_all-clause-runs
+returns-in-Err-rotate_all-clause-runs g c =
     let before = c.parts.invariant in
     let here = play (g.I.PartedInput.feed c.parts.input) (g.S.LogStore.state c.parts.store)
     (g.C.TimeSource.readings c.parts.clock) in

@@ -1,5 +1,6 @@
 use Rattle.std.proofs.Common.{◌≤◌, ◌-◌, ◌^◌, List, count_by}
 use Rattle.mlog_script.specs.Script.{is_log, is_file}
+use Rattle.mlog_files.specs.Store.{Stays}
 use Rattle.mlog_core.specs.Parts.{Play, play, TurnsOver}
 use Rattle.mlog_core.proofs.turns.run_parts.Given as goal
 
@@ -11,6 +12,7 @@ invariant-parts g l = record {
       (play (g.I.PartedInput.feed l.input) (g.S.LogStore.state l.store) (g.C.TimeSource.readings l.clock));
   logs : count_by is_log l.script ≤ (g.S.LogStore.state l.store).logs;
   files : count_by is_file l.script ≤ (g.S.LogStore.state l.store).status_files;
+  stays : Stays (g.S.LogStore.state l.fn.store) (g.S.LogStore.state l.store);
 }
 
 abbrev pub decreases-parts : goal.decreases-parts

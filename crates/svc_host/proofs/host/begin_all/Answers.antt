@@ -1,6 +1,7 @@
-use Rattle.std.proofs.Common.{◌≡◌, ◌+◌, [], sym, subst, suc, take, arith, ap, ◌∙◌, get_or}
+use Rattle.std.proofs.Common.{◌≡◌, ◌+◌, List, [], sym, subst, suc, take, arith, ap, ◌∙◌, get_or}
 use Rattle.std.proofs.Math.Seq.{take-suc}
-use Rattle.svc_host.specs.Rounds.{AreBegun}
+use Rattle.svc_host.specs.declared.host.Unmade.{Unmade}
+use Rattle.svc_host.specs.Rounds.{AreBegun, unmade_ids}
 use Rattle.svc_host.proofs.Beginning.{begun_none, next_begun}
 use Rattle.svc_host.proofs.Tables.{past}
 use Rattle.svc_host.proofs.host.begin_all.Goals as goal
@@ -9,7 +10,8 @@ pub loop-id-init : goal.loop-id-init
 loop-id-init g c =
     let parts = c.args.parts.now.items in
     record {
-      begun = subst (AreBegun c.args.table.now.slots c.args.rows.now c.args.label [] parts parts)
+      begun = subst (λ (l : List Unmade).
+          AreBegun c.args.table.now.slots c.args.rows.now c.args.label [] parts parts (unmade_ids l))
           (sym c.requires.failed)
           (begun_none c.args.table.now.slots c.args.rows.now c.args.label parts);
       parts_room = omega (arith, c.requires.parts_room);
@@ -25,10 +27,11 @@ loop-id-preserved g c =
     let done = ap (λ n. take n ids) next ∙ take-suc ids k past c.loop-id-test.true in
     record {
       begun = subst (λ l. AreBegun c.args.table.now.slots c.args.rows.now c.args.label l c.args.parts.now.items
-          c.begin_one.new.parts.items c.begin_one.new.failed.items) (sym done)
+          c.begin_one.new.parts.items (unmade_ids c.begin_one.new.failed.items)) (sym done)
           (next_begun c.args.table.now.slots c.args.rows.now c.args.label (take k ids) (get_or ids k past)
           c.args.parts.now.items c.loop-id.parts.items
-          c.loop-id.failed.items at.begun c.begin_one.new.parts.items c.begin_one.new.failed.items
+          (unmade_ids c.loop-id.failed.items) at.begun c.begin_one.new.parts.items
+          (unmade_ids c.begin_one.new.failed.items)
           c.begin_one.ensures.begun);
       parts_room = omega (
         arith,

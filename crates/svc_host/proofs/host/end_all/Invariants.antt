@@ -1,6 +1,7 @@
 use Rattle.std.proofs.Common.{◌≡◌, drop}
-use Rattle.svc_host.specs.Rounds.{after_ends}
+use Rattle.svc_host.specs.Rounds.{after_ends, unmade_ids}
 use Rattle.svc_host.proofs.host.end_all.Given as goal
 
-abbrev pub invariant-loop-id : goal.invariant-loop-id
-invariant-loop-id l = after_ends (drop l.id-index l.ids) l.table ≡ after_ends l.ids l.fn.table
+abbrev pub invariant-loop-unmade : goal.invariant-loop-unmade
+invariant-loop-unmade l =
+    after_ends (unmade_ids (drop l.unmade-index l.failed)) l.table ≡ after_ends (unmade_ids l.failed) l.fn.table

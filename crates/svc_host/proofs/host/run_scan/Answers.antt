@@ -1,5 +1,6 @@
-use Rattle.std.proofs.Common.{sym, ap, ◌∙◌}
-use Rattle.svc_host.specs.Rounds.{after_ends, staying}
+use Rattle.std.proofs.Common.{List, refl, sym, ap, ◌∙◌}
+use Rattle.svc_host.specs.declared.host.Unmade.{Unmade}
+use Rattle.svc_host.specs.Rounds.{after_ends, staying, unmade_ids}
 use Rattle.svc_host.proofs.Beginning.{begun_as}
 use Rattle.svc_host.proofs.Causes.{cause}
 use Rattle.svc_host.proofs.host.run_scan.Goals as goal
@@ -11,9 +12,9 @@ pub returns-clause-scanned : goal.returns-clause-scanned
 returns-clause-scanned g c = record {
   scan = c.in-Ok.ensures.scan;
   table = c.end_all.ensures
-      ∙ ap (λ l. after_ends l c.in-Ok.found.table) (c.deref-2.ensures.value ∙ sym c.from_vec.ensures)
-      ∙ ap (after_ends c.from_vec.result) c.in-Ok.ensures.table;
+      ∙ ap (λ (l : List Unmade). after_ends (unmade_ids l) c.in-Ok.found.table) c.deref-2.ensures.value
+      ∙ ap (after_ends (unmade_ids c.begin_all.new.failed.items)) c.in-Ok.ensures.table;
   begun = begun_as _ _ c.args.rows.now c.args.label _ _ _ _ c.begin_all.new.parts.items _ _ c.begin_all.ensures
       (ap (λ table. table.slots) c.in-Ok.ensures.table) (c.deref.ensures.value ∙ c.in-Ok.ensures.ids)
-      (c.take_away.ensures.parts ∙ ap (staying c.in-Ok.found.scan) c.scan.ensures.parts) (sym c.from_vec.ensures);
+      (c.take_away.ensures.parts ∙ ap (staying c.in-Ok.found.scan) c.scan.ensures.parts) refl;
 }

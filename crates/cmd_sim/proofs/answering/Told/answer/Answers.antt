@@ -1,7 +1,7 @@
 use Rattle.std.proofs.Common.{◌≡◌, Err, sym, ap, ◌∙◌}
 use Rattle.std.proofs.lemmas.Result.{err_from_is_err_and}
 use Rattle.cmd_sim.specs.declared.fault.NoAnswer.TheVariants as none
-use Rattle.cmd_sim.proofs.Answered.{service_refused, service_says, suite_refused, suite_says}
+use Rattle.cmd_sim.proofs.Answered.{service_refused, service_says, suite_missed, suite_refused, suite_says}
 use Rattle.cmd_sim.proofs.answering.Told.answer.Goals as goal
 
 pub returns-in_err-step_service-in-Service-clause-refused : goal.returns-in_err-step_service-in-Service-clause-refused
@@ -21,6 +21,15 @@ returns-in_err-step_suite-in-Suite-clause-refused g c = λ why is past stands.
     let why_is : passed.0 ≡ none.Refused why = cc whole in
     suite_refused past c.args.line.now c.in-Suite.suite c.args.self.now why stands c.in-Suite.is c.requires
     (c.in_err-step_suite-in-Suite.ensures.refused why (ap Err (sym passed.2 ∙ why_is)))
+
+pub returns-in_err-step_suite-in-Suite-clause-memory : goal.returns-in_err-step_suite-in-Suite-clause-memory
+returns-in_err-step_suite-in-Suite-clause-memory g c = λ is past stands.
+    let passed = err_from_is_err_and c.from_residual-in_err-step_suite-in-Suite.result
+    c.from_residual-in_err-step_suite-in-Suite.ensures.1 in
+    let whole = sym passed.1 ∙ is in
+    let why_is : passed.0 ≡ none.OutOfMemory = cc whole in
+    suite_missed past c.args.line.now c.in-Suite.suite c.args.self.now stands c.in-Suite.is
+    (c.in_err-step_suite-in-Suite.ensures.memory (ap Err (sym passed.2 ∙ why_is)))
 
 pub returns-in_ok-step_service-in-Service-clause-ok : goal.returns-in_ok-step_service-in-Service-clause-ok
 returns-in_ok-step_service-in-Service-clause-ok g c = λ past stands.

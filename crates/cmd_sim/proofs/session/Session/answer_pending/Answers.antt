@@ -67,4 +67,5 @@ returns-in_err-answer_line-clause-memory g c = λ is before now held first.
     let same = ap Err (sym passed.2) ∙ sym passed.1 ∙ is in
     let s = c.each.invariant.0 before now held first in
     SoFar-line_missed c.answer_line.new.writer.bytes s (c.take_line.ensures.taken c.each-test.true) c.line.ensures
-    (c.in_err-answer_line.ensures.memory same s.past s.stands) (c.in_err-answer_line.ensures.memory_wrote same)
+    (c.in_err-answer_line.ensures.memory same s.past s.stands)
+    (c.in_err-answer_line.ensures.memory_wrote same)

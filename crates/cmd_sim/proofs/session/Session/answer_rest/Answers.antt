@@ -56,4 +56,5 @@ returns-in_err-answer_line-clause-memory g c = λ is before now held s end.
     let some = not_nothing c.args.lines.now.pending c.if-not-take_rest.false c.take_rest.ensures.none in
     rest_missed c.answer_line.new.writer.bytes s some c.requires.plain end
     (c.line.ensures ∙ c.take_rest.ensures.taken c.if-not-take_rest.false)
-    (c.in_err-answer_line.ensures.memory same s.past s.stands) (c.in_err-answer_line.ensures.memory_wrote same)
+    (c.in_err-answer_line.ensures.memory same s.past s.stands)
+    (c.in_err-answer_line.ensures.memory_wrote same)

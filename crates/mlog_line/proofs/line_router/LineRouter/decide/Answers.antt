@@ -12,11 +12,12 @@ returns-in-Err-replace_chosen-clause-decides g c =
     let script = c.args.script.now in
     let kept_is = c.as_slice-front.ensures ∙ ap (λ (p : Place). p.front) c.self.view_is in
     let chosen_is = c.choose.ensures.chosen ∙ ap (chosen script) kept_is in
+    let files_is = c.files.ensures ∙ ap (λ (ch : Chosen). ch.files) chosen_is in
     record {
       takes = tt;
       stopped = decided_half c.args.self.now.tails _ _ _ _ script c.args.label.now c.args.self.now.front
-          c.as_slice-front.result.now (c.args.self.now.front ++ c.args.end.now) _
-          (c.alerts.ensures ∙ ap (λ (ch : Chosen). ch.alerts) chosen_is) kept_is c.in-Ok.ensures.ok
+          c.as_slice-front.result.now (c.args.self.now.front ++ c.args.end.now) _ _
+          (c.alerts.ensures ∙ ap (λ (ch : Chosen). ch.alerts) chosen_is) files_is kept_is c.in-Ok.ensures.ok
           c.in-Err-replace_chosen.ensures.err;
       serves = search rules;
       stays = Stays-then c.in-Ok.ensures.ok.stays c.in-Err-replace_chosen.ensures.err.stays;

@@ -1,5 +1,5 @@
 use Rattle.std.proofs.Common.{rules, sym, ap, ◌∙◌, subst}
-use Rattle.std.specs.Prelude.{option_copied, IfSome}
+use Rattle.std.specs.Prelude.{option_copied, IfOk}
 use Rattle.svc_left.specs.Opening.{beginning}
 use Rattle.svc_host.specs.Parts.{HostPart}
 use Rattle.svc_host.specs.Begun.{IsBegun}
@@ -10,6 +10,6 @@ pub returns-clause-begun : goal.returns-clause-begun
 returns-clause-begun g c =
     begins_if c.args.table.now.slots c.args.rows.now c.args.label c.args.id _ c.in-Some-find_row.row.now c.make.result
     (sym c.name.ensures ∙ ap option_copied c.in-Some.is) (search rules)
-    (subst (λ down. IfSome c.make.result
+    (subst (λ down. IfOk c.make.result
     (λ (part : HostPart). IsBegun c.args.id (beginning part.opening down c.args.label) part)) c.is_down-down.ensures
     c.make.ensures)
