@@ -7,7 +7,7 @@ use std::sync::{Arc, Wait};
 use std::time::Clock;
 use sup_core::Sig;
 use svc_host::{Outlets, Reaper};
-use svc_house::{Notifier, StartAnswer, World};
+use svc_house::{News, Notifier, StartAnswer, World};
 use svc_relay::outlet::{Outlet, OutletFault};
 use tai_status::Label;
 
@@ -28,13 +28,13 @@ impl World for Actor {
     fn signal(&mut self, sig: Sig, _pid: u32) {
         if sig == Sig::Term {
             self.is_dying = true;
-            self.notifier.notify();
+            self.notifier.notify(News::seen());
         }
     }
 
     fn start(&mut self) {
         self.is_starting = true;
-        self.notifier.notify();
+        self.notifier.notify(News::seen());
     }
 
     fn write(&mut self, _bytes: &[u8; 20]) {}

@@ -12,7 +12,7 @@ use std::io::Read;
 use std::sync::{Arc, Wait};
 use std::thread::{Builder, Threads};
 use std::time::{Clock, Duration};
-use svc_house::Notifier;
+use svc_house::{News, Notifier};
 use svc_mail::receiver::Receiver;
 use svc_mail::sender::Sender;
 use svc_relay::intake::Intake;
@@ -103,7 +103,7 @@ fn read_all<D: Read + Drop, R: Wait>(
     let mut intake = Intake::new(Input::new(output), sender);
     for _ in rt.forever() {
         match intake.turn(rt) {
-            Ok(IntakeTurn::Moved(_)) => shared.filled.notify(),
+            Ok(IntakeTurn::Moved(count)) => shared.filled.notify(News::moved(count)),
             Ok(IntakeTurn::Idle) => {
                 if shared.leaves() {
                     return;
@@ -199,7 +199,7 @@ fn put_all<O: Outlet + Drop, S: Outlets<O> + Drop, R: Wait>(
         // Before the turn, so that one that finds nothing then has taken all.
         let is_last = shared.has_ended();
         match relay.turn(rt) {
-            RelayTurn::Moved(_) => shared.emptied.notify(),
+            RelayTurn::Moved(count) => shared.emptied.notify(News::moved(count)),
             RelayTurn::Idle => {
                 if is_last || shared.leaves() {
                     return;

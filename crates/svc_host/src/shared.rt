@@ -5,7 +5,7 @@ ghost use Rattle.svc_mail.specs.Ends.{taken_by};
 use std::alloc::{AllocError, Global};
 use std::sync::atomic::{AtomicBool, Ordering};
 use std::sync::{Arc, Mutex, Wait};
-use svc_house::Notifier;
+use svc_house::{News, Notifier};
 use svc_mail::receiver::Receiver;
 use svc_relay::piece::Piece;
 
@@ -44,8 +44,7 @@ impl PartShared {
 
     /// The service has ended: the host is told.
     pub(crate) fn end(&self) {
-        self.has_ended.store(true, Ordering::SeqCst);
-        self.host.notify();
+        self.host.notify(News::raise(&self.has_ended));
     }
 
     pub(crate) fn has_ended(&self) -> bool {
@@ -88,8 +87,7 @@ impl PairShared {
 
     /// The box of the pair is open.
     pub(crate) fn give<R: Wait>(&self, rt: &R, receiver: NewReceiver) {
-        *self.receiver.lock(rt) = Some(receiver);
-        self.filled.notify();
+        self.filled.notify(News::put(rt, &self.receiver, receiver));
     }
 
     /// The receiver of the box, once that is open: to the first who asks.
@@ -99,9 +97,9 @@ impl PairShared {
 
     /// Both threads are to end.
     pub(crate) fn leave(&self) {
-        self.leaves.store(true, Ordering::SeqCst);
-        self.filled.notify();
-        self.emptied.notify();
+        let (first, second) = News::raise(&self.leaves).twice();
+        self.filled.notify(first);
+        self.emptied.notify(second);
     }
 
     pub(crate) fn leaves(&self) -> bool {
@@ -110,8 +108,7 @@ impl PairShared {
 
     /// The output has ended, and all of it is posted.
     pub(crate) fn end(&self) {
-        self.has_ended.store(true, Ordering::SeqCst);
-        self.filled.notify();
+        self.filled.notify(News::raise(&self.has_ended));
     }
 
     pub(crate) fn has_ended(&self) -> bool {

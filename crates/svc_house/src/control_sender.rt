@@ -3,6 +3,7 @@ ghost use Rattle.std.specs.Prelude.{◌≡◌, ◌++◌, ◌∷◌, [], IfErr, O
 ghost use Rattle.svc_mail.specs.Ends.{IsSameSender, JoinsHistory, WasFull, posted, seen_by};
 ghost use Rattle.svc_house.specs.Mail.{sender_in};
 
+use crate::news::News;
 use crate::notifier::Notifier;
 use std::alloc::{Allocator, Global};
 use std::sync::{Arc, Wait};
@@ -33,8 +34,8 @@ impl<A: Allocator + Clone> ControlSender<A> {
         ensures unseen { OnErr result (seen_by (sender_in self.new) ≡ seen_by (sender_in self.old)) }
         ensures full { IfErr result (λ full. (full.0 ≡ byte) × WasFull (sender_in self.old)) }
     {
-        self.sender.post(rt, byte)?;
-        self.notifier.notify();
+        let news = News::post(rt, &mut self.sender, byte)?;
+        self.notifier.notify(news);
         Ok(())
     }
 }

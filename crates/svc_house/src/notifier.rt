@@ -1,13 +1,14 @@
 //! What the thread of a service waits for.
+use crate::news::News;
 use std::sync::Wait;
 use std::thread::Parker;
 use std::time::Duration;
 
 /// What one thread waits for, and any thread notifies.
 ///
-/// The rule of use, by which no notification is lost: who notifies has put its news first; who waits has looked at
-/// everything since it last came back from a wait. A notification that comes between the look and the wait ends that
-/// wait at once.
+/// The rule of use, by which no notification is lost: who notifies has put its news first, as its type says; who waits has
+/// looked at everything since it last came back from a wait. A notification that comes between the look and the wait ends
+/// that wait at once.
 #[derive(Drop)]
 pub struct Notifier {
     parker: Parker,
@@ -21,8 +22,9 @@ impl Notifier {
         }
     }
 
-    /// Ends the wait that is under way, or else the next. It returns at once.
-    pub fn notify(&self) {
+    /// Tells the news: ends the wait that is under way, or else the next. It returns at once.
+    pub fn notify(&self, news: News) {
+        news.end();
         self.parker.unpark()
     }
 

@@ -6,7 +6,7 @@ use std::sync::atomic::{AtomicBool, Ordering};
 use std::sync::{Arc, Mutex, Wait};
 use std::thread::{Builder, Threads};
 use std::time::Duration;
-use svc_house::Notifier;
+use svc_house::{News, Notifier};
 use svc_left::ProcessId;
 
 /// After how many seconds is looked again whether the adopted processes live.
@@ -36,8 +36,7 @@ pub struct AdoptionWatch {
 impl Drop for AdoptionWatch {
     fn drop(self) {
         let AdoptionWatch { state } = self;
-        state.closed.store(true, Ordering::SeqCst);
-        state.notifier.notify();
+        state.notifier.notify(News::raise(&state.closed));
     }
 }
 
@@ -72,8 +71,8 @@ impl AdoptionWatch {
             tick: process.tick,
         };
         let adopted = Adopted { process, notifier };
-        self.state.adopted.lock(rt).push(adopted)?;
-        self.state.notifier.notify();
+        let news = News::add(rt, &self.state.adopted, adopted)?;
+        self.state.notifier.notify(news);
         Ok(())
     }
 }
@@ -110,7 +109,7 @@ fn look<R: Wait>(rt: &R, state: &WatchState) -> bool {
     adopted.retain(|one| {
         let lives = one.process.lives();
         if !lives {
-            one.notifier.notify();
+            one.notifier.notify(News::seen());
         }
         lives
     });

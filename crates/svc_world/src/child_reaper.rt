@@ -7,7 +7,7 @@ use std::sync::atomic::{AtomicBool, Ordering};
 use std::sync::{Arc, Mutex, OnceLock, Wait};
 use std::time::Clock;
 use svc_exit::ending_of;
-use svc_house::Notifier;
+use svc_house::{News, Notifier};
 use tai_status::TimeSource;
 
 /// Where a child's death is put.
@@ -36,16 +36,15 @@ pub(crate) struct ChildSlot {
 impl Drop for ChildSlot {
     fn drop(self) {
         let ChildSlot { state } = self;
-        state.closed.store(true, Ordering::SeqCst);
-        state.notifier.notify();
+        state.notifier.notify(News::raise(&state.closed));
     }
 }
 
 impl ChildSlot {
     /// Hands a child over.
     pub(crate) fn put<R: Wait>(&self, rt: &R, watched: WatchedChild) {
-        *self.state.watched.lock(rt) = Some(watched);
-        self.state.notifier.notify();
+        let news = News::put(rt, &self.state.watched, watched);
+        self.state.notifier.notify(news);
     }
 }
 
@@ -90,8 +89,7 @@ impl ChildReaper {
                 Some(WatchedChild { mut child, death }) => {
                     let ending = ending_of(child.wait());
                     let label = clock.now();
-                    let _ = death.set(&rt, Death { ending, label });
-                    notifier.notify();
+                    notifier.notify(News::set(&rt, &death, Death { ending, label }));
                 }
                 None if state.closed.load(Ordering::SeqCst) => return,
                 None => state.notifier.wait(&rt, None),

@@ -1,0 +1,83 @@
+//! What a notification tells.
+use std::alloc::{AllocError, Allocator};
+use std::sync::atomic::{AtomicBool, Ordering};
+use std::sync::{Mutex, OnceLock, Wait};
+use svc_mail::letter::Full;
+use svc_mail::sender::Sender;
+
+/// That something new stands where a thread looks for it. Only what puts it there gives this, so that no notification
+/// comes before its news; and it has no end but `Notifier::notify`, so that no news is left untold.
+#[must_use]
+pub struct News {
+    put: (),
+}
+
+impl News {
+    ghost use Rattle.std.specs.Prelude.{◌≡◌, ◌++◌, ◌∷◌, [], IfErr, OnErr, OnOk};
+    ghost use Rattle.svc_mail.specs.Ends.{IsSameSender, JoinsHistory, WasFull, posted, seen_by};
+
+    /// Posts a letter, once. `Full` gives it back, and nothing was posted.
+    pub(crate) fn post<A: Allocator + Clone, R: Wait>(
+        rt: &R,
+        sender: &mut Sender<u8, A>,
+        item: u8,
+    ) -> Result<News, Full<u8>>
+        ensures same { IsSameSender sender.old sender.new }
+        ensures posted { OnOk result (posted sender.new ≡ posted sender.old ++ item ∷ []) }
+        ensures history { OnOk result (JoinsHistory sender.old item sender.new) }
+        ensures unposted { OnErr result (posted sender.new ≡ posted sender.old) }
+        ensures unseen { OnErr result (seen_by sender.new ≡ seen_by sender.old) }
+        ensures full { IfErr result (λ full. (full.0 ≡ item) × WasFull sender.old) }
+    {
+        sender.post(rt, item)?;
+        Ok(News { put: () })
+    }
+
+    /// Raises a flag.
+    pub fn raise(flag: &AtomicBool) -> News {
+        flag.store(true, Ordering::SeqCst);
+        News { put: () }
+    }
+
+    /// Puts a value in its place, instead of what is there.
+    pub fn put<T: Drop, R: Wait>(rt: &R, place: &Mutex<Option<T>>, value: T) -> News {
+        *place.lock(rt) = Some(value);
+        News { put: () }
+    }
+
+    /// Puts a value in its place, where none is there.
+    pub fn set<T: Drop, R: Wait>(rt: &R, place: &OnceLock<T>, value: T) -> News {
+        let _ = place.set(rt, value);
+        News { put: () }
+    }
+
+    /// Adds a value to a list.
+    pub fn add<T: Drop, A: Allocator, R: Wait>(
+        rt: &R,
+        list: &Mutex<Vec<T, A>>,
+        value: T,
+    ) -> Result<News, AllocError> {
+        list.lock(rt).push(value)?;
+        Ok(News { put: () })
+    }
+
+    /// So many bytes were moved, and there is something to take, or room.
+    pub fn moved(_bytes: u64) -> News {
+        News { put: () }
+    }
+
+    /// The kernel did it, as it ends a process, and this thread has seen it.
+    pub fn seen() -> News {
+        News { put: () }
+    }
+
+    /// The same news for two threads.
+    pub fn twice(self) -> (News, News) {
+        let News { put } = self;
+        (News { put }, News { put })
+    }
+
+    pub(crate) fn end(self) {
+        let News { put: () } = self;
+    }
+}
