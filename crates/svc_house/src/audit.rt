@@ -5,7 +5,7 @@ ghost use Rattle.sup_core.specs.History.{phase_of, state_of};
 ghost use Rattle.tai_status.specs.declared.phase.Phase.TheVariants as phase;
 ghost use Rattle.sup_trace.specs.Told.{replay_of};
 ghost use Rattle.svc_station.specs.Ends.{IsSameReader, history_at, history_in, known_to, note_station};
-ghost use Rattle.svc_station.specs.Ends.{reader_station, told_by};
+ghost use Rattle.svc_station.specs.Ends.{reader_station, told_by, trace_at};
 
 use std::alloc::{AllocError, Allocator};
 use sup_core::Machine;
@@ -15,7 +15,7 @@ use svc_station::note::Note;
 use svc_station::reader::Reader;
 
 /// What a reader reads once it has learnt a note that the writer told when the service was gone: the machine after the
-/// whole history, and a trace that replays to that machine. `AllocError` where there is no memory for the trace.
+/// whole history, and the trace of that, which replays to that machine. `AllocError` where there is no memory for the trace.
 pub fn last_reading<A: Allocator>(
     alloc: A,
     reader: &mut Reader,
@@ -28,6 +28,7 @@ pub fn last_reading<A: Allocator>(
     ensures whole { known_to reader.new ≡ told_by note }
     ensures history { history_at reader.new ≡ history_in note }
     ensures machine { IfOk result (λ read. read.0 ≡ state_of (history_in note)) }
+    ensures trace { IfOk result (λ read. read.1 ≡ trace_at reader.new) }
     ensures replays { IfOk result (λ read. replay_of read.1 ≡ state_of (history_in note)) }
 {
     let machine = last_machine(reader, note);

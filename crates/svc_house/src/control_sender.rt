@@ -1,6 +1,6 @@
 //! How a control byte comes to a service from another thread.
 ghost use Rattle.std.specs.Prelude.{◌≡◌, ◌++◌, ◌∷◌, [], IfErr, OnErr, OnOk};
-ghost use Rattle.svc_mail.specs.Ends.{IsSameSender, JoinsHistory, WasFull, posted, seen_by};
+ghost use Rattle.svc_mail.specs.Ends.{IsSameSender, JoinsHistory, WasFull, heard_by, posted, seen_by};
 ghost use Rattle.svc_house.specs.Mail.{sender_in};
 
 use crate::news::News;
@@ -32,6 +32,7 @@ impl<A: Allocator + Clone> ControlSender<A> {
         ensures history { OnOk result (JoinsHistory (sender_in self.old) byte (sender_in self.new)) }
         ensures unposted { OnErr result (posted (sender_in self.new) ≡ posted (sender_in self.old)) }
         ensures unseen { OnErr result (seen_by (sender_in self.new) ≡ seen_by (sender_in self.old)) }
+        ensures unheard { heard_by (sender_in self.new) ≡ heard_by (sender_in self.old) }
         ensures full { IfErr result (λ full. (full.0 ≡ byte) × WasFull (sender_in self.old)) }
     {
         let news = News::post(rt, &mut self.sender, byte)?;

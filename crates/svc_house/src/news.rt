@@ -14,7 +14,7 @@ pub struct News {
 
 impl News {
     ghost use Rattle.std.specs.Prelude.{◌≡◌, ◌++◌, ◌∷◌, [], IfErr, OnErr, OnOk};
-    ghost use Rattle.svc_mail.specs.Ends.{IsSameSender, JoinsHistory, WasFull, posted, seen_by};
+    ghost use Rattle.svc_mail.specs.Ends.{IsSameSender, JoinsHistory, WasFull, heard_by, posted, seen_by};
 
     /// Posts a letter, once. `Full` gives it back, and nothing was posted.
     pub(crate) fn post<A: Allocator + Clone, R: Wait>(
@@ -27,6 +27,7 @@ impl News {
         ensures history { OnOk result (JoinsHistory sender.old item sender.new) }
         ensures unposted { OnErr result (posted sender.new ≡ posted sender.old) }
         ensures unseen { OnErr result (seen_by sender.new ≡ seen_by sender.old) }
+        ensures unheard { heard_by sender.new ≡ heard_by sender.old }
         ensures full { IfErr result (λ full. (full.0 ≡ item) × WasFull sender.old) }
     {
         sender.post(rt, item)?;
