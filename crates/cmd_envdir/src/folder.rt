@@ -87,8 +87,8 @@ fn push_visible<A: Allocator + Clone>(
     Ok(())
 }
 
-/// The names of entries that do not begin with a dot, in order, up to the first entry that can't be read, whose fault is
-/// answered.
+/// The names of entries that do not begin with a dot, in order. The first entry that can't be read ends this with its
+/// fault.
 fn names_in<R: Files + Drop, B: Allocator, A: Allocator + Clone, I>(
     alloc: &A,
     entries: I,
