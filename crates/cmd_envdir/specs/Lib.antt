@@ -1,4 +1,5 @@
 pub mod System
+pub mod Listing
 pub mod Child
 pub mod Shell
 pub mod Words

@@ -1,15 +1,20 @@
 //! The files of the folder of `envdir`.
-ghost use Rattle.std.specs.Prelude.{◌≡◌, [], ◌∷◌, ◌++◌, map, string_bytes, slice_get, IfOk, IsSorted};
+ghost use Rattle.std.specs.Prelude.{◌≡◌, [], ◌∷◌, ◌++◌, map, string_bytes, slice_get};
+ghost use Rattle.std.specs.Prelude.{IfOk, IfErr, OnOk, IsSorted};
+ghost use Rattle.std.specs.Fs.{dir_entry_name};
+ghost use Rattle.std.specs.Iterator.{IsFinite};
+ghost use Rattle.std.specs.List.{filter};
 ghost use Rattle.std.specs.String.{string_cmp};
 ghost use Rattle.std.specs.Option.{option_map_or};
 ghost use Rattle.env_title.specs.Faults.{first_fault};
 ghost use Rattle.cmd_envdir.specs.Child.{AreInByteOrder};
+ghost use Rattle.cmd_envdir.specs.Listing.{IsWhyUnlisted, ListsVisible, is_visible};
 ghost use Rattle.cmd_envdir.specs.System.{AreHeld};
 
 use cmd_base::FileSource;
 use env_title::{EnvFault, EnvFile};
 use std::alloc::{AllocError, Allocator, Global};
-use std::fs::Files;
+use std::fs::{DirEntry, Files};
 use std::marker::Model;
 use std::{fs, io};
 
@@ -55,14 +60,52 @@ fn visible_names<R: Files, A: Allocator + Clone>(
 ) -> io::Result<Vec<String<A>, A>>
     ensures order { IfOk result (λ names. IsSorted string_cmp names.items) }
 {
-    let mut names = Vec::new(alloc.clone()?);
-    for entry in fs::read_dir(&(rt, alloc), dir)? {
-        let entry = entry?;
-        if !entry.file_name().starts_with('.') {
-            names.push(String::from_str(alloc.clone()?, entry.file_name())?)?;
-        }
-    }
+    let mut names = names_in(alloc, fs::read_dir(&(rt, alloc), dir)?)?;
     names.sort_unstable();
+    Ok(names)
+}
+
+/// Whether a name does not begin with a dot.
+fn is_visible(name: &str) -> bool
+    ensures { result ≡ is_visible name.now }
+{
+    name.as_bytes().first() != Some(&b'.')
+}
+
+/// Adds a name to names, unless it begins with a dot.
+fn push_visible<A: Allocator + Clone>(
+    alloc: &A,
+    names: &mut Vec<String<A>, A>,
+    name: &str,
+) -> Result<(), AllocError>
+    ensures { OnOk result (map string_bytes names.new.items
+        ≡ map string_bytes names.old.items ++ filter is_visible (name.now ∷ [])) }
+{
+    if is_visible(name) {
+        names.push(String::from_str(alloc.clone()?, name)?)?;
+    }
+    Ok(())
+}
+
+/// The names of entries that do not begin with a dot, in order. The first entry that can't be read ends this with its
+/// fault.
+fn names_in<R: Files + Drop, B: Allocator, A: Allocator + Clone, I>(
+    alloc: &A,
+    entries: I,
+) -> io::Result<Vec<String<A>, A>>
+where
+    I: Iterator<Item = io::Result<DirEntry<R, B>>> + Drop,
+    requires may { I.can_next entries }
+    requires ends { IsFinite (I.remaining entries) }
+    ensures all { IfOk result (λ names. ListsVisible I.next_gives dir_entry_name entries
+        (map string_bytes names.items)) }
+    ensures first { IfErr result (λ fault. IsWhyUnlisted I.next_gives entries fault) }
+{
+    let mut names = Vec::new(alloc.clone()?);
+    for entry in entries {
+        let entry = entry?;
+        push_visible(alloc, &mut names, entry.file_name())?;
+    }
     Ok(names)
 }
 

@@ -1,2 +1,4 @@
 pub mod Deaths
+pub mod Fronts
+pub mod Shells
 pub mod Starts

@@ -3,8 +3,9 @@
 //! `ChildWorld` keeps the rules of a service's world over the small trait `ChildSystem`, and is proved: no second copy
 //! of a service that still runs, no signal to a process that may be another's, each start and each death told once,
 //! which process the service has is recorded at each start, and how it ended at each death, beside how many began and
-//! ended. Below that trait is the system's own layer, which tells contracts nothing: `ServiceFolder`, `SystemChildren`
-//! with their `ChildReaper`, `AdoptionWatch`, `SignalShell`.
+//! ended. So is how a signal is told to the shell that sends it, over the small trait `ShellProcess`. Below these
+//! traits is the system's own layer, which tells contracts nothing: `ServiceFolder`, `SystemChildren` with their
+//! `ChildReaper`, `AdoptionWatch`, `SignalShell`.
 #![tactic(auto)]
 
 mod adoption;
@@ -16,6 +17,7 @@ mod folder;
 mod output;
 mod processes;
 mod shell;
+mod shell_process;
 mod system;
 mod world;
 

@@ -1,5 +1,7 @@
 //! Processes of this system that are no children of this one.
-ghost use Rattle.std.specs.Prelude.{◌≡◌, ◌≤◌, length};
+ghost use Rattle.std.specs.Prelude.{◌≡◌, ◌<◌, ◌≤◌, length, take, IfOk};
+ghost use Rattle.std.specs.Io.{ReadsAtMost};
+ghost use Rattle.std.specs.Io.KnownBytes.{Consumes, IsAtEnd};
 ghost use Rattle.svc_world.specs.Commands.{path_of_process};
 
 use crate::folder::ShortPath;
@@ -26,14 +28,35 @@ struct Stat {
     tick: u64,
 }
 
+/// Fills a buffer from its start with what a reader gives, in as many reads as that takes, and tells how many bytes
+/// that were: fewer than it has room for only where the reader is at its end. After a fault those that came are lost.
+fn fill<R: Read>(reader: &mut R, buffer: &mut [u8]) -> io::Result<usize>
+    ensures bound { ReadsAtMost result buffer.new }
+    ensures given { IfOk result (λ count. Consumes (R.remaining reader.old) (R.remaining reader.new)
+        (take count buffer.new)) }
+    ensures whole { IfOk result (λ count. count < length buffer.old → IsAtEnd (R.remaining reader.new)) }
+{
+    let mut filled = 0;
+    while filled < buffer.len() {
+        let count = reader.read(&mut buffer[filled..])?;
+        if count == 0 {
+            return Ok(filled);
+        }
+        filled += count;
+    }
+    Ok(filled)
+}
+
 /// The first bytes of a file.
 pub(crate) fn read_front<R: Files<File = File>, const N: usize>(
     files: &R,
     path: &str,
 ) -> io::Result<ArrayVec<u8, N>> {
-    let file = fs::open(files, path)?;
+    let mut file = fs::open(files, path)?;
+    let mut bytes = [0; N];
+    let count = fill(&mut file, &mut bytes)?;
     let mut front = ArrayVec::new();
-    io::copy(&mut file.take(N as u64), &mut front)?;
+    let _fits = front.try_extend_from_slice(&bytes[..count]);
     Ok(front)
 }
 

@@ -1,41 +1,28 @@
-//! The shell that sends signals.
-ghost use Rattle.std.specs.Prelude.{◌≡◌, ◌≤◌, length};
-ghost use Rattle.svc_world.specs.Commands.{signal_line};
-
-use arrayvec::ArrayString;
-use cmd_base::push_number;
+//! The shell that sends signals, on this system.
+use crate::shell_process::{ShellProcess, tell_signal};
 use std::alloc::Global;
 use std::io;
 use std::io::{Error, ErrorKind, Write};
 use std::process::{Child, Command, Processes, Stdio, SystemProcess};
 use std::sync::{Mutex, Wait};
-use sup_core::{Sig, sig_name};
+use sup_core::Sig;
 
 /// What the shell runs: it ends with its input, and passes over a process that is gone.
 const SCRIPT: &str = "while read -r s n; do kill -$s $n 2>/dev/null; done";
 
-/// How long a line to the shell is at most.
-const LINE_BYTES: usize = 32;
-
-/// One shell that sends the signals of all services. It is started again where it died. It tells contracts nothing.
+/// The system's own shell, where it runs. It tells contracts nothing.
 #[derive(Drop)]
-pub struct SignalShell<R: Processes<Started = SystemProcess> + Wait + Drop> {
+struct SystemShell<R: Processes<Started = SystemProcess> + Drop> {
     runtime: R,
     alloc: Global,
-    shell: Mutex<Option<Child<SystemProcess>>>,
+    child: Option<Child<SystemProcess>>,
 }
 
-/// The line that tells the shell a signal.
-fn signal_line(name: &str, pid: u32) -> ArrayString<LINE_BYTES>
-    requires { length name.now ≤ 4 }
-    ensures { result.bytes ≡ signal_line name.now pid }
-{
-    let mut line = ArrayString::new();
-    line.push_str(name);
-    line.push_str(" ");
-    push_number(&mut line, u64::from(pid));
-    line.push_str("\n");
-    line
+/// One shell that sends the signals of all services. It is started again where it died.
+#[derive(Drop)]
+pub struct SignalShell<R: Processes<Started = SystemProcess> + Wait + Copy + Drop> {
+    runtime: R,
+    shell: Mutex<SystemShell<R>>,
 }
 
 /// Starts the shell. It holds nothing of this process, and no folder.
@@ -52,48 +39,51 @@ fn start_shell<R: Processes<Started = SystemProcess>>(
         .spawn(runtime)
 }
 
-/// Tells a shell a line.
-fn tell(shell: &mut Option<Child<SystemProcess>>, line: &str) -> io::Result<()> {
-    match shell {
-        Some(
-            Child {
-                stdin: Some(input),
-                ..
-            },
-        ) => input.write_all(line.as_bytes()),
-        _ => Err(Error::from(ErrorKind::BrokenPipe)),
+impl<R: Processes<Started = SystemProcess> + Drop> ShellProcess for SystemShell<R> {
+    fn tell(&mut self, line: &str) -> io::Result<()> {
+        match &mut self.child {
+            Some(
+                Child {
+                    stdin: Some(input),
+                    ..
+                },
+            ) => input.write_all(line.as_bytes()),
+            _ => Err(Error::from(ErrorKind::BrokenPipe)),
+        }
+    }
+
+    fn end(&mut self) {
+        if let Some(mut child) = self.child.take() {
+            drop(child.stdin.take());
+            let _ = child.wait();
+        }
+    }
+
+    fn start(&mut self) -> io::Result<()> {
+        self.child = Some(start_shell(&self.runtime, self.alloc)?);
+        Ok(())
     }
 }
 
-/// Ends a shell that takes no line: it sends the signals of the lines that it took, and meets the end of its input.
-fn end(shell: &mut Option<Child<SystemProcess>>) {
-    if let Some(mut child) = shell.take() {
-        drop(child.stdin.take());
-        let _ = child.wait();
-    }
-}
-
-impl<R: Processes<Started = SystemProcess> + Wait + Drop> SignalShell<R> {
+impl<R: Processes<Started = SystemProcess> + Wait + Copy + Drop> SignalShell<R> {
     /// The shell, which is started at once, so that signals go out where later nothing can be started. Where it can't
     /// be started now, it is with the first signal.
     pub fn new(runtime: R, alloc: Global) -> SignalShell<R> {
-        let shell = start_shell(&runtime, alloc).ok();
-        SignalShell {
+        let mut shell = SystemShell {
             runtime,
             alloc,
+            child: None,
+        };
+        let _ = shell.start();
+        SignalShell {
+            runtime,
             shell: Mutex::new(shell),
         }
     }
 
-    /// Has the shell send a signal to the process of this number. A shell that takes no line is ended, and another is
-    /// started, once. Where that fails too, nothing is sent.
+    /// Has the shell send a signal to the process of this number.
     pub fn signal(&self, sig: Sig, pid: u32) {
-        let line = signal_line(sig_name(sig), pid);
         let mut shell = self.shell.lock(&self.runtime);
-        if tell(&mut shell, line.as_str()).is_err() {
-            end(&mut shell);
-            *shell = start_shell(&self.runtime, self.alloc).ok();
-            let _ = tell(&mut shell, line.as_str());
-        }
+        tell_signal(&mut *shell, sig, pid)
     }
 }
