@@ -292,6 +292,13 @@ exit_says() { grep -qE "^$1 @[0-9a-f]{24}\$" "$2/supervise/exit"; }
 # counts_are COUNTS FOLDER
 counts_are() { [ "$(cat "$2/supervise/counts" 2>/dev/null)" = "$1" ]; }
 
+# as many processes ended as began
+counts_are_even() { grep -qE '^([0-9]+) \1$' "$1/supervise/counts"; }
+# it was wanted once, and is down: a record without a process stands between two lives, too
+has_run_once() { wants o "$1" && [ "$(phase "$1")" = '0 4' ]; }
+# its file exit tells of the process that noted its number in pid
+ended_last() { [ "$(cat "$1/pid")" = "$(cut -d ' ' -f 1 "$1/supervise/exit")" ]; }
+
 # How processes end, and how many began and ended, in the files exit and counts.
 endings() {
   service d/status <<'END'
@@ -313,9 +320,9 @@ END
   soon 'a signal' 5 exit_says '[0-9]+ signal SEGV' d/killed
   svc -o d/status d/killed
   for name in status killed; do
-    soon "$name: it ends for good" 8 is_down d/$name
-    is "$name: of its last process" "$(cat d/$name/pid)" "$(cut -d ' ' -f 1 d/$name/supervise/exit)"
-    is "$name: as many ended as began" "$(sed -E 's/^([0-9]+) [0-9]+$/\1 \1/' d/$name/supervise/counts)" "$(cat d/$name/supervise/counts)"
+    soon "$name: it ends for good" 8 has_run_once d/$name
+    soon "$name: of its last process" 3 ended_last d/$name
+    soon "$name: as many ended as began" 3 counts_are_even d/$name
   done
   soon 'up' 5 is_settled d/web
   first=$(process d/web)

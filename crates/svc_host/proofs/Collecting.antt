@@ -6,14 +6,8 @@ use Rattle.std.proofs.lemmas.List.Elements.{All-append}
 use Rattle.scan_table.specs.Table.{TableState, after_end}
 use Rattle.svc_host.specs.Parts.{HostPart, IsStep, GoOn}
 use Rattle.svc_host.specs.Rounds.{AreCollected, Ran}
-use Rattle.svc_host.proofs.Going.{all_same, go_on_then, one_goes_on}
+use Rattle.svc_host.proofs.Going.{all_same, go_on_then, one_goes_on, same_default}
 use Rattle.svc_host.proofs.Tables.{ends_more}
-
-same_default : (parts : List HostPart) (place : ℕ) (d e : HostPart) → place < length parts
-    → slice_index_or parts place d ≡ slice_index_or parts place e
-same_default [] place d e within = absurd (omega (arith, within))
-same_default (part ∷ parts) zero d e within = refl
-same_default (part ∷ parts) (suc place) d e within = same_default parts place d e (omega (arith, within))
 
 pub collected_none : (table : TableState) (parts : List HostPart) → AreCollected table parts table parts
 collected_none table parts =

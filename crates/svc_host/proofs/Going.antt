@@ -6,20 +6,33 @@ use Rattle.sup_core.specs.State.{State}
 use Rattle.tai_status.specs.declared.phase.Phase.TheVariants as phase
 use Rattle.sup_core.specs.History.{phase_of, state_of}
 use Rattle.scan_table.specs.declared.part.PartId.{PartId}
-use Rattle.svc_host.specs.Parts.{HostPart, PartGoesOn, HasPosted, GoOn, IsNowhere, IsPlace, IsPost, IsReading, IsStep}
+use Rattle.svc_host.specs.Parts.{HostPart, PartGoesOn, HasPosted, GoOn, IsRead, IsNowhere, IsPlace, IsPost, IsReading, IsStep}
 use Rattle.svc_host.specs.Parts.{history_of}
 
 pub stays_same : (part : HostPart) → PartGoesOn part part
-stays_same part = record { id = refl; opening = refl; station = refl; known = prefix_self part.known; posted = refl }
+stays_same part = record {
+  id = refl;
+  opening = refl;
+  adopted = refl;
+  station = refl;
+  known = prefix_self part.known;
+  mail = refl;
+  end_bytes = refl;
+}
+
+pub is_read_so : (part : HostPart) → IsRead part part
+is_read_so part = record { goes_on = stays_same part; kept = refl; has_ended = refl; loss = refl }
 
 pub goes_on_then : (a b c : HostPart) → PartGoesOn a b → PartGoesOn b c → PartGoesOn a c
 goes_on_then a b c p q =
     record {
       id = q.id ∙ p.id;
       opening = q.opening ∙ p.opening;
+      adopted = q.adopted ∙ p.adopted;
       station = q.station ∙ p.station;
       known = prefix_trans a.known b.known c.known p.known q.known;
-      posted = q.posted ∙ p.posted;
+      mail = q.mail ∙ p.mail;
+      end_bytes = q.end_bytes ∙ p.end_bytes;
     }
 
 pub all_same : (parts : List HostPart) → GoOn parts parts
@@ -103,3 +116,10 @@ pub posts : (id : PartId) (parts : List HostPart) (place : ℕ) (byte : ℕ) (ne
     → IsPost parts id byte (slice_set parts place new)
 posts id parts place byte new at has =
     record { place = place; part = new; here = has; is = (has new).id ∙ at.here new; parts = refl }
+
+-- what stands at a place, whatever the default
+pub same_default : (parts : List HostPart) (place : ℕ) (d e : HostPart) → place < length parts
+    → slice_index_or parts place d ≡ slice_index_or parts place e
+same_default [] place d e within = absurd (omega (arith, within))
+same_default (part ∷ parts) zero d e within = refl
+same_default (part ∷ parts) (suc place) d e within = same_default parts place d e (omega (arith, within))

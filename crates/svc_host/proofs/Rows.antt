@@ -31,8 +31,11 @@ begins slots rows label id name row part named found begun =
         is = refl;
         opening = begun.opening
             ∙ sym (ap (λ (p : PartId). state_of (beginning part.opening (is_down p.role row) label)) begun.is);
+        adopted = begun.adopted
+            ∙ sym (ap (λ (p : PartId). (state_of (beginning part.opening (is_down p.role row) label)).status.pid) begun.is);
         known = begun.known;
         posted = begun.posted;
+        end_bytes = begun.end_bytes;
         has_ended = begun.has_ended;
         loss = begun.loss;
       };

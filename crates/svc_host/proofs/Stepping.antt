@@ -1,96 +1,61 @@
--- What is posted to a part in the end of all services.
-use Rattle.std.proofs.Common.{◌≡◌, Bool, true, false, ℕ, ◌<◌, List, [], ◌∷◌, ◌++◌, length, refl, sym, ap, ◌∙◌, subst}
-use Rattle.std.proofs.Common.{arith, append-nil, append_assoc}
-use Rattle.std.specs.Prelude.{codes, MatchBool}
-use Rattle.std.proofs.lemmas.Bool.Decides.{nat_tests}
-use Rattle.std.specs.List.{All}
+-- What is posted to a part in the end of all services, and what is seen of one.
+use Rattle.std.proofs.Common.{◌≡◌, true, false, ℕ, ◌<◌, inl, inr, Bool, List, [], ◌∷◌, ◌++◌, length, refl, sym, ap, ◌∙◌}
+use Rattle.std.proofs.Common.{subst}
+use Rattle.std.specs.Prelude.{Result, Ok, Err, IfErr, MatchBool, MatchResult, OnErr, OnOk}
 use mathlib.Core.List.{IsPrefix}
-use Rattle.std.proofs.lemmas.List.Elements.{All-append, All-push}
-use Rattle.svc_station.proofs.Prefixes.{prefix_self, prefix_trans}
-use Rattle.sup_core.specs.History.{is_among}
-use Rattle.svc_host.specs.Parts.{HostPart, HasPosted, PartGoesOn}
-use Rattle.svc_host.specs.Ending.{PostsOf}
+use Rattle.svc_station.proofs.Prefixes.{prefix_self}
+use Rattle.scan_table.specs.declared.part.Role.{Role}
+use Rattle.svc_mail.specs.declared.sender.Sender.{Sender}
+use Rattle.svc_mail.specs.Ends.{IsSameSender, heard_by, posted, seen_by}
+use Rattle.svc_mail.specs.Ends.{WasFull as SenderWasFull}
+use Rattle.svc_host.specs.declared.ending.ProcessSight.{ProcessSight}
+use Rattle.svc_host.specs.Mails.{Mail, WasFull, mail_of}
+use Rattle.svc_host.specs.Parts.{HostPart, GoOn, HasPosted, IsRead, IsRefused}
+use Rattle.svc_host.specs.Ending.{IsSight, PostsDown, PostsExit}
+use Rattle.svc_host.proofs.Going.{all_same, one_goes_on}
 
-abbrev Among : List ℕ → List ℕ → Type 0
-Among bytes more = All (λ byte. is_among bytes byte ≡ true) more
-
-none : (bytes : List ℕ) → Among bytes []
-none bytes k d less = absurd (omega (arith, less))
-
-pub posts_none : (bytes : List ℕ) (old new : HostPart) → new ≡ old → PostsOf bytes old new
-posts_none bytes old new same = record {
-  more = [];
-  among = none bytes;
-  id = ap (λ p. p.id) same;
-  opening = ap (λ p. p.opening) same;
-  station = ap (λ p. p.station) same;
-  known = subst (λ (p : HostPart). IsPrefix old.known p.known) (sym same) (prefix_self old.known);
-  posted = ap (λ p. p.posted) same ∙ sym (append-nil old.posted);
-  has_ended = ap (λ p. p.has_ended) same;
-  loss = ap (λ p. p.loss) same;
+-- a sender that posted, saw and heard no more knows what it knew
+pub mail_same : {A : Type 0} (old new : Sender ℕ A) → IsSameSender old new → posted new ≡ posted old
+    → seen_by new ≡ seen_by old
+    → heard_by new ≡ heard_by old → mail_of new ≡ mail_of old
+mail_same old new same post see hear = λ i. record {
+  number = same.1 i;
+  senders = same.3 i;
+  room = same.2 i;
+  posted = post i;
+  seen = see i;
+  heard = hear i;
 }
 
-is_itself : (byte : ℕ) → is_among (byte ∷ []) byte ≡ true
-is_itself byte = grind (arith, nat_tests)
+pub sight_goes : (slot : ℕ) (role : Role) (old new : List HostPart) (sight : ProcessSight)
+    → IsSight slot role old new sight → GoOn old new
+sight_goes slot role old new sight (inl none) = subst (GoOn old) (sym none.1) (all_same old)
+sight_goes slot role old new sight (inr one) =
+    subst (GoOn old) (sym one.4) (one_goes_on old one.0 one.1 one.2 (λ d. (one.3 d).1.goes_on))
 
-pub posts_one : (bytes : List ℕ) (byte : ℕ) (old new : HostPart) → is_among bytes byte ≡ true → HasPosted old byte new
-    → PostsOf bytes old new
-posts_one bytes byte old new is has = record {
-  more = byte ∷ [];
-  among = All-push (λ b. is_among bytes b ≡ true) [] byte (none bytes) is;
-  id = has.id;
-  opening = has.opening;
-  station = has.station;
-  known = subst (λ (k : _). IsPrefix old.known k) (sym has.known) (prefix_self old.known);
-  posted = has.posted;
-  has_ended = has.has_ended;
-  loss = has.loss;
+-- the part with what its sender knows now
+abbrev pub with_mail : HostPart → Mail → HostPart
+with_mail part mail = record part { mail = mail }
+
+-- a byte was posted by the sender of the part, or the mailbox was full
+pub posts_or_not : {A X Y : Type 0} (Same : Y → Type 0) (part : HostPart) (old new : Sender ℕ A) (byte : ℕ)
+    (result : Result X Y)
+    → part.mail ≡ mail_of old → IsSameSender old new → OnOk result (posted new ≡ posted old ++ byte ∷ [])
+    → OnErr result (posted new ≡ posted old) → OnErr result (seen_by new ≡ seen_by old) → heard_by new ≡ heard_by old
+    → IfErr result (λ full. Same full × SenderWasFull old)
+    → MatchResult result (λ _. HasPosted part byte (with_mail part (mail_of new)))
+    (λ _. IsRefused part (with_mail part (mail_of new)))
+posts_or_not Same part old new byte (Ok x) is same more post see hear full = record {
+  id = refl;
+  opening = refl;
+  adopted = refl;
+  station = refl;
+  known = refl;
+  posted = more ∙ ap (λ (mail : Mail). mail.posted ++ byte ∷ []) (sym is);
+  end_bytes = refl;
+  kept = refl;
+  has_ended = refl;
+  loss = refl;
 }
-
--- a byte was posted, or not, and then nothing changed
-pub posts_if : (byte : ℕ) (posted : Bool) (old mid new : HostPart)
-    → MatchBool posted (HasPosted old byte mid) (mid ≡ old) → new ≡ mid
-    → PostsOf (byte ∷ []) old new
-posts_if byte true old mid new has same =
-    subst (PostsOf (byte ∷ []) old) (sym same) (posts_one (byte ∷ []) byte old mid (is_itself byte) has)
-posts_if byte false old mid new has same = posts_none (byte ∷ []) old new (same ∙ has)
-
--- what is posted later comes behind
-pub posts_then : (bytes first second : List ℕ) (old mid new : HostPart)
-    → ((byte : ℕ) → is_among first byte ≡ true → is_among bytes byte ≡ true)
-    → ((byte : ℕ) → is_among second byte ≡ true → is_among bytes byte ≡ true) → PostsOf first old mid
-    → PostsOf second mid new → PostsOf bytes old new
-posts_then bytes first second old mid new one two p q = record {
-  more = p.more ++ q.more;
-  among = All-append (λ b. is_among bytes b ≡ true) p.more q.more (λ k d less. one _ (p.among k d less))
-      (λ k d less. two _ (q.among k d less));
-  id = q.id ∙ p.id;
-  opening = q.opening ∙ p.opening;
-  station = q.station ∙ p.station;
-  known = prefix_trans old.known mid.known new.known p.known q.known;
-  posted = q.posted ∙ ap (λ l. l ++ q.more) p.posted ∙ append_assoc old.posted p.more q.more;
-  has_ended = q.has_ended ∙ p.has_ended;
-  loss = q.loss ∙ p.loss;
-}
-
--- its events go on before
-pub posts_behind : (bytes : List ℕ) (old mid new : HostPart) → PartGoesOn old mid → mid.has_ended ≡ old.has_ended
-    → mid.loss ≡ old.loss
-    → PostsOf bytes mid new → PostsOf bytes old new
-posts_behind bytes old mid new goes ended loss q = record {
-  more = q.more;
-  among = q.among;
-  id = q.id ∙ goes.id;
-  opening = q.opening ∙ goes.opening;
-  station = q.station ∙ goes.station;
-  known = prefix_trans old.known mid.known new.known goes.known q.known;
-  posted = q.posted ∙ ap (λ l. l ++ q.more) goes.posted;
-  has_ended = q.has_ended ∙ ended;
-  loss = q.loss ∙ loss;
-}
-
-pub d_among : (byte : ℕ) → is_among (codes "d") byte ≡ true → is_among (codes "dx") byte ≡ true
-d_among byte is = grind (arith, nat_tests, is)
-
-pub x_among : (byte : ℕ) → is_among (codes "x") byte ≡ true → is_among (codes "dx") byte ≡ true
-x_among byte is = grind (arith, nat_tests, is)
+posts_or_not Same part old new byte (Err y) is same more post see hear full =
+    (ap (with_mail part) (mail_same old new same post see hear ∙ sym is), subst WasFull (sym is) full.1)

@@ -9,7 +9,7 @@ use Rattle.scan_table.specs.declared.part.PartId.{PartId}
 use Rattle.scan_table.specs.Slots.{Row, SlotState}
 use Rattle.scan_table.specs.Order.{row_of}
 use Rattle.scan_table.specs.Table.{slot_at}
-use Rattle.svc_host.specs.Parts.{HostPart, no_loss}
+use Rattle.svc_host.specs.Parts.{HostPart, no_end_bytes, no_loss}
 
 -- whether the row has the `down` file of a part of this role
 abbrev pub is_down : Role → Row → Bool
@@ -21,12 +21,15 @@ abbrev pub row_at : List Row → Option SlotState → Option Row
 row_at rows None = None
 row_at rows (Some slot) = row_of rows slot.name
 
--- A part that was just begun: its station was opened with the machine of this beginning, and nothing was posted to it.
+-- A part that was just begun: its station was opened with the machine of this beginning, whose process, if it has one,
+-- was adopted, and nothing was posted to it.
 pub record IsBegun (id : PartId) (begin : History) (part : HostPart) : Type 0 where
   pub is : part.id ≡ id
   pub opening : part.station.opening ≡ state_of begin
+  pub adopted : part.adopted ≡ (state_of begin).status.pid
   pub known : part.known ≡ []
-  pub posted : part.posted ≡ []
+  pub posted : part.mail.posted ≡ []
+  pub end_bytes : part.end_bytes ≡ no_end_bytes
   pub has_ended : part.has_ended ≡ false
   pub loss : part.loss ≡ no_loss
 

@@ -1,17 +1,14 @@
 -- The end of all services, in order, and when svscan may leave them.
-use Rattle.std.specs.Prelude.{◌≡◌, ℕ, ◌==◌, nat_le, nat_lt, Bool, true, false, ◌&&◌, if◌then◌else◌, List, [], ◌∷◌}
-use Rattle.std.specs.Prelude.{◌++◌}
-use Rattle.std.specs.Prelude.{codes}
-use Rattle.std.specs.Prelude.{slice_index_or, slice_set}
+use Rattle.std.specs.Prelude.{◌≡◌, ◌⊎◌, ◌<◌, ℕ, ◌==◌, nat_le, nat_lt, Bool, true, false, ◌&&◌, if◌then◌else◌, List}
+use Rattle.std.specs.Prelude.{MatchBool, length, slice_index_or, slice_set}
 use Rattle.std.specs.List.{All}
-use mathlib.Core.List.{IsPrefix}
-use Rattle.sup_core.specs.History.{is_among}
+use Rattle.sup_core.specs.History.{state_of}
 use Rattle.sup_core.specs.State.{State}
 use Rattle.tai_status.specs.declared.phase.Phase.{Phase}
 use Rattle.tai_status.specs.declared.phase.Phase.TheVariants as phase
 use Rattle.scan_table.specs.declared.part.Role.{Role}
 use Rattle.scan_table.specs.declared.part.Role.TheVariants.{Main, Log}
-use Rattle.svc_host.specs.Parts.{HostPart, service_runs}
+use Rattle.svc_host.specs.Parts.{HasPosted, HostPart, IsRead, IsRefused, history_of, runs_at, service_runs}
 use Rattle.svc_host.specs.declared.ending.EndStep.{EndStep}
 use Rattle.svc_host.specs.declared.ending.EndStep.TheVariants.{Stop, Exit, Wait}
 use Rattle.svc_host.specs.declared.ending.ProcessSight.{ProcessSight}
@@ -25,6 +22,10 @@ end_step Main service_runs is_adopted waited = Stop
 end_step Log true is_adopted waited = Wait
 end_step Log false is_adopted waited = if nat_le 5000 waited then Stop else if is_adopted then Wait else Exit
 
+abbrev pub is_log : Role → Bool
+is_log Main = false
+is_log Log = true
+
 -- whether the process of this number, of which 0 is none, is the one that was adopted
 abbrev pub is_adopted : (pid adopted : ℕ) → Bool
 is_adopted pid adopted = nat_lt 0 pid && pid == adopted
@@ -35,39 +36,50 @@ sight_without phase.Starting = Comes
 sight_without phase.Resting = Comes
 sight_without phase = Absent
 
--- the control bytes by which it is done
-abbrev pub bytes_of : EndStep → List ℕ
-bytes_of Stop = codes "dx"
-bytes_of Exit = codes "x"
-bytes_of Wait = []
+-- whether the process that a part has is the one that was adopted
+abbrev pub has_adopted : HostPart → Bool
+has_adopted part = is_adopted (state_of (history_of part)).status.pid part.adopted
 
--- the control bytes that come next for a part
-abbrev pub next_bytes : (service_runs is_adopted : Bool) → (waited : ℕ) → HostPart → List ℕ
-next_bytes service_runs is_adopted waited part =
-    if part.has_ended then [] else bytes_of (end_step part.id.role service_runs is_adopted waited)
+-- what is next for a part
+abbrev pub next_step : (service_runs : Bool) → (waited : ℕ) → HostPart → EndStep
+next_step service_runs waited part =
+    if part.has_ended then Wait else end_step part.id.role service_runs (has_adopted part) waited
 
--- To the part no bytes were posted but of these. Its events go on.
-pub record PostsOf (bytes : List ℕ) (old new : HostPart) : Type 0 where
-  pub more : List ℕ
-  pub among : All (λ byte. is_among bytes byte ≡ true) more
-  pub id : new.id ≡ old.id
-  pub opening : new.opening ≡ old.opening
-  pub station : new.station ≡ old.station
-  pub known : IsPrefix old.known new.known
-  pub posted : new.posted ≡ old.posted ++ more
-  pub has_ended : new.has_ended ≡ old.has_ended
-  pub loss : new.loss ≡ old.loss
+-- `d` was posted, unless it had been, or the mailbox was full.
+abbrev pub PostsDown : HostPart → HostPart → Type 0
+PostsDown old new =
+    ((old.end_bytes.down ≡ true) × (new ≡ old))
+    ⊎ ((posted : HostPart) × (old.end_bytes.down ≡ false) × HasPosted old 100 posted
+    × (new ≡ record posted { end_bytes = record posted.end_bytes { down = true } }))
+    ⊎ ((old.end_bytes.down ≡ false) × IsRefused old new)
 
--- To the part was posted what is next for it, as far as its mailbox had room.
+-- `x` was posted, unless it had been, or the mailbox was full.
+abbrev pub PostsExit : HostPart → HostPart → Type 0
+PostsExit old new =
+    ((old.end_bytes.exit ≡ true) × (new ≡ old))
+    ⊎ ((posted : HostPart) × (old.end_bytes.exit ≡ false) × HasPosted old 120 posted
+    × (new ≡ record posted { end_bytes = record posted.end_bytes { exit = true } }))
+    ⊎ ((old.end_bytes.exit ≡ false) × IsRefused old new)
+
+-- The bytes of a step were posted, each once in the end of all services, as far as the mailbox had room: to stop, `d`,
+-- and behind it `x`.
+abbrev pub PostsStep : EndStep → HostPart → HostPart → Type 0
+PostsStep Stop old new =
+    (down : HostPart) × PostsDown old down × MatchBool down.end_bytes.down (PostsExit down new) (new ≡ down)
+PostsStep Exit old new = PostsExit old new
+PostsStep Wait old new = new ≡ old
+
+-- To the part was posted what is next for it, after what the host has read of its events.
 pub record EndsNext (service_runs : Bool) (waited : ℕ) (old new : HostPart) : Type 0 where
-  pub is_adopted : Bool
-  pub posts : PostsOf (next_bytes service_runs is_adopted waited old) old new
+  pub read : HostPart
+  pub is_read : IsRead old read
+  pub posts : PostsStep (next_step service_runs waited read) read new
 
 -- To one of the parts was posted what is next for it, which of a logger depends on whether its service runs.
 pub record IsEndStep (old : List HostPart) (place : ℕ) (new : List HostPart) : Type 0 where
   pub waited : ℕ
   pub part : HostPart
-  pub told : (d : HostPart) → EndsNext (service_runs (slice_index_or old place d).id.slot old) waited
+  pub next : (d : HostPart) → EndsNext (service_runs (slice_index_or old place d).id.slot old) waited
       (slice_index_or old place d) part
   pub parts : new ≡ slice_set old place part
 
@@ -76,6 +88,20 @@ pub record IsEndStep (old : List HostPart) (place : ℕ) (new : List HostPart) :
 abbrev pub sight_of : State → (reads_another : Bool) → ProcessSight
 sight_of machine reads_another =
     if nat_lt 0 machine.status.pid then (if reads_another then Comes else Lives) else sight_without machine.phase
+
+-- what is seen of the process of a part
+abbrev pub part_sight : HostPart → ProcessSight
+part_sight part = sight_of (state_of (history_of part)) (is_log part.id.role && has_adopted part)
+
+-- What is seen of the part of this role in a slot: of one that runs, after its events as far as the host has read of
+-- them; where none runs, nothing is there.
+abbrev pub IsSight : (slot : ℕ) → Role → (old new : List HostPart) → ProcessSight → Type 0
+IsSight slot role old new sight =
+    (All (λ part. runs_at slot role part ≡ false) old × (new ≡ old) × (sight ≡ Absent))
+    ⊎ ((place : ℕ) × (part : HostPart) × (place < length old)
+    × ((d : HostPart) → (runs_at slot role (slice_index_or old place d) ≡ true)
+    × IsRead (slice_index_or old place d) part)
+    × (new ≡ slice_set old place part) × (sight ≡ part_sight part))
 
 -- Whether svscan may leave a pair whose output was told to end, so that nothing of it is lost, or nothing can be saved:
 -- all of it is put into the logger's input, and was read or will be, or no logger will come.

@@ -2,6 +2,7 @@ pub mod Answers
 pub mod Begun
 pub mod Ending
 pub mod Growth
+pub mod Mails
 pub mod Parts
 pub mod Rests
 pub mod Rounds

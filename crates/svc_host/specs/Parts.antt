@@ -1,6 +1,6 @@
 -- What a host knows of the parts that are there.
 use Rattle.std.specs.Prelude.{◌≡◌, ◌≢◌, ◌<◌, ⊤, Bool, true, false, not, ◌&&◌, ◌==◌, ℕ, List, [], ◌∷◌, ◌++◌, length}
-use Rattle.std.specs.Prelude.{map, slice_index_or, slice_set}
+use Rattle.std.specs.Prelude.{map, slice_index_or, slice_set, Option, None}
 use Rattle.std.specs.List.{filter, list_any, All}
 use mathlib.Core.List.{IsPrefix}
 use Rattle.tai_status.specs.Record.{Status}
@@ -9,40 +9,60 @@ use Rattle.tai_status.specs.declared.phase.Phase.TheVariants as phase
 use Rattle.sup_core.specs.History.{History, Opened, phase_of, status_of}
 use Rattle.sup_core.specs.Runs.{followed_by}
 use Rattle.scan_table.specs.declared.part.PartId.{PartId}
+use Rattle.scan_table.specs.declared.part.Role.{Role}
 use Rattle.scan_table.specs.declared.part.Role.TheVariants.{Main}
 use Rattle.scan_table.specs.Table.{is_at}
 use Rattle.svc_station.specs.declared.rule.Origin.{Origin}
 use Rattle.svc_mail.specs.declared.sender.Sender.{Sender}
-use Rattle.svc_mail.specs.Ends.{posted}
 use Rattle.svc_station.specs.declared.reader.Reader.{Reader}
 use Rattle.svc_station.specs.Ends.{known_to, reader_station}
 use Rattle.svc_left.specs.declared.opening.Opening.{Opening}
 use Rattle.svc_host.specs.declared.part.Loss.{Loss}
+use Rattle.svc_host.specs.Mails.{Mail, WasFull, mail_of}
+
+-- whether the bytes that end a service, `d` and `x`, were posted in the end of all services
+pub record EndBytes : Type 0 where
+  pub down : Bool
+  pub exit : Bool
+
+abbrev pub no_end_bytes : EndBytes
+no_end_bytes = record { down = false; exit = false }
 
 -- A part that is there: how it began, the station to which its thread publishes, which of its events the host has read
--- of, the control bytes that the host posted to it, and whether its thread was joined.
+-- of, the host's end of its mailbox, and whether its thread was joined.
 pub record HostPart : Type 0 where
   pub id : PartId
   pub opening : Opening
+  -- the number of the process that an earlier svscan had started for it; 0: none
+  pub adopted : ℕ
   pub station : Origin
   pub known : List Event
-  pub posted : List ℕ
+  pub mail : Mail
+  pub end_bytes : EndBytes
+  -- how many events the trace counted that was kept last
+  pub kept : Option ℕ
   pub has_ended : Bool
+  -- how many letters its service left in its mailbox, as far as they were taken since
+  pub untaken : ℕ
   -- what was lost at its end, and is not told
   pub loss : Loss
 
 abbrev pub no_loss : Loss
 no_loss = record { untaken = 0; lacks_trace = false }
 
--- a part that runs and began so, with this reader of its station and this sender of its mailbox
-abbrev pub new_part : {A : Type 0} → PartId → Opening → Reader → Sender ℕ A → HostPart
-new_part id opening reader sender = record {
+-- a part that runs and began so, with this process, this reader of its station and this sender of its mailbox
+abbrev pub new_part : {A : Type 0} → PartId → Opening → (adopted : ℕ) → Reader → Sender ℕ A → HostPart
+new_part id opening adopted reader sender = record {
   id = id;
   opening = opening;
+  adopted = adopted;
   station = reader_station reader;
   known = known_to reader;
-  posted = posted sender;
+  mail = mail_of sender;
+  end_bytes = no_end_bytes;
+  kept = None;
   has_ended = false;
+  untaken = 0;
   loss = no_loss;
 }
 
@@ -58,19 +78,35 @@ IsGoneIfEnded part = part.has_ended ≡ true → phase_of (history_of part) ≡ 
 pub record PartGoesOn (old new : HostPart) : Type 0 where
   pub id : new.id ≡ old.id
   pub opening : new.opening ≡ old.opening
+  pub adopted : new.adopted ≡ old.adopted
   pub station : new.station ≡ old.station
   pub known : IsPrefix old.known new.known
-  pub posted : new.posted ≡ old.posted
+  pub mail : new.mail ≡ old.mail
+  pub end_bytes : new.end_bytes ≡ old.end_bytes
+
+-- The host has read of its events, and nothing else of it changed.
+pub record IsRead (old new : HostPart) : Type 0 where
+  pub goes_on : PartGoesOn old new
+  pub kept : new.kept ≡ old.kept
+  pub has_ended : new.has_ended ≡ old.has_ended
+  pub loss : new.loss ≡ old.loss
 
 -- The host posted this byte to it, and nothing else of it changed.
 pub record HasPosted (old : HostPart) (byte : ℕ) (new : HostPart) : Type 0 where
   pub id : new.id ≡ old.id
   pub opening : new.opening ≡ old.opening
+  pub adopted : new.adopted ≡ old.adopted
   pub station : new.station ≡ old.station
   pub known : new.known ≡ old.known
-  pub posted : new.posted ≡ old.posted ++ byte ∷ []
+  pub posted : new.mail.posted ≡ old.mail.posted ++ byte ∷ []
+  pub end_bytes : new.end_bytes ≡ old.end_bytes
+  pub kept : new.kept ≡ old.kept
   pub has_ended : new.has_ended ≡ old.has_ended
   pub loss : new.loss ≡ old.loss
+
+-- Nothing was posted, since the mailbox was full, and nothing of the part changed.
+abbrev pub IsRefused : HostPart → HostPart → Type 0
+IsRefused old new = (new ≡ old) × WasFull old.mail
 
 -- No such part is there.
 abbrev pub IsNowhere : PartId → List HostPart → Type 0
@@ -108,6 +144,12 @@ pub record IsPost (old : List HostPart) (id : PartId) (byte : ℕ) (new : List H
   pub is : part.id ≡ id
   pub parts : new ≡ slice_set old place part
 
+-- The mailbox of this part was full.
+pub record IsFullAt (id : PartId) (parts : List HostPart) : Type 0 where
+  pub place : ℕ
+  pub at : IsPlace id parts place
+  pub full : (d : HostPart) → WasFull (slice_index_or parts place d).mail
+
 -- At this place stands a part that lost something which is not told.
 pub record HasLoss (parts : List HostPart) (place : ℕ) : Type 0 where
   pub within : place < length parts
@@ -133,15 +175,29 @@ pub record IsReading (id : PartId) (parts : List HostPart) (status : Status) : T
   -- Of a part that has ended all was read.
   pub gone : IsGoneIfEnded part
 
+-- Its thread was joined, and what it left in its mailbox is noted as lost.
+pub record IsJoined (part : HostPart) : Type 0 where
+  pub ended : part.has_ended ≡ true
+  pub untaken : part.loss.untaken ≡ part.untaken
+
 -- Whether a part stays at a scan: its slot is not dropped, and it does not restart.
 abbrev pub stays : List ℕ → List PartId → PartId → Bool
 stays drops restarts id =
     not (list_any (λ slot. slot == id.slot) drops)
     && not (list_any (λ other. is_at other id.slot id.role) restarts)
 
+-- whether it is the part of this role in a slot, and runs
+abbrev pub runs_at : (slot : ℕ) → Role → HostPart → Bool
+runs_at slot role part = is_at part.id slot role && not part.has_ended
+
+-- At this place stands the part of this role in a slot, and runs.
+pub record RunsHere (slot : ℕ) (role : Role) (parts : List HostPart) (place : ℕ) : Type 0 where
+  pub within : place < length parts
+  pub runs : (d : HostPart) → runs_at slot role (slice_index_or parts place d) ≡ true
+
 -- whether the service itself runs in a slot
 abbrev pub service_runs : (slot : ℕ) → List HostPart → Bool
-service_runs slot parts = list_any (λ (part : HostPart). is_at part.id slot Main && not part.has_ended) parts
+service_runs slot parts = list_any (runs_at slot Main) parts
 
 -- the parts that run
 abbrev pub running_ids : List HostPart → List PartId

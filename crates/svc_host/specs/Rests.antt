@@ -1,5 +1,7 @@
--- How long the thread of a service rests while it settles.
-use Rattle.std.specs.Prelude.{ℕ, ◌+◌, ◌-◌, ◌*◌, ◌^◌, min}
+-- How long a thread rests, and how long was waited.
+use Rattle.std.specs.Prelude.{ℕ, ◌+◌, ◌-◌, ◌*◌, ◌/◌, ◌^◌, min}
+use Rattle.core.specs.declared.time.Duration.{Duration}
+use Rattle.core.specs.Duration.{as_nanos}
 use Rattle.tai_status.specs.Label.{Tai64n}
 
 -- the nanoseconds from the first of all labels to this one
@@ -9,3 +11,7 @@ nanoseconds label = label.sec * 10 ^ 9 + label.nano
 -- the nanoseconds from one label to a later one, but at most a second
 abbrev pub rest_before : Tai64n → Tai64n → ℕ
 rest_before now until = min (nanoseconds until - nanoseconds now) (10 ^ 9)
+
+-- the milliseconds from one reading of the running clock to another, at most 2^64 - 1
+abbrev pub waited : (begin now : Duration) → ℕ
+waited begin now = min ((as_nanos now - as_nanos begin) / 10 ^ 6) (2 ^ 64 - 1)

@@ -1,6 +1,6 @@
 //! The end of all services, in order, and when svscan may leave them.
 ghost use Rattle.std.specs.Prelude.{◌≡◌};
-ghost use Rattle.svc_host.specs.Ending.{end_step, may_leave, sight_of};
+ghost use Rattle.svc_host.specs.Ending.{end_step, is_log, may_leave, sight_of};
 
 use scan_table::Role;
 use sup_core::Machine;
@@ -29,6 +29,16 @@ pub(crate) enum ProcessSight {
     Comes,
     /// It has none, and is to have none.
     Absent,
+}
+
+/// Whether it is the role of a logger.
+pub(crate) fn is_log(role: Role) -> bool
+    ensures { result ≡ is_log role }
+{
+    match role {
+        Role::Main => false,
+        Role::Log => true,
+    }
 }
 
 /// What is seen of the process of a part with this machine. That of an earlier svscan's logger, which reads another

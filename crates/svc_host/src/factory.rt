@@ -1,5 +1,5 @@
 //! The factory of parts.
-ghost use Rattle.std.specs.Prelude.{◌≡◌, ◌≤◌, ◌<◌, IfOk};
+ghost use Rattle.std.specs.Prelude.{◌≡◌, ◌≤◌, ◌<◌, IfOk, MatchBool, Some, length};
 ghost use Rattle.svc_left.specs.Opening.{beginning};
 ghost use Rattle.scan_table.specs.Scan.{AreRising};
 ghost use Rattle.svc_host.specs.Parts.{PartGoesOn};
@@ -205,6 +205,8 @@ impl<M: Maker + Drop, R: Threads + Wait + Clock + Copy + Drop + Send + 'static> 
         ensures same { PartGoesOn part.old part.new }
         ensures ended { part.new.has_ended ≡ part.old.has_ended }
         ensures loss { part.new.loss ≡ part.old.loss }
+        ensures kept { MatchBool result (part.new.kept ≡ Some (length part.new.known))
+            (part.new.kept ≡ part.old.kept) }
     {
         match part.growth(self.alloc) {
             Growth::None => true,

@@ -1,5 +1,7 @@
 //! What became of a trace since its text was kept last.
-ghost use Rattle.svc_host.specs.Growth.{Tells};
+ghost use Rattle.std.specs.Prelude.{◌≡◌};
+ghost use Rattle.sup_trace.specs.Text.{trace_text};
+ghost use Rattle.svc_host.specs.Growth.{IsText};
 
 use std::alloc::{AllocError, Global};
 use sup_trace::TraceText;
@@ -15,14 +17,10 @@ pub(crate) enum Growth {
     Refused,
 }
 
-/// What became of a trace since so many events were counted.
-pub(crate) fn growth_of(trace: &TraceText, alloc: Global, last: Option<u64>) -> Growth
-    ensures { Tells trace.now last result }
+/// The text of a trace that counts so many events.
+pub(crate) fn text_of(trace: &TraceText, alloc: Global, count: u64) -> Growth
+    ensures { IsText trace.now count result }
 {
-    let count = trace.folded() + trace.entries().len() as u64;
-    if last == Some(count) {
-        return Growth::None;
-    }
     match trace.write_text(alloc) {
         Ok(text) => Growth::By { count, text },
         Err(AllocError) => Growth::Refused,

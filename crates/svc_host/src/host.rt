@@ -5,7 +5,7 @@ ghost use Rattle.scan_table.specs.Scan.{AreRising};
 ghost use Rattle.scan_table.specs.Order.{scan_refusal};
 ghost use Rattle.scan_table.specs.Table.{after_end, scanned};
 ghost use Rattle.svc_host.specs.Ending.{IsEndStep};
-ghost use Rattle.svc_host.specs.Parts.{GoOn, HostPart, IsStep};
+ghost use Rattle.svc_host.specs.Parts.{GoOn, HostPart, IsJoined, IsStep, PartGoesOn};
 ghost use Rattle.svc_host.specs.Rounds.{AreBegun, AreCollected, IsBegunOne, IsCause, IsScan, IsScanned};
 ghost use Rattle.svc_host.specs.Rounds.{after_ends, host_of, staying, unmade_ids};
 
@@ -192,8 +192,21 @@ fn end_all(table: &mut ScanTable, failed: &[Unmade])
     }
 }
 
-/// Joins the thread of the part at a place, where it has ended, and keeps its last trace. Nothing comes to its mailbox
-/// then, and what was lost is noted. Whether it was joined.
+/// Joins the thread of a part, and keeps its last trace. Nothing comes to its mailbox then, and what was lost is noted.
+fn join_part<M: Maker + Drop, R: Threads + Wait + Clock + Copy + Drop + Send + 'static>(
+    factory: &mut PartFactory<M, R>,
+    part: &mut Part<R>,
+)
+    ensures same { PartGoesOn part.old part.new }
+    ensures joined { IsJoined part.new }
+{
+    part.join(&factory.rt, factory.alloc);
+    let has_trace = factory.keep_trace(part);
+    factory.maker.ended(part.id());
+    part.note_loss(&factory.rt, factory.rooms.mail, has_trace);
+}
+
+/// Joins the thread of the part at a place, where it has ended. Whether it was joined.
 fn reap<M: Maker + Drop, R: Threads + Wait + Clock + Copy + Drop + Send + 'static>(
     factory: &mut PartFactory<M, R>,
     table: &mut ScanTable,
@@ -206,16 +219,15 @@ fn reap<M: Maker + Drop, R: Threads + Wait + Clock + Copy + Drop + Send + 'stati
         ((d : HostPart) → table.new ≡ after_end table.old (slice_index_or parts.old.items place d).id)
         (table.new ≡ table.old) }
     ensures ran { result ≡ true → (d : HostPart) → (slice_index_or parts.old.items place d).has_ended ≡ false }
+    ensures joined { result ≡ true → (d : HostPart) → IsJoined (slice_index_or parts.new.items place d) }
+    ensures same { result ≡ false → parts.new.items ≡ parts.old.items }
 {
     let part = &mut parts[place];
     let ends = part.is_to_be_joined();
     if ends {
-        part.join(&factory.rt, factory.alloc);
-        let has_trace = factory.keep_trace(part);
+        join_part(factory, part);
         let id = part.id();
         table.ended(id);
-        factory.maker.ended(id);
-        part.note_loss(&factory.rt, factory.rooms.mail, has_trace);
     }
     ends
 }
@@ -337,8 +349,8 @@ impl<M: Maker + Drop, R: Threads + Wait + Clock + Copy + Drop + Send + 'static> 
     ghost use Rattle.std.specs.Prelude.{◌≡◌, ◌↔◌, ◌<◌, ◌≤◌, [], Err, IfOk, IfErr, OnErr, MatchOption};
     ghost use Rattle.std.specs.Prelude.{⊤, IfSome, option_copied, option_map};
     ghost use Rattle.scan_table.specs.Table.{name_of, new_table, slot_at};
-    ghost use Rattle.svc_host.specs.Parts.{AllTold, GoOn, IsNowhere, IsPost, IsReading, IsToldLoss, count_running};
-    ghost use Rattle.svc_host.specs.Parts.{running_ids};
+    ghost use Rattle.svc_host.specs.Parts.{AllTold, GoOn, IsFullAt, IsNowhere, IsPost, IsReading, IsToldLoss};
+    ghost use Rattle.svc_host.specs.Parts.{count_running, running_ids};
     ghost use Rattle.svc_host.specs.Rounds.{Collected, HostState, IsCause, IsScanned};
     ghost use Rattle.scan_table.specs.Whole.{is_whole};
 
@@ -376,6 +388,7 @@ impl<M: Maker + Drop, R: Threads + Wait + Clock + Copy + Drop + Send + 'static> 
     pub fn post(&mut self, id: PartId, byte: u8) -> Result<(), PostFault>
         ensures there { (result ≡ Err PostFault.NoSuchPart) ↔ IsNowhere id self.old.parts }
         ensures posted { IfOk result (λ _. IsPost self.old.parts id byte self.new.parts) }
+        ensures full { (result ≡ Err PostFault.Full) → IsFullAt id self.old.parts }
         ensures table { self.new.table ≡ self.old.table }
         ensures unchanged { OnErr result (self.new ≡ self.old) }
     {

@@ -5,6 +5,7 @@ ghost use Rattle.svc_mail.specs.Ends.{posted, taken_by};
 use crate::ends::open_box;
 use crate::growing_reader::GrowingReader;
 use crate::maker::{Maker, Outlets, PartFault};
+use crate::rest::waited;
 use crate::shared::{NewReceiver, PairShared};
 use cmd_base::Cause;
 use std::alloc::Global;
@@ -305,9 +306,6 @@ impl Pair {
             self.waits_since = Some(now);
             return 0;
         };
-        match now.checked_sub(begin) {
-            Some(waited) => u64::try_from(waited.as_millis()).unwrap_or(u64::MAX),
-            None => 0,
-        }
+        waited(begin, now)
     }
 }

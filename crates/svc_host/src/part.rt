@@ -2,7 +2,7 @@
 ghost use Rattle.std.specs.Prelude.{◌≡◌};
 ghost use Rattle.svc_host.specs.Ending.{is_adopted};
 
-use crate::ending::{EndStep, end_step};
+use crate::ending::{EndStep, ProcessSight, end_step, is_log, sight_of};
 use crate::growth::Growth;
 use crate::part_thread::PartThread;
 use crate::running::Running;
@@ -60,32 +60,37 @@ pub(crate) struct Part<R: Wait + Drop> {
 }
 
 impl<R: Wait + Drop> Model for Part<R> {
-    ghost use Rattle.svc_mail.specs.Ends.{posted};
     ghost use Rattle.svc_station.specs.Ends.{known_to, reader_station};
     ghost use Rattle.svc_house.specs.Mail.{sender_in};
+    ghost use Rattle.svc_host.specs.Mails.{mail_of};
     ghost use Rattle.svc_host.specs.Parts.{HostPart};
-    ghost use Rattle.svc_host.specs.Threads.{reader_at, is_ended};
+    ghost use Rattle.svc_host.specs.Threads.{reader_at, is_ended, untaken_at};
 
     ghost Value = { HostPart };
 
     ghost view = { λ part. record {
       id = part.id;
       opening = part.opening;
+      adopted = part.adopted;
       station = reader_station (reader_at part.thread);
       known = known_to (reader_at part.thread);
-      posted = posted (sender_in part.sender);
+      mail = mail_of (sender_in part.sender);
+      end_bytes = record { down = part.posted_down; exit = part.posted_exit };
+      kept = part.kept;
       has_ended = is_ended part.thread;
+      untaken = untaken_at part.thread;
       loss = part.loss;
     } };
 }
 
 impl<R: Threads + Wait + Clock + Copy + Drop + Send + 'static> Part<R> {
-    ghost use Rattle.std.specs.Prelude.{◌≡◌, ◌≢◌, ◌++◌, ◌∷◌, [], true, false, not, codes, MatchBool, MatchResult};
+    ghost use Rattle.std.specs.Prelude.{◌≡◌, ◌≢◌, true, false, not, length, Some, MatchBool, MatchResult};
     ghost use Rattle.sup_core.specs.History.{phase_of, state_of};
     ghost use Rattle.tai_status.specs.declared.phase.Phase.{Phase};
     ghost use Rattle.svc_house.specs.Mail.{sender_in};
-    ghost use Rattle.svc_host.specs.Ending.{EndsNext, PostsOf, bytes_of};
-    ghost use Rattle.svc_host.specs.Parts.{PartGoesOn, history_of, HasPosted, new_part, no_loss};
+    ghost use Rattle.svc_host.specs.Ending.{EndsNext, PostsDown, PostsExit, PostsStep, has_adopted, part_sight};
+    ghost use Rattle.svc_host.specs.Growth.{Tells};
+    ghost use Rattle.svc_host.specs.Parts.{HasPosted, IsRead, IsRefused, PartGoesOn, history_of, new_part, no_loss};
 
     /// A part whose service runs, and began so, with this process; 0: with none. By `sender` the host posts to it.
     pub(crate) fn new(
@@ -95,7 +100,7 @@ impl<R: Threads + Wait + Clock + Copy + Drop + Send + 'static> Part<R> {
         sender: ControlSender,
         running: Running<R>,
     ) -> Part<R>
-        ensures { result ≡ new_part id opening running.status_reader.reader (sender_in sender) }
+        ensures { result ≡ new_part id opening adopted running.status_reader.reader (sender_in sender) }
     {
         Part {
             id,
@@ -142,69 +147,64 @@ impl<R: Threads + Wait + Clock + Copy + Drop + Send + 'static> Part<R> {
 
     /// The machine after what was read of its events.
     pub(crate) fn machine(&mut self) -> Machine
-        ensures same { PartGoesOn self.old self.new }
-        ensures ended { self.new.has_ended ≡ self.old.has_ended }
-        ensures loss { self.new.loss ≡ self.old.loss }
+        ensures read { IsRead self.old self.new }
         ensures reading { result ≡ state_of (history_of self.new) }
         ensures gone { self.new.has_ended ≡ true → phase_of (history_of self.new) ≡ Phase.Gone }
     {
         self.thread.machine()
     }
 
-    /// Posts a control byte. `Full` gives it back, and nothing was posted.
+    /// Posts a control byte. `Full` gives it back: the mailbox was full, and nothing was posted.
     pub(crate) fn post(&mut self, rt: &R, byte: u8) -> Result<(), Full<u8>>
-        ensures { MatchResult result (λ _. HasPosted self.old byte self.new) (λ _. self.new ≡ self.old) }
+        ensures { MatchResult result (λ _. HasPosted self.old byte self.new) (λ _. IsRefused self.old self.new) }
     {
         self.sender.post(rt, byte)
     }
 
-    // Posts a control byte, and tells whether it was.
+    // Posts a control byte, and answers whether it was.
     fn post_one(&mut self, rt: &R, byte: u8) -> bool
-        ensures { MatchBool result (HasPosted self.old byte self.new) (self.new ≡ self.old) }
+        ensures { MatchBool result (HasPosted self.old byte self.new) (IsRefused self.old self.new) }
     {
         self.post(rt, byte).is_ok()
     }
 
-    // Notes whether `d` was posted.
-    fn note_down(&mut self, posted: bool)
-        ensures { self.new ≡ self.old }
+    // Notes that `d` was posted.
+    fn note_down(&mut self)
+        ensures { self.new ≡ record self.old { end_bytes = record self.old.end_bytes { down = true } } }
     {
-        self.posted_down = posted;
+        self.posted_down = true;
     }
 
-    // Notes whether `x` was posted.
-    fn note_exit(&mut self, posted: bool)
-        ensures { self.new ≡ self.old }
+    // Notes that `x` was posted.
+    fn note_exit(&mut self)
+        ensures { self.new ≡ record self.old { end_bytes = record self.old.end_bytes { exit = true } } }
     {
-        self.posted_exit = posted;
+        self.posted_exit = true;
     }
 
     // Posts `d`, unless that was posted so. Whether it was.
     fn post_down(&mut self, rt: &R) -> bool
-        ensures { PostsOf (codes "d") self.old self.new }
+        ensures posts { PostsDown self.old self.new }
+        ensures posted { result ≡ self.new.end_bytes.down }
     {
-        if self.posted_down {
-            return true;
+        if !self.posted_down && self.post_one(rt, b'd') {
+            self.note_down();
         }
-        let posted = self.post_one(rt, b'd');
-        self.note_down(posted);
-        posted
+        self.posted_down
     }
 
     // Posts `x`, unless that was posted so.
     fn post_exit(&mut self, rt: &R)
-        ensures { PostsOf (codes "x") self.old self.new }
+        ensures { PostsExit self.old self.new }
     {
-        if self.posted_exit {
-            return;
+        if !self.posted_exit && self.post_one(rt, b'x') {
+            self.note_exit();
         }
-        let posted = self.post_one(rt, b'x');
-        self.note_exit(posted);
     }
 
     // Posts the bytes of a step that were not posted yet, as far as its mailbox has room.
     fn post_step(&mut self, rt: &R, step: EndStep)
-        ensures { PostsOf (bytes_of step) self.old self.new }
+        ensures { PostsStep step self.old self.new }
     {
         match step {
             EndStep::Stop => {
@@ -217,17 +217,28 @@ impl<R: Threads + Wait + Clock + Copy + Drop + Send + 'static> Part<R> {
         }
     }
 
-    /// Whether its process is one that an earlier svscan started.
-    pub(crate) fn is_adopted(&mut self) -> bool
-        ensures same { PartGoesOn self.old self.new }
-        ensures ended { self.new.has_ended ≡ self.old.has_ended }
-        ensures loss { self.new.loss ≡ self.old.loss }
+    // Whether its process is one that an earlier svscan started.
+    fn has_adopted(&mut self) -> bool
+        ensures read { IsRead self.old self.new }
+        ensures adopted { result ≡ has_adopted self.new }
     {
         is_adopted(self.machine().view().pid, self.adopted)
     }
 
+    /// What is seen of its process.
+    pub(crate) fn sight(&mut self) -> ProcessSight
+        ensures read { IsRead self.old self.new }
+        ensures sight { result ≡ part_sight self.new }
+    {
+        let machine = self.machine();
+        let reads_another = is_log(self.id.role) && is_adopted(machine.view().pid, self.adopted);
+        sight_of(&machine, reads_another)
+    }
+
     /// Whether it was told to end with its process.
-    pub(crate) fn is_told(&self) -> bool {
+    pub(crate) fn is_told(&self) -> bool
+        ensures { result ≡ self.now.end_bytes.exit }
+    {
         self.posted_exit
     }
 
@@ -239,23 +250,22 @@ impl<R: Threads + Wait + Clock + Copy + Drop + Send + 'static> Part<R> {
         if self.has_ended() {
             return;
         }
-        let is_adopted = self.is_adopted();
-        let step = end_step(self.id.role, service_runs, is_adopted, waited);
+        let has_adopted = self.has_adopted();
+        let step = end_step(self.id.role, service_runs, has_adopted, waited);
         self.post_step(rt, step)
     }
 
     /// The text of its trace, where that has grown since it was kept last.
     pub(crate) fn growth(&mut self, alloc: Global) -> Growth
-        ensures same { PartGoesOn self.old self.new }
-        ensures ended { self.new.has_ended ≡ self.old.has_ended }
-        ensures loss { self.new.loss ≡ self.old.loss }
+        ensures read { IsRead self.old self.new }
+        ensures tells { Tells self.new.station self.new.known self.new.kept result }
     {
         self.thread.growth(alloc, self.kept)
     }
 
     /// Its trace was kept, which counted so many events.
     pub(crate) fn trace_is_kept(&mut self, count: u64)
-        ensures { self.new ≡ self.old }
+        ensures { self.new ≡ record self.old { kept = Some count } }
     {
         self.kept = Some(count);
     }
@@ -266,6 +276,7 @@ impl<R: Threads + Wait + Clock + Copy + Drop + Send + 'static> Part<R> {
         ensures same { PartGoesOn self.old self.new }
         ensures ended { self.new.has_ended ≡ self.old.has_ended }
         ensures trace { self.new.loss.lacks_trace ≡ not has_trace }
+        ensures untaken { self.new.loss.untaken ≡ self.new.untaken }
     {
         self.loss = Loss {
             untaken: self.thread.drain(rt, most),

@@ -1,15 +1,16 @@
 //! The thread of a part.
-ghost use Rattle.std.specs.Prelude.{◌≡◌, ◌+◌, length};
+ghost use Rattle.std.specs.Prelude.{◌≡◌, ◌+◌, length, option_map};
 ghost use Rattle.sup_core.specs.History.{phase_of, state_of};
 ghost use mathlib.Core.List.{IsPrefix};
 ghost use Rattle.svc_mail.specs.Ends.{taken_by};
 ghost use Rattle.svc_station.specs.Ends.{IsSameReader, history_at, history_of, known_to, published, reader_station};
-ghost use Rattle.svc_station.specs.Ends.{station};
+ghost use Rattle.svc_station.specs.Ends.{station, trace_at};
 ghost use Rattle.svc_house.specs.Calls.{bytes_in};
+ghost use Rattle.svc_host.specs.Growth.{IsText};
 ghost use Rattle.svc_host.specs.Served.{IsServed};
 ghost use Rattle.tai_status.specs.declared.phase.Phase.{Phase};
 
-use crate::growth::{Growth, growth_of};
+use crate::growth::{Growth, text_of};
 use crate::running::Running;
 use core::mem::replace_with;
 use std::alloc::{AllocError, Global};
@@ -25,28 +26,33 @@ use svc_station::audit::last_machine;
 use svc_station::reader::Reader;
 use svc_station::writer::Writer;
 
-/// What is left of a service that is gone, once its station has ended: the machine after its whole history, the trace
-/// of that, and the receiver of its mailbox, with how many letters that took since the service was gone.
+/// What is left of a service that is gone, once its station has ended: the machine after its whole history, how many
+/// events that has, the trace of it, and the receiver of its mailbox, with how many letters that took since the service
+/// was gone.
 #[derive(Drop)]
 pub(crate) struct Last {
     pub(crate) machine: Machine,
+    count: u64,
     trace: Option<TraceText>,
     receiver: Receiver<u8>,
     pub(crate) untaken: u64,
     pub(crate) reader: Snapshot<Reader>,
     ghost reads: { machine ≡ state_of (history_at reader.value) },
     ghost gone: { phase_of (history_at reader.value) ≡ Phase.Gone },
+    ghost all: { count ≡ length (known_to reader.value) },
+    ghost told: { option_map (λ _. trace_at reader.value) trace ≡ trace },
     // The service took one letter for each control byte of its whole history. What was taken since then is counted.
     ghost counted: { length (taken_by receiver) ≡ length (bytes_in (known_to reader.value)) + untaken },
 }
 
 impl Last {
-    ghost use Rattle.std.specs.Prelude.{◌≡◌};
+    ghost use Rattle.std.specs.Prelude.{◌≡◌, length};
     ghost use mathlib.Core.List.{IsPrefix};
     ghost use Rattle.sup_core.specs.History.{phase_of};
     ghost use Rattle.tai_status.specs.declared.phase.Phase.{Phase};
-    ghost use Rattle.svc_station.specs.Ends.{IsSameReader, history_of, known_to, reader_station, station};
+    ghost use Rattle.svc_station.specs.Ends.{IsSameReader, history_of, known_to, reader_station, station, trace_at};
     ghost use Rattle.svc_host.specs.Served.{IsServed};
+    ghost use Rattle.svc_host.specs.Growth.{IsText};
 
     /// What a reader reads once it has learnt what the writer of its station tells, whose service is gone. Where there
     /// is no memory for it, there is no trace.
@@ -67,6 +73,7 @@ impl Last {
         let (machine, trace) = read_last(alloc, reader, writer);
         Last {
             machine,
+            count: reader.count(),
             trace,
             receiver,
             untaken: 0,
@@ -74,10 +81,12 @@ impl Last {
         }
     }
 
-    // What became of its trace since so many events were counted.
-    fn growth(&self, alloc: Global, last: Option<u64>) -> Growth {
+    // The text of its trace.
+    fn text(&self, alloc: Global) -> Growth
+        ensures { IsText (trace_at self.now.reader.value) (length (known_to self.now.reader.value)) result }
+    {
         match &self.trace {
-            Some(trace) => growth_of(trace, alloc, last),
+            Some(trace) => text_of(trace, alloc, self.count),
             None => Growth::Refused,
         }
     }
@@ -123,10 +132,33 @@ fn read_last(
     ensures same { IsSameReader reader.old reader.new }
     ensures own { IsPrefix (known_to reader.old) (known_to reader.new) }
     ensures kept { writer.new ≡ writer.old }
+    ensures trace { option_map (λ _. trace_at reader.new) result.1 ≡ result.1 }
 {
     match last_reading(alloc, reader, writer.tell()) {
         Ok((machine, trace)) => (machine, Some(trace)),
         Err(_refused) => (last_machine(reader, writer.tell()), None),
+    }
+}
+
+/// How many events are read of.
+fn count_at(reader: &mut Reader) -> u64
+    ensures same { IsSameReader reader.old reader.new }
+    ensures own { IsPrefix (known_to reader.old) (known_to reader.new) }
+    ensures count { result ≡ length (known_to reader.new) }
+{
+    reader.machine();
+    reader.count()
+}
+
+/// The text of the trace that is read.
+fn text_at(alloc: Global, reader: &mut Reader) -> Growth
+    ensures same { IsSameReader reader.old reader.new }
+    ensures own { IsPrefix (known_to reader.old) (known_to reader.new) }
+    ensures text { IsText (trace_at reader.new) (length (known_to reader.new)) result }
+{
+    match reader.trace(alloc) {
+        Ok(trace) => text_of(&trace, alloc, reader.count()),
+        Err(AllocError) => Growth::Refused,
     }
 }
 
@@ -138,11 +170,12 @@ pub(crate) enum PartThread<R: Wait + Drop> {
 }
 
 impl<R: Threads + Wait + Clock + Copy + Drop + Send + 'static> PartThread<R> {
-    ghost use Rattle.std.specs.Prelude.{◌≡◌, true, false};
+    ghost use Rattle.std.specs.Prelude.{◌≡◌, true, false, length};
     ghost use mathlib.Core.List.{IsPrefix};
     ghost use Rattle.sup_core.specs.History.{phase_of, state_of};
     ghost use Rattle.tai_status.specs.declared.phase.Phase.{Phase};
-    ghost use Rattle.svc_station.specs.Ends.{history_at, known_to, reader_station};
+    ghost use Rattle.svc_station.specs.Ends.{history_at, known_to, reader_station, trace_at};
+    ghost use Rattle.svc_host.specs.Growth.{IsText, Tells};
     ghost use Rattle.svc_host.specs.Threads.{IsSameThread, is_ended, reader_at, untaken_at};
 
     /// Whether the thread was joined.
@@ -194,19 +227,40 @@ impl<R: Threads + Wait + Clock + Copy + Drop + Send + 'static> PartThread<R> {
         }
     }
 
-    /// The text of its trace, where that counts other events than were counted last: while the service runs of its
-    /// events so far, and after the join of all of them.
+    // How many events were published, as far as is read: of a part that has ended, all of them.
+    fn count(&mut self) -> u64
+        ensures same { IsSameThread self.old self.new }
+        ensures ended { is_ended self.new ≡ is_ended self.old }
+        ensures count { result ≡ length (known_to (reader_at self.new)) }
+    {
+        match self {
+            PartThread::Runs(running) => count_at(&mut running.status_reader.reader),
+            PartThread::Ended(last) => last.count,
+        }
+    }
+
+    // The text of its trace: while the service runs of its events so far, and after the join of all of them.
+    fn text(&mut self, alloc: Global) -> Growth
+        ensures same { IsSameThread self.old self.new }
+        ensures ended { is_ended self.new ≡ is_ended self.old }
+        ensures text { IsText (trace_at (reader_at self.new)) (length (known_to (reader_at self.new))) result }
+    {
+        match self {
+            PartThread::Runs(running) => text_at(alloc, &mut running.status_reader.reader),
+            PartThread::Ended(last) => last.text(alloc),
+        }
+    }
+
+    /// The text of its trace, where that counts other events than were counted last.
     pub(crate) fn growth(&mut self, alloc: Global, last: Option<u64>) -> Growth
         ensures same { IsSameThread self.old self.new }
         ensures ended { is_ended self.new ≡ is_ended self.old }
+        ensures tells { Tells (reader_station (reader_at self.new)) (known_to (reader_at self.new)) last result }
     {
-        match self {
-            PartThread::Runs(running) => match running.status_reader.reader.trace(alloc) {
-                Ok(trace) => growth_of(&trace, alloc, last),
-                Err(AllocError) => Growth::Refused,
-            },
-            PartThread::Ended(read) => read.growth(alloc, last),
+        if last == Some(self.count()) {
+            return Growth::None;
         }
+        self.text(alloc)
     }
 
     /// Takes the letters that its service, which is gone, did not take, so many at most: how many these are. None while

@@ -1,15 +1,16 @@
 //! The parts that are there, as a list.
 ghost use Rattle.std.specs.Prelude.{◌≡◌, ◌<◌, ◌↔◌, ⊤, Err, IfOk, OnOk, OnErr, IfSome, MatchOption, length};
-ghost use Rattle.std.specs.Prelude.{slice_index_or};
+ghost use Rattle.std.specs.Prelude.{false, slice_index_or};
 ghost use Rattle.sup_core.specs.History.{state_of};
-ghost use Rattle.std.specs.List.{list_any};
+ghost use Rattle.std.specs.List.{All, list_any};
 ghost use Rattle.scan_table.specs.Table.{is_at};
 ghost use Rattle.svc_host.specs.Parts.{AllTold, GoOn, HasLoss, IsNowhere, IsPlace, IsPost, IsReading, IsStep};
-ghost use Rattle.svc_host.specs.Parts.{HostPart, IsToldLoss};
-ghost use Rattle.svc_host.specs.Parts.{IsGoneIfEnded, count_running, history_of, running_ids, service_runs, stays};
-ghost use Rattle.scan_table.specs.declared.part.Role.{Role};
+ghost use Rattle.svc_host.specs.Parts.{HostPart, IsFullAt, IsToldLoss, RunsHere};
+ghost use Rattle.svc_host.specs.Parts.{IsGoneIfEnded, count_running, history_of, running_ids, runs_at, service_runs};
+ghost use Rattle.svc_host.specs.Parts.{stays};
+ghost use Rattle.svc_host.specs.Ending.{IsSight};
 
-use crate::ending::{ProcessSight, sight_of};
+use crate::ending::ProcessSight;
 use crate::host::PostFault;
 use crate::part::{Loss, Part};
 use scan_table::{PartId, Role};
@@ -44,15 +45,16 @@ pub(crate) fn post_to<R: Threads + Wait + Clock + Copy + Drop + Send + 'static>(
 ) -> Result<(), PostFault>
     ensures there { (result ≡ Err PostFault.NoSuchPart) ↔ IsNowhere id parts.old.items }
     ensures posted { OnOk result (IsPost parts.old.items id byte parts.new.items) }
+    ensures full { (result ≡ Err PostFault.Full) → IsFullAt id parts.old.items }
     ensures unchanged { OnErr result (parts.new.items ≡ parts.old.items) }
 {
     let Some(place) = place_of(parts, id) else {
         return Err(PostFault::NoSuchPart);
     };
-    if parts[place].post(rt, byte).is_err() {
-        return Err(PostFault::Full);
+    match parts[place].post(rt, byte) {
+        Ok(()) => Ok(()),
+        Err(_full) => Err(PostFault::Full),
     }
-    Ok(())
 }
 
 /// The machine of the part at a place, after what was read of its events.
@@ -123,26 +125,30 @@ pub(crate) fn sight_at<R: Threads + Wait + Clock + Copy + Drop + Send + 'static>
     slot: u64,
     role: Role,
 ) -> ProcessSight
-    ensures { GoOn parts.old.items parts.new.items }
+    ensures { IsSight slot role parts.old.items parts.new.items result }
 {
     match place_at(parts, slot, role) {
-        Some(place) => {
-            let is_adopted = adopted_at(parts, place);
-            sight_of(&machine_at(parts, place), role == Role::Log && is_adopted)
-        }
+        Some(place) => parts[place].sight(),
         None => ProcessSight::Absent,
     }
 }
 
-/// Whether the process of the part at a place is one that an earlier svscan started.
-fn adopted_at<R: Threads + Wait + Clock + Copy + Drop + Send + 'static>(
-    parts: &mut Vec<Part<R>>,
-    place: usize,
+/// Whether it is the part of this role in a slot, and runs.
+fn runs_at<R: Threads + Wait + Clock + Copy + Drop + Send + 'static>(
+    part: &Part<R>,
+    slot: u64,
+    role: Role,
 ) -> bool
-    requires { place < length parts.old.items }
-    ensures { IsStep parts.old.items place parts.new.items }
+    ensures { result ≡ runs_at slot role part.now }
 {
-    parts[place].is_adopted()
+    is_of(
+        &part.id(),
+        PartId {
+            slot,
+            role,
+            life: 0,
+        },
+    ) && !part.has_ended()
 }
 
 /// The place of the part of this role in a slot, where it runs.
@@ -151,11 +157,11 @@ fn place_at<R: Threads + Wait + Clock + Copy + Drop + Send + 'static>(
     slot: u64,
     role: Role,
 ) -> Option<usize>
-    ensures { IfSome result (λ place. place < length parts.now) }
+    ensures { MatchOption result (All (λ (part : HostPart). runs_at slot role part ≡ false) parts.now)
+        (λ place. RunsHere slot role parts.now place) }
 {
     for place in 0..parts.len() {
-        let id = parts[place].id();
-        if id.slot == slot && id.role == role && !parts[place].has_ended() {
+        if runs_at(&parts[place], slot, role) {
             return Some(place);
         }
     }
@@ -170,21 +176,11 @@ pub(crate) fn service_runs<R: Threads + Wait + Clock + Copy + Drop + Send + 'sta
     ensures { result ≡ service_runs slot parts.now }
 {
     for part in parts {
-        if is_service(part.id(), slot) && !part.has_ended() {
+        if runs_at(part, slot, Role::Main) {
             return true;
         }
     }
     false
-}
-
-/// Whether a part is the service itself of a slot.
-fn is_service(id: PartId, slot: u64) -> bool
-    ensures { result ≡ is_at id slot Role.Main }
-{
-    match id.role {
-        Role::Main => id.slot == slot,
-        Role::Log => false,
-    }
 }
 
 /// The parts that run.
