@@ -4,4 +4,4 @@
 pub(crate) const KIT: &str = "rattle-kit-13f logic dac8208d650f15bf";
 
 /// The sum of its sources, as packaging/source-sum tells it.
-pub(crate) const SOURCE: &str = "ecbbefdac8e56a97a96d9c241466e3d62208bcba1f4a7fc055693dccffdd8ab4";
+pub(crate) const SOURCE: &str = "fd18b37e10b0969ba8e98e96ef24a6c8eab0931d1a5b3dd693931fd493b10673";
