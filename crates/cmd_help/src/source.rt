@@ -4,4 +4,4 @@
 pub(crate) const KIT: &str = "rattle-kit-13f logic dac8208d650f15bf";
 
 /// The sum of its sources, as packaging/source-sum tells it.
-pub(crate) const SOURCE: &str = "fd18b37e10b0969ba8e98e96ef24a6c8eab0931d1a5b3dd693931fd493b10673";
+pub(crate) const SOURCE: &str = "f6dd5be9f9b078b9c1ad00df2fa791f27b6567d2016ac14b61ff044644cc0bac";

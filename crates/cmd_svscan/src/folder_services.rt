@@ -90,22 +90,47 @@ fn needed<M: Maker + Drop, R: Threads + Wait + Clock + Copy + Drop + Send + 'sta
     Ok(found)
 }
 
-/// The rows of these names of a folder of which a scan has need.
+/// The rows of these names of a folder of which a scan has need. Where it has need of none, that is noted with the
+/// activity that was read before.
 fn needed_rows<R: Files + Threads + Wait + Clock + Copy + Drop + Send + 'static, M: Maker + Drop>(
     rt: &R,
     alloc: Global,
-    host: &Host<M, R>,
+    running: &mut Running<M, R>,
     folder: &str,
     names: &[String],
+    activity: u64,
 ) -> Result<Vec<DirRow>, ListFault> {
-    match needed(alloc, host, names) {
-        Ok(names) => list_rows(rt, alloc, folder, names),
-        Err(AllocError) => Err(ListFault::OutOfMemory),
+    let Ok(names) = needed(alloc, &running.host, names) else {
+        return Err(ListFault::OutOfMemory);
+    };
+    running.whole_at = if names.is_empty() {
+        Some(activity)
+    } else {
+        None
+    };
+    list_rows(rt, alloc, folder, names)
+}
+
+/// The names of a folder, and whether it has them still.
+fn names_now<R: Files + Clock + Copy>(
+    rt: &R,
+    alloc: Global,
+    folder: &str,
+    names: &mut Option<FolderNames>,
+) -> Result<(FolderNames, bool), ListFault> {
+    match names.take() {
+        Some(known) if has_names(rt, folder, &known) => Ok((known, true)),
+        known => {
+            *names = known;
+            let found = list_names(rt, alloc, folder, SystemClock::new(*rt).now())?;
+            Ok((found, false))
+        }
     }
 }
 
 /// What a folder has, after the threads of what ended are joined: what ends from now on is the next round's. The traces
-/// of what runs are kept once a round. A folder that did not change is not listed again. A rest may begin.
+/// of what runs are kept once a round. A folder that did not change is not listed again, and where nothing has happened
+/// to any service either since none was in need of a row, none is now. A rest may begin.
 fn list<R: Files + Threads + Wait + Clock + Copy + Drop + Send + 'static, M: Maker + Drop>(
     rt: &R,
     alloc: Global,
@@ -116,17 +141,17 @@ fn list<R: Files + Threads + Wait + Clock + Copy + Drop + Send + 'static, M: Mak
         return Err(ListFault::OutOfMemory);
     };
     running.rests_since = rt.monotonic().ok();
+    // Before what ended is joined, so that what ends meanwhile is seen the next time.
+    let activity = running.host.activity();
     running.host.collect();
     running.host.keep_traces();
     let is_first = running.names.is_none();
-    let names = match running.names.take() {
-        Some(names) if has_names(rt, folder, &names) => names,
-        names => {
-            running.names = names;
-            list_names(rt, alloc, folder, SystemClock::new(*rt).now())?
-        }
+    let (names, has_them) = names_now(rt, alloc, folder, &mut running.names)?;
+    let rows = if has_them && running.whole_at == Some(activity) {
+        Ok(Vec::new(alloc))
+    } else {
+        needed_rows(rt, alloc, running, folder, &names.names, activity)
     };
-    let rows = needed_rows(rt, alloc, &running.host, folder, &names.names);
     let unnamed = names.unnamed;
     running.names = Some(names);
     let rows = rows?;
@@ -378,6 +403,8 @@ pub struct Running<M: Maker + Drop, R: Threads + Wait + Clock + Copy + Drop + Se
     rests_since: Option<Duration>,
     // What the folder had when it was listed last, where that was.
     names: Option<FolderNames>,
+    // The activity at which a scan had need of no row of these names, where it was so at the last listing.
+    whole_at: Option<u64>,
 }
 
 /// The services of this system that run.
@@ -397,6 +424,7 @@ where
         inbox: None,
         rests_since: None,
         names: None,
+        whole_at: None,
     })
 }
 

@@ -12,7 +12,7 @@ use crate::pair::Pair;
 use crate::part::Part;
 use crate::running::{Running, end};
 use crate::service::{Beginning, Task};
-use crate::shared::PartShared;
+use crate::shared::{Activity, PartShared};
 use cmd_base::Cause;
 use scan_table::{DirRow, PartId, Role, ScanTable, find_row};
 use std::alloc::Global;
@@ -69,6 +69,7 @@ pub(crate) struct PartFactory<
     pub(crate) pairs: Vec<Pair>,
     /// What the host waits for: notified by each part that has ended.
     pub(crate) notifier: Arc<Notifier, Global>,
+    pub(crate) activity: Arc<Activity, Global>,
     pub(crate) rooms: Rooms,
 }
 
@@ -83,7 +84,7 @@ impl<M: Maker + Drop, R: Threads + Wait + Clock + Copy + Drop + Send + 'static> 
     ) -> Result<Part<R>, PartFault>
         ensures { IfOk result (λ part. IsBegun id (beginning part.opening down label) part) }
     {
-        let shared = PartShared::new(self.alloc, &self.notifier)?;
+        let shared = PartShared::new(self.alloc, &self.notifier, &self.activity)?;
         let Ok(shared) = Arc::new(self.alloc, shared) else {
             return Err(PartFault::Refused(Cause::NoMemory));
         };
@@ -132,6 +133,7 @@ impl<M: Maker + Drop, R: Threads + Wait + Clock + Copy + Drop + Send + 'static> 
             self.maker.ended(id);
             return Err(PartFault::Refused(Cause::NoThread));
         };
+        self.activity.note();
         Ok(Part::new(id, opening, adopted, inside, running))
     }
 

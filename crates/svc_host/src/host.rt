@@ -17,6 +17,7 @@ use crate::part::{Loss, Part};
 use crate::parts::{
     post_to, running, running_ids, service_runs, sight_at, status_of, stays, take_loss,
 };
+use crate::shared::Activity;
 use scan_table::{DirRow, PartId, Role, ScanFault, ScanOut, ScanTable};
 use std::alloc::{AllocError, Global};
 use std::marker::Model;
@@ -61,6 +62,8 @@ pub struct Host<M: Maker + Drop, R: Threads + Wait + Clock + Copy + Drop + Send 
     factory: PartFactory<M, R>,
     table: ScanTable,
     parts: Vec<Part<R>>,
+    // The activity at which all traces were kept last.
+    kept_at: Option<u64>,
 }
 
 impl<M: Maker + Drop, R: Threads + Wait + Clock + Copy + Drop + Send + 'static> Model
@@ -245,29 +248,31 @@ fn collect<M: Maker + Drop, R: Threads + Wait + Clock + Copy + Drop + Send + 'st
     }
 }
 
-/// Keeps the trace of the part at a place, where that has grown.
+/// Keeps the trace of the part at a place, where that has grown. Whether its newest one is kept.
 fn keep_trace<M: Maker + Drop, R: Threads + Wait + Clock + Copy + Drop + Send + 'static>(
     factory: &mut PartFactory<M, R>,
     parts: &mut Vec<Part<R>>,
     place: usize,
-)
+) -> bool
     requires { place < length parts.old.items }
     ensures { IsStep parts.old.items place parts.new.items }
 {
     let part = &mut parts[place];
-    factory.keep_trace(part);
+    factory.keep_trace(part)
 }
 
-/// Keeps the traces that have grown.
+/// Keeps the traces that have grown. Whether all newest ones are kept.
 fn keep_traces<M: Maker + Drop, R: Threads + Wait + Clock + Copy + Drop + Send + 'static>(
     factory: &mut PartFactory<M, R>,
     parts: &mut Vec<Part<R>>,
-)
+) -> bool
     ensures { GoOn parts.old.items parts.new.items }
 {
+    let mut all = true;
     for place in 0..parts.len() {
-        keep_trace(factory, parts, place);
+        all = keep_trace(factory, parts, place) && all;
     }
+    all
 }
 
 /// One scan of a host.
@@ -374,6 +379,7 @@ impl<M: Maker + Drop, R: Threads + Wait + Clock + Copy + Drop + Send + 'static> 
                 maker,
                 pairs: Vec::new(alloc),
                 notifier: Arc::new(alloc, Notifier::new())?,
+                activity: Arc::new(alloc, Activity::new())?,
                 rooms: Rooms {
                     mail: mail_capacity,
                     trace: trace_capacity,
@@ -381,6 +387,7 @@ impl<M: Maker + Drop, R: Threads + Wait + Clock + Copy + Drop + Send + 'static> 
             },
             table: ScanTable::new(alloc, 0)?,
             parts: Vec::new(alloc),
+            kept_at: None,
         })
     }
 
@@ -419,12 +426,24 @@ impl<M: Maker + Drop, R: Threads + Wait + Clock + Copy + Drop + Send + 'static> 
         self.factory.notifier.wait(&self.factory.rt, Some(longest));
     }
 
+    /// How much has happened to its services: another number where anything has since. What ends from now on, too.
+    pub fn activity(&self) -> u64 {
+        self.factory.activity.count()
+    }
+
     /// Keeps the traces that have grown, of the services that run.
     pub fn keep_traces(&mut self)
         ensures table { self.new.table ≡ self.old.table }
         ensures parts { GoOn self.old.parts self.new.parts }
     {
-        keep_traces(&mut self.factory, &mut self.parts);
+        // Before the traces are read, so that what happens meanwhile is seen the next time.
+        let now = Some(self.activity());
+        if self.kept_at == now {
+            return;
+        }
+        if keep_traces(&mut self.factory, &mut self.parts) {
+            self.kept_at = now;
+        }
     }
 
     /// Joins the threads of the parts that have ended since the last time, and keeps their last traces.

@@ -123,7 +123,7 @@ fn rest<W: World, I: Inbox, G: Gate + Drop, R: Wait + Clock + Copy + Drop>(
 fn run<W: World, I: Inbox, G: Gate + Drop, R: Wait + Clock + Copy + Drop>(
     rt: R,
     house: &mut House<W, I, G>,
-    notifier: &Notifier,
+    shared: &PartShared,
 )
     ensures same { IsSameHouse house.old house.new }
     ensures more { IsPrefix house.old.events house.new.events }
@@ -131,10 +131,12 @@ fn run<W: World, I: Inbox, G: Gate + Drop, R: Wait + Clock + Copy + Drop>(
 {
     for _ in rt.forever() {
         match house.turn(&rt) {
-            Ok(Turned::Took(_)) => {}
+            Ok(Turned::Took(_)) => shared.note_event(),
             Ok(Turned::Ended) => return,
-            Ok(Turned::Idle) => rest(rt, house, notifier),
-            Err(HouseFault::OutOfMemory) => notifier.wait(&rt, Some(Duration::from_millis(1))),
+            Ok(Turned::Idle) => rest(rt, house, &shared.notifier),
+            Err(HouseFault::OutOfMemory) => {
+                shared.notifier.wait(&rt, Some(Duration::from_millis(1)));
+            }
         }
     }
 }
@@ -180,7 +182,7 @@ pub(crate) fn serve<W: World + Drop, G: Gate + Drop, R: Wait + Clock + Copy + Dr
         return Served::NotBegun(parked);
     }
     let mut house = open(world, receiver, gate, parked.into_writer(), begins);
-    run(rt, &mut house, &shared.notifier);
+    run(rt, &mut house, &shared);
     let (writer, receiver) = house.leave();
     shared.end();
     Served::Gone(Parked::new(writer, rt), receiver)

@@ -3,11 +3,34 @@ ghost use Rattle.std.specs.Prelude.{◌≡◌, []};
 ghost use Rattle.svc_mail.specs.Ends.{taken_by};
 
 use std::alloc::{AllocError, Global};
-use std::sync::atomic::{AtomicBool, Ordering};
+use std::sync::atomic::{AtomicBool, AtomicU64, Ordering};
 use std::sync::{Arc, Mutex, Wait};
 use svc_house::{News, Notifier};
 use svc_mail::receiver::Receiver;
 use svc_relay::piece::Piece;
+
+/// How much has happened to the services of a host. Where this stands as it was, so do they.
+#[derive(Drop)]
+pub(crate) struct Activity {
+    count: AtomicU64,
+}
+
+impl Activity {
+    pub(crate) const fn new() -> Activity {
+        Activity {
+            count: AtomicU64::new(0),
+        }
+    }
+
+    /// Something has happened to a service, and can be read.
+    pub(crate) fn note(&self) {
+        self.count.fetch_add(1, Ordering::SeqCst);
+    }
+
+    pub(crate) fn count(&self) -> u64 {
+        self.count.load(Ordering::SeqCst)
+    }
+}
 
 /// What the thread of a service shares with the host.
 #[derive(Drop)]
@@ -16,6 +39,7 @@ pub(crate) struct PartShared {
     pub(crate) notifier: Arc<Notifier, Global>,
     // What the host waits for.
     host: Arc<Notifier, Global>,
+    activity: Arc<Activity, Global>,
     stays_out: AtomicBool,
     has_ended: AtomicBool,
 }
@@ -24,10 +48,12 @@ impl PartShared {
     pub(crate) fn new(
         alloc: Global,
         host: &Arc<Notifier, Global>,
+        activity: &Arc<Activity, Global>,
     ) -> Result<PartShared, AllocError> {
         Ok(PartShared {
             notifier: Arc::new(alloc, Notifier::new())?,
             host: Arc::try_clone(host)?,
+            activity: Arc::try_clone(activity)?,
             stays_out: AtomicBool::new(false),
             has_ended: AtomicBool::new(false),
         })
@@ -42,9 +68,16 @@ impl PartShared {
         self.stays_out.load(Ordering::SeqCst)
     }
 
+    /// An event of the service was published.
+    pub(crate) fn note_event(&self) {
+        self.activity.note();
+    }
+
     /// The service has ended: the host is told.
     pub(crate) fn end(&self) {
-        self.host.notify(News::raise(&self.has_ended));
+        let news = News::raise(&self.has_ended);
+        self.activity.note();
+        self.host.notify(news);
     }
 
     pub(crate) fn has_ended(&self) -> bool {
