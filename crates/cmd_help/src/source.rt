@@ -4,4 +4,4 @@
 pub(crate) const KIT: &str = "rattle-kit-13f logic dac8208d650f15bf";
 
 /// The sum of its sources, as packaging/source-sum tells it.
-pub(crate) const SOURCE: &str = "f6dd5be9f9b078b9c1ad00df2fa791f27b6567d2016ac14b61ff044644cc0bac";
+pub(crate) const SOURCE: &str = "7ebc9b61d90ea0a5efd7913e726ac7312d2232862a2eb1ed825021417c8bb37f";
