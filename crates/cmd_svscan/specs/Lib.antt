@@ -6,3 +6,4 @@ pub mod OwnStatus
 pub mod Requests
 pub mod Rounds
 pub mod Words
+pub mod Losses

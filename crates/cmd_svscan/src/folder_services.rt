@@ -1,6 +1,9 @@
 //! The services of a folder of this system, which it keeps running.
-ghost use Rattle.std.specs.Prelude.{◌≡◌, map, string_bytes, IfOk};
+ghost use Rattle.std.specs.Prelude.{◌≡◌, map, string_bytes, IfOk, OnErr, OnOk};
+ghost use mathlib.Core.List.{IsPrefix};
+ghost use Rattle.svc_host.specs.Parts.{losses_in, without_loss};
 ghost use Rattle.cmd_svscan.specs.Listing.{needed};
+ghost use Rattle.cmd_svscan.specs.Losses.{shown_name, unmade_in, untaken_in, untraced_in};
 ghost use Rattle.cmd_svscan.specs.Requests.{IsReplyTo};
 
 use crate::descriptors::{allowed_descriptors, shortage};
@@ -20,7 +23,7 @@ use std::thread::Threads;
 use std::time::{Clock, Duration};
 use std::{io, process, thread};
 use svc_door::Door;
-use svc_host::{Host, Maker};
+use svc_host::{Host, Loss, Maker};
 use svc_house::{Inbox, MailInbox};
 use svc_maker::{FolderHolder, FolderMaker, OwnFault, SystemParts, part_name};
 use svc_world::{AdoptionWatch, FolderFault};
@@ -130,7 +133,7 @@ fn names_now<R: Files + Clock + Copy>(
 
 /// What a folder has, after the threads of what ended are joined: what ends from now on is the next round's. The traces
 /// of what runs are kept once a round. A folder that did not change is not listed again, and where nothing has happened
-/// to any service either since none was in need of a row, none is now. A rest may begin.
+/// to any service either since none was in need of a row, none is now, and the round is idle. A rest may begin.
 fn list<R: Files + Threads + Wait + Clock + Copy + Drop + Send + 'static, M: Maker + Drop>(
     rt: &R,
     alloc: Global,
@@ -143,11 +146,15 @@ fn list<R: Files + Threads + Wait + Clock + Copy + Drop + Send + 'static, M: Mak
     running.rests_since = rt.monotonic().ok();
     // Before what ended is joined, so that what ends meanwhile is seen the next time.
     let activity = running.host.activity();
-    running.host.collect();
+    let is_quiet = running.whole_at == Some(activity);
+    if !is_quiet {
+        running.host.collect();
+    }
     running.host.keep_traces();
     let is_first = running.names.is_none();
     let (names, has_them) = names_now(rt, alloc, folder, &mut running.names)?;
-    let rows = if has_them && running.whole_at == Some(activity) {
+    running.is_idle = is_quiet && has_them;
+    let rows = if running.is_idle {
         Ok(Vec::new(alloc))
     } else {
         needed_rows(rt, alloc, running, folder, &names.names, activity)
@@ -166,12 +173,14 @@ fn list<R: Files + Threads + Wait + Clock + Copy + Drop + Send + 'static, M: Mak
     })
 }
 
-/// The name of a part of a service in a slot, as it is told.
-fn name_of<M: Maker + Drop, R: Threads + Wait + Clock + Copy + Drop + Send + 'static>(
+/// The name by which a part is shown.
+fn shown_name<M: Maker + Drop, R: Threads + Wait + Clock + Copy + Drop + Send + 'static>(
     alloc: Global,
     host: &Host<M, R>,
     part: PartId,
-) -> Result<Name, AllocError> {
+) -> Result<Name, AllocError>
+    ensures { IfOk result (λ name. name ≡ shown_name host.now.table.slots part) }
+{
     let name = match host.name(part.slot) {
         Some(name) => name.as_str(),
         None => "",
@@ -179,40 +188,73 @@ fn name_of<M: Maker + Drop, R: Threads + Wait + Clock + Copy + Drop + Send + 'st
     Ok(Name::new(part_name(alloc, name, part.role)?))
 }
 
-/// What was lost at the ends of parts, and was not told.
-fn take_losses<M: Maker + Drop, R: Threads + Wait + Clock + Copy + Drop + Send + 'static>(
-    rt: R,
+/// The control bytes that were not taken, by the parts that ended so.
+fn untaken_in<M: Maker + Drop, R: Threads + Wait + Clock + Copy + Drop + Send + 'static>(
     alloc: Global,
-    host: &mut Host<M, R>,
-) -> Result<(Vec<Untaken>, Names), AllocError> {
+    host: &Host<M, R>,
+    losses: &[(PartId, Loss)],
+) -> Result<Vec<Untaken>, AllocError>
+    ensures { IfOk result (λ untaken. untaken.items ≡ untaken_in host.now.table.slots losses.now) }
+{
     let mut untaken = Vec::new(alloc);
-    let mut untraced = Vec::new(alloc);
-    for _ in rt.forever() {
-        let Some((part, loss)) = host.take_loss() else {
-            break;
-        };
+    for (part, loss) in losses {
         if loss.untaken > 0 {
-            let name = name_of(alloc, host, part)?;
+            let name = shown_name(alloc, host, *part)?;
             let count = loss.untaken;
             untaken.push(Untaken { name, count })?;
         }
+    }
+    Ok(untaken)
+}
+
+/// The parts whose last trace was not kept.
+fn untraced_in<M: Maker + Drop, R: Threads + Wait + Clock + Copy + Drop + Send + 'static>(
+    alloc: Global,
+    host: &Host<M, R>,
+    losses: &[(PartId, Loss)],
+) -> Result<Names, AllocError>
+    ensures { IfOk result (λ untraced. untraced ≡ untraced_in host.now.table.slots losses.now) }
+{
+    let mut untraced = Vec::new(alloc);
+    for (part, loss) in losses {
         if loss.lacks_trace {
-            untraced.push(name_of(alloc, host, part)?)?;
+            untraced.push(shown_name(alloc, host, *part)?)?;
         }
     }
-    Ok((untaken, Names::from_vec(untraced)))
+    Ok(Names::from_vec(untraced))
+}
+
+/// What was lost at the ends of parts since this was asked last. At want of memory it is asked for again.
+fn take_losses<M: Maker + Drop, R: Threads + Wait + Clock + Copy + Drop + Send + 'static>(
+    alloc: Global,
+    host: &mut Host<M, R>,
+) -> Result<(Vec<Untaken>, Names), AllocError>
+    ensures untaken { IfOk result (λ found.
+        found.0.items ≡ untaken_in host.old.table.slots (losses_in host.old.parts)) }
+    ensures untraced { IfOk result (λ found.
+        found.1 ≡ untraced_in host.old.table.slots (losses_in host.old.parts)) }
+    ensures once { OnOk result (host.new ≡ record host.old { parts = map without_loss host.old.parts }) }
+    ensures kept { OnErr result (host.new ≡ host.old) }
+{
+    let losses = host.losses()?;
+    let untaken = untaken_in(alloc, host, &losses)?;
+    let untraced = untraced_in(alloc, host, &losses)?;
+    host.forget_losses();
+    Ok((untaken, untraced))
 }
 
 /// The parts that could not be made, by name: as many as there is memory for, since the next round makes them or fails
 /// again.
-fn unmade<M: Maker + Drop, R: Threads + Wait + Clock + Copy + Drop + Send + 'static>(
+fn unmade_in<M: Maker + Drop, R: Threads + Wait + Clock + Copy + Drop + Send + 'static>(
     alloc: Global,
     host: &Host<M, R>,
     failed: &[svc_host::Unmade],
-) -> Vec<Unmade> {
+) -> Vec<Unmade>
+    ensures { IsPrefix result.items (unmade_in host.now.table.slots failed.now) }
+{
     let mut all = Vec::new(alloc);
     for one in failed {
-        let Ok(name) = name_of(alloc, host, one.part) else {
+        let Ok(name) = shown_name(alloc, host, one.part) else {
             break;
         };
         let fault = one.fault;
@@ -223,7 +265,18 @@ fn unmade<M: Maker + Drop, R: Threads + Wait + Clock + Copy + Drop + Send + 'sta
     all
 }
 
-/// One scan of the rows of a folder, and what parts lost that ended before. Then a rest begins.
+/// What a round did in which there was nothing to do.
+fn idle_round(alloc: Global) -> RoundOut {
+    RoundOut {
+        untaken: Vec::new(alloc),
+        untraced: Names::from_vec(Vec::new(alloc)),
+        unmade: Vec::new(alloc),
+        refused: Names::from_vec(Vec::new(alloc)),
+    }
+}
+
+/// One scan of the rows of a folder, and what parts lost that ended before. Then a rest begins. An idle round, of which
+/// a scan would find nothing to do, makes none; behind one that was refused none is idle.
 fn round<M: FolderHolder + Drop, R: Threads + Wait + Clock + Copy + Drop + Send + 'static>(
     rt: R,
     alloc: Global,
@@ -234,7 +287,14 @@ fn round<M: FolderHolder + Drop, R: Threads + Wait + Clock + Copy + Drop + Send 
     let Some(running) = running else {
         return Err(ScanFault::OutOfMemory);
     };
-    let out = scan(rt, alloc, &mut running.host, folder, rows);
+    let out = if running.is_idle {
+        Ok(idle_round(alloc))
+    } else {
+        scan(rt, alloc, &mut running.host, folder, rows)
+    };
+    if out.is_err() {
+        running.whole_at = None;
+    }
     running.rests_since = rt.monotonic().ok();
     out
 }
@@ -248,7 +308,7 @@ fn scan<M: FolderHolder + Drop, R: Threads + Wait + Clock + Copy + Drop + Send +
     rows: &[DirRow],
 ) -> Result<RoundOut, ScanFault> {
     // Before the scan, since that gives the slots of what ended, and with them the names, to other services.
-    let Ok((untaken, untraced)) = take_losses(rt, alloc, host) else {
+    let Ok((untaken, untraced)) = take_losses(alloc, host) else {
         return Err(ScanFault::OutOfMemory);
     };
     if host.ask_maker(|maker| maker.set_folder(folder)).is_err() {
@@ -260,7 +320,7 @@ fn scan<M: FolderHolder + Drop, R: Threads + Wait + Clock + Copy + Drop + Send +
     Ok(RoundOut {
         untaken,
         untraced,
-        unmade: unmade(alloc, host, &out.failed),
+        unmade: unmade_in(alloc, host, &out.failed),
         refused: out.scan.refused,
     })
 }
@@ -312,7 +372,7 @@ fn remaining<M: Maker + Drop, R: Threads + Wait + Clock + Copy + Drop + Send + '
         if let Some(view) = host.status(part) {
             if view.pid > 0 {
                 all.push(Remaining {
-                    name: name_of(alloc, host, part)?,
+                    name: shown_name(alloc, host, part)?,
                     pid: view.pid,
                 })?;
             }
@@ -359,7 +419,7 @@ fn unlogged<M: Maker + Drop, R: Threads + Wait + Clock + Copy + Drop + Send + 's
             role: Role::Main,
             life: 0,
         };
-        if let Ok(name) = name_of(alloc, host, part) {
+        if let Ok(name) = shown_name(alloc, host, part) {
             if all.push(Unlogged { name, count }).is_err() {
                 break;
             }
@@ -405,6 +465,8 @@ pub struct Running<M: Maker + Drop, R: Threads + Wait + Clock + Copy + Drop + Se
     names: Option<FolderNames>,
     // The activity at which a scan had need of no row of these names, where it was so at the last listing.
     whole_at: Option<u64>,
+    // Whether neither the folder nor a service has changed since then.
+    is_idle: bool,
 }
 
 /// The services of this system that run.
@@ -425,6 +487,7 @@ where
         rests_since: None,
         names: None,
         whole_at: None,
+        is_idle: false,
     })
 }
 

@@ -1,9 +1,14 @@
-//! The system's own listing of a folder. It tells contracts nothing: what it finds is shown by tests.
-use crate::rows::{Entry, Folder, rows_of};
+//! The system's own listing of a folder. Contracts see nothing of what stands there: that is shown by tests.
+ghost use Rattle.std.specs.Prelude.{◌≡◌, map, string_bytes, IfOk, IfErr};
+ghost use Rattle.std.specs.Fs.{dir_entry_name};
+ghost use Rattle.std.specs.Iterator.{IsFinite};
+ghost use Rattle.cmd_svscan.specs.Listing.{IsWhyUnlisted, Lists};
+
+use crate::rows::{Folder, rows_of};
 use crate::service_set::ListFault;
 use scan_table::DirRow;
-use std::alloc::{AllocError, Global};
-use std::fs::Files;
+use std::alloc::{AllocError, Allocator, Global};
+use std::fs::{DirEntry, Files};
 use std::os::unix::fs::MetadataExt;
 use std::{fs, io};
 use tai_status::Label;
@@ -25,7 +30,10 @@ impl<'a, R: Files> SystemFolder<'a, R> {
         path.push_str(rest)?;
         Ok(path)
     }
+}
 
+/// Links are followed, so a dead one is no directory. What can't be looked at is not there.
+impl<'a, R: Files> Folder for SystemFolder<'a, R> {
     fn is_there(&self, name: &str, rest: &str) -> Result<bool, AllocError> {
         let path = self.path_of(name, rest)?;
         Ok(fs::metadata(self.rt, path.as_str()).is_ok())
@@ -37,20 +45,6 @@ impl<'a, R: Files> SystemFolder<'a, R> {
             Ok(found) => Ok(found.is_dir()),
             Err(_) => Ok(false),
         }
-    }
-}
-
-/// Links are followed, so a dead one is no directory. What can't be looked at is not there.
-impl<'a, R: Files> Folder for SystemFolder<'a, R> {
-    fn look(&self, name: &str) -> Result<Entry, AllocError> {
-        let is_dir = self.is_dir(name, "")?;
-        let has_log = is_dir && self.is_dir(name, "/log")?;
-        Ok(Entry {
-            is_dir,
-            has_log,
-            down: is_dir && self.is_there(name, "/down")?,
-            log_down: has_log && self.is_there(name, "/log/down")?,
-        })
     }
 }
 
@@ -98,6 +92,36 @@ fn is_past(changed: Label, now: Label) -> bool {
     changed.plus_second().plus_second() < now
 }
 
+/// The names of entries, in order, and how many others have a name that is no text. The first entry that can't be read
+/// for another reason ends this with its fault.
+fn names_in<R: Files + Drop, B: Allocator, I>(
+    alloc: Global,
+    entries: I,
+) -> io::Result<(Vec<String>, u64)>
+where
+    I: Iterator<Item = io::Result<DirEntry<R, B>>> + Drop,
+    requires may { I.can_next entries }
+    requires ends { IsFinite (I.remaining entries) }
+    ensures all { IfOk result (λ found.
+        Lists I.next_gives dir_entry_name entries (map string_bytes found.0.items) found.1) }
+    ensures first { IfErr result (λ fault. IsWhyUnlisted I.next_gives entries fault) }
+{
+    let mut names = Vec::new(alloc);
+    let mut unnamed: u64 = 0;
+    for entry in entries {
+        match entry {
+            Ok(entry) => names.push(String::from_str(alloc, entry.file_name())?)?,
+            Err(fault) => {
+                if fault.kind() != io::ErrorKind::InvalidFilename {
+                    return Err(fault);
+                }
+                unnamed = unnamed.saturating_add(1);
+            }
+        }
+    }
+    Ok((names, unnamed))
+}
+
 /// The names in the folder at a path, of which this is the state.
 fn read_names<R: Files>(
     rt: &R,
@@ -105,17 +129,7 @@ fn read_names<R: Files>(
     path: &str,
     state: Option<FolderState>,
 ) -> io::Result<FolderNames> {
-    let mut names = Vec::new(alloc);
-    let mut unnamed: u64 = 0;
-    for entry in fs::read_dir(&(rt, &alloc), path)? {
-        match entry {
-            Ok(entry) => names.push(String::from_str(alloc, entry.file_name())?)?,
-            Err(fault) if fault.kind() == io::ErrorKind::InvalidFilename => {
-                unnamed = unnamed.saturating_add(1);
-            }
-            Err(fault) => return Err(fault),
-        }
-    }
+    let (names, unnamed) = names_in(alloc, fs::read_dir(&(rt, &alloc), path)?)?;
     Ok(FolderNames {
         names,
         unnamed,

@@ -1,6 +1,7 @@
 //! The rows of a folder.
 ghost use Rattle.std.specs.Prelude.{◌≡◌, map, string_bytes, IfOk, IsPermutation};
-ghost use Rattle.cmd_svscan.specs.Listing.{AreAsSaid, AreInOrder, row_of};
+ghost use Rattle.std.specs.Prelude.{IfSome};
+ghost use Rattle.cmd_svscan.specs.Listing.{AreAsSaid, AreInOrder, entries_of, row_of};
 
 use scan_table::DirRow;
 use std::alloc::{AllocError, Global};
@@ -19,16 +20,34 @@ pub struct Entry {
     pub log_down: bool,
 }
 
-/// A folder whose entries are looked at. Contracts see what it says of a name, where that is known (`says`).
+/// A folder whose entries are looked at. Contracts see what stands at each path in it, where that is known (`at`).
 pub trait Folder {
-    ghost use Rattle.std.specs.Prelude.{◌≡◌, ℕ, Option, None, List, IfSome, IfOk};
-    ghost use Rattle.cmd_svscan.specs.declared.rows.Entry.{Entry};
+    ghost use Rattle.std.specs.Prelude.{◌≡◌, ◌++◌, ℕ, Option, None, List, IfSome, IfOk};
+    ghost use Rattle.cmd_svscan.specs.Listing.{Standing, is_directory, is_there};
 
-    ghost says: { Self → Option (List ℕ → Entry) } = { λ _. None };
+    ghost at: { Self → Option (List ℕ → Standing) } = { λ _. None };
 
-    /// What it says of the entry of a name.
-    fn look(&self, name: &str) -> Result<Entry, AllocError>
-        ensures { IfOk result (λ entry. IfSome (says self.now) (λ said. entry ≡ said name.now)) };
+    /// Whether a directory stands at the path that a name and this make.
+    fn is_dir(&self, name: &str, rest: &str) -> Result<bool, AllocError>
+        ensures { IfOk result (λ is. IfSome (at self.now) (λ at. is ≡ is_directory (at (name.now ++ rest.now)))) };
+
+    /// Whether anything does.
+    fn is_there(&self, name: &str, rest: &str) -> Result<bool, AllocError>
+        ensures { IfOk result (λ is. IfSome (at self.now) (λ at. is ≡ is_there (at (name.now ++ rest.now)))) };
+}
+
+/// What a folder says of the entry of a name.
+fn entry_of<F: Folder>(folder: &F, name: &str) -> Result<Entry, AllocError>
+    ensures { IfOk result (λ entry. IfSome (entries_of (F.at folder.now)) (λ said. entry ≡ said name.now)) }
+{
+    let is_dir = folder.is_dir(name, "")?;
+    let has_log = is_dir && folder.is_dir(name, "/log")?;
+    Ok(Entry {
+        is_dir,
+        has_log,
+        down: is_dir && folder.is_there(name, "/down")?,
+        log_down: has_log && folder.is_there(name, "/log/down")?,
+    })
 }
 
 /// A row for each name, in the byte order of the names.
@@ -40,7 +59,7 @@ pub fn rows_of<F: Folder>(
     ensures order { IfOk result (λ rows. AreInOrder (map (λ row. row.name) rows.items)) }
     ensures each { IfOk result (λ rows.
         IsPermutation (map string_bytes names.items) (map (λ row. row.name) rows.items)) }
-    ensures entries { IfOk result (λ rows. AreAsSaid (F.says folder.now) rows.items) }
+    ensures entries { IfOk result (λ rows. AreAsSaid (entries_of (F.at folder.now)) rows.items) }
 {
     let mut names = names;
     names.sort_unstable();
@@ -54,11 +73,11 @@ fn rows_in_turn<F: Folder>(
     names: Vec<String>,
 ) -> Result<Vec<DirRow>, AllocError>
     ensures names { IfOk result (λ rows. map (λ row. row.name) rows.items ≡ map string_bytes names.items) }
-    ensures entries { IfOk result (λ rows. AreAsSaid (F.says folder.now) rows.items) }
+    ensures entries { IfOk result (λ rows. AreAsSaid (entries_of (F.at folder.now)) rows.items) }
 {
     let mut rows = Vec::with_capacity(alloc, names.len())?;
     for name in names {
-        let entry = folder.look(name.as_str())?;
+        let entry = entry_of(folder, name.as_str())?;
         rows.push(row(name, entry))?;
     }
     Ok(rows)

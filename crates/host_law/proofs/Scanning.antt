@@ -83,7 +83,7 @@ joined slots rows [] ys = its_parts slots rows ys
 joined slots rows (x ∷ xs) ys = ap (λ (ps : List PartId). x ∷ ps) (joined slots rows xs ys)
 
 scans-same : (suite : SuiteState) (rows : List Row) (label : Tai64n) (old : HostState) (out : HostOut) (new : HostState)
-    → IsScanned (record { table = suite.table; parts = old.parts }) rows label out new
+    → IsScanned (record { table = suite.table; parts = old.parts; calls = old.calls }) rows label out new
     → IsScanAlike suite rows label old out new
 scans-same suite rows label old out new is =
     let table = suite.table in
@@ -111,5 +111,5 @@ scans-same suite rows label old out new is =
 pub scans : ScansAreAlike
 scans suite rows label old out new same is =
     scans-same suite rows label old out new
-    (subst (λ (table : TableState). IsScanned (record { table = table; parts = old.parts }) rows label out new)
+    (subst (λ (table : TableState). IsScanned (record { table = table; parts = old.parts; calls = old.calls }) rows label out new)
     (sym same) is)

@@ -1,6 +1,7 @@
 -- Parts that are begun, one after the other.
 use Rattle.std.proofs.Common.{◌≡◌, ℕ, zero, suc, ◌+◌, ◌<◌, Bool, true, false, inl, inr, List, [], ◌∷◌, ◌++◌, length}
 use Rattle.std.proofs.Common.{map, refl, sym, ap, ◌∙◌, subst, arith, slice_index_or, length-append, append_assoc}
+use Rattle.std.proofs.Common.{Option}
 use Rattle.std.specs.Prelude.{not}
 use Rattle.std.proofs.lemmas.List.Elements.{All-append}
 use Rattle.std.proofs.lemmas.List.{append-nil, map-append}
@@ -9,7 +10,9 @@ use Rattle.scan_table.specs.declared.part.PartId.{PartId}
 use Rattle.scan_table.specs.Slots.{Row, SlotState}
 use Rattle.svc_host.specs.Parts.{HostPart}
 use Rattle.svc_host.specs.Begun.{Begins}
-use Rattle.svc_host.specs.Rounds.{AreBegun, IsBegunOne, IsParted, chosen}
+use Rattle.svc_host.specs.Calls.{Call, HandsOut, HandsOutNone}
+use Rattle.svc_host.specs.Rounds.{AreBegun, Beginnings, IsBegunOne, IsParted, chosen}
+use Rattle.svc_host.proofs.Calling.{hands-none, hands-then}
 
 module _ {A : Type 0} where
   chosen_yes : (flags : List Bool) (xs : List A) (x : A) → length flags ≡ length xs
@@ -65,61 +68,125 @@ module _ {A : Type 0} (all ones others : List A) (x : A) (parted : IsParted all 
 abbrev id_of : HostPart → PartId
 id_of part = part.id
 
+-- parts for which resources were handed out: these have them, of the others they were given back
+record GivenBack (old new : Option (List Call)) (ids : List PartId) : Type 0 where
+  pub given : List PartId
+  pub returned : List PartId
+  pub hands : HandsOut old new given returned
+  pub given_back : IsParted given ids returned
+
+module _ (old mid new : Option (List Call)) (ids : List PartId) (back : GivenBack old mid ids) where
+  back_none : HandsOutNone mid new → GivenBack old new ids
+  back_none none =
+      record {
+        given = back.given ++ [];
+        returned = back.returned ++ [];
+        hands = hands-then old mid new back.given back.returned [] [] back.hands none;
+        given_back = subst (λ l. IsParted (back.given ++ []) ids l) (sym (append-nil back.returned))
+            (subst (λ l. IsParted l ids back.returned) (sym (append-nil back.given)) back.given_back);
+      }
+
+  back_one : (id : PartId) → HandsOut mid new (id ∷ []) (id ∷ []) → GivenBack old new ids
+  back_one id one =
+      record {
+        given = back.given ++ id ∷ [];
+        returned = back.returned ++ id ∷ [];
+        hands = hands-then old mid new back.given back.returned (id ∷ []) (id ∷ []) back.hands one;
+        given_back = one_is_not back.given ids back.returned id back.given_back;
+      }
+
+  kept_one : (id : PartId) → HandsOut mid new (id ∷ []) [] → GivenBack old new (ids ++ id ∷ [])
+  kept_one id one =
+      record {
+        given = back.given ++ id ∷ [];
+        returned = back.returned ++ [];
+        hands = hands-then old mid new back.given back.returned (id ∷ []) [] back.hands one;
+        given_back = subst (λ l. IsParted (back.given ++ id ∷ []) (ids ++ id ∷ []) l) (sym (append-nil back.returned))
+            (one_is_set back.given ids back.returned id back.given_back);
+      }
+
 pub begun_none : (slots : List SlotState) (rows : List Row) (label : Tai64n) (parts : List HostPart)
-    → AreBegun slots rows label [] parts parts []
-begun_none slots rows label parts =
+    (calls : Option (List Call))
+    → AreBegun slots rows label [] (record { parts = parts; failed = []; calls = calls })
+    (record { parts = parts; failed = []; calls = calls })
+begun_none slots rows label parts calls =
     record {
       begun = [];
       parts = sym (append-nil parts);
       each = (λ k d less. absurd (omega (arith, less)));
       parted = record { flags = []; each = refl; set = refl; not_set = refl };
+      given = [];
+      returned = [];
+      hands = hands-none calls;
+      given_back = record { flags = []; each = refl; set = refl; not_set = refl };
     }
 
 module _ (slots : List SlotState) (rows : List Row) (label : Tai64n) (done : List PartId) (id : PartId)
-    (old mid : List HostPart)
-    (failed : List PartId) (before : AreBegun slots rows label done old mid failed) where
-  pub begun_more : (part : HostPart) → Begins slots rows label part → part.id ≡ id
-      → AreBegun slots rows label (done ++ id ∷ []) old (mid ++ part ∷ []) failed
-  begun_more part begins is =
+    (old mid new : Beginnings) (before : AreBegun slots rows label done old mid) where
+  back_before : GivenBack old.calls mid.calls (map id_of before.begun)
+  back_before = record {
+    given = before.given;
+    returned = before.returned;
+    hands = before.hands;
+    given_back = before.given_back;
+  }
+
+  begun_more : (part : HostPart) → part.id ≡ id → Begins slots rows label part → new.parts ≡ mid.parts ++ part ∷ []
+      → new.failed ≡ mid.failed → HandsOut mid.calls new.calls (id ∷ []) []
+      → AreBegun slots rows label (done ++ id ∷ []) old new
+  begun_more part is begins more same hands =
+      let back = kept_one old.calls mid.calls new.calls (map id_of before.begun) back_before id hands in
       record {
         begun = before.begun ++ part ∷ [];
-        parts = ap (λ l. l ++ part ∷ []) before.parts ∙ append_assoc old before.begun (part ∷ []);
+        parts = more ∙ ap (λ l. l ++ part ∷ []) before.parts ∙ append_assoc old.parts before.begun (part ∷ []);
         each = All-append (Begins slots rows label) before.begun (part ∷ []) before.each one;
-        parted = subst (λ l. IsParted (done ++ id ∷ []) l failed)
-            (ap (λ p. map id_of before.begun ++ p ∷ []) (sym is) ∙ sym (map-append id_of before.begun (part ∷ [])))
-            (one_is_set done (map id_of before.begun) failed id before.parted);
+        parted = subst (λ f. IsParted (done ++ id ∷ []) (map id_of (before.begun ++ part ∷ [])) f) (sym same)
+            (subst (λ l. IsParted (done ++ id ∷ []) l mid.failed) ids
+            (one_is_set done (map id_of before.begun) mid.failed id before.parted));
+        given = back.given;
+        returned = back.returned;
+        hands = back.hands;
+        given_back = subst (λ l. IsParted back.given l back.returned) ids back.given_back;
       }
     where
+      ids : map id_of before.begun ++ id ∷ [] ≡ map id_of (before.begun ++ part ∷ [])
+      ids = ap (λ p. map id_of before.begun ++ p ∷ []) (sym is) ∙ sym (map-append id_of before.begun (part ∷ []))
+
       one : (k : ℕ) (d : HostPart) → k < length (part ∷ []) → Begins slots rows label (slice_index_or (part ∷ []) k d)
       one zero d less = begins
       one (suc k) d less = absurd (omega (arith, less))
 
-  pub failed_more : AreBegun slots rows label (done ++ id ∷ []) old mid (failed ++ id ∷ [])
-  failed_more =
+  failed_more : new.parts ≡ mid.parts → new.failed ≡ mid.failed ++ id ∷ []
+      → GivenBack old.calls new.calls (map id_of before.begun) → AreBegun slots rows label (done ++ id ∷ []) old new
+  failed_more same more back =
       record {
         begun = before.begun;
-        parts = before.parts;
+        parts = same ∙ before.parts;
         each = before.each;
-        parted = one_is_not done (map id_of before.begun) failed id before.parted;
+        parted = subst (λ f. IsParted (done ++ id ∷ []) (map id_of before.begun) f) (sym more)
+            (one_is_not done (map id_of before.begun) mid.failed id before.parted);
+        given = back.given;
+        returned = back.returned;
+        hands = back.hands;
+        given_back = back.given_back;
       }
 
-  pub next_begun : (news : List HostPart) (new : List PartId) → IsBegunOne slots rows label id mid failed news new
-      → AreBegun slots rows label (done ++ id ∷ []) old news new
-  next_begun news new (inl more) =
-      subst (λ f. AreBegun slots rows label (done ++ id ∷ []) old news f) (sym more.4)
-      (subst (λ s. AreBegun slots rows label (done ++ id ∷ []) old s failed) (sym more.3)
-      (begun_more more.0 more.2 more.1))
-  next_begun news new (inr none) =
-      subst (λ f. AreBegun slots rows label (done ++ id ∷ []) old news f) (sym none.1)
-      (subst (λ s. AreBegun slots rows label (done ++ id ∷ []) old s (failed ++ id ∷ [])) (sym none.0) failed_more)
+  pub next_begun : IsBegunOne slots rows label id mid new → AreBegun slots rows label (done ++ id ∷ []) old new
+  next_begun (inl more) = begun_more more.0 more.1 more.2 more.3 more.4 more.5
+  next_begun (inr (parts, failed, inl none)) =
+      failed_more parts failed
+      (back_none old.calls mid.calls new.calls (map id_of before.begun) back_before none)
+  next_begun (inr (parts, failed, inr one)) =
+      failed_more parts failed
+      (back_one old.calls mid.calls new.calls (map id_of before.begun) back_before id one)
 
 -- the same, said of what is equal
 pub begun_as : (slots slots' : List SlotState) (rows : List Row) (label : Tai64n) (ids ids' : List PartId)
-    (olds olds' news : List HostPart) (failed failed' : List PartId)
-    → AreBegun slots rows label ids olds news failed → slots ≡ slots' → ids ≡ ids' → olds ≡ olds' → failed ≡ failed'
-    → AreBegun slots' rows label ids' olds' news failed'
-begun_as slots slots' rows label ids ids' olds olds' news failed failed' begun a b c d =
-    subst (λ s. AreBegun s rows label ids' olds' news failed') a
-    (subst (λ p. AreBegun slots rows label p olds' news failed') b
-    (subst (λ o. AreBegun slots rows label ids o news failed') c
-    (subst (λ f. AreBegun slots rows label ids olds news f) d begun)))
+    (olds olds' : List HostPart) (calls : Option (List Call)) (new : Beginnings)
+    → AreBegun slots rows label ids (record { parts = olds; failed = []; calls = calls }) new
+    → slots ≡ slots' → ids ≡ ids' → olds ≡ olds'
+    → AreBegun slots' rows label ids' (record { parts = olds'; failed = []; calls = calls }) new
+begun_as slots slots' rows label ids ids' olds olds' calls new begun a b c =
+    subst (λ s. AreBegun s rows label ids' (record { parts = olds'; failed = []; calls = calls }) new) a
+    (subst (λ p. AreBegun slots rows label p (record { parts = olds'; failed = []; calls = calls }) new) b
+    (subst (λ o. AreBegun slots rows label ids (record { parts = o; failed = []; calls = calls }) new) c begun))

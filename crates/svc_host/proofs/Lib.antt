@@ -1,6 +1,8 @@
 pub mod Beginning
+pub mod Calling
 pub mod Causes
 pub mod Collecting
+pub mod Forgetting
 pub mod Going
 pub mod OneReader
 pub mod Rows

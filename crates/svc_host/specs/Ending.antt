@@ -1,5 +1,5 @@
 -- The end of all services, in order, and when svscan may leave them.
-use Rattle.std.specs.Prelude.{◌≡◌, ◌⊎◌, ◌<◌, ℕ, ◌==◌, nat_le, nat_lt, Bool, true, false, ◌&&◌, if◌then◌else◌, List}
+use Rattle.std.specs.Prelude.{◌≡◌, ◌⊎◌, ◌<◌, ℕ, zero, suc, ◌==◌, nat_le, nat_lt, Bool, true, false, ◌&&◌, if◌then◌else◌, List}
 use Rattle.std.specs.Prelude.{MatchBool, length, slice_index_or, slice_set}
 use Rattle.std.specs.List.{All}
 use Rattle.sup_core.specs.History.{state_of}
@@ -8,7 +8,7 @@ use Rattle.tai_status.specs.declared.phase.Phase.{Phase}
 use Rattle.tai_status.specs.declared.phase.Phase.TheVariants as phase
 use Rattle.scan_table.specs.declared.part.Role.{Role}
 use Rattle.scan_table.specs.declared.part.Role.TheVariants.{Main, Log}
-use Rattle.svc_host.specs.Parts.{HasPosted, HostPart, IsRead, IsRefused, history_of, runs_at, service_runs}
+use Rattle.svc_host.specs.Parts.{GoOn, HasPosted, HostPart, IsRead, IsRefused, history_of, runs_at, service_runs}
 use Rattle.svc_host.specs.declared.ending.EndStep.{EndStep}
 use Rattle.svc_host.specs.declared.ending.EndStep.TheVariants.{Stop, Exit, Wait}
 use Rattle.svc_host.specs.declared.ending.ProcessSight.{ProcessSight}
@@ -35,6 +35,12 @@ abbrev pub sight_without : Phase → ProcessSight
 sight_without phase.Starting = Comes
 sight_without phase.Resting = Comes
 sight_without phase = Absent
+
+-- whether a process is seen
+abbrev pub lives : ProcessSight → Bool
+lives Lives = true
+lives Comes = false
+lives Absent = false
 
 -- whether the process that a part has is the one that was adopted
 abbrev pub has_adopted : HostPart → Bool
@@ -82,6 +88,15 @@ pub record IsEndStep (old : List HostPart) (place : ℕ) (new : List HostPart) :
   pub next : (d : HostPart) → EndsNext (service_runs (slice_index_or old place d).id.slot old) waited
       (slice_index_or old place d) part
   pub parts : new ≡ slice_set old place part
+
+-- To each of the first so many parts was posted what is next for it, one part after the other.
+abbrev pub EndSteps : (count : ℕ) → (old new : List HostPart) → Type 0
+EndSteps zero old new = new ≡ old
+EndSteps (suc count) old new = (mid : List HostPart) × EndSteps count old mid × IsEndStep mid count new
+
+-- To each part was posted what is next for it, after the threads of those were joined that have ended.
+abbrev pub EndsAll : (old new : List HostPart) → Type 0
+EndsAll old new = (joined : List HostPart) × GoOn old joined × EndSteps (length joined) joined new
 
 -- what is seen of the process of a part with this machine; where that reads another input, as a logger that an earlier
 -- svscan started, the one that counts is still to come

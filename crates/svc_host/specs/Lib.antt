@@ -1,8 +1,10 @@
 pub mod Answers
 pub mod Begun
+pub mod Calls
 pub mod Ending
 pub mod Growth
 pub mod Mails
+pub mod Outputs
 pub mod Parts
 pub mod Rests
 pub mod Rounds

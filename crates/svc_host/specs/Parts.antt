@@ -1,5 +1,5 @@
 -- What a host knows of the parts that are there.
-use Rattle.std.specs.Prelude.{◌≡◌, ◌≢◌, ◌<◌, ⊤, Bool, true, false, not, ◌&&◌, ◌==◌, ℕ, List, [], ◌∷◌, ◌++◌, length}
+use Rattle.std.specs.Prelude.{◌≡◌, ◌≢◌, ◌<◌, ⊤, Bool, true, false, not, ◌&&◌, ◌||◌, ◌==◌, nat_lt, ℕ, List, [], ◌∷◌, ◌++◌, length}
 use Rattle.std.specs.Prelude.{map, slice_index_or, slice_set, Option, None}
 use Rattle.std.specs.List.{filter, list_any, All}
 use mathlib.Core.List.{IsPrefix}
@@ -44,7 +44,7 @@ pub record HostPart : Type 0 where
   pub has_ended : Bool
   -- how many letters its service left in its mailbox, as far as they were taken since
   pub untaken : ℕ
-  -- what was lost at its end, and is not told
+  -- what was lost at its end, and is not forgotten
   pub loss : Loss
 
 abbrev pub no_loss : Loss
@@ -150,22 +150,17 @@ pub record IsFullAt (id : PartId) (parts : List HostPart) : Type 0 where
   pub at : IsPlace id parts place
   pub full : (d : HostPart) → WasFull (slice_index_or parts place d).mail
 
--- At this place stands a part that lost something which is not told.
-pub record HasLoss (parts : List HostPart) (place : ℕ) : Type 0 where
-  pub within : place < length parts
-  pub lost : (d : HostPart) → (slice_index_or parts place d).loss ≢ no_loss
+abbrev pub has_loss : Loss → Bool
+has_loss loss = loss.lacks_trace || nat_lt 0 loss.untaken
 
--- What the part lost at its end is told, and nothing else of the parts changed.
-pub record IsToldLoss (old : List HostPart) (id : PartId) (loss : Loss) (new : List HostPart) : Type 0 where
-  pub place : ℕ
-  pub has : HasLoss old place
-  pub is : (d : HostPart) → (slice_index_or old place d).id ≡ id
-  pub loss_is : (d : HostPart) → (slice_index_or old place d).loss ≡ loss
-  pub once : (d : HostPart) → new ≡ slice_set old place (record (slice_index_or old place d) { loss = no_loss })
+-- what the parts lost at their ends that is not forgotten, in their order
+abbrev pub losses_in : List HostPart → List (PartId × Loss)
+losses_in parts =
+    map (λ (part : HostPart). (part.id, part.loss)) (filter (λ (part : HostPart). has_loss part.loss) parts)
 
--- Nothing that was lost is to be told.
-abbrev pub AllTold : List HostPart → Type 0
-AllTold parts = All (λ (part : HostPart). part.loss ≡ no_loss) parts
+-- the part, whose loss is forgotten
+abbrev pub without_loss : HostPart → HostPart
+without_loss part = record part { loss = no_loss }
 
 -- The status of the part, after the events of it that the host has read of.
 pub record IsReading (id : PartId) (parts : List HostPart) (status : Status) : Type 0 where

@@ -1,5 +1,5 @@
 -- What a round of a host does to its table and to the parts that are there.
-use Rattle.std.specs.Prelude.{◌≡◌, ◌⊎◌, Bool, true, false, not, List, [], ◌∷◌, ◌++◌, map, length, Some, None}
+use Rattle.std.specs.Prelude.{◌≡◌, ◌⊎◌, ℕ, Bool, true, false, not, List, [], ◌∷◌, ◌++◌, map, length, Option, Some, None}
 use Rattle.std.specs.List.{filter, All}
 use Rattle.tai_status.specs.Label.{Tai64n}
 use Rattle.scan_table.specs.declared.fault.ScanFault.{ScanFault}
@@ -12,16 +12,19 @@ use Rattle.scan_table.specs.Scan.{starts, restarts, drops, refused}
 use Rattle.scan_table.specs.Table.{TableState, after_end, scanned}
 use Rattle.svc_host.specs.declared.host.HostOut.{HostOut}
 use Rattle.svc_host.specs.declared.host.Unmade.{Unmade}
+use Rattle.svc_house.specs.Calls.{ExtendedWhileKept}
 use Rattle.svc_host.specs.Parts.{HostPart, GoOn, IsPart, stays}
 use Rattle.svc_host.specs.Begun.{Begins}
+use Rattle.svc_host.specs.Calls.{Call, ForgotSlot, HandsOut, HandsOutNone}
 
--- the table of slots, and the parts that are there
+-- the table of slots, the parts that are there, and what their maker was asked, where that is kept
 pub record HostState : Type 0 where
   pub table : TableState
   pub parts : List HostPart
+  pub calls : Option (List Call)
 
-abbrev pub host_of : TableState → List HostPart → HostState
-host_of table parts = record { table = table; parts = parts }
+abbrev pub host_of : TableState → List HostPart → Option (List Call) → HostState
+host_of table parts calls = record { table = table; parts = parts; calls = calls }
 
 -- a table after these parts have ended
 abbrev pub after_ends : List PartId → TableState → TableState
@@ -36,16 +39,13 @@ unmade_ids failed = map (λ (unmade : Unmade). unmade.part) failed
 abbrev pub Ran : List HostPart → PartId → Type 0
 Ran parts id = (part : HostPart) × IsPart id parts part × (part.has_ended ≡ false)
 
--- Threads were joined, of parts that ran, and the table was told that these have ended.
-pub record AreCollected (old : TableState) (olds : List HostPart) (new : TableState) (news : List HostPart)
-    : Type 0 where
+-- Threads were joined, of parts that ran: the table notes that these have ended, and what each had is given back, once.
+pub record AreCollected (old new : HostState) : Type 0 where
   pub joined : List PartId
-  pub ran : All (Ran olds) joined
-  pub table : new ≡ after_ends joined old
-  pub parts : GoOn olds news
-
-abbrev pub Collected : HostState → HostState → Type 0
-Collected old new = AreCollected old.table old.parts new.table new.parts
+  pub ran : All (Ran old.parts) joined
+  pub table : new.table ≡ after_ends joined old.table
+  pub parts : GoOn old.parts new.parts
+  pub returned : HandsOut old.calls new.calls [] joined
 
 -- what a scan of a table answers
 pub record IsScan {A : Type 0} (table : TableState) (rows : List Row) (out : ScanOut A) : Type 0 where
@@ -71,30 +71,53 @@ pub record IsParted {A : Type 0} (all ones others : List A) : Type 0 where
   pub set : ones ≡ chosen flags all
   pub not_set : others ≡ chosen (map not flags) all
 
--- Of the parts that a scan began each is there now, or failed.
-pub record AreBegun (slots : List SlotState) (rows : List Row) (label : Tai64n) (ids : List PartId)
-    (old new : List HostPart) (failed : List PartId) : Type 0 where
-  pub begun : List HostPart
-  pub parts : new ≡ old ++ begun
-  pub each : All (Begins slots rows label) begun
-  pub parted : IsParted ids (map (λ (part : HostPart). part.id) begun) failed
+-- what a beginning of parts has come to: the parts that are there, those that failed, and what the maker was asked
+pub record Beginnings : Type 0 where
+  pub parts : List HostPart
+  pub failed : List PartId
+  pub calls : Option (List Call)
 
--- One part is there now, or it failed.
-abbrev pub IsBegunOne : List SlotState → List Row → Tai64n → PartId
-    → List HostPart → List PartId → List HostPart → List PartId → Type 0
-IsBegunOne slots rows label id olds old news new =
+abbrev pub beginnings : List HostPart → List Unmade → Option (List Call) → Beginnings
+beginnings parts failed calls = record { parts = parts; failed = unmade_ids failed; calls = calls }
+
+-- Of the parts that a scan began each is there now, or failed. Of those for which resources were handed out each is there,
+-- or its resources were given back, once.
+pub record AreBegun (slots : List SlotState) (rows : List Row) (label : Tai64n) (ids : List PartId)
+    (old new : Beginnings) : Type 0 where
+  pub begun : List HostPart
+  pub parts : new.parts ≡ old.parts ++ begun
+  pub each : All (Begins slots rows label) begun
+  pub parted : IsParted ids (map (λ (part : HostPart). part.id) begun) new.failed
+  pub given : List PartId
+  pub returned : List PartId
+  pub hands : HandsOut old.calls new.calls given returned
+  pub given_back : IsParted given (map (λ (part : HostPart). part.id) begun) returned
+
+-- One part is there now, with its resources, or it failed, and has none.
+abbrev pub IsBegunOne : List SlotState → List Row → Tai64n → PartId → (old new : Beginnings) → Type 0
+IsBegunOne slots rows label id old new =
     ((part : HostPart) × (part.id ≡ id) × Begins slots rows label part
-    × (news ≡ olds ++ part ∷ []) × (new ≡ old))
-    ⊎ ((news ≡ olds) × (new ≡ old ++ id ∷ []))
+    × (new.parts ≡ old.parts ++ part ∷ []) × (new.failed ≡ old.failed)
+    × HandsOut old.calls new.calls (id ∷ []) [])
+    ⊎ ((new.parts ≡ old.parts) × (new.failed ≡ old.failed ++ id ∷ [])
+    × (HandsOutNone old.calls new.calls ⊎ HandsOut old.calls new.calls (id ∷ []) (id ∷ [])))
+
+-- what the maker was asked once it knows of each slot that was dropped
+abbrev pub Forgets : (dropped : List ℕ) → (old new : Option (List Call)) → Type 0
+Forgets dropped old new = ExtendedWhileKept old new (map ForgotSlot dropped)
 
 -- A scan: the rows are scanned, and each part that starts or restarts is there now, begun by its row or as it was left,
--- or failed, and then it has ended. Of the other parts those are there that stay.
+-- or failed, and then it has ended. Of the other parts those are there that stay. The maker is to forget each slot that
+-- is dropped, once, before it is asked for what begins.
 pub record IsScanned (old : HostState) (rows : List Row) (label : Tai64n) (out : HostOut) (new : HostState)
     : Type 0 where
   pub scan : IsScan old.table rows out.scan
   pub table : new.table ≡ after_ends (unmade_ids out.failed.items) (scanned old.table rows)
+  pub calls : Option (List Call)
+  pub forgets : Forgets out.scan.drops old.calls calls
   pub begun : AreBegun (scanned old.table rows).slots rows label (out.scan.starts ++ out.scan.restarts)
-      (staying out.scan old.parts) new.parts (unmade_ids out.failed.items)
+      (record { parts = staying out.scan old.parts; failed = []; calls = calls })
+      (record { parts = new.parts; failed = unmade_ids out.failed.items; calls = new.calls })
 
 -- Why a scan is refused: what the table says, and memory only where nothing else is wrong.
 abbrev pub IsCause : TableState → List Row → ScanFault → Type 0

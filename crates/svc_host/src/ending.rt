@@ -1,6 +1,6 @@
 //! The end of all services, in order, and when svscan may leave them.
 ghost use Rattle.std.specs.Prelude.{◌≡◌};
-ghost use Rattle.svc_host.specs.Ending.{end_step, is_log, may_leave, sight_of};
+ghost use Rattle.svc_host.specs.Ending.{end_step, is_log, lives, may_leave, sight_of};
 
 use scan_table::Role;
 use sup_core::Machine;
@@ -71,6 +71,13 @@ pub(crate) fn end_step(role: Role, service_runs: bool, is_adopted: bool, waited:
         Role::Log if is_adopted => EndStep::Wait,
         Role::Log => EndStep::Exit,
     }
+}
+
+/// Whether a process is seen.
+pub(crate) fn lives(sight: ProcessSight) -> bool
+    ensures { result ≡ lives sight }
+{
+    matches!(sight, ProcessSight::Lives)
 }
 
 /// Whether svscan may leave a pair, of whose output all is put into the logger's input or not, and all of that was read

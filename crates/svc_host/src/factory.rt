@@ -1,5 +1,10 @@
 //! The factory of parts.
-ghost use Rattle.std.specs.Prelude.{◌≡◌, ◌≤◌, ◌<◌, IfOk, MatchBool, Some, length};
+ghost use Rattle.std.specs.Prelude.{◌≡◌, ◌≤◌, ◌<◌, [], ◌∷◌, IfOk, MatchBool, Some, length};
+ghost use Rattle.std.specs.Result.{result_err};
+ghost use Rattle.svc_house.specs.Calls.{ExtendedWhileKept};
+ghost use Rattle.scan_table.specs.Table.{has_log, slot_at};
+ghost use Rattle.svc_host.specs.Calls.{AsksPart, ForgotSlot, HandsOutNone, HandsOutOne, HandsTrace, KeptTrace};
+ghost use Rattle.svc_host.specs.Calls.{StartsIfPair, StartsPair, has_pair, pairs_without};
 ghost use Rattle.svc_left.specs.Opening.{beginning};
 ghost use Rattle.scan_table.specs.Scan.{AreRising};
 ghost use Rattle.svc_host.specs.Parts.{PartGoesOn};
@@ -46,6 +51,18 @@ fn is_down(row: &DirRow, role: Role) -> bool
     }
 }
 
+/// Whether the threads of the pair of a slot run.
+fn has_pair(pairs: &[Pair], slot: u64) -> bool
+    ensures { result ≡ has_pair slot pairs.now }
+{
+    for pair in pairs {
+        if pair.slot == slot {
+            return true;
+        }
+    }
+    false
+}
+
 /// Starts the thread of a reaper.
 fn start_reaper<
     A: Reaper + Drop + Send + 'static,
@@ -82,7 +99,8 @@ impl<M: Maker + Drop, R: Threads + Wait + Clock + Copy + Drop + Send + 'static> 
         down: bool,
         label: Label,
     ) -> Result<Part<R>, PartFault>
-        ensures { IfOk result (λ part. IsBegun id (beginning part.opening down label) part) }
+        ensures begun { IfOk result (λ part. IsBegun id (beginning part.opening down label) part) }
+        ensures asks { AsksPart id (result_err result) (M.calls self.old.maker) (M.calls self.new.maker) }
     {
         let shared = PartShared::new(self.alloc, &self.notifier, &self.activity)?;
         let Ok(shared) = Arc::new(self.alloc, shared) else {
@@ -149,12 +167,13 @@ impl<M: Maker + Drop, R: Threads + Wait + Clock + Copy + Drop + Send + 'static> 
         requires { AreRising rows.now }
         ensures id { IfOk result (λ part. part.id ≡ id) }
         ensures begun { IfOk result (λ part. Begins table.now.slots rows.now label part) }
+        ensures hands { HandsOutOne id (result_err result) (M.calls self.old.maker) (M.calls self.new.maker) }
     {
         let Some(name) = table.name(id.slot) else {
             return Err(PartFault::Refused(Cause::Missing));
         };
-        if table.is_pair(id.slot) {
-            self.start_pair(name.as_str(), id.slot)?;
+        if let Err(fault) = self.start_if_pair(table, name.as_str(), id.slot) {
+            return Err(fault);
         }
         let Some(row) = find_row(rows, name.as_str()) else {
             return Err(PartFault::Refused(Cause::Missing));
@@ -163,26 +182,44 @@ impl<M: Maker + Drop, R: Threads + Wait + Clock + Copy + Drop + Send + 'static> 
         self.make(name.as_str(), id, down, label)
     }
 
-    // The threads of a pair run now, or can't be made.
-    fn start_pair(&mut self, name: &str, slot: u64) -> Result<(), PartFault> {
-        if self.pairs.iter().any(|pair| pair.slot == slot) {
-            return Ok(());
+    // The threads of the pair in a slot run now, where it is one, or can't be made.
+    fn start_if_pair(&mut self, table: &ScanTable, name: &str, slot: u64) -> Result<(), PartFault>
+        ensures starts { StartsIfPair (has_log (slot_at table.now.slots slot)) slot (result_err result)
+            self.old.pairs.items self.new.pairs.items (M.calls self.old.maker) (M.calls self.new.maker) }
+        ensures hands { HandsOutNone (M.calls self.old.maker) (M.calls self.new.maker) }
+    {
+        if table.is_pair(slot) {
+            return self.start_pair(name, slot);
         }
-        self.pairs.reserve(1)?;
-        let pair = Pair::start(
-            self.rt,
-            self.alloc,
-            &mut self.maker,
-            name,
-            slot,
-            self.rooms.mail,
-        )?;
-        self.pairs.push_reserved(pair);
         Ok(())
     }
 
+    // The threads of a pair run now, or can't be made.
+    fn start_pair(&mut self, name: &str, slot: u64) -> Result<(), PartFault>
+        ensures { StartsPair slot (result_err result) self.old.pairs.items self.new.pairs.items
+            (M.calls self.old.maker) (M.calls self.new.maker) }
+    {
+        if has_pair(&self.pairs, slot) {
+            return Ok(());
+        }
+        if self.pairs.reserve(1).is_err() {
+            return Err(PartFault::Refused(Cause::NoMemory));
+        }
+        let room = self.rooms.mail;
+        match Pair::start(self.rt, self.alloc, &mut self.maker, name, slot, room) {
+            Ok(pair) => {
+                self.pairs.push_reserved(pair);
+                Ok(())
+            }
+            Err(fault) => Err(fault),
+        }
+    }
+
     /// Forgets a slot: the threads of its pair are to end.
-    pub(crate) fn forget(&mut self, slot: u64) {
+    pub(crate) fn forget(&mut self, slot: u64)
+        ensures calls { ExtendedWhileKept (M.calls self.old.maker) (M.calls self.new.maker) (ForgotSlot slot ∷ []) }
+        ensures pairs { self.new.pairs.items ≡ pairs_without slot self.old.pairs.items }
+    {
         for pair in &self.pairs {
             if pair.slot == slot {
                 pair.leave();
@@ -193,7 +230,9 @@ impl<M: Maker + Drop, R: Threads + Wait + Clock + Copy + Drop + Send + 'static> 
     }
 
     /// How many milliseconds ago this was asked first of the pair in a slot; where there is none, too many to wait for.
-    pub(crate) fn wait_on(&mut self, slot: u64) -> u64 {
+    pub(crate) fn wait_on(&mut self, slot: u64) -> u64
+        ensures { M.calls self.new.maker ≡ M.calls self.old.maker }
+    {
         for pair in self.pairs.iter_mut() {
             if pair.slot == slot {
                 return pair.wait_on(&self.rt);
@@ -209,17 +248,25 @@ impl<M: Maker + Drop, R: Threads + Wait + Clock + Copy + Drop + Send + 'static> 
         ensures loss { part.new.loss ≡ part.old.loss }
         ensures kept { MatchBool result (part.new.kept ≡ Some (length part.new.known))
             (part.new.kept ≡ part.old.kept) }
+        ensures hands { HandsTrace part.old.kept part.new result (M.calls self.old.maker) (M.calls self.new.maker) }
     {
         match part.growth(self.alloc) {
             Growth::None => true,
             Growth::Refused => false,
-            Growth::By { count, text } => {
-                let kept = self.maker.keep_trace(part.id(), &text);
-                if kept {
-                    part.trace_is_kept(count);
-                }
-                kept
-            }
+            Growth::By { count, text } => self.hand_trace(part, count, &text),
         }
+    }
+
+    // Hands a trace of a part to the maker, which counts so many events. Whether it is kept.
+    fn hand_trace(&mut self, part: &mut Part<R>, count: u64, text: &[u8]) -> bool
+        ensures handed { ExtendedWhileKept (M.calls self.old.maker) (M.calls self.new.maker)
+            (KeptTrace part.old.id text.now result ∷ []) }
+        ensures noted { MatchBool result (part.new ≡ record part.old { kept = Some count }) (part.new ≡ part.old) }
+    {
+        let kept = self.maker.keep_trace(part.id(), text);
+        if kept {
+            part.trace_is_kept(count);
+        }
+        kept
     }
 }

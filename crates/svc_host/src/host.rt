@@ -4,18 +4,20 @@ ghost use Rattle.std.specs.Prelude.{IfOk, OnOk, MatchBool, IfErr, OnErr, length,
 ghost use Rattle.scan_table.specs.Scan.{AreRising};
 ghost use Rattle.scan_table.specs.Order.{scan_refusal};
 ghost use Rattle.scan_table.specs.Table.{after_end, scanned};
-ghost use Rattle.svc_host.specs.Ending.{IsEndStep};
+ghost use Rattle.svc_host.specs.Calls.{GivesBack, HandsOut, HandsOutNone, returned_by};
+ghost use Rattle.svc_host.specs.Ending.{EndSteps, IsEndStep};
+ghost use Rattle.svc_host.specs.Outputs.{EndsInput, EndsOutput};
 ghost use Rattle.svc_host.specs.Parts.{GoOn, HostPart, IsJoined, IsStep, PartGoesOn};
-ghost use Rattle.svc_host.specs.Rounds.{AreBegun, AreCollected, IsBegunOne, IsCause, IsScan, IsScanned};
-ghost use Rattle.svc_host.specs.Rounds.{after_ends, host_of, staying, unmade_ids};
+ghost use Rattle.svc_host.specs.Rounds.{AreBegun, AreCollected, Forgets, IsBegunOne, IsCause, IsScan, IsScanned};
+ghost use Rattle.svc_host.specs.Rounds.{after_ends, beginnings, host_of, staying, unmade_ids};
 
-use crate::ending::{ProcessSight, may_leave};
+use crate::ending::{lives, may_leave};
 use crate::ends::open_box;
 use crate::factory::{PartFactory, Rooms};
 use crate::maker::{Maker, PartFault};
 use crate::part::{Loss, Part};
 use crate::parts::{
-    post_to, running, running_ids, service_runs, sight_at, status_of, stays, take_loss,
+    forget_losses, losses, post_to, running, running_ids, service_runs, sight_at, status_of, stays,
 };
 use crate::shared::Activity;
 use scan_table::{DirRow, PartId, Role, ScanFault, ScanOut, ScanTable};
@@ -72,7 +74,11 @@ impl<M: Maker + Drop, R: Threads + Wait + Clock + Copy + Drop + Send + 'static> 
 
     ghost Value = { HostState };
 
-    ghost view = { λ host. record { table = host.table; parts = host.parts.items } };
+    ghost view = { λ host. record {
+      table = host.table;
+      parts = host.parts.items;
+      calls = M.calls host.factory.maker;
+    } };
 }
 
 /// What a scan found, with the room that the rest of its round needs.
@@ -128,6 +134,7 @@ fn take_away<M: Maker + Drop, R: Threads + Wait + Clock + Copy + Drop + Send + '
     scan: &ScanOut,
 )
     ensures parts { parts.new.items ≡ staying scan.now parts.old.items }
+    ensures forgets { Forgets scan.now.drops (M.calls factory.old.maker) (M.calls factory.new.maker) }
     ensures room { vec_len parts.new + (vec_capacity parts.old - vec_len parts.old) ≤ vec_capacity parts.new }
 {
     let drops = scan.drops.as_slice();
@@ -152,7 +159,8 @@ fn begin_one<M: Maker + Drop, R: Threads + Wait + Clock + Copy + Drop + Send + '
     requires parts_room { vec_len parts.old < vec_capacity parts.old }
     requires failed_room { vec_len failed.old < vec_capacity failed.old }
     ensures begun { IsBegunOne table.now.slots rows.now label id
-        parts.old.items (unmade_ids failed.old.items) parts.new.items (unmade_ids failed.new.items) }
+        (beginnings parts.old.items failed.old.items (M.calls factory.old.maker))
+        (beginnings parts.new.items failed.new.items (M.calls factory.new.maker)) }
     ensures parts_len { vec_len parts.new ≤ vec_len parts.old + 1 }
     ensures failed_len { vec_len failed.new ≤ vec_len failed.old + 1 }
     ensures parts_room { vec_capacity parts.new ≡ vec_capacity parts.old }
@@ -179,7 +187,8 @@ fn begin_all<M: Maker + Drop, R: Threads + Wait + Clock + Copy + Drop + Send + '
     requires failed_room { vec_len failed.old + length ids.now ≤ vec_capacity failed.old }
     requires failed { failed.old.items ≡ [] }
     ensures { AreBegun table.now.slots rows.now label ids.now
-        parts.old.items parts.new.items (unmade_ids failed.new.items) }
+        (beginnings parts.old.items [] (M.calls factory.old.maker))
+        (beginnings parts.new.items failed.new.items (M.calls factory.new.maker)) }
 {
     for id in ids {
         begin_one(factory, table, rows, label, *id, parts, failed);
@@ -202,6 +211,7 @@ fn join_part<M: Maker + Drop, R: Threads + Wait + Clock + Copy + Drop + Send + '
 )
     ensures same { PartGoesOn part.old part.new }
     ensures joined { IsJoined part.new }
+    ensures gives_back { GivesBack part.old part.new (M.calls factory.old.maker) (M.calls factory.new.maker) }
 {
     part.join(&factory.rt, factory.alloc);
     let has_trace = factory.keep_trace(part);
@@ -224,6 +234,8 @@ fn reap<M: Maker + Drop, R: Threads + Wait + Clock + Copy + Drop + Send + 'stati
     ensures ran { result ≡ true → (d : HostPart) → (slice_index_or parts.old.items place d).has_ended ≡ false }
     ensures joined { result ≡ true → (d : HostPart) → IsJoined (slice_index_or parts.new.items place d) }
     ensures same { result ≡ false → parts.new.items ≡ parts.old.items }
+    ensures returned { (d : HostPart) → HandsOut (M.calls factory.old.maker) (M.calls factory.new.maker)
+        [] (returned_by result (slice_index_or parts.old.items place d).id) }
 {
     let part = &mut parts[place];
     let ends = part.is_to_be_joined();
@@ -241,7 +253,8 @@ fn collect<M: Maker + Drop, R: Threads + Wait + Clock + Copy + Drop + Send + 'st
     table: &mut ScanTable,
     parts: &mut Vec<Part<R>>,
 )
-    ensures { AreCollected table.old parts.old.items table.new parts.new.items }
+    ensures { AreCollected (host_of table.old parts.old.items (M.calls factory.old.maker))
+        (host_of table.new parts.new.items (M.calls factory.new.maker)) }
 {
     for place in 0..parts.len() {
         reap(factory, table, parts, place);
@@ -255,7 +268,8 @@ fn keep_trace<M: Maker + Drop, R: Threads + Wait + Clock + Copy + Drop + Send + 
     place: usize,
 ) -> bool
     requires { place < length parts.old.items }
-    ensures { IsStep parts.old.items place parts.new.items }
+    ensures step { IsStep parts.old.items place parts.new.items }
+    ensures hands { HandsOutNone (M.calls factory.old.maker) (M.calls factory.new.maker) }
 {
     let part = &mut parts[place];
     factory.keep_trace(part)
@@ -266,7 +280,8 @@ fn keep_traces<M: Maker + Drop, R: Threads + Wait + Clock + Copy + Drop + Send +
     factory: &mut PartFactory<M, R>,
     parts: &mut Vec<Part<R>>,
 ) -> bool
-    ensures { GoOn parts.old.items parts.new.items }
+    ensures parts { GoOn parts.old.items parts.new.items }
+    ensures hands { HandsOutNone (M.calls factory.old.maker) (M.calls factory.new.maker) }
 {
     let mut all = true;
     for place in 0..parts.len() {
@@ -283,8 +298,10 @@ fn run_scan<M: Maker + Drop, R: Threads + Wait + Clock + Copy + Drop + Send + 's
     rows: &[DirRow],
     label: Label,
 ) -> Result<HostOut, ScanFault>
-    ensures scanned { IfOk result (λ out.
-        IsScanned (host_of table.old parts.old.items) rows.now label out (host_of table.new parts.new.items)) }
+    ensures scanned { IfOk result (λ out. IsScanned
+        (host_of table.old parts.old.items (M.calls factory.old.maker)) rows.now label out
+        (host_of table.new parts.new.items (M.calls factory.new.maker))) }
+    ensures calls { OnErr result (M.calls factory.new.maker ≡ M.calls factory.old.maker) }
     ensures table { OnErr result (table.new ≡ table.old) }
     ensures parts { OnErr result (parts.new.items ≡ parts.old.items) }
     ensures cause { IfErr result (λ fault. IsCause table.new rows.now fault) }
@@ -316,7 +333,9 @@ fn end_part<M: Maker + Drop, R: Threads + Wait + Clock + Copy + Drop + Send + 's
     place: usize,
 )
     requires { place < length parts.old.items }
-    ensures { IsEndStep parts.old.items place parts.new.items }
+    ensures step { IsEndStep parts.old.items place parts.new.items }
+    ensures input { (d : HostPart) → EndsInput (slice_index_or parts.old.items place d)
+        (M.calls factory.old.maker) (M.calls factory.new.maker) }
 {
     let id = parts[place].id();
     let service_runs = service_runs(parts, id.slot);
@@ -329,6 +348,34 @@ fn end_part<M: Maker + Drop, R: Threads + Wait + Clock + Copy + Drop + Send + 's
         factory.maker.end_output(id.slot, false);
     }
     parts[place].end_next(&factory.rt, service_runs, waited);
+}
+
+/// Posts to each part what is next for it in the end of all services.
+fn end_parts<M: Maker + Drop, R: Threads + Wait + Clock + Copy + Drop + Send + 'static>(
+    factory: &mut PartFactory<M, R>,
+    parts: &mut Vec<Part<R>>,
+)
+    ensures { EndSteps (length parts.old.items) parts.old.items parts.new.items }
+{
+    for place in 0..parts.len() {
+        end_part(factory, parts, place);
+    }
+}
+
+/// Has the output of a slot's service end, of which all is put into the input of its logger or not. Whether svscan may
+/// leave it.
+fn end_output<M: Maker + Drop, R: Threads + Wait + Clock + Copy + Drop + Send + 'static>(
+    maker: &mut M,
+    parts: &mut Vec<Part<R>>,
+    slot: u64,
+    is_put: bool,
+) -> bool
+    ensures { EndsOutput slot is_put result parts.old.items parts.new.items (M.calls maker.old) (M.calls maker.new) }
+{
+    let at_once = lives(sight_at(parts, slot, Role::Main));
+    maker.end_output(slot, at_once);
+    let is_read = maker.is_read(slot);
+    may_leave(is_put, is_read, sight_at(parts, slot, Role::Log))
 }
 
 /// Has the output of the pair at a place end. Whether svscan may leave it.
@@ -344,19 +391,19 @@ fn end_pair<M: Maker + Drop, R: Threads + Wait + Clock + Copy + Drop + Send + 's
     };
     let slot = pair.slot;
     let is_put = pair.is_put();
-    let at_once = sight_at(parts, slot, Role::Main) == ProcessSight::Lives;
-    factory.maker.end_output(slot, at_once);
-    let is_read = factory.maker.is_read(slot);
-    may_leave(is_put, is_read, sight_at(parts, slot, Role::Log))
+    end_output(&mut factory.maker, parts, slot, is_put)
 }
 
 impl<M: Maker + Drop, R: Threads + Wait + Clock + Copy + Drop + Send + 'static> Host<M, R> {
     ghost use Rattle.std.specs.Prelude.{◌≡◌, ◌↔◌, ◌<◌, ◌≤◌, [], Err, IfOk, IfErr, OnErr, MatchOption};
-    ghost use Rattle.std.specs.Prelude.{⊤, IfSome, option_copied, option_map};
+    ghost use Rattle.std.specs.Prelude.{length, map, option_copied, option_map};
     ghost use Rattle.scan_table.specs.Table.{name_of, new_table, slot_at};
-    ghost use Rattle.svc_host.specs.Parts.{AllTold, GoOn, IsFullAt, IsNowhere, IsPost, IsReading, IsToldLoss};
-    ghost use Rattle.svc_host.specs.Parts.{count_running, running_ids};
-    ghost use Rattle.svc_host.specs.Rounds.{Collected, HostState, IsCause, IsScanned};
+    ghost use Rattle.svc_host.specs.Ending.{EndsAll};
+    ghost use Rattle.svc_host.specs.Parts.{GoOn, IsFullAt, IsNowhere, IsPost, IsReading, count_running, losses_in};
+    ghost use Rattle.svc_host.specs.Parts.{running_ids, without_loss};
+    ghost use Rattle.svc_host.specs.Calls.{HandsOutNone};
+    ghost use Rattle.svc_host.specs.Outputs.{CountsLost};
+    ghost use Rattle.svc_host.specs.Rounds.{AreCollected, HostState, IsCause, IsScanned};
     ghost use Rattle.scan_table.specs.Whole.{is_whole};
 
     /// A host without parts, over a maker. Each part gets a mailbox with room for so many control bytes and a trace of
@@ -370,7 +417,7 @@ impl<M: Maker + Drop, R: Threads + Wait + Clock + Copy + Drop + Send + 'static> 
     ) -> Result<Host<M, R>, AllocError>
         requires mail { 0 < mail_capacity }
         requires trace { (0 < trace_capacity) × (trace_capacity ≤ 65536) }
-        ensures { IfOk result (λ host. host ≡ record { table = new_table 0; parts = [] }) }
+        ensures { IfOk result (λ host. host ≡ record { table = new_table 0; parts = []; calls = M.calls maker }) }
     {
         Ok(Host {
             factory: PartFactory {
@@ -416,7 +463,8 @@ impl<M: Maker + Drop, R: Threads + Wait + Clock + Copy + Drop + Send + 'static> 
     /// Asks the maker for something. The parts are as they were.
     pub fn ask_maker<T, F: FnOnce(&mut M) -> T>(&mut self, ask: F) -> T
         requires { F.IsAlwaysCallable ask }
-        ensures { self.new ≡ self.old }
+        ensures table { self.new.table ≡ self.old.table }
+        ensures parts { self.new.parts ≡ self.old.parts }
     {
         ask(&mut self.factory.maker)
     }
@@ -435,6 +483,7 @@ impl<M: Maker + Drop, R: Threads + Wait + Clock + Copy + Drop + Send + 'static> 
     pub fn keep_traces(&mut self)
         ensures table { self.new.table ≡ self.old.table }
         ensures parts { GoOn self.old.parts self.new.parts }
+        ensures hands { HandsOutNone self.old.calls self.new.calls }
     {
         // Before the traces are read, so that what happens meanwhile is seen the next time.
         let now = Some(self.activity());
@@ -446,9 +495,10 @@ impl<M: Maker + Drop, R: Threads + Wait + Clock + Copy + Drop + Send + 'static> 
         }
     }
 
-    /// Joins the threads of the parts that have ended since the last time, and keeps their last traces.
+    /// Joins the threads of the parts that have ended since the last time, keeps their last traces, and gives back what
+    /// they had.
     pub fn collect(&mut self)
-        ensures { Collected self.old self.new }
+        ensures { AreCollected self.old self.new }
     {
         collect(&mut self.factory, &mut self.table, &mut self.parts);
     }
@@ -479,14 +529,18 @@ impl<M: Maker + Drop, R: Threads + Wait + Clock + Copy + Drop + Send + 'static> 
         )
     }
 
-    /// What a part lost at its end, which is told by this, once. None: all that was lost is told.
-    pub fn take_loss(&mut self) -> Option<(PartId, Loss)>
-        ensures none { MatchOption result (AllTold self.old.parts) (λ _. ⊤) }
-        ensures same { MatchOption result (self.new ≡ self.old) (λ _. ⊤) }
-        ensures told { IfSome result (λ lost. IsToldLoss self.old.parts lost.0 lost.1 self.new.parts) }
-        ensures table { self.new.table ≡ self.old.table }
+    /// What parts lost at their ends since that was forgotten last, in their order.
+    pub fn losses(&self) -> Result<Vec<(PartId, Loss)>, AllocError>
+        ensures { IfOk result (λ losses. losses.items ≡ losses_in self.now.parts) }
     {
-        take_loss(&mut self.parts)
+        losses(self.factory.alloc, &self.parts)
+    }
+
+    /// Forgets what parts lost at their ends, and nothing else.
+    pub fn forget_losses(&mut self)
+        ensures { self.new ≡ record self.old { parts = map without_loss self.old.parts } }
+    {
+        forget_losses(&mut self.parts);
     }
 
     /// The name of the service in a slot.
@@ -517,13 +571,12 @@ impl<M: Maker + Drop, R: Threads + Wait + Clock + Copy + Drop + Send + 'static> 
 
     /// Goes on with the end of all services, in order, by what is next for each part. Answers how many parts still run.
     pub fn end_services(&mut self) -> usize
+        ensures each { EndsAll self.old.parts self.new.parts }
         ensures left { result ≡ count_running self.new.parts }
     {
         self.factory.maker.watch_outputs();
         self.collect();
-        for place in 0..self.parts.len() {
-            end_part(&mut self.factory, &mut self.parts, place);
-        }
+        end_parts(&mut self.factory, &mut self.parts);
         running(&self.parts)
     }
 
@@ -542,11 +595,12 @@ impl<M: Maker + Drop, R: Threads + Wait + Clock + Copy + Drop + Send + 'static> 
     /// Of one pair its slot, and how many bytes of its output were read and don't reach its logger. Its threads are to
     /// end. None: all pairs are told.
     pub fn take_lost(&mut self) -> Option<(u64, u64)>
+        ensures counts { MatchOption result (self.new ≡ self.old) (λ lost. CountsLost lost.0 lost.1 self.old self.new) }
         ensures table { self.new.table ≡ self.old.table }
         ensures parts { GoOn self.old.parts self.new.parts }
     {
         let pair = self.factory.pairs.pop()?;
-        let has_logger = sight_at(&mut self.parts, pair.slot, Role::Log) == ProcessSight::Lives;
+        let has_logger = lives(sight_at(&mut self.parts, pair.slot, Role::Log));
         self.factory.maker.end_output(pair.slot, true);
         let count = self.factory.maker.lost(pair.slot, has_logger);
         pair.leave();

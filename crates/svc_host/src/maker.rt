@@ -51,10 +51,17 @@ pub trait Outlets<O: Outlet + Drop> {
 }
 
 /// What makes the resources of each part. The parts of a slot that is a pair are made after `pair` was asked for
-/// it.
+/// it. Contracts see the calls with their answers, in order (`calls`), where they are kept. They may stop to be kept, as
+/// where there is no memory for more, and are not kept again.
 pub trait Maker {
-    ghost use Rattle.std.specs.Prelude.{◌≡◌, [], IfOk};
+    ghost use Rattle.std.specs.Prelude.{◌≡◌, Option, None, List, [], ◌∷◌, IfOk};
+    ghost use Rattle.std.specs.Result.{result_err};
+    ghost use Rattle.svc_house.specs.Calls.{ExtendedWhileKept};
     ghost use Rattle.svc_host.specs.Answers.{answered};
+    ghost use Rattle.svc_host.specs.Calls.{Call, MadePart, MadePair, KeptTrace, EndedPart, ForgotSlot};
+    ghost use Rattle.svc_host.specs.Calls.{WatchedOutputs, EndedOutput, AskedIsRead, CountedLost};
+
+    ghost calls: { Self → Option (List Call) } = { λ _. None };
 
     type World: World + Drop + Send + 'static;
 
@@ -77,6 +84,7 @@ pub trait Maker {
         sender: ControlSender,
         notifier: Arc<Notifier, Global>,
     ) -> Result<PartResources<Self::World, Self::Gate, Self::Reaper>, PartFault>
+        ensures calls { ExtendedWhileKept (calls self.old) (calls self.new) (MadePart id (result_err result) ∷ []) }
         ensures fresh { IfOk result (λ resources. answered (Self.World.calls resources.world) ≡ []) };
 
     /// The output of a pair's service of this name, which runs on from life to life, and where it goes, or why they
@@ -87,27 +95,35 @@ pub trait Maker {
         name: &str,
         slot: u64,
         notifier: Arc<Notifier, Global>,
-    ) -> Result<(Self::Output, Self::Outlets), PartFault>;
+    ) -> Result<(Self::Output, Self::Outlets), PartFault>
+        ensures calls { ExtendedWhileKept (calls self.old) (calls self.new) (MadePair slot (result_err result) ∷ []) };
 
     /// Keeps the trace of a part, and tells whether it could.
-    fn keep_trace(&mut self, id: PartId, text: &[u8]) -> bool;
+    fn keep_trace(&mut self, id: PartId, text: &[u8]) -> bool
+        ensures calls { ExtendedWhileKept (calls self.old) (calls self.new) (KeptTrace id text.now result ∷ []) };
 
     /// A part has ended, or could not be started after it was made: nothing comes to it from outside any more.
-    fn ended(&mut self, id: PartId);
+    fn ended(&mut self, id: PartId)
+        ensures calls { ExtendedWhileKept (calls self.old) (calls self.new) (EndedPart id ∷ []) };
 
     /// A slot is dropped: the output of its pair ends, where it is one.
-    fn forget(&mut self, slot: u64);
+    fn forget(&mut self, slot: u64)
+        ensures calls { ExtendedWhileKept (calls self.old) (calls self.new) (ForgotSlot slot ∷ []) };
 
     /// All outputs of pairs can be told to end from now on (`end_output`).
-    fn watch_outputs(&mut self);
+    fn watch_outputs(&mut self)
+        ensures calls { ExtendedWhileKept (calls self.old) (calls self.new) (WatchedOutputs ∷ []) };
 
     /// The output of a slot's pair is to end: at once, or when it has nothing for now.
-    fn end_output(&mut self, slot: u64, at_once: bool);
+    fn end_output(&mut self, slot: u64, at_once: bool)
+        ensures calls { ExtendedWhileKept (calls self.old) (calls self.new) (EndedOutput slot at_once ∷ []) };
 
     /// Whether there is nothing that the logger of a slot's pair could read for now.
-    fn is_read(&mut self, slot: u64) -> bool;
+    fn is_read(&mut self, slot: u64) -> bool
+        ensures calls { ExtendedWhileKept (calls self.old) (calls self.new) (AskedIsRead slot result ∷ []) };
 
     /// How many bytes of the output of a slot's pair were read and don't reach its logger, once that output has ended:
     /// those that were not put into its input, and where there is no logger those in it too.
-    fn lost(&mut self, slot: u64, has_logger: bool) -> u64;
+    fn lost(&mut self, slot: u64, has_logger: bool) -> u64
+        ensures calls { ExtendedWhileKept (calls self.old) (calls self.new) (CountedLost slot has_logger result ∷ []) };
 }

@@ -1,5 +1,7 @@
 //! The two threads that carry a pair's output to its logger. Until its first bytes they have no box, and no blocks.
-ghost use Rattle.std.specs.Prelude.{◌≡◌, ◌<◌, [], IfSome};
+ghost use Rattle.std.specs.Prelude.{◌≡◌, ◌<◌, [], IfSome, IfErr, IfOk, None, ◌∷◌, OnOk};
+ghost use Rattle.svc_house.specs.Calls.{ExtendedWhileKept};
+ghost use Rattle.svc_host.specs.Calls.{AsksPair, MadePair};
 ghost use Rattle.svc_mail.specs.Ends.{posted, taken_by};
 
 use crate::ends::open_box;
@@ -250,6 +252,9 @@ impl Pair {
         capacity: usize,
     ) -> Result<Pair, PartFault>
         requires { 0 < capacity }
+        ensures slot { IfOk result (λ pair. pair.slot ≡ slot) }
+        ensures asked { OnOk result (ExtendedWhileKept (M.calls maker.old) (M.calls maker.new) (MadePair slot None ∷ [])) }
+        ensures failed { IfErr result (λ fault. AsksPair slot fault (M.calls maker.old) (M.calls maker.new)) }
     {
         let Ok(shared) = Arc::new(alloc, PairShared::new(alloc)?) else {
             return Err(PartFault::Refused(Cause::NoMemory));

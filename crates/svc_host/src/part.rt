@@ -27,11 +27,21 @@ pub struct Loss {
 }
 
 impl Loss {
+    ghost use Rattle.std.specs.Prelude.{◌≡◌};
+    ghost use Rattle.svc_host.specs.Parts.{has_loss};
+
     /// Nothing was lost.
     pub const NONE: Loss = Loss {
         untaken: 0,
         lacks_trace: false,
     };
+
+    /// Whether anything was lost.
+    pub(crate) fn is_some(self) -> bool
+        ensures { result ≡ has_loss self }
+    {
+        self.lacks_trace || self.untaken > 0
+    }
 }
 
 /// Whether the process of this number, of which 0 is none, is the one that was adopted.
@@ -52,7 +62,7 @@ pub(crate) struct Part<R: Wait + Drop> {
     adopted: u32,
     // How many events the trace counted that was kept last.
     kept: Option<u64>,
-    // What was lost at its end, and is not told.
+    // What was lost at its end, and is not forgotten.
     loss: Loss,
     // Whether the bytes that end a service were posted, `d` and then `x`.
     posted_down: bool,
@@ -84,13 +94,14 @@ impl<R: Wait + Drop> Model for Part<R> {
 }
 
 impl<R: Threads + Wait + Clock + Copy + Drop + Send + 'static> Part<R> {
-    ghost use Rattle.std.specs.Prelude.{◌≡◌, ◌≢◌, true, false, not, length, Some, MatchBool, MatchResult};
+    ghost use Rattle.std.specs.Prelude.{◌≡◌, true, false, not, length, Some, MatchBool, MatchResult};
     ghost use Rattle.sup_core.specs.History.{phase_of, state_of};
     ghost use Rattle.tai_status.specs.declared.phase.Phase.{Phase};
     ghost use Rattle.svc_house.specs.Mail.{sender_in};
     ghost use Rattle.svc_host.specs.Ending.{EndsNext, PostsDown, PostsExit, PostsStep, has_adopted, part_sight};
     ghost use Rattle.svc_host.specs.Growth.{Tells};
-    ghost use Rattle.svc_host.specs.Parts.{HasPosted, IsRead, IsRefused, PartGoesOn, history_of, new_part, no_loss};
+    ghost use Rattle.svc_host.specs.Parts.{HasPosted, IsRead, IsRefused, PartGoesOn, history_of, new_part};
+    ghost use Rattle.svc_host.specs.Parts.{without_loss};
 
     /// A part whose service runs, and began so, with this process; 0: with none. By `sender` the host posts to it.
     pub(crate) fn new(
@@ -140,6 +151,7 @@ impl<R: Threads + Wait + Clock + Copy + Drop + Send + 'static> Part<R> {
     pub(crate) fn join(&mut self, rt: &R, alloc: Global)
         ensures same { PartGoesOn self.old self.new }
         ensures ended { self.new.has_ended ≡ true }
+        ensures kept { self.new.kept ≡ self.old.kept }
         ensures loss { self.new.loss ≡ self.old.loss }
     {
         self.thread.join(rt, alloc);
@@ -284,20 +296,17 @@ impl<R: Threads + Wait + Clock + Copy + Drop + Send + 'static> Part<R> {
         };
     }
 
-    /// Whether something was lost at its end, and is not told.
-    pub(crate) fn has_loss(&self) -> bool
-        ensures { MatchBool result (self.now.loss ≢ no_loss) (self.now.loss ≡ no_loss) }
+    /// What was lost at its end, and is not forgotten.
+    pub(crate) fn loss(&self) -> Loss
+        ensures { result ≡ self.now.loss }
     {
-        self.loss != Loss::NONE
+        self.loss
     }
 
-    /// What was lost at its end, and was not told: it is told by this.
-    pub(crate) fn take_loss(&mut self) -> Loss
-        ensures loss { result ≡ self.old.loss }
-        ensures once { self.new ≡ record self.old { loss = no_loss } }
+    /// Forgets what was lost at its end.
+    pub(crate) fn forget_loss(&mut self)
+        ensures { self.new ≡ without_loss self.old }
     {
-        let loss = self.loss;
         self.loss = Loss::NONE;
-        loss
     }
 }

@@ -1,13 +1,12 @@
 //! The parts that are there, as a list.
-ghost use Rattle.std.specs.Prelude.{◌≡◌, ◌<◌, ◌↔◌, ⊤, Err, IfOk, OnOk, OnErr, IfSome, MatchOption, length};
+ghost use Rattle.std.specs.Prelude.{◌≡◌, ◌<◌, ◌↔◌, Err, IfOk, OnOk, OnErr, MatchOption, length, map};
 ghost use Rattle.std.specs.Prelude.{false, slice_index_or};
 ghost use Rattle.sup_core.specs.History.{state_of};
 ghost use Rattle.std.specs.List.{All, list_any};
 ghost use Rattle.scan_table.specs.Table.{is_at};
-ghost use Rattle.svc_host.specs.Parts.{AllTold, GoOn, HasLoss, IsNowhere, IsPlace, IsPost, IsReading, IsStep};
-ghost use Rattle.svc_host.specs.Parts.{HostPart, IsFullAt, IsToldLoss, RunsHere};
-ghost use Rattle.svc_host.specs.Parts.{IsGoneIfEnded, count_running, history_of, running_ids, runs_at, service_runs};
-ghost use Rattle.svc_host.specs.Parts.{stays};
+ghost use Rattle.svc_host.specs.Parts.{GoOn, HostPart, IsFullAt, IsNowhere, IsPlace, IsPost, IsReading, IsStep};
+ghost use Rattle.svc_host.specs.Parts.{IsGoneIfEnded, RunsHere, count_running, history_of, losses_in, running_ids};
+ghost use Rattle.svc_host.specs.Parts.{runs_at, service_runs, stays, without_loss};
 ghost use Rattle.svc_host.specs.Ending.{IsSight};
 
 use crate::ending::ProcessSight;
@@ -82,32 +81,31 @@ pub(crate) fn status_of<R: Threads + Wait + Clock + Copy + Drop + Send + 'static
     Some(machine_at(parts, place).view())
 }
 
-/// The place of a part that lost something which is not told.
-fn place_of_loss<R: Threads + Wait + Clock + Copy + Drop + Send + 'static>(
+/// What the parts lost at their ends that is not forgotten, in their order.
+pub(crate) fn losses<R: Threads + Wait + Clock + Copy + Drop + Send + 'static>(
+    alloc: Global,
     parts: &[Part<R>],
-) -> Option<usize>
-    ensures { MatchOption result (AllTold parts.now) (λ place. HasLoss parts.now place) }
+) -> Result<Vec<(PartId, Loss)>, AllocError>
+    ensures { IfOk result (λ losses. losses.items ≡ losses_in parts.now) }
 {
-    for at in 0..parts.len() {
-        if parts[at].has_loss() {
-            return Some(at);
+    let mut losses = Vec::new(alloc);
+    for part in parts {
+        if part.loss().is_some() {
+            losses.push((part.id(), part.loss()))?;
         }
     }
-    None
+    Ok(losses)
 }
 
-/// What a part lost at its end, which is told by this.
-pub(crate) fn take_loss<R: Threads + Wait + Clock + Copy + Drop + Send + 'static>(
+/// Forgets what the parts lost at their ends.
+pub(crate) fn forget_losses<R: Threads + Wait + Clock + Copy + Drop + Send + 'static>(
     parts: &mut Vec<Part<R>>,
-) -> Option<(PartId, Loss)>
-    ensures none { MatchOption result (AllTold parts.old.items) (λ _. ⊤) }
-    ensures same { MatchOption result (parts.new.items ≡ parts.old.items) (λ _. ⊤) }
-    ensures told { IfSome result (λ lost. IsToldLoss parts.old.items lost.0 lost.1 parts.new.items) }
+)
+    ensures { parts.new.items ≡ map without_loss parts.old.items }
 {
-    let place = place_of_loss(parts)?;
-    let id = parts[place].id();
-    let loss = parts[place].take_loss();
-    Some((id, loss))
+    for place in 0..parts.len() {
+        parts[place].forget_loss();
+    }
 }
 
 /// How many parts run.

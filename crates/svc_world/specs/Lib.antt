@@ -2,3 +2,4 @@ pub mod Calls
 pub mod Watch
 pub mod Commands
 pub mod Shell
+pub mod Adopted

@@ -1,5 +1,8 @@
 //! The processes that an earlier svscan started, and one thread that looks after all of them.
-use crate::processes::AdoptedProcess;
+ghost use Rattle.std.specs.Prelude.{◌≡◌};
+ghost use Rattle.svc_world.specs.Adopted.{glimpse_of};
+
+use crate::processes::{AdoptedProcess, folder_of};
 use std::alloc::{AllocError, Global};
 use std::io;
 use std::sync::atomic::{AtomicBool, Ordering};
@@ -12,11 +15,59 @@ use svc_left::ProcessId;
 /// After how many seconds is looked again whether the adopted processes live.
 const LOOK_SECONDS: u64 = 1;
 
+/// At every which look the lines of all processes are read, whatever their folders: one that died and that nobody waited
+/// for has its folder still.
+const LINES_EVERY: u64 = 5;
+
 /// A process that was adopted, and what its service waits for.
 #[derive(Drop)]
 struct Adopted {
     process: AdoptedProcess,
+    // The number of the kernel's folder of it, where its line was read beside that.
+    folder: Option<u64>,
     notifier: Arc<Notifier, Global>,
+}
+
+/// What the kernel's folder of a process alone shows.
+#[derive(Clone, Copy, Debug, PartialEq, Eq)]
+enum Glimpse {
+    /// That it is gone, since there is none.
+    Gone,
+    /// That it is the same process.
+    Same,
+    /// Nothing: its line is to be read.
+    Unclear,
+}
+
+/// What is shown by the folder of a process that has this number now, if there is one, and had that one when the line of
+/// the process was read: the kernel gives no number to the folder of another process.
+fn glimpse_of(known: Option<u64>, now: Option<u64>) -> Glimpse
+    ensures { result ≡ glimpse_of known now }
+{
+    match (known, now) {
+        (_, None) => Glimpse::Gone,
+        (Some(known), Some(now)) if known == now => Glimpse::Same,
+        _ => Glimpse::Unclear,
+    }
+}
+
+impl Adopted {
+    /// Whether the process lives still: by its folder, or by its line where that shows nothing or is to be read anyway.
+    /// Where the kernel can't be asked, it does.
+    fn lives(&mut self, reads_line: bool) -> bool {
+        let Ok(folder) = folder_of(&self.process.files, self.process.pid) else {
+            return true;
+        };
+        match glimpse_of(self.folder, folder) {
+            Glimpse::Gone => false,
+            Glimpse::Same if !reads_line => true,
+            _ => {
+                // The line is read behind the folder: where it is the process's own, so is the folder.
+                self.folder = folder;
+                self.process.lives()
+            }
+        }
+    }
 }
 
 /// What the thread shares with those who adopt.
@@ -70,7 +121,11 @@ impl AdoptionWatch {
             pid: process.pid,
             tick: process.tick,
         };
-        let adopted = Adopted { process, notifier };
+        let adopted = Adopted {
+            process,
+            folder: None,
+            notifier,
+        };
         let news = News::add(rt, &self.state.adopted, adopted)?;
         self.state.notifier.notify(news);
         Ok(())
@@ -90,11 +145,13 @@ fn start<R: Threads + Wait + Copy + Send + Drop + 'static>(
 
 /// Looks again and again, until the watch is closed. While no process is adopted it rests.
 fn watch<R: Wait + Drop>(rt: R, state: &WatchState) {
+    let mut looks: u64 = 0;
     for _ in rt.forever() {
         if state.closed.load(Ordering::SeqCst) {
             return;
         }
-        let longest = if look(&rt, state) {
+        looks = looks.wrapping_add(1);
+        let longest = if look(&rt, state, looks % LINES_EVERY == 0) {
             Some(Duration::from_secs(LOOK_SECONDS))
         } else {
             None
@@ -104,10 +161,10 @@ fn watch<R: Wait + Drop>(rt: R, state: &WatchState) {
 }
 
 /// Looks at each process once. Whether one lives still.
-fn look<R: Wait>(rt: &R, state: &WatchState) -> bool {
+fn look<R: Wait>(rt: &R, state: &WatchState, reads_lines: bool) -> bool {
     let mut adopted = state.adopted.lock(rt);
-    adopted.retain(|one| {
-        let lives = one.process.lives();
+    adopted.retain_mut(|one| {
+        let lives = one.lives(reads_lines);
         if !lives {
             one.notifier.notify(News::seen());
         }

@@ -10,6 +10,7 @@ use cmd_base::push_number;
 use std::alloc::Global;
 use std::fs::{File, Files};
 use std::io::Read;
+use std::os::unix::fs::MetadataExt;
 use std::{fs, io};
 use sup_core::{read_number, split_field};
 use svc_left::BootId;
@@ -145,6 +146,16 @@ pub(crate) fn find_orphan<R: Files<File = File>, F: Fn(u32) -> bool>(
 pub fn boot_id<R: Files<File = File>>(files: &R) -> Option<BootId> {
     let front = read_front::<R, 36>(files, "/proc/sys/kernel/random/boot_id").ok()?;
     BootId::try_from(front.as_slice()).ok()
+}
+
+/// The number of the kernel's folder of a process, if it has one: no other process's folder has that.
+pub(crate) fn folder_of<R: Files<File = File>>(files: &R, pid: u32) -> io::Result<Option<u64>> {
+    let path = path_of_process(pid, "");
+    match fs::metadata(files, path.as_str()) {
+        Ok(found) => Ok(Some(found.ino())),
+        Err(fault) if fault.kind() == io::ErrorKind::NotFound => Ok(None),
+        Err(fault) => Err(fault),
+    }
 }
 
 /// A process that is no child of this one, and is not mistaken for another.

@@ -2,7 +2,7 @@ use Rattle.std.proofs.Common.{◌≡◌, List, ℕ, [], ◌∷◌, ◌++◌, map
 use Rattle.std.proofs.lemmas.List.{map-append}
 use Rattle.std.specs.Prelude.{string_bytes}
 use Rattle.scan_table.specs.Slots.{Row}
-use Rattle.cmd_svscan.specs.Listing.{AreAsSaid}
+use Rattle.cmd_svscan.specs.Listing.{AreAsSaid, entries_of}
 use Rattle.cmd_svscan.proofs.Ordering.{as_said-push, row-said}
 use Rattle.cmd_svscan.proofs.rows.rows_in_turn.Goals as goal
 
@@ -10,7 +10,7 @@ pub loop-name-preserved : goal.loop-name-preserved
 loop-name-preserved g c =
     let rows = c.loop-name.rows.items in
     let row = c.row.result in
-    let said = g.F.Folder.says c.args.folder.now in
+    let said = entries_of (g.F.Folder.at c.args.folder.now) in
     let items : c.push.new.self.items ≡ rows ++ row ∷ [] = c.in_ok-push.ensures.items in
     let name : row.name ≡ string_bytes c.in-Some.name = ap (λ (r : Row). r.name) c.row.ensures in
     record {

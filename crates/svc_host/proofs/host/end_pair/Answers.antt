@@ -8,5 +8,5 @@ returns-in_default g c = all_same c.args.parts.now.items
 
 pub returns : goal.returns
 returns g c =
-    go_on_then _ c.sight_at.new.parts.items _ (sight_goes _ Main _ _ _ c.sight_at.ensures)
-    (sight_goes _ Log _ _ _ c.sight_at-2.ensures)
+    let ends = c.end_output.ensures in
+    go_on_then _ ends.mid _ (sight_goes _ Main _ _ _ ends.service_seen) (sight_goes _ Log _ _ _ ends.logger_seen)

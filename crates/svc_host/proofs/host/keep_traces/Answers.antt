@@ -1,14 +1,19 @@
-use Rattle.std.proofs.Common.{refl, ap, ◌∙◌, ◌<◌, length, arith}
+use Rattle.std.proofs.Common.{refl, [], ap, ◌∙◌, ◌<◌, length, arith}
+use Rattle.svc_host.proofs.Calling.{hands-none, hands-then}
 use Rattle.svc_host.proofs.Going.{all_same, go_on_then, set_length, step_goes}
 use Rattle.svc_host.proofs.host.keep_traces.Goals as goal
 
 pub loop-place-init : goal.loop-place-init
-loop-place-init g c = record { goes = all_same c.args.parts.now.items; count = refl }
+loop-place-init g c = record {
+  goes = all_same c.args.parts.now.items;
+  count = refl;
+  hands = hands-none (g.M.Maker.calls c.args.factory.now.maker);
+}
 
 pub loop-place-preserved : goal.loop-place-preserved
 loop-place-preserved g c =
     let at = c.loop-place.invariant in
-    let step = c.keep_trace.ensures in
+    let step = c.keep_trace.ensures.step in
     let mids = c.loop-place.parts.items in
     let place = c.loop-place.place in
     let within : place < length mids = omega (arith, c.loop-place-test.true, at.count) in
@@ -16,4 +21,5 @@ loop-place-preserved g c =
       goes = go_on_then c.args.parts.now.items mids c.keep_trace.new.parts.items at.goes
           (step_goes mids place c.keep_trace.new.parts.items within step);
       count = ap length step.parts ∙ set_length mids place step.part ∙ at.count;
+      hands = hands-then _ _ _ [] [] [] [] at.hands c.keep_trace.ensures.hands;
     }

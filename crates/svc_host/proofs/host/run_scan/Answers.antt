@@ -14,7 +14,9 @@ returns-clause-scanned g c = record {
   table = c.end_all.ensures
       ∙ ap (λ (l : List Unmade). after_ends (unmade_ids l) c.in-Ok.found.table) c.deref-2.ensures.value
       ∙ ap (after_ends (unmade_ids c.begin_all.new.failed.items)) c.in-Ok.ensures.table;
-  begun = begun_as _ _ c.args.rows.now c.args.label _ _ _ _ c.begin_all.new.parts.items _ _ c.begin_all.ensures
+  calls = g.M.Maker.calls c.take_away.new.factory.maker;
+  forgets = c.take_away.ensures.forgets;
+  begun = begun_as _ _ c.args.rows.now c.args.label _ _ _ _ _ _ c.begin_all.ensures
       (ap (λ table. table.slots) c.in-Ok.ensures.table) (c.deref.ensures.value ∙ c.in-Ok.ensures.ids)
-      (c.take_away.ensures.parts ∙ ap (staying c.in-Ok.found.scan) c.scan.ensures.parts) refl;
+      (c.take_away.ensures.parts ∙ ap (staying c.in-Ok.found.scan) c.scan.ensures.parts);
 }

@@ -1,0 +1,32 @@
+-- What a round finds of the ends of parts, and of those that could not be made.
+use Rattle.std.specs.Prelude.{ℕ, nat_lt, List, [], map, ◌×◌}
+use Rattle.std.specs.List.{filter}
+use Rattle.std.specs.Option.{option_map_or}
+use Rattle.scan_table.specs.declared.part.PartId.{PartId}
+use Rattle.scan_table.specs.Slots.{SlotState}
+use Rattle.scan_table.specs.Table.{name_of, slot_at}
+use Rattle.svc_host.specs.declared.host.Unmade as host
+use Rattle.svc_host.specs.declared.part.Loss.{Loss}
+use Rattle.svc_maker.specs.Making.{part_name}
+use Rattle.cmd_svscan.specs.declared.service_set.Unmade.{Unmade}
+use Rattle.cmd_svscan.specs.declared.service_set.Untaken.{Untaken}
+
+-- the name by which a part is shown: that of the service in its slot, of a logger with `/log` behind it
+abbrev pub shown_name : List SlotState → PartId → List ℕ
+shown_name slots id = part_name (option_map_or name_of (slot_at slots id.slot) []) id.role
+
+-- the control bytes that were not taken, by the parts that ended so
+abbrev pub untaken_in : List SlotState → List (PartId × Loss) → List Untaken
+untaken_in slots losses =
+    map (λ (lost : PartId × Loss). record { name = shown_name slots lost.0; count = lost.1.untaken })
+    (filter (λ (lost : PartId × Loss). nat_lt 0 lost.1.untaken) losses)
+
+-- the parts whose last trace was not kept
+abbrev pub untraced_in : List SlotState → List (PartId × Loss) → List (List ℕ)
+untraced_in slots losses =
+    map (λ (lost : PartId × Loss). shown_name slots lost.0) (filter (λ (lost : PartId × Loss). lost.1.lacks_trace) losses)
+
+-- the parts that could not be made, and why
+abbrev pub unmade_in : List SlotState → List host.Unmade → List Unmade
+unmade_in slots failed =
+    map (λ (one : host.Unmade). record { name = shown_name slots one.part; fault = one.fault }) failed
