@@ -1,4 +1,4 @@
 pub mod Ordering
 pub mod Telling
 pub mod Turning
-pub mod Listing
+pub mod ListedNames

@@ -1,5 +1,5 @@
 -- The rows of a folder, of what it says of its names.
-use Rattle.std.specs.Prelude.{◌≡◌, ◌⊎◌, ⊤, ⊥, ℕ, ◌+◌, ◌++◌, Bool, true, false, ◌&&◌, not, codes, List, [], ◌∷◌}
+use Rattle.std.specs.Prelude.{◌≡◌, ◌⊎◌, ⊤, ℕ, ◌+◌, ◌++◌, Bool, true, false, ◌&&◌, not, codes, List, [], ◌∷◌}
 use Rattle.std.specs.Prelude.{◌-◌, ◌^◌, min, map, Option, Some, None, Result, Ok, Err, IsSorted}
 use Rattle.std.specs.List.{All, filter}
 use Rattle.std.specs.IoError.{error_kind}

@@ -1,5 +1,5 @@
 -- What a round finds of the ends of parts, and of those that could not be made.
-use Rattle.std.specs.Prelude.{ℕ, nat_lt, List, [], map, ◌×◌}
+use Rattle.std.specs.Prelude.{ℕ, nat_lt, List, [], map}
 use Rattle.std.specs.List.{filter}
 use Rattle.std.specs.Option.{option_map_or}
 use Rattle.scan_table.specs.declared.part.PartId.{PartId}
@@ -26,7 +26,10 @@ abbrev pub untraced_in : List SlotState → List (PartId × Loss) → List (List
 untraced_in slots losses =
     map (λ (lost : PartId × Loss). shown_name slots lost.0) (filter (λ (lost : PartId × Loss). lost.1.lacks_trace) losses)
 
+-- a part that could not be made, and why
+abbrev pub unmade_of : List SlotState → host.Unmade → Unmade
+unmade_of slots one = record { name = shown_name slots one.part; fault = one.fault }
+
 -- the parts that could not be made, and why
 abbrev pub unmade_in : List SlotState → List host.Unmade → List Unmade
-unmade_in slots failed =
-    map (λ (one : host.Unmade). record { name = shown_name slots one.part; fault = one.fault }) failed
+unmade_in slots failed = map (unmade_of slots) failed

@@ -3,7 +3,7 @@ ghost use Rattle.std.specs.Prelude.{◌≡◌, map, string_bytes, IfOk, OnErr, O
 ghost use mathlib.Core.List.{IsPrefix};
 ghost use Rattle.svc_host.specs.Parts.{losses_in, without_loss};
 ghost use Rattle.cmd_svscan.specs.Listing.{needed};
-ghost use Rattle.cmd_svscan.specs.Losses.{shown_name, unmade_in, untaken_in, untraced_in};
+ghost use Rattle.cmd_svscan.specs.Losses.{shown_name, unmade_in, unmade_of, untaken_in, untraced_in};
 ghost use Rattle.cmd_svscan.specs.Requests.{IsReplyTo};
 
 use crate::descriptors::{allowed_descriptors, shortage};
@@ -243,6 +243,20 @@ fn take_losses<M: Maker + Drop, R: Threads + Wait + Clock + Copy + Drop + Send +
     Ok((untaken, untraced))
 }
 
+/// A part that could not be made, by name.
+fn unmade_of<M: Maker + Drop, R: Threads + Wait + Clock + Copy + Drop + Send + 'static>(
+    alloc: Global,
+    host: &Host<M, R>,
+    one: &svc_host::Unmade,
+) -> Result<Unmade, AllocError>
+    ensures { IfOk result (λ unmade. unmade ≡ unmade_of host.now.table.slots one.now) }
+{
+    Ok(Unmade {
+        name: shown_name(alloc, host, one.part)?,
+        fault: one.fault,
+    })
+}
+
 /// The parts that could not be made, by name: as many as there is memory for, since the next round makes them or fails
 /// again.
 fn unmade_in<M: Maker + Drop, R: Threads + Wait + Clock + Copy + Drop + Send + 'static>(
@@ -254,13 +268,13 @@ fn unmade_in<M: Maker + Drop, R: Threads + Wait + Clock + Copy + Drop + Send + '
 {
     let mut all = Vec::new(alloc);
     for one in failed {
-        let Ok(name) = shown_name(alloc, host, one.part) else {
-            break;
+        let Ok(unmade) = unmade_of(alloc, host, one) else {
+            return all;
         };
-        let fault = one.fault;
-        if all.push(Unmade { name, fault }).is_err() {
-            break;
+        if all.reserve(1).is_err() {
+            return all;
         }
+        all.push_reserved(unmade);
     }
     all
 }

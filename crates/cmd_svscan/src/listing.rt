@@ -111,12 +111,10 @@ where
     for entry in entries {
         match entry {
             Ok(entry) => names.push(String::from_str(alloc, entry.file_name())?)?,
-            Err(fault) => {
-                if fault.kind() != io::ErrorKind::InvalidFilename {
-                    return Err(fault);
-                }
-                unnamed = unnamed.saturating_add(1);
-            }
+            Err(fault) => match fault.kind() {
+                io::ErrorKind::InvalidFilename => unnamed = unnamed.saturating_add(1),
+                _ => return Err(fault),
+            },
         }
     }
     Ok((names, unnamed))

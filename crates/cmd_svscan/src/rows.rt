@@ -1,7 +1,7 @@
 //! The rows of a folder.
 ghost use Rattle.std.specs.Prelude.{◌≡◌, map, string_bytes, IfOk, IsPermutation};
-ghost use Rattle.std.specs.Prelude.{IfSome};
-ghost use Rattle.cmd_svscan.specs.Listing.{AreAsSaid, AreInOrder, entries_of, row_of};
+ghost use Rattle.std.specs.Prelude.{◌++◌, ◌&&◌, IfSome};
+ghost use Rattle.cmd_svscan.specs.Listing.{AreAsSaid, AreInOrder, entries_of, is_directory, is_there, row_of};
 
 use scan_table::DirRow;
 use std::alloc::{AllocError, Global};
@@ -36,17 +36,41 @@ pub trait Folder {
         ensures { IfOk result (λ is. IfSome (at self.now) (λ at. is ≡ is_there (at (name.now ++ rest.now)))) };
 }
 
+/// Whether a directory has anything at the path that a name and this make: nothing, where there is no directory.
+fn has<F: Folder>(folder: &F, is_dir: bool, name: &str, rest: &str) -> Result<bool, AllocError>
+    ensures { IfOk result (λ has. IfSome (F.at folder.now)
+        (λ at. has ≡ (is_dir && is_there (at (name.now ++ rest.now))))) }
+{
+    if is_dir {
+        return folder.is_there(name, rest);
+    }
+    Ok(false)
+}
+
+/// Whether a directory has one at the path that a name and this make.
+fn has_dir<F: Folder>(folder: &F, is_dir: bool, name: &str, rest: &str) -> Result<bool, AllocError>
+    ensures { IfOk result (λ has. IfSome (F.at folder.now)
+        (λ at. has ≡ (is_dir && is_directory (at (name.now ++ rest.now))))) }
+{
+    if is_dir {
+        return folder.is_dir(name, rest);
+    }
+    Ok(false)
+}
+
 /// What a folder says of the entry of a name.
 fn entry_of<F: Folder>(folder: &F, name: &str) -> Result<Entry, AllocError>
     ensures { IfOk result (λ entry. IfSome (entries_of (F.at folder.now)) (λ said. entry ≡ said name.now)) }
 {
-    let is_dir = folder.is_dir(name, "")?;
-    let has_log = is_dir && folder.is_dir(name, "/log")?;
+    let is_dir = has_dir(folder, true, name, "")?;
+    let has_log = has_dir(folder, is_dir, name, "/log")?;
+    let down = has(folder, is_dir, name, "/down")?;
+    let log_down = has(folder, has_log, name, "/log/down")?;
     Ok(Entry {
         is_dir,
         has_log,
-        down: is_dir && folder.is_there(name, "/down")?,
-        log_down: has_log && folder.is_there(name, "/log/down")?,
+        down,
+        log_down,
     })
 }
 
