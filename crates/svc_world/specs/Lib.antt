@@ -2,3 +2,5 @@ pub mod Calls
 pub mod Watch
 pub mod Commands
 pub mod Shell
+pub mod Stats
+pub mod Left

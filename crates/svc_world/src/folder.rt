@@ -1,6 +1,7 @@
 //! The folder of a service on this system.
-ghost use Rattle.std.specs.Prelude.{◌≡◌, ◌<◌, ◌≤◌, length, IfSome};
+ghost use Rattle.std.specs.Prelude.{◌≡◌, ◌<◌, ◌≤◌, length, option_copied, IfSome};
 ghost use Rattle.svc_world.specs.Commands.{process_in};
+ghost use Rattle.svc_world.specs.Left.{IsFoundIn, IsOfBoot};
 ghost use Rattle.svc_left.specs.Process.{IsLiving};
 
 use crate::processes::{find_orphan, path_of_process, read_front, tick_of};
@@ -117,8 +118,8 @@ fn make_linked<R: Files<File = File>>(
     make_private(runtime, path.as_str())
 }
 
-/// Makes the folder `supervise` in a folder, which is its owner's alone. Where a link to nothing has its name, what that
-/// names is made.
+/// Makes the folder `supervise` in a folder, which is its owner's alone. Where a link to nothing has its name, what
+/// that names is made.
 pub(crate) fn make_supervise<R: Files<File = File>>(
     runtime: &R,
     alloc: Global,
@@ -165,6 +166,17 @@ fn process_in(bytes: &[u8]) -> Option<u32>
 {
     let view = decode_front(bytes).ok()?.view();
     if view.pid > 0 { Some(view.pid) } else { None }
+}
+
+/// What became of the process that was recorded: `boot` is this boot, where it is known, and `tick` when the process of
+/// its number began that there is now, if there is one.
+fn find_in(recorded: Option<ProcessId>, boot: Option<&BootId>, tick: Option<u64>) -> Found
+    ensures { IsFoundIn recorded (option_copied boot.entry) tick result }
+{
+    match boot {
+        Some(boot) => find(recorded, boot, tick),
+        None => Found::Unknown,
+    }
 }
 
 /// Makes a folder that is its owner's alone, where there is none.
@@ -382,17 +394,20 @@ impl ServiceFolder {
     }
 
     /// What an earlier svscan left of the service, in this boot, at this time.
+    #[tactic(auto, using(crate::proofs::Lefts::found_living, crate::proofs::Lefts::found_of_boot))]
     pub fn left(&self, boot: Option<&BootId>, label: Label) -> Left
-        ensures { IsLiving result.process }
+        ensures living { IsLiving result.process }
+        ensures boot { IsOfBoot (option_copied boot.entry) result.process }
+        ensures label { result.label ≡ label }
     {
+        let process = self.process();
+        let tick = match &process {
+            Some(process) => tick_of(&self.files, process.pid),
+            None => None,
+        };
         Left {
             record: self.record(),
-            process: match (self.process(), boot) {
-                (Some(process), Some(boot)) => {
-                    find(Some(process), boot, tick_of(&self.files, process.pid))
-                }
-                _ => Found::Unknown,
-            },
+            process: find_in(process, boot, tick),
             label,
         }
     }

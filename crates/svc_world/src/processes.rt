@@ -5,28 +5,18 @@ ghost use Rattle.std.specs.Io.KnownBytes.{Consumes, IsAtEnd};
 ghost use Rattle.svc_world.specs.Commands.{path_of_process};
 
 use crate::folder::ShortPath;
+use crate::stat::Stat;
 use arrayvec::{ArrayString, ArrayVec};
 use cmd_base::push_number;
 use std::alloc::Global;
 use std::fs::{File, Files};
 use std::io::Read;
 use std::{fs, io};
-use sup_core::{read_number, split_field};
+use sup_core::read_number;
 use svc_left::BootId;
 
 /// How much of a process's line is read: up to the tick at which it began, whatever the program's name.
 const STAT_BYTES: usize = 512;
-
-/// What the line of a process tells of it (proc(5), `stat`).
-#[derive(Clone, Copy)]
-struct Stat {
-    /// Whether it died, and its parent has not waited for it.
-    has_died: bool,
-    /// The number of its parent.
-    parent: u64,
-    /// The tick of the kernel's clock at which it began.
-    tick: u64,
-}
 
 /// Fills a buffer from its start with what a reader gives, in as many reads as that takes, and tells how many bytes
 /// that were: fewer than it has room for only where the reader is at its end. After a fault those that came are lost.
@@ -73,49 +63,24 @@ pub(crate) fn path_of_process(pid: u32, name: &str) -> ShortPath
     path
 }
 
-/// What stands behind the last parenthesis of a process's line, which ends the program's name.
-fn behind_name(line: &[u8]) -> Option<&[u8]> {
-    line.rsplit(|byte| *byte == b')').next()
-}
-
-/// The field at a place of the line of a process. That of how it stands is the first.
-fn field_at(behind: &[u8], place: usize) -> Option<&[u8]> {
-    let mut rest = behind;
-    for _ in 0..place {
-        rest = split_field(rest).1?;
-    }
-    Some(split_field(rest).0)
-}
-
-/// What the line of a process tells.
-fn read_stat(line: &[u8]) -> Option<Stat> {
-    let behind = behind_name(line)?;
-    Some(Stat {
-        has_died: matches!(field_at(behind, 1)?, b"Z" | b"X"),
-        parent: read_number(field_at(behind, 2)?)?,
-        tick: read_number(field_at(behind, 20)?)?,
-    })
-}
-
 /// What the kernel tells of the process of this number, if there is one: it does so in one read.
 fn stat_of<R: Files<File = File>>(files: &R, pid: u32) -> Option<Stat> {
     let path = path_of_process(pid, "stat");
     let mut file = fs::open(files, path.as_str()).ok()?;
     let mut line = [0; STAT_BYTES];
     let count = file.read(&mut line).ok()?.min(STAT_BYTES);
-    read_stat(&line[..count])
+    Stat::read(&line[..count])
 }
 
 /// The tick at which the process of this number began that lives now, if there is one.
 pub(crate) fn tick_of<R: Files<File = File>>(files: &R, pid: u32) -> Option<u64> {
-    let stat = stat_of(files, pid)?;
-    if stat.has_died { None } else { Some(stat.tick) }
+    stat_of(files, pid)?.living_tick()
 }
 
 /// Whether the process of this number lives and has lost its parent.
 fn is_orphan<R: Files<File = File>>(files: &R, pid: u32) -> bool {
     match stat_of(files, pid) {
-        Some(stat) => stat.parent == 1 && !stat.has_died,
+        Some(stat) => stat.is_orphan(),
         None => false,
     }
 }
@@ -158,6 +123,9 @@ pub(crate) struct AdoptedProcess {
 impl AdoptedProcess {
     /// Whether it lives.
     pub(crate) fn lives(&self) -> bool {
-        tick_of(&self.files, self.pid) == Some(self.tick)
+        match stat_of(&self.files, self.pid) {
+            Some(stat) => stat.lives_since(self.tick),
+            None => false,
+        }
     }
 }
