@@ -38,7 +38,9 @@ impl<P: ByteSink + Drop> Part<P> {
     }
 
     /// Has the registry report both listeners.
-    pub fn register(&mut self, registry: &Registry, token: Token) -> std::io::Result<()> {
+    pub fn register(&mut self, registry: &Registry, token: Token) -> std::io::Result<()>
+        ensures number { self.new.number ≡ self.old.number }
+    {
         registry.register(&mut self.control, token, Interest::READABLE)?;
         registry.register(&mut self.ok, token, Interest::READABLE)
     }

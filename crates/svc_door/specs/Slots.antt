@@ -1,0 +1,21 @@
+-- The parts at the door, each in a slot.
+use Rattle.std.specs.Prelude.{◌≡◌, ◌≢◌, ℕ, List, Option, Some, None, IsSome, All}
+use Rattle.std.specs.Option.{option_map}
+use Rattle.slab.specs.Slab.{Slab, get}
+use Rattle.svc_door.specs.declared.part.Part.{Part}
+
+module _ {P : Type 0} where
+  -- the number of the part in a slot
+  abbrev pub number_at : Slab (Part P) → (slot : ℕ) → Option ℕ
+  number_at parts slot = option_map (λ part. part.number) (get parts slot)
+
+  -- A part of this number has a slot that was free, and each other slot is as it was.
+  pub record Admits (old new : Slab (Part P)) (number : ℕ) : Type 0 where
+    pub slot : ℕ
+    pub was_free : get old slot ≡ None
+    pub has : number_at new slot ≡ Some number
+    pub others : (other : ℕ) → other ≢ slot → get new other ≡ get old other
+
+  -- There is a part in each of these slots.
+  abbrev pub AreThere : Slab (Part P) → (slots : List ℕ) → Type 0
+  AreThere parts slots = All (λ slot. IsSome (get parts slot)) slots
