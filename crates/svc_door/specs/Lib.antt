@@ -3,3 +3,4 @@ pub mod Rests
 pub mod Connection
 pub mod Dues
 pub mod Slots
+pub mod Looks

@@ -1,8 +1,9 @@
 -- The parts at the door, each in a slot.
-use Rattle.std.specs.Prelude.{◌≡◌, ◌≢◌, ℕ, List, Option, Some, None, IsSome, All}
+use Rattle.std.specs.Prelude.{◌≡◌, ◌≢◌, ℕ, List, Option, Some, None, IsSome, All, Contains}
 use Rattle.std.specs.Option.{option_map}
 use Rattle.slab.specs.Slab.{Slab, get}
 use Rattle.svc_door.specs.declared.part.Part.{Part}
+use Rattle.svc_door.specs.Dues.{due_at}
 
 module _ {P : Type 0} where
   -- the number of the part in a slot
@@ -19,3 +20,7 @@ module _ {P : Type 0} where
   -- There is a part in each of these slots.
   abbrev pub AreThere : Slab (Part P) → (slots : List ℕ) → Type 0
   AreThere parts slots = All (λ slot. IsSome (get parts slot)) slots
+
+  -- Each part that is due has its slot among these.
+  abbrev pub AreOpen : Slab (Part P) → (slots : List ℕ) → Type 0
+  AreOpen parts slots = (slot : ℕ) → IsSome (due_at parts slot) → Contains slots slot

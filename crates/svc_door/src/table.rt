@@ -2,7 +2,7 @@
 ghost use Rattle.std.specs.Prelude.{◌≡◌, ◌≢◌, ℕ, Some, IfSome, OnOk, OnErr};
 ghost use Rattle.slab.specs.Slab.{get};
 ghost use Rattle.svc_door.specs.Dues.{due_at, due_slots, soonest_due};
-ghost use Rattle.svc_door.specs.Slots.{Admits, AreThere, number_at};
+ghost use Rattle.svc_door.specs.Slots.{Admits, AreOpen, AreThere, number_at};
 
 use crate::byte_sink::ByteSink;
 use crate::part::Part;
@@ -75,8 +75,10 @@ impl<P: ByteSink + Drop> Table<P> {
         None
     }
 
-    /// An event tells of a token.
-    pub fn wake(&mut self, token: Token, now: u64) {
+    /// An event tells of a token: its part is due now, where there is one, and room.
+    pub fn wake(&mut self, token: Token, now: u64)
+        ensures open { AreOpen self.old.parts self.old.open.items → AreOpen self.new.parts self.new.open.items }
+    {
         let Some(part) = self.parts.get_mut(token.0) else {
             return;
         };
