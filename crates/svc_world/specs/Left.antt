@@ -1,5 +1,10 @@
--- What became of the process that an earlier svscan recorded, where this boot may be unknown.
-use Rattle.std.specs.Prelude.{◌≡◌, ⊤, ℕ, List, Option, Some, None, IsSome}
+-- What an earlier svscan left: its process, where this boot may be unknown, and a start that it did not record.
+use Rattle.std.specs.Prelude.{◌≡◌, ⊤, ℕ, Bool, true, false, if◌then◌else◌, List, Option, Some, None, IsSome}
+use Rattle.tai_status.specs.Record.{Status}
+use Rattle.tai_status.specs.declared.loading.Loaded.{Loaded}
+use Rattle.tai_status.specs.declared.loading.Loaded.TheVariants.{New}
+use Rattle.tai_status.specs.declared.phase.Phase.{Phase}
+use Rattle.tai_status.specs.declared.phase.Phase.TheVariants.{Starting}
 use Rattle.svc_left.specs.Process.{IsFound}
 use Rattle.svc_left.specs.declared.process.ProcessId.{ProcessId}
 use Rattle.svc_left.specs.declared.process.Found.{Found}
@@ -15,3 +20,17 @@ abbrev pub IsOfBoot : (boot : Option (List ℕ)) → Found → Type 0
 IsOfBoot boot (Lives process) = boot ≡ Some process.boot
 IsOfBoot boot Gone = IsSome boot
 IsOfBoot boot Unknown = ⊤
+
+-- whether a start was asked for and not answered
+abbrev pub is_starting : Phase → Bool
+is_starting Starting = true
+is_starting other = false
+
+-- what a record tells of a service whose start was asked for and not answered
+abbrev pub starting : Option Loaded → Option Status
+starting (Some (New full)) = if is_starting full.phase then Some full.status else None
+starting other = None
+
+-- the same, but of this process
+abbrev pub named : Status → (pid : ℕ) → Status
+named status pid = record status { pid = pid; paused = false }

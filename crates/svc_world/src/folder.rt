@@ -1,7 +1,8 @@
 //! The folder of a service on this system.
 ghost use Rattle.std.specs.Prelude.{◌≡◌, ◌<◌, ◌≤◌, length, option_copied, IfSome};
 ghost use Rattle.svc_world.specs.Commands.{process_in};
-ghost use Rattle.svc_world.specs.Left.{IsFoundIn, IsOfBoot};
+ghost use Rattle.svc_world.specs.Left.{IsFoundIn, IsOfBoot, named, starting};
+ghost use Rattle.tai_status.specs.Record.{status_record};
 ghost use Rattle.svc_left.specs.Process.{IsLiving};
 
 use crate::processes::{find_orphan, path_of_process, read_front, tick_of};
@@ -166,6 +167,27 @@ fn process_in(bytes: &[u8]) -> Option<u32>
 {
     let view = decode_front(bytes).ok()?.view();
     if view.pid > 0 { Some(view.pid) } else { None }
+}
+
+/// What the record tells of a service whose start was asked for and not answered. None where it tells of another one.
+fn starting(recorded: Option<Loaded>) -> Option<View>
+    ensures { result ≡ starting recorded }
+{
+    match recorded {
+        Some(Loaded::New(full)) if full.phase == Phase::Starting => Some(full.view),
+        _ => None,
+    }
+}
+
+/// The record that names this process, and tells else what it told.
+fn naming(view: View, pid: u32) -> [u8; 18]
+    ensures { result ≡ status_record (named view pid) }
+{
+    encode(&View {
+        pid,
+        paused: false,
+        ..view
+    })
 }
 
 /// What became of the process that was recorded: `boot` is this boot, where it is known, and `tick` when the process of
@@ -354,28 +376,18 @@ impl ServiceFolder {
         }
     }
 
-    /// Keeps a record as `supervise/earlier` that names a process.
-    fn keep_earlier(&self, view: View, pid: u32) {
-        let named = encode(&View {
-            pid,
-            paused: false,
-            ..view
-        });
-        let _ = self.replace("supervise/earlier", "supervise/earlier.new", &named);
-    }
-
     /// The process of a start that was asked for and is not recorded, where svscan was killed between the two: one that
     /// runs in this folder and has lost its parent. It is kept as `supervise/earlier` then, for the next svscan.
     fn unrecorded(&self, alloc: Global) -> Option<u32> {
-        match self.record() {
-            Some(Loaded::New(full)) if full.phase == Phase::Starting => {
-                let runs_here = |pid: u32| self.is_running(pid);
-                let pid = find_orphan(&self.files, alloc, runs_here).ok()??;
-                self.keep_earlier(full.view, pid);
-                Some(pid)
-            }
-            _ => None,
-        }
+        let view = starting(self.record())?;
+        let runs_here = |pid: u32| self.is_running(pid);
+        let pid = find_orphan(&self.files, alloc, runs_here).ok()??;
+        let _ = self.replace(
+            "supervise/earlier",
+            "supervise/earlier.new",
+            &naming(view, pid),
+        );
+        Some(pid)
     }
 
     /// The status record.
