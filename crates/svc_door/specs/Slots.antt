@@ -1,5 +1,6 @@
 -- The parts at the door, each in a slot.
-use Rattle.std.specs.Prelude.{◌≡◌, ◌≢◌, ℕ, List, Option, Some, None, IsSome, All, Contains}
+use Rattle.std.specs.Prelude.{◌≡◌, ◌≢◌, ℕ, ◌==◌, not, List, Option, Some, None, IsSome, Contains}
+use Rattle.std.specs.List.{filter}
 use Rattle.std.specs.Option.{option_map}
 use Rattle.slab.specs.Slab.{Slab, get}
 use Rattle.svc_door.specs.declared.part.Part.{Part}
@@ -17,9 +18,13 @@ module _ {P : Type 0} where
     pub has : number_at new slot ≡ Some number
     pub others : (other : ℕ) → other ≢ slot → get new other ≡ get old other
 
-  -- There is a part in each of these slots.
-  abbrev pub AreThere : Slab (Part P) → (slots : List ℕ) → Type 0
-  AreThere parts slots = All (λ slot. IsSome (get parts slot)) slots
+  -- The part of this number left its slot, which is no more among those that have a turn. All else is as it was.
+  pub record Dismisses (number : ℕ) (old new : Slab (Part P)) (slots slots_now : List ℕ) : Type 0 where
+    pub slot : ℕ
+    pub had : number_at old slot ≡ Some number
+    pub is_free : get new slot ≡ None
+    pub others : (other : ℕ) → other ≢ slot → get new other ≡ get old other
+    pub turns : slots_now ≡ filter (λ other. not (other == slot)) slots
 
   -- Each part that is due has its slot among these.
   abbrev pub AreOpen : Slab (Part P) → (slots : List ℕ) → Type 0

@@ -1,8 +1,8 @@
 //! The parts at the door.
-ghost use Rattle.std.specs.Prelude.{◌≡◌, ◌≢◌, ℕ, Some, IfSome, OnOk, OnErr};
+ghost use Rattle.std.specs.Prelude.{◌≡◌, ℕ, Some, IfSome, IfNone, OnSome, OnOk, OnErr};
 ghost use Rattle.slab.specs.Slab.{get};
 ghost use Rattle.svc_door.specs.Dues.{due_at, due_slots, soonest_due};
-ghost use Rattle.svc_door.specs.Slots.{Admits, AreOpen, AreThere, number_at};
+ghost use Rattle.svc_door.specs.Slots.{Admits, AreOpen, Dismisses, number_at};
 
 use crate::byte_sink::ByteSink;
 use crate::part::Part;
@@ -53,9 +53,9 @@ impl<P: ByteSink + Drop> Table<P> {
 
     /// Takes the part of a life out of its slot.
     pub fn dismiss(&mut self, number: u64) -> Option<P>
-        ensures others { (slot : ℕ) → number_at self.old.parts slot ≢ Some number
-            → get self.new.parts slot ≡ get self.old.parts slot }
-        ensures there { AreThere self.old.parts self.old.open.items → AreThere self.new.parts self.new.open.items }
+        ensures dismissed { OnSome result (Dismisses number self.old.parts self.new.parts
+            self.old.open.items self.new.open.items) }
+        ensures none { IfNone result ((slot : ℕ) → get self.new.parts slot ≡ get self.old.parts slot) }
     {
         let slot = self.slot_of(number)?;
         self.open.retain(|open| *open != slot);
