@@ -1,6 +1,6 @@
 -- What the kernel's line of a process tells (proc(5), `/proc/PID/stat`).
 use Rattle.std.specs.Prelude.{◌≡◌, ◌<◌, ◌-◌, ◌^◌, ◌==◌, ℕ, Bool, false, not, ◌&&◌, ◌||◌, if◌then◌else◌, List, [], ◌∷◌}
-use Rattle.std.specs.Prelude.{decimal, slice_get, Option, Some, None}
+use Rattle.std.specs.Prelude.{◌↔◌, IsTrue, decimal, slice_get, Option, Some, None, option_and_then}
 use Rattle.std.specs.List.{after_last}
 use Rattle.sup_core.specs.Reading.{fields}
 use Rattle.svc_world.specs.declared.stat.Stat.{Stat}
@@ -35,6 +35,10 @@ pub record FitsStat (stat : Stat) : Type 0 where
 -- the tick at which a process began that lives
 abbrev pub living_tick : Stat → Option ℕ
 living_tick stat = if stat.has_died then None else Some stat.tick
+
+-- It lives, and began at this tick, where that was found.
+abbrev pub LivesSince : (tick : ℕ) → Option Stat → (found : Bool) → Type 0
+LivesSince tick told found = IsTrue found ↔ (option_and_then living_tick told ≡ Some tick)
 
 -- whether a process lives and has lost its parent, so that it is a child of the first process
 abbrev pub is_orphan : Stat → Bool

@@ -1,8 +1,10 @@
 //! Processes of this system that are no children of this one.
-ghost use Rattle.std.specs.Prelude.{◌≡◌, ◌<◌, ◌≤◌, length, take, IfOk};
+ghost use Rattle.std.specs.Prelude.{◌≡◌, ◌<◌, ◌≤◌, length, take, option_and_then, false, IfOk, IfSome};
+ghost use Rattle.std.specs.Option.{option_map_or};
 ghost use Rattle.std.specs.Io.{ReadsAtMost};
 ghost use Rattle.std.specs.Io.KnownBytes.{Consumes, IsAtEnd};
 ghost use Rattle.svc_world.specs.Commands.{path_of_process};
+ghost use Rattle.svc_world.specs.Stats.{LivesSince, is_orphan, living_tick};
 
 use crate::folder::ShortPath;
 use crate::stat::Stat;
@@ -63,6 +65,27 @@ pub(crate) fn path_of_process(pid: u32, name: &str) -> ShortPath
     path
 }
 
+/// Where the kernel's lines of processes are read. Contracts see what is told of the process of a number, where that is
+/// known.
+pub(crate) trait StatSource {
+    ghost use Rattle.std.specs.Prelude.{◌≡◌, ℕ, Option, None, IfSome};
+    ghost use Rattle.svc_world.specs.declared.stat.Stat.{Stat};
+
+    // what is told of the process of a number, if there is one
+    ghost stat_at: { Self → ℕ → Option (Option Stat) } = { λ _ _. None };
+
+    /// What the kernel tells of the process of this number, if there is one.
+    fn stat_of(&self, pid: u32) -> Option<Stat>
+        ensures { IfSome (stat_at self.now pid) (λ told. result ≡ told) };
+}
+
+/// The system's own processes. They tell contracts nothing.
+impl StatSource for HostRuntime {
+    fn stat_of(&self, pid: u32) -> Option<Stat> {
+        stat_of(self, pid)
+    }
+}
+
 /// What the kernel tells of the process of this number, if there is one: it does so in one read.
 fn stat_of<R: Files<File = File>>(files: &R, pid: u32) -> Option<Stat> {
     let path = path_of_process(pid, "stat");
@@ -73,20 +96,34 @@ fn stat_of<R: Files<File = File>>(files: &R, pid: u32) -> Option<Stat> {
 }
 
 /// The tick at which the process of this number began that lives now, if there is one.
-pub(crate) fn tick_of<R: Files<File = File>>(files: &R, pid: u32) -> Option<u64> {
-    stat_of(files, pid)?.living_tick()
+pub(crate) fn tick_of<S: StatSource>(processes: &S, pid: u32) -> Option<u64>
+    ensures { IfSome (S.stat_at processes.now pid) (λ told. result ≡ option_and_then living_tick told) }
+{
+    processes.stat_of(pid)?.living_tick()
+}
+
+/// Whether the process of this number lives, and is the one that began at this tick.
+fn lives<S: StatSource>(processes: &S, pid: u32, tick: u64) -> bool
+    ensures { IfSome (S.stat_at processes.now pid) (λ told. LivesSince tick told result) }
+{
+    match processes.stat_of(pid) {
+        Some(stat) => stat.lives_since(tick),
+        None => false,
+    }
 }
 
 /// Whether the process of this number lives and has lost its parent.
-fn is_orphan<R: Files<File = File>>(files: &R, pid: u32) -> bool {
-    match stat_of(files, pid) {
+fn is_orphan<S: StatSource>(processes: &S, pid: u32) -> bool
+    ensures { IfSome (S.stat_at processes.now pid) (λ told. result ≡ option_map_or is_orphan told false) }
+{
+    match processes.stat_of(pid) {
         Some(stat) => stat.is_orphan(),
         None => false,
     }
 }
 
 /// The first process that has lost its parent and of which this holds.
-pub(crate) fn find_orphan<R: Files<File = File>, F: Fn(u32) -> bool>(
+pub(crate) fn find_orphan<R: Files<File = File> + StatSource, F: Fn(u32) -> bool>(
     files: &R,
     alloc: Global,
     holds: F,
@@ -123,9 +160,6 @@ pub(crate) struct AdoptedProcess {
 impl AdoptedProcess {
     /// Whether it lives.
     pub(crate) fn lives(&self) -> bool {
-        match stat_of(&self.files, self.pid) {
-            Some(stat) => stat.lives_since(self.tick),
-            None => false,
-        }
+        lives(&self.files, self.pid, self.tick)
     }
 }
