@@ -1,21 +1,22 @@
 -- How the logs and status files of a script are opened, one after another.
 use Rattle.std.proofs.Common.{◌≡◌, ℕ, suc, ◌+◌, ◌≤◌, List, [], ◌∷◌, ◌++◌, length, take, Option, Some, None, refl, sym}
-use Rattle.std.proofs.Common.{ap, ◌∙◌, arith, subst, append_assoc, append-nil, ◌⊎◌, inl, inr}
+use Rattle.std.proofs.Common.{ap, ◌∙◌, arith, subst, append_assoc, append-nil, inl, inr}
 use Rattle.std.proofs.Math.Seq.{take-suc}
 use Rattle.std.proofs.lemmas.List.{take_all, length-append}
 use Rattle.std.proofs.lemmas.Option.{slice_get-map, slice_get_within, get_or_from_slice_get, slice_get_cases}
-use Rattle.std.specs.Prelude.{slice_get, IfSome}
+use Rattle.std.specs.Prelude.{◌≢◌, slice_get, IfSome}
 use Rattle.std.specs.IoError.{error_kind}
 use Rattle.std.specs.declared.io.Error.{Error}
 use Rattle.std.specs.declared.io.ErrorKind.TheVariants as error
-use Rattle.cmd_multilog.specs.Folder.{Folder, Status}
+use Rattle.cmd_multilog.specs.Folder.{Folder, Status, IsCause}
 use Rattle.tai_status.specs.Extended.{Extended}
-use Rattle.cmd_multilog.specs.Shelf.{Shelf, IsBegunAt, OpensLog, AsksForOne, AddsStatus, AddsNone}
+use Rattle.cmd_multilog.specs.Shelf.{Shelf, IsBegunAt, OpensLog, AsksFor, AsksForOne, AddsStatus, AddsNone}
 use Rattle.std.specs.Option.{option_map}
 use Rattle.mlog_script.specs.Script.{Act, Plan, log_plans}
 use Rattle.cmd_multilog.specs.declared.fault.OpenFault.{OpenFault}
 use Rattle.cmd_multilog.specs.declared.fault.OpenFault.TheVariants as why
-use Rattle.cmd_multilog.specs.Opening.{AllBegun, AllPlaced, Opens, OpensUpTo, folders_of}
+use Rattle.cmd_multilog.specs.Opening.{AllBegun, AllPlaced, Opens, IsFault, OneRefused, NoneRefused, OpensUpTo}
+use Rattle.cmd_multilog.specs.Opening.{folders_of}
 
 one_further : {X : Type 0} (xs : List X) (n : ℕ) (x : X) → slice_get xs n ≡ Some x
     → take (n + 1) xs ≡ take n xs ++ x ∷ []
@@ -188,47 +189,71 @@ one_more a b c script log path o none one is =
     (subst (λ (ps : List (List ℕ)). Extended a.asked c.asked ps) (sym (one_further (folders_of script) log path is))
     (extended-both a.asked b.asked c.asked paths (path ∷ []) o.asked_for one))
 
--- why a log was not opened: at a fault of its folder, or for want of memory before that was asked for
-abbrev pub Why : Error → Shelf → Shelf → List ℕ → Type 0
-Why fault b c path = AsksForOne b c path ⊎ ((c.asked ≡ b.asked) × (error_kind fault ≡ error.OutOfMemory))
+-- no call failed by which folders are opened, but for want of memory
+not_refused : (a b c : Shelf) (fault : Error) → b.gave ≡ a.gave → IsCause fault b.gave c.gave
+    → error_kind fault ≡ error.OutOfMemory → NoneRefused a.gave c.gave
+not_refused a b c fault well (inl gave) kind = inr (record {
+  error = fault;
+  gave = subst (λ (t : Option (List Error)). Extended t c.gave (fault ∷ [])) well gave;
+  kind_is = kind;
+})
+not_refused a b c fault well (inr (same, lacks)) kind = inl (same ∙ well)
+
+-- one did
+refused : (a b c : Shelf) (fault : Error) → b.gave ≡ a.gave → IsCause fault b.gave c.gave
+    → error_kind fault ≢ error.OutOfMemory → OneRefused a.gave c.gave
+refused a b c fault well (inl gave) kind = record {
+  error = fault;
+  gave = subst (λ (t : Option (List Error)). Extended t c.gave (fault ∷ [])) well gave;
+  kind_is = kind;
+}
+refused a b c fault well (inr (same, lacks)) kind = absurd (kind lacks)
 
 -- a log that is not opened
 pub unopened : (a b c : Shelf) (script : List Act) (log : ℕ) (path : List ℕ) (fault : Error) (cause : OpenFault)
-    → Opens a b (take log (folders_of script)) [] (take log (folders_of script)) → AddsNone b c → Why fault b c path
-    → slice_get (folders_of script) log ≡ Some path → (error_kind fault ≡ error.OutOfMemory → cause ≡ why.OutOfMemory)
-    → (cause ≡ why.OutOfMemory) ⊎ (cause ≡ why.Unopened log) → OpensUpTo a c script cause
-unopened a b c script log path fault cause o none (inl one) is memory (inl e) =
+    → Opens a b (take log (folders_of script)) [] (take log (folders_of script)) → b.gave ≡ a.gave → AddsNone b c
+    → AsksFor fault b c path → IsCause fault b.gave c.gave → slice_get (folders_of script) log ≡ Some path
+    → IsFault fault log cause → OpensUpTo a c script cause
+unopened a b c script log path fault cause o well none (inl one) gave is (inl (kind, e)) =
     subst (λ (w : OpenFault). OpensUpTo a c script w) (sym e) (
       log,
       0,
       log + 1,
       omega arith,
+      not_refused a b c fault well gave kind,
       one_more a b c script log path o none one is,
     )
-unopened a b c script log path fault cause o none (inl one) is memory (inr e) =
-    subst (λ (w : OpenFault). OpensUpTo a c script w) (sym e)
-    (slice_get_within (folders_of script) log path is, one_more a b c script log path o none one is)
-unopened a b c script log path fault cause o none (inr (same, kind)) is memory either =
+unopened a b c script log path fault cause o well none (inr (same, lacks)) gave is (inl (kind, e)) =
     let paths = take log (folders_of script) in
-    subst (λ (w : OpenFault). OpensUpTo a c script w) (sym (memory kind)) (
+    subst (λ (w : OpenFault). OpensUpTo a c script w) (sym e) (
       log,
       0,
       log,
       omega arith,
+      not_refused a b c fault well gave kind,
       opens-adds_none a b c paths [] paths paths o none
           (extended-same a.asked b.asked c.asked paths o.asked_for same),
     )
+unopened a b c script log path fault cause o well none (inl one) gave is (inr (kind, e)) =
+    subst (λ (w : OpenFault). OpensUpTo a c script w) (sym e) (
+      slice_get_within (folders_of script) log path is,
+      refused a b c fault well gave kind,
+      one_more a b c script log path o none one is,
+    )
+unopened a b c script log path fault cause o well none (inr (same, lacks)) gave is (inr (kind, e)) =
+    absurd (kind lacks)
 
 -- status files that are not all placed
-pub not_placed : (a b c : Shelf) (paths all : List (List ℕ)) → Opens a b paths [] paths
+pub not_placed : (a b c : Shelf) (paths all : List (List ℕ)) → Opens a b paths [] paths → c.gave ≡ a.gave
     → ((files : ℕ) × Opens b c [] (take files all) [])
-    → (logs : ℕ) × (files : ℕ) × (asked : ℕ) × (asked ≤ logs + 1)
+    → (logs : ℕ) × (files : ℕ) × (asked : ℕ) × (asked ≤ logs + 1) × NoneRefused a.gave c.gave
     × Opens a c (take logs paths) (take files all) (take asked paths)
-not_placed a b c paths all o (files, some) = (
+not_placed a b c paths all o well (files, some) = (
   length paths,
   files,
   length paths,
   omega arith,
+  inl well,
   subst (λ (ps : List (List ℕ)). Opens a c ps (take files all) ps) (sym (take_all (length paths) paths (omega arith)))
       (opens-both a b c paths (take files all) paths o some),
 )

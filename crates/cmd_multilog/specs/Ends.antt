@@ -97,9 +97,10 @@ pub record RunsOpened (script : List Act) (status : ℕ) (old new : Stage) : Typ
   pub status_is : status ≡ run_status ran
   pub told : TellsRun ran old.faults new.faults
 
--- The logs were opened, and then the script was run.
+-- The logs were opened, with no call that failed, and then the script was run.
 pub record RunsScript (script : List Act) (status : ℕ) (old new : Stage) : Type 0 where
   pub opened : Shelf
+  pub well : opened.gave ≡ old.store.gave
   pub opens : Opens old.store opened (folders_of script) (file_paths script) (folders_of script)
   pub runs : RunsOpened script status (stage opened old.feed old.readings old.faults) new
 
@@ -111,8 +112,10 @@ abbrev pub MultilogEnds : List (List ℕ) → ℕ → Stage → Stage → Type 0
 MultilogEnds words status old new =
     Refuses words status old new ⊎ ((script : List Act) × IsSaidBy script words × ScriptEnds script status old new)
 
--- The same, with what it works with one by one, each before and after.
-abbrev pub MultilogEndsBy : List (List ℕ) → ℕ → (store store_now : Shelf) → (feed feed_now : Feed)
-    → (readings readings_now : Option (List Tai64n)) → (faults faults_now : Device) → Type 0
-MultilogEndsBy words status store store_now feed feed_now readings readings_now faults faults_now =
-    MultilogEnds words status (stage store feed readings faults) (stage store_now feed_now readings_now faults_now)
+-- The same, over devices, each before and after: the store, the input, the clock, and where faults are told.
+abbrev pub EndsBy : {I C : Type 0} → (I → Feed) → (C → Option (List Tai64n)) → List (List ℕ) → ℕ
+    → (store store_now : Shelf) → (input input_now : I) → (clock clock_now : C) → (faults faults_now : Device)
+    → Type 0
+EndsBy feed readings words status store store_now input input_now clock clock_now faults faults_now =
+    MultilogEnds words status (stage store (feed input) (readings clock) faults)
+    (stage store_now (feed input_now) (readings clock_now) faults_now)

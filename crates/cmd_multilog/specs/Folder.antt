@@ -1,6 +1,6 @@
 -- The folder of a log, as the system tells it, and what calls do to it.
-use Rattle.std.specs.Prelude.{◌≡◌, ◌⊎◌, ⊤, ℕ, Bool, true, false, if◌then◌else◌, List, [], ◌∷◌, ◌++◌, map, length, bytes_eq}
-use Rattle.std.specs.Prelude.{unwrap_or, Option, Some, None, IfSome, MatchOption}
+use Rattle.std.specs.Prelude.{◌≡◌, ◌⊎◌, ⊤, ℕ, Bool, true, false, if◌then◌else◌, List, [], ◌∷◌, ◌++◌, map, length}
+use Rattle.std.specs.Prelude.{bytes_eq, unwrap_or, Option, Some, None, IfSome, MatchOption}
 use Rattle.std.specs.List.{list_any}
 use Rattle.std.specs.Option.{option_map}
 use Rattle.std.specs.IoError.{error_kind}

@@ -1,17 +1,21 @@
 -- What a store over folders holds, and what it tells of it.
-use Rattle.std.specs.Prelude.{◌≡◌, ⊤, ℕ, List, [], ◌∷◌, ◌++◌, length, Option, Some, None, IfSome, slice_get}
+use Rattle.std.specs.Prelude.{◌≡◌, ◌⊎◌, ⊤, ℕ, List, [], ◌∷◌, ◌++◌, length, Option, Some, None, IfSome, slice_get}
+use Rattle.std.specs.IoError.{error_kind}
+use Rattle.std.specs.declared.io.Error.{Error}
+use Rattle.std.specs.declared.io.ErrorKind.TheVariants.{OutOfMemory}
 use Rattle.mlog_files.specs.Files.{Files}
 use Rattle.mlog_files.specs.Store.{StoreState}
 use Rattle.cmd_multilog.specs.Folder.{Folder, files_of, Begins, Status, given_of}
 use Rattle.tai_status.specs.Extended.{Extended}
 
 -- The folders of the logs and the status files, as far as the system tells them; the alerts; the folders that the
--- system was asked for; and how many calls failed.
+-- system was asked for, and the errors that the calls gave by which these are opened; and how many calls failed since.
 pub record Shelf : Type 0 where
   pub logs : List (Option Folder)
   pub statuses : List (Option Status)
   pub alerts : Option (List ℕ)
   pub asked : Option (List (List ℕ))
+  pub gave : Option (List Error)
   pub failures : ℕ
 
 -- the files of the log at a place
@@ -38,7 +42,7 @@ state_of shelf = record {
   };
 }
 
--- The shelf is as before, but for what the system was asked for.
+-- The shelf is as before, but for what the system was asked for and gave.
 pub record AddsNone (old new : Shelf) : Type 0 where
   pub logs : new.logs ≡ old.logs
   pub statuses : new.statuses ≡ old.statuses
@@ -63,6 +67,11 @@ pub record OpensLog (old new : Shelf) (path : List ℕ) : Type 0 where
 -- The system was asked for the folder at a path.
 abbrev pub AsksForOne : Shelf → Shelf → List ℕ → Type 0
 AsksForOne old new path = Extended old.asked new.asked (path ∷ [])
+
+-- The system was asked for the folder at a path, which is not opened; or it was not, for want of memory.
+abbrev pub AsksFor : Error → (old new : Shelf) (path : List ℕ) → Type 0
+AsksFor error old new path =
+    AsksForOne old new path ⊎ ((new.asked ≡ old.asked) × (error_kind error ≡ OutOfMemory))
 
 -- The status file at a path is the next.
 pub record AddsStatus (old new : Shelf) (path : List ℕ) : Type 0 where

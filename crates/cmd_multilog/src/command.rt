@@ -3,7 +3,7 @@ ghost use Rattle.std.specs.Prelude.{◌≡◌, [], slice_get, unwrap_or, IfOk, I
 ghost use Rattle.tai_status.specs.Counted.{Tells};
 ghost use Rattle.mlog_script.specs.Script.{texts};
 ghost use Rattle.cmd_multilog.specs.Opening.{folders_of};
-ghost use Rattle.cmd_multilog.specs.Ends.{IsSaidBy, IsRefusal, refusal_told, refusal_status, open_told, MultilogEndsBy};
+ghost use Rattle.cmd_multilog.specs.Ends.{IsSaidBy, IsRefusal, refusal_told, refusal_status, open_told, EndsBy};
 
 use crate::fault::{NoScript, OpenFault, run_text, script_status, script_text};
 use crate::log_system::LogSystem;
@@ -125,8 +125,8 @@ where
     C: TimeSource,
     requires no_logs { store.old.logs ≡ [] }
     requires no_files { store.old.statuses ≡ [] }
-    ensures ends { MultilogEndsBy (texts words.now) result store.old store.new (I.feed input.old) (I.feed input.new)
-        (C.readings clock.old) (C.readings clock.new) faults.old faults.new }
+    ensures ends { EndsBy I.feed C.readings (texts words.now) result store.old store.new
+        input.old input.new clock.old clock.new faults.old faults.new }
 {
     let script = match read_script(&alloc, words) {
         Ok(script) => script,

@@ -32,7 +32,7 @@ impl<F: LogFolder + Drop, A: Allocator> Model for FolderLog<F, A> {
 
 /// Locks a folder, opens its current file, and lists it. Answers how many bytes that file has, and the names of old
 /// files. Want of memory comes only where no call on the folder failed.
-fn begin<F: LogFolder, A: Allocator + Clone>(
+pub(crate) fn begin<F: LogFolder, A: Allocator + Clone>(
     folder: &mut F,
     alloc: &A,
 ) -> io::Result<(u64, OldNames<A>)>
@@ -53,19 +53,18 @@ impl<F: LogFolder + Drop, A: Allocator + Clone> FolderLog<F, A> {
     ghost use Rattle.mlog_files.specs.Files.{Finish, Remove, append_steps};
     ghost use Rattle.mlog_files.specs.Named.{greatest_label};
     ghost use Rattle.mlog_files.specs.Store.{Reaches};
-    ghost use Rattle.cmd_multilog.specs.Folder.{Changes, StaysAt, Begins, files_of};
+    ghost use Rattle.cmd_multilog.specs.Folder.{IsKept, StaysAt, files_of};
 
-    /// Locks a folder, opens its current file, and lists it.
-    pub(crate) fn open(folder: F, alloc: &A) -> io::Result<FolderLog<F, A>>
-        ensures { IfOk result (λ log. Changes (F.folder folder) log Begins) }
+    /// The log in a folder that was begun, whose current file has so many bytes, and these names of old files.
+    pub(crate) fn new(folder: F, length: u64, olds: OldNames<A>) -> FolderLog<F, A>
+        requires { IsKept (F.folder folder) olds.names.items length }
+        ensures { result ≡ F.folder folder }
     {
-        let mut folder = folder;
-        let (length, olds) = begin(&mut folder, alloc)?;
-        Ok(FolderLog {
+        FolderLog {
             folder,
             olds,
             length,
-        })
+        }
     }
 
     /// Appends a front of the piece to the current file, and tells how long it is.

@@ -87,27 +87,40 @@ pub trait StatusFile {
         ensures err { OnErr result (status self.new ≡ status self.old) };
 }
 
-/// What the operating system does for logs, and standard error. Contracts see which folders it was asked for, and what
-/// it alerted, where it tells that.
+/// What the operating system does for logs, and standard error. Contracts see which folders it was asked for, which
+/// errors the calls gave by which these are opened, and what it alerted, where it tells that.
 pub trait LogSystem {
     type Folder: LogFolder + Drop;
 
     type Status: StatusFile + Drop;
 
     ghost use Rattle.std.specs.Prelude.{◌≡◌, ◌<◌, ◌≤◌, ℕ, List, [], ◌∷◌, Option, None, length, take, IfOk, IfSome};
-    ghost use Rattle.std.specs.Prelude.{OnOk, OnErr};
+    ghost use Rattle.std.specs.Prelude.{OnOk, OnErr, IfErr};
+    ghost use Rattle.std.specs.declared.io.Error.{Error};
     ghost use Rattle.std.specs.Io.KnownBytes.{Appends};
     ghost use Rattle.tai_status.specs.Extended.{Extended};
 
     // the folders that it was asked for, in order
     ghost asked: { Self → Option (List (List ℕ)) } = { λ _. None };
 
+    // the errors that it gave for a folder, and those of the folders that it took back, in order
+    ghost gave: { Self → Option (List Error) } = { λ _. None };
+
     ghost alerts: { Self → Option (List ℕ) } = { λ _. None };
 
-    /// The folder at a path. It is made where it is missing.
+    /// The folder at a path. It is made where it is missing. The list of its errors goes on from this one's.
     fn folder(&mut self, path: &[u8]) -> io::Result<Self::Folder>
         ensures path { IfOk result (λ folder. IfSome (Self.Folder.folder folder) (λ f. f.path ≡ path.now)) }
+        ensures goes_on { IfOk result (λ folder. Self.Folder.gave folder ≡ gave self.old) }
+        ensures well { OnOk result (gave self.new ≡ gave self.old) }
+        ensures gave { IfErr result (λ error. Extended (gave self.old) (gave self.new) (error ∷ [])) }
         ensures asked { Extended (asked self.old) (asked self.new) (path.now ∷ []) }
+        ensures alerts { alerts self.new ≡ alerts self.old };
+
+    /// Takes a folder back that can't be begun, with the list of its errors.
+    fn take_back(&mut self, folder: Self::Folder)
+        ensures gave { gave self.new ≡ Self.Folder.gave folder }
+        ensures asked { asked self.new ≡ asked self.old }
         ensures alerts { alerts self.new ≡ alerts self.old };
 
     /// The place of the status file at a path. Nothing is made yet.

@@ -1,8 +1,7 @@
 //! How the logs and status files of a script are opened.
-ghost use Rattle.std.specs.Prelude.{◌≡◌, ◌≢◌, ◌≤◌, ◌⊎◌, ℕ, [], length, count_by, take, IfErr, OnOk, OnErr};
-ghost use Rattle.std.specs.IoError.{error_kind};
+ghost use Rattle.std.specs.Prelude.{◌≡◌, ◌≤◌, ℕ, [], length, count_by, take, IfErr, OnOk, OnErr};
 ghost use Rattle.mlog_script.specs.Script.{is_log, is_file, file_paths};
-ghost use Rattle.cmd_multilog.specs.Opening.{Opens, OpensUpTo, folders_of};
+ghost use Rattle.cmd_multilog.specs.Opening.{IsFault, Opens, OpensUpTo, folders_of};
 
 use crate::fault::OpenFault;
 use crate::log_system::LogSystem;
@@ -13,9 +12,7 @@ use std::io::{Error, ErrorKind};
 
 /// Why a log is not opened.
 fn fault_of(error: Error, log: usize) -> OpenFault
-    ensures memory { error_kind error ≡ ErrorKind.OutOfMemory → result ≡ OpenFault.OutOfMemory }
-    ensures other { error_kind error ≢ ErrorKind.OutOfMemory → result ≡ OpenFault.Unopened log }
-    ensures either { (result ≡ OpenFault.OutOfMemory) ⊎ (result ≡ OpenFault.Unopened log) }
+    ensures { IsFault error log result }
 {
     if error.kind() == ErrorKind::OutOfMemory {
         return OpenFault::OutOfMemory;
@@ -32,6 +29,7 @@ fn open_logs<D: LogSystem + Drop, A: Allocator + Clone, B: Allocator + Clone>(
     requires none { store.old.logs ≡ [] }
     ensures ok { OnOk result (Opens store.old store.new (folders_of script.now) [] (folders_of script.now)) }
     ensures enough { OnOk result (count_by is_log script.now ≤ length store.new.logs) }
+    ensures well { OnOk result (store.new.gave ≡ store.old.gave) }
     ensures err { IfErr result (λ why. OpensUpTo store.old store.new script.now why) }
 {
     let mut log = 0;
@@ -52,6 +50,7 @@ fn place_statuses<D: LogSystem + Drop, A: Allocator + Clone, B: Allocator + Clon
     requires none { store.old.statuses ≡ [] }
     ensures ok { OnOk result (Opens store.old store.new [] (file_paths script.now) []) }
     ensures enough { OnOk result (count_by is_file script.now ≤ length store.new.statuses) }
+    ensures gave { store.new.gave ≡ store.old.gave }
     ensures err { OnErr result ((files : ℕ) × Opens store.old store.new [] (take files (file_paths script.now)) []) }
 {
     let mut file = 0;
@@ -74,6 +73,7 @@ pub(crate) fn open_all<D: LogSystem + Drop, A: Allocator + Clone, B: Allocator +
         (folders_of script.now)) }
     ensures logs { OnOk result (count_by is_log script.now ≤ length store.new.logs) }
     ensures files { OnOk result (count_by is_file script.now ≤ length store.new.statuses) }
+    ensures well { OnOk result (store.new.gave ≡ store.old.gave) }
     ensures err { IfErr result (λ why. OpensUpTo store.old store.new script.now why) }
 {
     open_logs(store, alloc, script)?;

@@ -1,12 +1,11 @@
 //! A store over folders.
 ghost use Rattle.std.specs.Prelude.{◌≡◌};
 
-use crate::folder_log::FolderLog;
+use crate::folder_log::{FolderLog, begin};
 use crate::log_system::{LogSystem, StatusFile};
 use mlog_files::{LogStore, StoreFault};
 use std::alloc::{AllocError, Allocator, Global};
 use std::io;
-use std::io::ErrorKind;
 use std::marker::Model;
 use tai_status::Label;
 
@@ -63,15 +62,16 @@ impl<D: LogSystem + Drop, A: Allocator> Model for FolderStore<D, A> {
       statuses = store.statuses.items;
       alerts = D.alerts store.system;
       asked = D.asked store.system;
+      gave = D.gave store.system;
       failures = store.failures;
     } };
 }
 
 impl<D: LogSystem + Drop, A: Allocator + Clone> FolderStore<D, A> {
-    ghost use Rattle.std.specs.Prelude.{◌≡◌, ◌<◌, ◌≤◌, ◌^◌, ◌⊎◌, [], length, IfOk, IfErr, OnOk, OnErr};
-    ghost use Rattle.std.specs.IoError.{error_kind};
+    ghost use Rattle.std.specs.Prelude.{◌≡◌, ◌<◌, ◌≤◌, ◌^◌, [], length, IfOk, IfErr, OnOk, OnErr};
     ghost use Rattle.tai_status.specs.Counted.{Rose};
-    ghost use Rattle.cmd_multilog.specs.Shelf.{OpensLog, AsksForOne, AddsStatus, AddsNone};
+    ghost use Rattle.cmd_multilog.specs.Folder.{IsCause};
+    ghost use Rattle.cmd_multilog.specs.Shelf.{OpensLog, AsksFor, AddsStatus, AddsNone};
 
     /// A store over a disk.
     pub fn new(system: D, alloc: A) -> Result<FolderStore<D, A>, AllocError>
@@ -79,6 +79,7 @@ impl<D: LogSystem + Drop, A: Allocator + Clone> FolderStore<D, A> {
         ensures statuses { IfOk result (λ store. store.statuses ≡ []) }
         ensures failures { IfOk result (λ store. store.failures ≡ 0) }
         ensures asked { IfOk result (λ store. store.asked ≡ D.asked system) }
+        ensures gave { IfOk result (λ store. store.gave ≡ D.gave system) }
         ensures alerts { IfOk result (λ store. store.alerts ≡ D.alerts system) }
     {
         let statuses = Vec::new(alloc.clone()?);
@@ -91,19 +92,27 @@ impl<D: LogSystem + Drop, A: Allocator + Clone> FolderStore<D, A> {
     }
 
     /// Opens the log in the folder at a path, as the next one: makes the folder where it is missing, locks it, opens
-    /// its current file and lists it.
+    /// its current file and lists it. Want of memory comes only where no call of the system failed otherwise.
     pub(crate) fn open_log(&mut self, alloc: &A, path: &[u8]) -> io::Result<()>
         ensures ok { OnOk result (OpensLog self.old self.new path.now) }
         ensures fits { OnOk result (length self.new.logs < 2 ^ 64) }
+        ensures well { OnOk result (self.new.gave ≡ self.old.gave) }
         ensures err { OnErr result (AddsNone self.old self.new) }
-        ensures asked { IfErr result (λ error. AsksForOne self.old self.new path.now
-            ⊎ ((self.new.asked ≡ self.old.asked) × (error_kind error ≡ ErrorKind.OutOfMemory))) }
+        ensures asked { IfErr result (λ error. AsksFor error self.old self.new path.now) }
+        ensures why { IfErr result (λ error. IsCause error self.old.gave self.new.gave) }
     {
         self.logs.reserve(1)?;
-        let folder = self.system.folder(path)?;
-        let log = FolderLog::open(folder, alloc)?;
-        self.logs.push(log)?;
-        Ok(())
+        let mut folder = self.system.folder(path)?;
+        match begin(&mut folder, alloc) {
+            Ok((length, olds)) => {
+                self.logs.push(FolderLog::new(folder, length, olds))?;
+                Ok(())
+            }
+            Err(error) => {
+                self.system.take_back(folder);
+                Err(error)
+            }
+        }
     }
 
     /// Has the next status file at a path.
@@ -112,6 +121,7 @@ impl<D: LogSystem + Drop, A: Allocator + Clone> FolderStore<D, A> {
         ensures fits { OnOk result (length self.new.statuses < 2 ^ 64) }
         ensures err { OnErr result (AddsNone self.old self.new) }
         ensures asked { self.new.asked ≡ self.old.asked }
+        ensures gave { self.new.gave ≡ self.old.gave }
     {
         let status = self.system.status_file(path)?;
         self.statuses.push(PlacedStatus::new(status))?;

@@ -222,6 +222,8 @@ impl<R: Files<File = File> + Copy + Drop, E: Write + Drop, A: Allocator + Clone>
         })
     }
 
+    fn take_back(&mut self, _folder: SystemFolder<R, A>) {}
+
     fn status_file(&self, path: &[u8]) -> Result<SystemStatus<R, A>, AllocError> {
         let mut own = Vec::new(self.alloc.clone()?);
         own.extend_from_slice(path)?;

@@ -2,3 +2,5 @@ pub mod Hearing
 pub mod Rests
 pub mod Connection
 pub mod Dues
+pub mod Slots
+pub mod Looks

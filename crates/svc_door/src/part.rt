@@ -24,6 +24,7 @@ pub struct Part<P: ByteSink> {
 
 impl<P: ByteSink + Drop> Part<P> {
     ghost use Rattle.std.specs.Prelude.{◌≡◌, ◌↔◌, ◌≤◌, IsTrue, IsNone, IsSome, IsSomeAnd};
+    ghost use Rattle.svc_door.specs.Looks.{LooksAgainAt};
 
     /// A part with no connection.
     pub fn new(number: u64, sink: P, control: UnixListener, ok: UnixListener) -> Part<P> {
@@ -38,7 +39,9 @@ impl<P: ByteSink + Drop> Part<P> {
     }
 
     /// Has the registry report both listeners.
-    pub fn register(&mut self, registry: &Registry, token: Token) -> std::io::Result<()> {
+    pub fn register(&mut self, registry: &Registry, token: Token) -> std::io::Result<()>
+        ensures number { self.new.number ≡ self.old.number }
+    {
         registry.register(&mut self.control, token, Interest::READABLE)?;
         registry.register(&mut self.ok, token, Interest::READABLE)
     }
@@ -102,6 +105,7 @@ impl<P: ByteSink + Drop> Part<P> {
     // Goes on with the connection. Where there is none any more, the next one is looked for at once.
     fn hear<R: Wait>(&mut self, rt: &R, now: u64) -> u64
         ensures over { IsNone self.new.connection → result ≡ now }
+        ensures looks { LooksAgainAt self.old.connection self.new.connection now result }
     {
         let Some(connection) = &mut self.connection else {
             return now;

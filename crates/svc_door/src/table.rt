@@ -1,6 +1,8 @@
 //! The parts at the door.
-ghost use Rattle.std.specs.Prelude.{◌≡◌};
+ghost use Rattle.std.specs.Prelude.{◌≡◌, ℕ, Some, IfSome, IfNone, OnSome, OnOk, OnErr};
+ghost use Rattle.slab.specs.Slab.{get};
 ghost use Rattle.svc_door.specs.Dues.{due_at, due_slots, soonest_due};
+ghost use Rattle.svc_door.specs.Slots.{Admits, AreOpen, Dismisses, number_at};
 
 use crate::byte_sink::ByteSink;
 use crate::part::Part;
@@ -32,43 +34,51 @@ impl<P: ByteSink + Drop> Table<P> {
         }
     }
 
-    /// Puts a part into a slot, and has the registry report it.
-    pub fn admit(&mut self, part: Part<P>, registry: &Registry) -> std::io::Result<()> {
+    /// Has the registry report a part, and puts it into a slot. At a fault the slots are as they were.
+    pub fn admit(&mut self, mut part: Part<P>, registry: &Registry) -> std::io::Result<()>
+        ensures admitted { OnOk result (Admits self.old.parts self.new.parts part.number) }
+        ensures refused { OnErr result ((slot : ℕ) → get self.new.parts slot ≡ get self.old.parts slot) }
+        ensures open { self.new.open.items ≡ self.old.open.items }
+    {
         let lacking = self
             .parts
             .len()
             .saturating_add(1)
             .saturating_sub(self.open.len());
         self.open.reserve(lacking)?;
-        let slot = self.parts.insert(part).map_err(AllocError::from)?;
-        let Some(part) = self.parts.get_mut(slot) else {
-            return Ok(());
-        };
-        let registered = part.register(registry, Token(slot));
-        if registered.is_err() {
-            self.parts.try_remove(slot);
-        }
-        registered
+        part.register(registry, Token(self.parts.vacant_key()))?;
+        self.parts.insert(part).map_err(AllocError::from)?;
+        Ok(())
     }
 
     /// Takes the part of a life out of its slot.
-    pub fn dismiss(&mut self, number: u64) -> Option<P> {
+    pub fn dismiss(&mut self, number: u64) -> Option<P>
+        ensures dismissed { OnSome result (Dismisses number self.old.parts self.new.parts
+            self.old.open.items self.new.open.items) }
+        ensures none { IfNone result ((slot : ℕ) → get self.new.parts slot ≡ get self.old.parts slot) }
+    {
         let slot = self.slot_of(number)?;
         self.open.retain(|open| *open != slot);
         Some(self.parts.try_remove(slot)?.into_sink())
     }
 
-    fn slot_of(&self, number: u64) -> Option<usize> {
-        for (slot, part) in self.parts.iter() {
-            if part.number == number {
-                return Some(slot);
+    fn slot_of(&self, number: u64) -> Option<usize>
+        ensures { IfSome result (λ slot. number_at self.now.parts slot ≡ Some number) }
+    {
+        for slot in 0..self.parts.capacity() {
+            if let Some(part) = self.parts.get(slot) {
+                if part.number == number {
+                    return Some(slot);
+                }
             }
         }
         None
     }
 
-    /// An event tells of a token.
-    pub fn wake(&mut self, token: Token, now: u64) {
+    /// An event tells of a token: its part is due now, where there is one, and room.
+    pub fn wake(&mut self, token: Token, now: u64)
+        ensures open { AreOpen self.old.parts self.old.open.items → AreOpen self.new.parts self.new.open.items }
+    {
         let Some(part) = self.parts.get_mut(token.0) else {
             return;
         };

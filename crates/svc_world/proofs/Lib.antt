@@ -1,4 +1,5 @@
 pub mod Deaths
 pub mod Fronts
+pub mod Lefts
 pub mod Shells
 pub mod Starts

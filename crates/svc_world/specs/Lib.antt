@@ -1,5 +1,7 @@
+pub mod Adopted
 pub mod Calls
 pub mod Watch
 pub mod Commands
 pub mod Shell
-pub mod Adopted
+pub mod Stats
+pub mod Left

@@ -11,7 +11,7 @@ use Rattle.svc_world.specs.declared.begin.Begin.TheVariants.{Run, StillRuns}
 use Rattle.svc_exit.specs.declared.exit.Exit.{Exit}
 use Rattle.svc_exit.specs.Exits.{exit_text}
 use Rattle.svc_exit.specs.declared.counts.Counts.{Counts}
-use Rattle.svc_exit.specs.Counts.{counts_text, one_ended, one_started}
+use Rattle.svc_exit.specs.Counts.{counts_text, no_counts, one_ended, one_started}
 use Rattle.svc_world.specs.declared.begin.Death.{Death}
 use Rattle.svc_world.specs.declared.begin.LastChild.{LastChild}
 use Rattle.svc_world.specs.declared.begin.LastChild.TheVariants.{Gone, Alive, Dead}
@@ -85,6 +85,18 @@ pub record RecordsProcess (child : Option ℕ) (old new : Watch) : Type 0 where
   pub written : Bool
   pub calls : ExtendedWhileKept old.calls new.calls (process_recorded child old.boot tick written)
   pub stands : new ≡ record old { calls = new.calls }
+
+-- a world that begins in this boot: an earlier svscan left one process, if any, that can't be adopted, and one that is
+abbrev pub begun : Option (List Call) → (boot : Option (List ℕ)) → (earlier adopted : Option ℕ) → Watch
+begun calls boot earlier adopted = record {
+  calls = calls;
+  boot = boot;
+  earlier = earlier;
+  answer = None;
+  child = child_of adopted;
+  counts = no_counts;
+  unwritten = 0;
+}
 
 -- the counts after a start that made this child, or none
 abbrev pub counts_after : (child : Option ℕ) → Counts → Counts

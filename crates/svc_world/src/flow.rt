@@ -1,4 +1,9 @@
 //! How the output of a service flows to its logger: it is counted, and it can be ended while the service runs.
+ghost use Rattle.std.specs.Prelude.{◌≡◌, ◌≤◌, [], ◌∷◌, IfOk, OnErr};
+ghost use Rattle.std.specs.Io.{ReadsAtMost, WritesAtMost};
+ghost use Rattle.std.specs.Io.KnownBytes.{ReadConsumes, WriteAppends};
+ghost use Rattle.tai_status.specs.Extended.{Extended};
+
 use libc::net::{POLLIN, poll};
 use libc::types::pollfd;
 use std::alloc::Global;
@@ -27,10 +32,63 @@ pub struct Flow {
     ends_at_once: AtomicBool,
 }
 
-/// Counts more. One thread alone counts so.
-fn count_more(counter: &AtomicU64, more: usize) {
-    let before = counter.load(Ordering::SeqCst);
-    counter.store(before.saturating_add(more as u64), Ordering::SeqCst);
+/// Where bytes are counted that flow. Contracts see what was counted, in order (`counted`), where that is kept.
+trait ByteCounter {
+    ghost use Rattle.std.specs.Prelude.{ℕ, Option, None, List, [], ◌∷◌};
+    ghost use Rattle.tai_status.specs.Extended.{Extended};
+
+    ghost counted: { Self → Option (List ℕ) } = { λ _. None };
+
+    /// Counts so many more.
+    fn count(&mut self, more: usize)
+        ensures { Extended (counted self.old) (counted self.new) (more ∷ []) };
+}
+
+/// A count of a flow, by which one thread alone counts. It tells contracts nothing.
+#[derive(Drop)]
+struct FlowCount<'a> {
+    bytes: &'a AtomicU64,
+}
+
+impl ByteCounter for FlowCount<'_> {
+    fn count(&mut self, more: usize) {
+        let before = self.bytes.load(Ordering::SeqCst);
+        self.bytes
+            .store(before.saturating_add(more as u64), Ordering::SeqCst);
+    }
+}
+
+/// Reads once, and counts what that gave.
+fn read_counted<R: Read, C: ByteCounter>(
+    reader: &mut R,
+    counter: &mut C,
+    into: &mut [u8],
+) -> io::Result<usize>
+    ensures bound { ReadsAtMost result into.new }
+    ensures bytes { ReadConsumes (R.remaining reader.old) (R.remaining reader.new) result into.new }
+    ensures counted { IfOk result (λ count. Extended (C.counted counter.old) (C.counted counter.new) (count ∷ [])) }
+    ensures none { OnErr result (C.counted counter.new ≡ C.counted counter.old) }
+{
+    let count = reader.read(into)?;
+    counter.count(count);
+    Ok(count)
+}
+
+/// Writes once a front of these bytes, which is no more than the system takes as a whole, and counts what was taken.
+fn write_counted<W: Write, C: ByteCounter>(
+    writer: &mut W,
+    counter: &mut C,
+    bytes: &[u8],
+) -> io::Result<usize>
+    ensures whole { IfOk result (λ count. count ≤ WHOLE) }
+    ensures bound { WritesAtMost result bytes.now }
+    ensures bytes { WriteAppends (W.contents writer.old) (W.contents writer.new) result bytes.now }
+    ensures counted { IfOk result (λ count. Extended (C.counted counter.old) (C.counted counter.new) (count ∷ [])) }
+    ensures none { OnErr result (C.counted counter.new ≡ C.counted counter.old) }
+{
+    let count = writer.write(&bytes[..bytes.len().min(WHOLE)])?;
+    counter.count(count);
+    Ok(count)
 }
 
 impl Flow {
@@ -147,9 +205,10 @@ impl Read for ServiceOutput {
         if self.is_over()? {
             return Ok(0);
         }
-        let count = self.file.read(into)?;
-        count_more(&self.flow.taken, count);
-        Ok(count)
+        let mut taken = FlowCount {
+            bytes: &self.flow.taken,
+        };
+        read_counted(&mut self.file, &mut taken, into)
     }
 }
 
@@ -170,9 +229,10 @@ impl LoggerInput {
 
 impl Write for LoggerInput {
     fn write(&mut self, bytes: &[u8]) -> io::Result<usize> {
-        let count = self.pipe.write(&bytes[..bytes.len().min(WHOLE)])?;
-        count_more(&self.flow.put, count);
-        Ok(count)
+        let mut put = FlowCount {
+            bytes: &self.flow.put,
+        };
+        write_counted(&mut self.pipe, &mut put, bytes)
     }
 
     fn flush(&mut self) -> io::Result<()> {

@@ -1,6 +1,8 @@
 //! The folder of a service on this system.
-ghost use Rattle.std.specs.Prelude.{◌≡◌, ◌<◌, ◌≤◌, length, IfSome};
+ghost use Rattle.std.specs.Prelude.{◌≡◌, ◌<◌, ◌≤◌, length, option_copied, IfSome};
 ghost use Rattle.svc_world.specs.Commands.{process_in};
+ghost use Rattle.svc_world.specs.Left.{IsFoundIn, IsOfBoot, named, starting};
+ghost use Rattle.tai_status.specs.Record.{status_record};
 ghost use Rattle.svc_left.specs.Process.{IsLiving};
 
 use crate::processes::{find_orphan, path_of_process, read_front, tick_of};
@@ -117,8 +119,8 @@ fn make_linked<R: Files<File = File>>(
     make_private(runtime, path.as_str())
 }
 
-/// Makes the folder `supervise` in a folder, which is its owner's alone. Where a link to nothing has its name, what that
-/// names is made.
+/// Makes the folder `supervise` in a folder, which is its owner's alone. Where a link to nothing has its name, what
+/// that names is made.
 pub(crate) fn make_supervise<R: Files<File = File>>(
     runtime: &R,
     alloc: Global,
@@ -165,6 +167,38 @@ fn process_in(bytes: &[u8]) -> Option<u32>
 {
     let view = decode_front(bytes).ok()?.view();
     if view.pid > 0 { Some(view.pid) } else { None }
+}
+
+/// What the record tells of a service whose start was asked for and not answered. None where it tells of another one.
+fn starting(recorded: Option<Loaded>) -> Option<View>
+    ensures { result ≡ starting recorded }
+{
+    match recorded {
+        Some(Loaded::New(full)) if full.phase == Phase::Starting => Some(full.view),
+        _ => None,
+    }
+}
+
+/// The record that names this process, and tells else what it told.
+fn naming(view: View, pid: u32) -> [u8; 18]
+    ensures { result ≡ status_record (named view pid) }
+{
+    encode(&View {
+        pid,
+        paused: false,
+        ..view
+    })
+}
+
+/// What became of the process that was recorded: `boot` is this boot, where it is known, and `tick` when the process of
+/// its number began that there is now, if there is one.
+fn find_in(recorded: Option<ProcessId>, boot: Option<&BootId>, tick: Option<u64>) -> Found
+    ensures { IsFoundIn recorded (option_copied boot.entry) tick result }
+{
+    match boot {
+        Some(boot) => find(recorded, boot, tick),
+        None => Found::Unknown,
+    }
 }
 
 /// Makes a folder that is its owner's alone, where there is none.
@@ -342,28 +376,18 @@ impl ServiceFolder {
         }
     }
 
-    /// Keeps a record as `supervise/earlier` that names a process.
-    fn keep_earlier(&self, view: View, pid: u32) {
-        let named = encode(&View {
-            pid,
-            paused: false,
-            ..view
-        });
-        let _ = self.replace("supervise/earlier", "supervise/earlier.new", &named);
-    }
-
     /// The process of a start that was asked for and is not recorded, where svscan was killed between the two: one that
     /// runs in this folder and has lost its parent. It is kept as `supervise/earlier` then, for the next svscan.
     fn unrecorded(&self, alloc: Global) -> Option<u32> {
-        match self.record() {
-            Some(Loaded::New(full)) if full.phase == Phase::Starting => {
-                let runs_here = |pid: u32| self.is_running(pid);
-                let pid = find_orphan(&self.files, alloc, runs_here).ok()??;
-                self.keep_earlier(full.view, pid);
-                Some(pid)
-            }
-            _ => None,
-        }
+        let view = starting(self.record())?;
+        let runs_here = |pid: u32| self.is_running(pid);
+        let pid = find_orphan(&self.files, alloc, runs_here).ok()??;
+        let _ = self.replace(
+            "supervise/earlier",
+            "supervise/earlier.new",
+            &naming(view, pid),
+        );
+        Some(pid)
     }
 
     /// The status record.
@@ -382,17 +406,20 @@ impl ServiceFolder {
     }
 
     /// What an earlier svscan left of the service, in this boot, at this time.
+    #[tactic(auto, using(crate::proofs::Lefts::found_living, crate::proofs::Lefts::found_of_boot))]
     pub fn left(&self, boot: Option<&BootId>, label: Label) -> Left
-        ensures { IsLiving result.process }
+        ensures living { IsLiving result.process }
+        ensures boot { IsOfBoot (option_copied boot.entry) result.process }
+        ensures label { result.label ≡ label }
     {
+        let process = self.process();
+        let tick = match &process {
+            Some(process) => tick_of(&self.files, process.pid),
+            None => None,
+        };
         Left {
             record: self.record(),
-            process: match (self.process(), boot) {
-                (Some(process), Some(boot)) => {
-                    find(Some(process), boot, tick_of(&self.files, process.pid))
-                }
-                _ => Found::Unknown,
-            },
+            process: find_in(process, boot, tick),
             label,
         }
     }

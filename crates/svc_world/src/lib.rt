@@ -18,6 +18,7 @@ mod output;
 mod processes;
 mod shell;
 mod shell_process;
+mod stat;
 mod system;
 mod world;
 

@@ -44,8 +44,8 @@ fn make_fifos<R: Processes<Started = SystemProcess> + Wait>(
     Ok(())
 }
 
-/// Whether the FIFO of the service in a folder is to be made: it is missing, and no svscan has the service. A file in its
-/// place is removed.
+/// Whether the FIFO of the service in a folder is to be made: it is missing, and no svscan has the service. A file in
+/// its place is removed.
 fn lacks_fifo<R: Files<File = File>>(
     files: &R,
     alloc: Global,
@@ -59,8 +59,8 @@ fn lacks_fifo<R: Files<File = File>>(
     Ok(true)
 }
 
-/// Makes the FIFOs of the services in these folders, where they are missing, by one call. Those that can't be made now are
-/// tried again one by one, as each output is opened.
+/// Makes the FIFOs of the services in these folders, where they are missing, by one call. Those that can't be made now
+/// are tried again one by one, as each output is opened.
 pub fn prepare_outputs<R: Processes<Started = SystemProcess> + Wait>(
     rt: &R,
     files: &HostRuntime,

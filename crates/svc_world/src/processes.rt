@@ -1,10 +1,13 @@
 //! Processes of this system that are no children of this one.
-ghost use Rattle.std.specs.Prelude.{◌≡◌, ◌<◌, ◌≤◌, length, take, IfOk};
+ghost use Rattle.std.specs.Prelude.{◌≡◌, ◌<◌, ◌≤◌, length, take, option_and_then, false, IfOk, IfSome};
+ghost use Rattle.std.specs.Option.{option_map_or};
 ghost use Rattle.std.specs.Io.{ReadsAtMost};
 ghost use Rattle.std.specs.Io.KnownBytes.{Consumes, IsAtEnd};
 ghost use Rattle.svc_world.specs.Commands.{path_of_process};
+ghost use Rattle.svc_world.specs.Stats.{LivesSince, is_orphan, living_tick};
 
 use crate::folder::ShortPath;
+use crate::stat::Stat;
 use arrayvec::{ArrayString, ArrayVec};
 use cmd_base::push_number;
 use std::alloc::Global;
@@ -12,22 +15,11 @@ use std::fs::{File, Files};
 use std::io::Read;
 use std::os::unix::fs::MetadataExt;
 use std::{fs, io};
-use sup_core::{read_number, split_field};
+use sup_core::read_number;
 use svc_left::BootId;
 
 /// How much of a process's line is read: up to the tick at which it began, whatever the program's name.
 const STAT_BYTES: usize = 512;
-
-/// What the line of a process tells of it (proc(5), `stat`).
-#[derive(Clone, Copy)]
-struct Stat {
-    /// Whether it died, and its parent has not waited for it.
-    has_died: bool,
-    /// The number of its parent.
-    parent: u64,
-    /// The tick of the kernel's clock at which it began.
-    tick: u64,
-}
 
 /// Fills a buffer from its start with what a reader gives, in as many reads as that takes, and tells how many bytes
 /// that were: fewer than it has room for only where the reader is at its end. After a fault those that came are lost.
@@ -74,28 +66,25 @@ pub(crate) fn path_of_process(pid: u32, name: &str) -> ShortPath
     path
 }
 
-/// What stands behind the last parenthesis of a process's line, which ends the program's name.
-fn behind_name(line: &[u8]) -> Option<&[u8]> {
-    line.rsplit(|byte| *byte == b')').next()
+/// Where the kernel's lines of processes are read. Contracts see what is told of the process of a number, where that is
+/// known.
+pub(crate) trait StatSource {
+    ghost use Rattle.std.specs.Prelude.{◌≡◌, ℕ, Option, None, IfSome};
+    ghost use Rattle.svc_world.specs.declared.stat.Stat.{Stat};
+
+    // what is told of the process of a number, if there is one
+    ghost stat_at: { Self → ℕ → Option (Option Stat) } = { λ _ _. None };
+
+    /// What the kernel tells of the process of this number, if there is one.
+    fn stat_of(&self, pid: u32) -> Option<Stat>
+        ensures { IfSome (stat_at self.now pid) (λ told. result ≡ told) };
 }
 
-/// The field at a place of the line of a process. That of how it stands is the first.
-fn field_at(behind: &[u8], place: usize) -> Option<&[u8]> {
-    let mut rest = behind;
-    for _ in 0..place {
-        rest = split_field(rest).1?;
+/// The system's own processes. They tell contracts nothing.
+impl StatSource for HostRuntime {
+    fn stat_of(&self, pid: u32) -> Option<Stat> {
+        stat_of(self, pid)
     }
-    Some(split_field(rest).0)
-}
-
-/// What the line of a process tells.
-fn read_stat(line: &[u8]) -> Option<Stat> {
-    let behind = behind_name(line)?;
-    Some(Stat {
-        has_died: matches!(field_at(behind, 1)?, b"Z" | b"X"),
-        parent: read_number(field_at(behind, 2)?)?,
-        tick: read_number(field_at(behind, 20)?)?,
-    })
 }
 
 /// What the kernel tells of the process of this number, if there is one: it does so in one read.
@@ -104,25 +93,38 @@ fn stat_of<R: Files<File = File>>(files: &R, pid: u32) -> Option<Stat> {
     let mut file = fs::open(files, path.as_str()).ok()?;
     let mut line = [0; STAT_BYTES];
     let count = file.read(&mut line).ok()?.min(STAT_BYTES);
-    read_stat(&line[..count])
+    Stat::read(&line[..count])
 }
 
 /// The tick at which the process of this number began that lives now, if there is one.
-pub(crate) fn tick_of<R: Files<File = File>>(files: &R, pid: u32) -> Option<u64> {
-    let stat = stat_of(files, pid)?;
-    if stat.has_died { None } else { Some(stat.tick) }
+pub(crate) fn tick_of<S: StatSource>(processes: &S, pid: u32) -> Option<u64>
+    ensures { IfSome (S.stat_at processes.now pid) (λ told. result ≡ option_and_then living_tick told) }
+{
+    processes.stat_of(pid)?.living_tick()
+}
+
+/// Whether the process of this number lives, and is the one that began at this tick.
+fn lives<S: StatSource>(processes: &S, pid: u32, tick: u64) -> bool
+    ensures { IfSome (S.stat_at processes.now pid) (λ told. LivesSince tick told result) }
+{
+    match processes.stat_of(pid) {
+        Some(stat) => stat.lives_since(tick),
+        None => false,
+    }
 }
 
 /// Whether the process of this number lives and has lost its parent.
-fn is_orphan<R: Files<File = File>>(files: &R, pid: u32) -> bool {
-    match stat_of(files, pid) {
-        Some(stat) => stat.parent == 1 && !stat.has_died,
+fn is_orphan<S: StatSource>(processes: &S, pid: u32) -> bool
+    ensures { IfSome (S.stat_at processes.now pid) (λ told. result ≡ option_map_or is_orphan told false) }
+{
+    match processes.stat_of(pid) {
+        Some(stat) => stat.is_orphan(),
         None => false,
     }
 }
 
 /// The first process that has lost its parent and of which this holds.
-pub(crate) fn find_orphan<R: Files<File = File>, F: Fn(u32) -> bool>(
+pub(crate) fn find_orphan<R: Files<File = File> + StatSource, F: Fn(u32) -> bool>(
     files: &R,
     alloc: Global,
     holds: F,
@@ -169,6 +171,6 @@ pub(crate) struct AdoptedProcess {
 impl AdoptedProcess {
     /// Whether it lives.
     pub(crate) fn lives(&self) -> bool {
-        tick_of(&self.files, self.pid) == Some(self.tick)
+        lives(&self.files, self.pid, self.tick)
     }
 }

@@ -72,11 +72,9 @@ fn child_of(child: Option<u32>) -> LastChild
 }
 
 impl<C: ChildSystem + Drop> ChildWorld<C> {
-    ghost use Rattle.std.specs.Prelude.{◌≡◌, None};
-    ghost use Rattle.svc_exit.specs.Counts.{no_counts};
-    ghost use Rattle.svc_world.specs.Watch.{Watch, CountsStart, RecordsProcess, RecordsStart, SeeksDeath, SeeksEarlier};
-    ghost use Rattle.svc_world.specs.Watch.{TellsDeath};
-    ghost use Rattle.svc_world.specs.Watch.{child_of};
+    ghost use Rattle.std.specs.Prelude.{◌≡◌};
+    ghost use Rattle.svc_world.specs.Watch.{CountsStart, RecordsProcess, RecordsStart, SeeksDeath, SeeksEarlier};
+    ghost use Rattle.svc_world.specs.Watch.{TellsDeath, begun};
 
     /// The world over these children, in this boot. `adopted` is the process that runs for the service already, and
     /// `earlier` one that an earlier svscan left, if there is one, and that can't be adopted.
@@ -86,15 +84,7 @@ impl<C: ChildSystem + Drop> ChildWorld<C> {
         earlier: Option<u32>,
         adopted: Option<u32>,
     ) -> ChildWorld<C>
-        ensures { result ≡ record {
-          calls = C.calls system;
-          boot = boot;
-          earlier = earlier;
-          answer = None;
-          child = child_of adopted;
-          counts = no_counts;
-          unwritten = 0;
-        } }
+        ensures { result ≡ begun (C.calls system) boot earlier adopted }
     {
         ChildWorld {
             system,

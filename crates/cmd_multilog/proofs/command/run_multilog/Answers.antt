@@ -10,6 +10,7 @@ returns-in-Ok-run_parts g c =
         c.in-Ok.ensures.ok,
         inr (record {
           opened = c.open_all.new.store;
+          well = c.in-Ok-open_all.ensures.well;
           opens = c.in-Ok-open_all.ensures.ok;
           runs = record {
             ran = None;
@@ -30,6 +31,7 @@ returns g c =
         c.in-Ok.ensures.ok,
         inr (record {
           opened = c.open_all.new.store;
+          well = c.in-Ok-open_all.ensures.well;
           opens = c.in-Ok-open_all.ensures.ok;
           runs = record {
             ran = Some c.in-Err-run_parts.fault;

@@ -1,4 +1,4 @@
-use Rattle.std.proofs.Common.{rules, ap, ◌≡◌, ◌+◌, ◌≤◌, subst, ℕ, arith, length, None, count_by, ◌<◌, ◌^◌}
+use Rattle.std.proofs.Common.{rules, refl, ◌∙◌, ap, ◌≡◌, ◌+◌, ◌≤◌, subst, ℕ, arith, length, None, count_by, ◌<◌, ◌^◌}
 use Rattle.mlog_script.specs.Script.{Plan, is_log}
 use Rattle.cmd_multilog.specs.Opening.{folders_of}
 use Rattle.cmd_multilog.proofs.Openings.{opens-none, opens-log, opens-all-logs, folder_at, no_folder_at, longer}
@@ -6,7 +6,7 @@ use Rattle.cmd_multilog.proofs.Openings.{unopened}
 use Rattle.cmd_multilog.proofs.opening.open_logs.Goals as goal
 
 pub loop-log-init : goal.loop-log-init
-loop-log-init g c = (opens-none c.args.store.now, ap length c.requires.none, omega arith)
+loop-log-init g c = (opens-none c.args.store.now, ap length c.requires.none, omega arith, refl)
 
 pub overflow_add-log : goal.overflow_add-log
 overflow_add-log g c =
@@ -28,6 +28,7 @@ loop-log-preserved g c =
           c.loop-log.invariant.0 is ok,
       longer c.loop-log.store.logs c.open_log.new.self.logs ok.folder c.loop-log.log ok.logs c.loop-log.invariant.1,
       below,
+      c.in-Ok.ensures.well ∙ c.loop-log.invariant.3,
     )
 
 pub returns-in-Err-clause-err : goal.returns-in-Err-clause-err
@@ -38,8 +39,8 @@ returns-in-Err-clause-err g c =
     (ap (λ (p : Plan). p.folder) c.plan.view_is) in
     unopened c.args.store.now c.loop-log.store c.open_log.new.self script c.loop-log.log path c.in-Err.error
     c.fault_of.result
-    c.loop-log.invariant.0 c.in-Err.ensures.err c.in-Err.ensures.asked is c.fault_of.ensures.memory
-    c.fault_of.ensures.either
+    c.loop-log.invariant.0 c.loop-log.invariant.3 c.in-Err.ensures.err c.in-Err.ensures.asked c.in-Err.ensures.why is
+    c.fault_of.ensures
 
 pub returns-clause-ok : goal.returns-clause-ok
 returns-clause-ok g c =

@@ -8,6 +8,7 @@ invariant-loop-log g l =
     Opens l.fn.store l.store (take l.log (folders_of l.script)) [] (take l.log (folders_of l.script))
     × (length l.store.logs ≡ l.log)
     × (l.log ≤ count_by is_log l.script)
+    × (l.store.gave ≡ l.fn.store.gave)
 
 abbrev pub decreases-loop-log : goal.decreases-loop-log
 decreases-loop-log g l = count_by is_log l.script - l.log

@@ -1,11 +1,12 @@
-use Rattle.std.proofs.Common.{rules, ap, ◌≡◌, ◌+◌, ◌≤◌, subst, ℕ, arith, length, None, Some, count_by, ◌<◌, ◌^◌}
+use Rattle.std.proofs.Common.{rules, refl, ◌∙◌, ap, ◌≡◌, ◌+◌, ◌≤◌, subst, ℕ, arith, length, None, Some, count_by}
+use Rattle.std.proofs.Common.{◌<◌, ◌^◌}
 use Rattle.std.specs.Prelude.{slice_get}
 use Rattle.mlog_script.specs.Script.{is_file, file_paths}
 use Rattle.cmd_multilog.proofs.Openings.{opens-none, opens-status, opens-all-files, longer}
 use Rattle.cmd_multilog.proofs.opening.place_statuses.Goals as goal
 
 pub loop-file-init : goal.loop-file-init
-loop-file-init g c = (opens-none c.args.store.now, ap length c.requires.none, omega arith)
+loop-file-init g c = (opens-none c.args.store.now, ap length c.requires.none, omega arith, refl)
 
 pub overflow_add-file : goal.overflow_add-file
 overflow_add-file g c =
@@ -27,6 +28,7 @@ loop-file-preserved g c =
       longer c.loop-file.store.statuses c.add_status.new.self.statuses ok.status c.loop-file.file ok.statuses
           c.loop-file.invariant.1,
       below,
+      c.add_status.ensures.gave ∙ c.loop-file.invariant.3,
     )
 
 pub returns-clause-ok : goal.returns-clause-ok

@@ -1,0 +1,36 @@
+-- What an earlier svscan left: its process, where this boot may be unknown, and a start that it did not record.
+use Rattle.std.specs.Prelude.{◌≡◌, ⊤, ℕ, Bool, true, false, if◌then◌else◌, List, Option, Some, None, IsSome}
+use Rattle.tai_status.specs.Record.{Status}
+use Rattle.tai_status.specs.declared.loading.Loaded.{Loaded}
+use Rattle.tai_status.specs.declared.loading.Loaded.TheVariants.{New}
+use Rattle.tai_status.specs.declared.phase.Phase.{Phase}
+use Rattle.tai_status.specs.declared.phase.Phase.TheVariants.{Starting}
+use Rattle.svc_left.specs.Process.{IsFound}
+use Rattle.svc_left.specs.declared.process.ProcessId.{ProcessId}
+use Rattle.svc_left.specs.declared.process.Found.{Found}
+use Rattle.svc_left.specs.declared.process.Found.TheVariants.{Unknown, Gone, Lives}
+
+-- What became of it. Where the boot is not known nothing is known of a process.
+abbrev pub IsFoundIn : (recorded : Option ProcessId) (boot : Option (List ℕ)) (tick : Option ℕ) → Found → Type 0
+IsFoundIn recorded None tick found = found ≡ Unknown
+IsFoundIn recorded (Some boot) tick found = IsFound recorded boot tick found
+
+-- A process that lives began in this boot, and where one is gone this boot is known.
+abbrev pub IsOfBoot : (boot : Option (List ℕ)) → Found → Type 0
+IsOfBoot boot (Lives process) = boot ≡ Some process.boot
+IsOfBoot boot Gone = IsSome boot
+IsOfBoot boot Unknown = ⊤
+
+-- whether a start was asked for and not answered
+abbrev pub is_starting : Phase → Bool
+is_starting Starting = true
+is_starting other = false
+
+-- what a record tells of a service whose start was asked for and not answered
+abbrev pub starting : Option Loaded → Option Status
+starting (Some (New full)) = if is_starting full.phase then Some full.status else None
+starting other = None
+
+-- the same, but of this process
+abbrev pub named : Status → (pid : ℕ) → Status
+named status pid = record status { pid = pid; paused = false }

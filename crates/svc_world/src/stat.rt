@@ -1,0 +1,88 @@
+//! What the kernel's line of a process tells, and what follows of that.
+ghost use Rattle.std.specs.Prelude.{◌≡◌, option_copied, slice_get};
+ghost use Rattle.sup_core.specs.Reading.{fields};
+ghost use Rattle.svc_world.specs.Stats.{behind_name, is_dead};
+
+use sup_core::{read_number, split_field};
+
+/// What the line of a process tells of it (proc(5), `stat`).
+#[derive(Clone, Copy, Debug, PartialEq, Eq)]
+pub(crate) struct Stat {
+    /// Whether it died, and its parent has not waited for it.
+    has_died: bool,
+    /// The number of its parent.
+    parent: u64,
+    /// The tick of the kernel's clock at which it began.
+    tick: u64,
+}
+
+/// What stands behind the last parenthesis of a process's line, which ends the program's name.
+fn behind_name(line: &[u8]) -> &[u8]
+    ensures { result.now ≡ behind_name line.now }
+{
+    let mut from = line.len();
+    while from > 0 && line[from - 1] != b')' {
+        from -= 1;
+    }
+    &line[from..]
+}
+
+/// The field at a place behind the name. That of how the process stands is the first.
+fn field_at(behind: &[u8], place: usize) -> Option<&[u8]>
+    ensures { option_copied result ≡ slice_get (fields behind.now) place }
+{
+    let mut rest = behind;
+    for passed in 0..place {
+        rest = split_field(rest).1?;
+    }
+    Some(split_field(rest).0)
+}
+
+/// Whether a process that stands so is a zombie or dead.
+fn is_dead(state: &[u8]) -> bool
+    ensures { result ≡ is_dead state.now }
+{
+    match state {
+        [letter] => *letter == b'Z' || *letter == b'X',
+        _ => false,
+    }
+}
+
+impl Stat {
+    ghost use Rattle.std.specs.Prelude.{◌≡◌, ◌↔◌, IsTrue, IfSome, Some};
+    ghost use Rattle.svc_world.specs.Stats.{FitsStat, TellsStat, is_orphan, living_tick};
+
+    /// What the line of a process tells. None where it is no such line.
+    pub(crate) fn read(line: &[u8]) -> Option<Stat>
+        ensures told { IfSome result (λ stat. TellsStat line.now stat) }
+        ensures only { (stat : Stat) → FitsStat stat → TellsStat line.now stat → result ≡ Some stat }
+    {
+        let behind = behind_name(line);
+        Some(Stat {
+            has_died: is_dead(field_at(behind, 1)?),
+            parent: read_number(field_at(behind, 2)?)?,
+            tick: read_number(field_at(behind, 20)?)?,
+        })
+    }
+
+    /// The tick at which the process began, where it lives.
+    pub(crate) fn living_tick(&self) -> Option<u64>
+        ensures { result ≡ living_tick self.now }
+    {
+        if self.has_died { None } else { Some(self.tick) }
+    }
+
+    /// Whether the process lives, and is the one that began at this tick.
+    pub(crate) fn lives_since(&self, tick: u64) -> bool
+        ensures { IsTrue result ↔ (living_tick self.now ≡ Some tick) }
+    {
+        self.living_tick() == Some(tick)
+    }
+
+    /// Whether the process lives and has lost its parent.
+    pub(crate) fn is_orphan(&self) -> bool
+        ensures { result ≡ is_orphan self.now }
+    {
+        !self.has_died && self.parent == 1
+    }
+}
