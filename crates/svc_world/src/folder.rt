@@ -414,7 +414,8 @@ impl ServiceFolder {
     {
         let process = self.process();
         let tick = match &process {
-            Some(process) => tick_of(&self.files, process.pid),
+            // Where the kernel can't be asked, it lives.
+            Some(process) => tick_of(&self.files, process.pid).unwrap_or(Some(process.tick)),
             None => None,
         };
         Left {

@@ -1,5 +1,5 @@
 //! Processes of this system that are no children of this one.
-ghost use Rattle.std.specs.Prelude.{◌≡◌, ◌<◌, ◌≤◌, length, take, option_and_then, false, IfOk, IfSome};
+ghost use Rattle.std.specs.Prelude.{◌≡◌, ◌<◌, ◌≤◌, length, take, option_and_then, false, true, IfErr, IfOk, IfSome};
 ghost use Rattle.std.specs.Option.{option_map_or};
 ghost use Rattle.std.specs.Io.{ReadsAtMost};
 ghost use Rattle.std.specs.Io.KnownBytes.{Consumes, IsAtEnd};
@@ -17,6 +17,9 @@ use std::os::unix::fs::MetadataExt;
 use std::{fs, io};
 use sup_core::read_number;
 use svc_left::BootId;
+
+/// The error number of a process that is gone (errno(3)).
+const ESRCH: i32 = 3;
 
 /// How much of a process's line is read: up to the tick at which it began, whatever the program's name.
 const STAT_BYTES: usize = 512;
@@ -69,57 +72,80 @@ pub(crate) fn path_of_process(pid: u32, name: &str) -> ShortPath
 /// Where the kernel's lines of processes are read. Contracts see what is told of the process of a number, where that is
 /// known.
 pub(crate) trait StatSource {
-    ghost use Rattle.std.specs.Prelude.{◌≡◌, ℕ, Option, None, IfSome};
+    ghost use Rattle.std.specs.Prelude.{◌≡◌, ℕ, Option, None, IfOk, IfSome};
     ghost use Rattle.svc_world.specs.declared.stat.Stat.{Stat};
 
     // what is told of the process of a number, if there is one
     ghost stat_at: { Self → ℕ → Option (Option Stat) } = { λ _ _. None };
 
-    /// What the kernel tells of the process of this number, if there is one.
-    fn stat_of(&self, pid: u32) -> Option<Stat>
-        ensures { IfSome (stat_at self.now pid) (λ told. result ≡ told) };
+    /// What the kernel says of the process of this number, if there is one, or why it can't be asked.
+    fn stat_of(&self, pid: u32) -> io::Result<Option<Stat>>
+        ensures { IfOk result (λ found. IfSome (stat_at self.now pid) (λ told. found ≡ told)) };
 }
 
 /// The system's own processes. They tell contracts nothing.
 impl StatSource for HostRuntime {
-    fn stat_of(&self, pid: u32) -> Option<Stat> {
+    fn stat_of(&self, pid: u32) -> io::Result<Option<Stat>> {
         stat_of(self, pid)
     }
 }
 
-/// What the kernel tells of the process of this number, if there is one: it does so in one read.
-fn stat_of<R: Files<File = File>>(files: &R, pid: u32) -> Option<Stat> {
+/// What the kernel says of the process of this number, if there is one, in one read; or why it can't be asked, as for
+/// want of a descriptor.
+fn stat_of<R: Files<File = File>>(files: &R, pid: u32) -> io::Result<Option<Stat>> {
     let path = path_of_process(pid, "stat");
-    let mut file = fs::open(files, path.as_str()).ok()?;
+    let mut file = match fs::open(files, path.as_str()) {
+        Ok(file) => file,
+        Err(fault) if fault.kind() == io::ErrorKind::NotFound => return Ok(None),
+        Err(fault) => return Err(fault),
+    };
     let mut line = [0; STAT_BYTES];
-    let count = file.read(&mut line).ok()?.min(STAT_BYTES);
-    Stat::read(&line[..count])
-}
-
-/// The tick at which the process of this number began that lives now, if there is one.
-pub(crate) fn tick_of<S: StatSource>(processes: &S, pid: u32) -> Option<u64>
-    ensures { IfSome (S.stat_at processes.now pid) (λ told. result ≡ option_and_then living_tick told) }
-{
-    processes.stat_of(pid)?.living_tick()
-}
-
-/// Whether the process of this number lives, and is the one that began at this tick.
-fn lives<S: StatSource>(processes: &S, pid: u32, tick: u64) -> bool
-    ensures { IfSome (S.stat_at processes.now pid) (λ told. LivesSince tick told result) }
-{
-    match processes.stat_of(pid) {
-        Some(stat) => stat.lives_since(tick),
-        None => false,
+    match file.read(&mut line) {
+        Ok(count) => Ok(Stat::read(&line[..count.min(STAT_BYTES)])),
+        Err(fault) if fault.raw_os_error() == Some(ESRCH) => Ok(None),
+        Err(fault) => Err(fault),
     }
 }
 
-/// Whether the process of this number lives and has lost its parent.
-fn is_orphan<S: StatSource>(processes: &S, pid: u32) -> bool
-    ensures { IfSome (S.stat_at processes.now pid) (λ told. result ≡ option_map_or is_orphan told false) }
+/// The tick at which the process of this number began that lives now, if there is one, or why the kernel can't be asked.
+pub(crate) fn tick_of<S: StatSource>(processes: &S, pid: u32) -> io::Result<Option<u64>>
+    ensures { IfOk result (λ tick.
+        IfSome (S.stat_at processes.now pid) (λ told. tick ≡ option_and_then living_tick told)) }
 {
-    match processes.stat_of(pid) {
-        Some(stat) => stat.is_orphan(),
-        None => false,
+    match processes.stat_of(pid)? {
+        Some(stat) => Ok(stat.living_tick()),
+        None => Ok(None),
+    }
+}
+
+/// Whether the process lives that began at this tick, by what was found of the one of its number. Where the kernel could
+/// not be asked, it does: taken for dead it would be started again.
+fn lives_by(found: io::Result<Option<Stat>>, tick: u64) -> bool
+    ensures asked { IfOk found (λ stat. LivesSince tick stat result) }
+    ensures unasked { IfErr found (λ _. result ≡ true) }
+{
+    match found {
+        Ok(Some(stat)) => stat.lives_since(tick),
+        Ok(None) => false,
+        Err(_) => true,
+    }
+}
+
+/// Whether the process of this number is not known to be gone that began at this tick.
+fn lives<S: StatSource>(processes: &S, pid: u32, tick: u64) -> bool
+    ensures { result ≡ false → IfSome (S.stat_at processes.now pid) (λ told. LivesSince tick told false) }
+{
+    lives_by(processes.stat_of(pid), tick)
+}
+
+/// Whether the process of this number lives and has lost its parent, or why the kernel can't be asked.
+fn is_orphan<S: StatSource>(processes: &S, pid: u32) -> io::Result<bool>
+    ensures { IfOk result (λ is.
+        IfSome (S.stat_at processes.now pid) (λ told. is ≡ option_map_or is_orphan told false)) }
+{
+    match processes.stat_of(pid)? {
+        Some(stat) => Ok(stat.is_orphan()),
+        None => Ok(false),
     }
 }
 
@@ -135,7 +161,7 @@ pub(crate) fn find_orphan<R: Files<File = File> + StatSource, F: Fn(u32) -> bool
         let entry = entry?;
         if let Some(number) = read_number(entry.file_name().as_bytes()) {
             if let Ok(pid) = u32::try_from(number) {
-                if is_orphan(files, pid) && holds(pid) {
+                if is_orphan(files, pid)? && holds(pid) {
                     return Ok(Some(pid));
                 }
             }
@@ -169,7 +195,7 @@ pub(crate) struct AdoptedProcess {
 }
 
 impl AdoptedProcess {
-    /// Whether it lives.
+    /// Whether it lives, as far as is known.
     pub(crate) fn lives(&self) -> bool {
         lives(&self.files, self.pid, self.tick)
     }

@@ -278,7 +278,7 @@ where
     }
 
     fn tick(&mut self, pid: u32) -> Option<u64> {
-        tick_of(&self.files, pid)
+        tick_of(&self.files, pid).unwrap_or(None)
     }
 
     fn is_running(&mut self, pid: u32) -> bool {
