@@ -10,7 +10,7 @@ use Rattle.env_title.specs.declared.fault.EnvFault.TheVariants as why
 use Rattle.tai_status.specs.Counted.{Device, Fails, Tells, Works, Wrote, WroteFront}
 use Rattle.cmd_base.specs.Known.{IsKnown}
 use Rattle.cmd_base.specs.Told.{usage_text}
-use Rattle.cmd_envdir.specs.System.{Child, child, Launch, Outputs, Scene, SystemState}
+use Rattle.cmd_envdir.specs.System.{Child, child, Launch, Outputs, SystemState}
 use Rattle.cmd_envdir.specs.Words.{ReadsAsWordsOf}
 use Rattle.cmd_envdir.specs.Child.{AreInByteOrder, StartsOne, FailsToStart}
 use Rattle.cmd_envdir.specs.declared.fault.EnvdirFault.{EnvdirFault}
@@ -89,13 +89,13 @@ HasNoChild system past now child files cause =
     ((now ≡ past) × (cause ≢ fault.NotRun)) ⊎ RunsNot system past now child files cause
 
 -- The files of the folder, in the byte order of their names, made the environment of a child; nothing is told.
-pub record EndsWithChild (system : SystemState) (dir : List ℕ) (child : Child) (status : ℕ) (old new : Scene)
-    : Type 0 where
+pub record EndsWithChild (system : SystemState) (dir : List ℕ) (child : Child) (status : ℕ)
+    (past now : Option (List Launch)) (faults tells : Device) : Type 0 where
   pub files : List File
   pub files_are : IsKnown (system.folder dir) files
   pub in_order : AreInByteOrder (map (λ file. file.name) files)
-  pub runs : RunsChild system old.launches new.launches child files status
-  pub silent : new.outputs ≡ old.outputs
+  pub runs : RunsChild system past now child files status
+  pub silent : tells ≡ faults
 
 -- It is told why the files of the folder do nothing.
 pub record TellsWhy (system : SystemState) (dir program : List ℕ) (cause : EnvdirFault) (files : List File) (status : ℕ)
@@ -106,18 +106,19 @@ pub record TellsWhy (system : SystemState) (dir program : List ℕ) (cause : Env
   pub told_why : Tells faults tells (envdir_told dir program (name_of cause files) cause)
 
 -- There was no child, and it is told why.
-pub record EndsWithout (system : SystemState) (dir : List ℕ) (child : Child) (status : ℕ) (old new : Scene)
-    : Type 0 where
+pub record EndsWithout (system : SystemState) (dir : List ℕ) (child : Child) (status : ℕ)
+    (past now : Option (List Launch)) (faults tells : Device) : Type 0 where
   pub cause : EnvdirFault
   pub files : List File
-  pub why : TellsWhy system dir child.program cause files status old.outputs.faults new.outputs.faults
-  pub none : HasNoChild system old.launches new.launches child files cause
-  pub unwritten : new.outputs.writer ≡ old.outputs.writer
+  pub why : TellsWhy system dir child.program cause files status faults tells
+  pub none : HasNoChild system past now child files cause
 
 -- A child is asked for.
-abbrev pub ChildEnds : (system : SystemState) (dir : List ℕ) (child : Child) (status : ℕ) (old new : Scene) → Type 0
-ChildEnds system dir child status old new =
-    EndsWithChild system dir child status old new ⊎ EndsWithout system dir child status old new
+abbrev pub ChildEnds : (system : SystemState) (dir : List ℕ) (child : Child) (status : ℕ)
+    (past now : Option (List Launch)) (faults tells : Device) → Type 0
+ChildEnds system dir child status past now faults tells =
+    EndsWithChild system dir child status past now faults tells
+    ⊎ EndsWithout system dir child status past now faults tells
 
 -- A text was written, and nothing is told; or a front of it, and it is told that the writer failed.
 pub record EndsWriting (text : List ℕ) (status : ℕ) (old new : Outputs) : Type 0 where
@@ -161,15 +162,21 @@ AskedEnds system [] status old new = TellsUsage status old new
 AskedEnds system (dir ∷ []) status old new = WordsEnd system dir status old new
 AskedEnds system (dir ∷ word ∷ words) status old new = TellsUsage status old new
 
--- No command is handed over.
-abbrev pub AsksNothing : (old new : Scene) → Type 0
-AsksNothing old new = new.launches ≡ old.launches
+-- The words of `envdir` are a folder, a program and arguments; or `--words` and a folder.
 
--- `envdir`: its words are a folder, a program and arguments; or `--words` and a folder.
-abbrev pub EnvdirEnds : (system : SystemState) (words : List (List ℕ)) (status : ℕ) (old new : Scene) → Type 0
-EnvdirEnds system [] status old new = AsksNothing old new × TellsUsage status old.outputs new.outputs
-EnvdirEnds system (word ∷ []) status old new = AsksNothing old new × TellsUsage status old.outputs new.outputs
-EnvdirEnds system (word ∷ second ∷ more) status old new =
-    MatchBool (bytes_eq word (codes "--words"))
-    (AsksNothing old new × AskedEnds system (second ∷ more) status old.outputs new.outputs)
-    (ChildEnds system word (child second more) status old new)
+-- What it starts: the program. Other words hand over no command.
+abbrev pub EnvdirStarts : (system : SystemState) (words : List (List ℕ)) (status : ℕ) (past now : Option (List Launch))
+    (faults tells : Device) → Type 0
+EnvdirStarts system [] status past now faults tells = now ≡ past
+EnvdirStarts system (word ∷ []) status past now faults tells = now ≡ past
+EnvdirStarts system (word ∷ second ∷ more) status past now faults tells =
+    MatchBool (bytes_eq word (codes "--words")) (now ≡ past)
+    (ChildEnds system word (child second more) status past now faults tells)
+
+-- What it writes: the words of the folder, or the usage. Where a program is asked for, it writes nothing.
+abbrev pub EnvdirWrites : (system : SystemState) (words : List (List ℕ)) (status : ℕ) (old new : Outputs) → Type 0
+EnvdirWrites system [] status old new = TellsUsage status old new
+EnvdirWrites system (word ∷ []) status old new = TellsUsage status old new
+EnvdirWrites system (word ∷ second ∷ more) status old new =
+    MatchBool (bytes_eq word (codes "--words")) (AskedEnds system (second ∷ more) status old new)
+    (new.writer ≡ old.writer)

@@ -81,11 +81,3 @@ pub record Outputs : Type 0 where
 
 abbrev pub outputs : (writer faults : Device) → Outputs
 outputs writer faults = record { writer = writer; faults = faults }
-
--- What `envdir` does: the commands that it hands over, and what it writes.
-pub record Scene : Type 0 where
-  pub launches : Option (List Launch)
-  pub outputs : Outputs
-
-abbrev pub scene : (launches : Option (List Launch)) (writer faults : Device) → Scene
-scene launches writer faults = record { launches = launches; outputs = outputs writer faults }

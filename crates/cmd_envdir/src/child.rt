@@ -2,7 +2,7 @@
 ghost use Rattle.std.specs.Prelude.{◌≡◌, ◌⊎◌, ◌++◌, ◌∷◌, [], ℕ, List, false, IfOk, IfErr, OnOk};
 ghost use Rattle.std.specs.Process.{command_args, command_program, command_var, clears_env, exit_code, SameEnv};
 ghost use Rattle.std.specs.Process.{SameProgramAndArgs};
-ghost use Rattle.cmd_envdir.specs.System.{child, start_of, texts};
+ghost use Rattle.cmd_envdir.specs.System.{start_of, texts};
 ghost use Rattle.cmd_envdir.specs.Child.{IsCauseOf, StartsChild, StartsNone, StartsOne, status_of_child};
 ghost use Rattle.cmd_envdir.specs.Sayings.{said_after_files, said_after_set};
 
@@ -12,7 +12,23 @@ use cmd_base::TROUBLE;
 use env_title::{Env, EnvFile, Variable};
 use std::alloc::{AllocError, Allocator};
 use std::io::{Error, ErrorKind};
+use std::marker::Model;
 use std::process::{Command, ExitStatus};
+
+/// A program and its arguments.
+#[derive(Drop)]
+pub struct Program<'a> {
+    pub name: &'a str,
+    pub arguments: &'a [&'a str],
+}
+
+impl<'a> Model for Program<'a> {
+    ghost use Rattle.cmd_envdir.specs.System.{Child, child, texts};
+
+    ghost Value = { Child };
+
+    ghost view = { λ program. child program.name.now (texts program.arguments.now) };
+}
 
 /// Adds an argument to a command.
 fn add_argument<A: Allocator + Clone>(
@@ -80,16 +96,15 @@ fn set_variables<A: Allocator + Clone>(
 /// files have removed are removed. Any other variable stays as it is.
 fn child_command<A: Allocator + Clone>(
     alloc: A,
-    program: &str,
-    arguments: &[&str],
+    program: &Program<'_>,
     files: &[EnvFile<'_>],
     variables: &Env<A>,
 ) -> Result<Command<A>, AllocError>
     ensures { IfOk result (λ command. StartsChild (start_of command)
-        (child program.now (texts arguments.now)) files.now variables.now) }
+        program.now files.now variables.now) }
 {
-    let mut command = Command::new(alloc, program)?;
-    add_arguments(&mut command, arguments)?;
+    let mut command = Command::new(alloc, program.name)?;
+    add_arguments(&mut command, program.arguments)?;
     remove_variables(&mut command, files)?;
     set_variables(&mut command, variables.as_slice())?;
     Ok(command)
@@ -122,18 +137,17 @@ fn start_fault(error: Error) -> EnvdirFault
 pub fn run_child<L: Launcher, A: Allocator + Clone>(
     launcher: &mut L,
     alloc: A,
-    program: &str,
-    arguments: &[&str],
+    program: &Program<'_>,
     files: &[EnvFile<'_>],
     variables: &Env<A>,
 ) -> Result<u8, EnvdirFault>
     ensures ok { IfOk result (λ status. StartsOne (L.calls launcher.old) (L.calls launcher.new)
-        (child program.now (texts arguments.now)) files.now variables.now status) }
+        program.now files.now variables.now status) }
     ensures none { IfErr result (λ cause. StartsNone (L.calls launcher.old) (L.calls launcher.new)
-        (child program.now (texts arguments.now)) files.now variables.now cause) }
+        program.now files.now variables.now cause) }
     ensures either { IfErr result (λ cause. (cause ≡ EnvdirFault.OutOfMemory) ⊎ (cause ≡ EnvdirFault.NotRun)) }
 {
-    let Ok(mut command) = child_command(alloc, program, arguments, files, variables) else {
+    let Ok(mut command) = child_command(alloc, program, files, variables) else {
         return Err(EnvdirFault::OutOfMemory);
     };
     match launcher.launch(&mut command) {

@@ -4,12 +4,12 @@ ghost use Rattle.std.specs.IoError.{error_kind};
 ghost use Rattle.env_title.specs.Files.{env_after};
 ghost use Rattle.env_title.specs.Faults.{first_fault};
 ghost use Rattle.tai_status.specs.Counted.{Tells};
-ghost use Rattle.cmd_envdir.specs.System.{child, outputs, scene, texts};
+ghost use Rattle.cmd_envdir.specs.System.{outputs, texts};
 ghost use Rattle.cmd_envdir.specs.Words.{ReadsAsWordsOf};
-ghost use Rattle.cmd_envdir.specs.Ends.{AskedEnds, ChildEnds, EndsWriting, EnvdirEnds, HasNoChild, IsChangedBy};
-ghost use Rattle.cmd_envdir.specs.Ends.{IsFirstFault, RunsChild, WordsEnd, envdir_told, name_of, starved};
+ghost use Rattle.cmd_envdir.specs.Ends.{AskedEnds, ChildEnds, EndsWriting, EnvdirStarts, EnvdirWrites, HasNoChild};
+ghost use Rattle.cmd_envdir.specs.Ends.{IsChangedBy, IsFirstFault, RunsChild, WordsEnd, envdir_told, name_of, starved};
 
-use crate::child::run_child;
+use crate::child::{Program, run_child};
 use crate::env_system::EnvSystem;
 use crate::fault::EnvdirFault;
 use crate::folder::{FolderFile, env_files, fault_in, name_at};
@@ -88,13 +88,12 @@ fn run_with<R: EnvSystem, L: Launcher, A: Allocator + Clone>(
     launcher: &mut L,
     alloc: &A,
     folder: &[FolderFile<A>],
-    program: &str,
-    arguments: &[&str],
+    program: &Program<'_>,
 ) -> Result<u8, EnvdirFault>
     ensures ok { IfOk result (λ status. RunsChild (R.state rt.now) (L.calls launcher.old) (L.calls launcher.new)
-        (child program.now (texts arguments.now)) folder.now status) }
+        program.now folder.now status) }
     ensures none { IfErr result (λ why. HasNoChild (R.state rt.now) (L.calls launcher.old) (L.calls launcher.new)
-        (child program.now (texts arguments.now)) folder.now why) }
+        program.now folder.now why) }
     ensures first { IfErr result (λ why. IsFirstFault why folder.now) }
     ensures read { IfErr result (λ why. why ≢ EnvdirFault.Unread) }
 {
@@ -106,7 +105,7 @@ fn run_with<R: EnvSystem, L: Launcher, A: Allocator + Clone>(
         Err(fault) => return Err(fault),
     };
     match alloc.clone() {
-        Ok(own) => run_child(launcher, own, program, arguments, &files, &after),
+        Ok(own) => run_child(launcher, own, program, &files, &after),
         Err(_) => Err(EnvdirFault::OutOfMemory),
     }
 }
@@ -190,28 +189,29 @@ fn report_fault<E: Write>(
     }
 }
 
-/// Runs a program with arguments in the environment that the files of a folder make of this one, and
-/// answers its status; or tells why there is none.
-fn run_in_folder<R: EnvSystem, L: Launcher, A: Allocator + Clone, W: Write, E: Write>(
+/// Runs a program in the environment that the files of a folder make of this one, and answers its status; or tells why
+/// there is none.
+fn run_in_folder<R: EnvSystem, L: Launcher, A: Allocator + Clone, E: Write>(
     rt: &R,
     launcher: &mut L,
     alloc: &A,
     dir: &str,
-    program: &str,
-    arguments: &[&str],
-    writer: &Output<W>,
+    program: &Program<'_>,
     faults: &mut Output<E>,
 ) -> u8
-    ensures ends { ChildEnds (R.state rt.now) dir.now (child program.now (texts arguments.now)) result
-        (scene (L.calls launcher.old) writer.now faults.old) (scene (L.calls launcher.new) writer.now faults.new) }
+    ensures ends { ChildEnds (R.state rt.now) dir.now program.now result
+        (L.calls launcher.old) (L.calls launcher.new) faults.old faults.new }
 {
     let folder = match rt.read_folder(alloc, dir) {
         Ok(folder) => folder,
-        Err(error) => return report_fault(fault_of(error), dir, program, "", faults),
+        Err(error) => return report_fault(fault_of(error), dir, program.name, "", faults),
     };
-    match run_with(rt, launcher, alloc, &folder, program, arguments) {
+    match run_with(rt, launcher, alloc, &folder, program) {
         Ok(status) => status,
-        Err(fault) => report_fault(fault, dir, program, refused_name(fault, &folder), faults),
+        Err(fault) => {
+            let refused = refused_name(fault, &folder);
+            report_fault(fault, dir, program.name, refused, faults)
+        }
     }
 }
 
@@ -280,8 +280,10 @@ pub fn run_envdir<R: EnvSystem, L: Launcher, A: Allocator + Clone, W: Write, E: 
     writer: &mut Output<W>,
     faults: &mut Output<E>,
 ) -> u8
-    ensures ends { EnvdirEnds (R.state rt.now) (texts words.now) result
-        (scene (L.calls launcher.old) writer.old faults.old) (scene (L.calls launcher.new) writer.new faults.new) }
+    ensures starts { EnvdirStarts (R.state rt.now) (texts words.now) result
+        (L.calls launcher.old) (L.calls launcher.new) faults.old faults.new }
+    ensures writes { EnvdirWrites (R.state rt.now) (texts words.now) result
+        (outputs writer.old faults.old) (outputs writer.new faults.new) }
     ensures unasked { length words.now < 2 → launcher.new ≡ launcher.old }
 {
     let [first, rest @ ..] = words else {
@@ -290,10 +292,9 @@ pub fn run_envdir<R: EnvSystem, L: Launcher, A: Allocator + Clone, W: Write, E: 
     if *first == "--words" {
         return write_asked(rt, &alloc, rest, writer, faults);
     }
-    let [program, arguments @ ..] = rest else {
+    let [name, arguments @ ..] = rest else {
         return usage(faults);
     };
-    run_in_folder(
-        rt, launcher, &alloc, first, program, arguments, writer, faults,
-    )
+    let program = Program { name, arguments };
+    run_in_folder(rt, launcher, &alloc, first, &program, faults)
 }

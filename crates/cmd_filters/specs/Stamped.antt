@@ -2,11 +2,11 @@
 use Rattle.std.specs.Prelude.{◌≡◌, ◌≢◌, ℕ, List, [], ◌∷◌, ◌++◌, codes, map, Option}
 use Rattle.std.specs.Borrow.{Bor}
 use Rattle.tai_status.specs.Label.{Tai64n}
-use Rattle.tai_status.specs.Counted.{Fails, Works, IsRead, Tells}
+use Rattle.tai_status.specs.Counted.{Device, Fails, Works, IsRead, Tells}
 use Rattle.tai_status.specs.Lines.{StampState, stamp_state, Stamps, StampsFront}
 use Rattle.tai_status.specs.declared.stamp.StampFault.{StampFault}
 use Rattle.tai_status.specs.declared.stamp.StampFault.TheVariants as fault
-use Rattle.cmd_base.specs.Console.{Console, EndsWell}
+use Rattle.cmd_base.specs.Console.{Console, EndsWell, console}
 use Rattle.cmd_base.specs.Told.{RefusesWords}
 
 -- what is told of a fault
@@ -50,10 +50,11 @@ abbrev pub StampsEnd : (words : List (List ℕ)) (status : ℕ) (past now : Opti
 StampsEnd [] status past now old new = StampsByStatus status past now old new
 StampsEnd (word ∷ words) status past now old new = RefusesWords status old new
 
--- The same, of a clock that tells its readings so.
+-- The same, of a clock that gives its readings so, and of each device as it was and is.
 abbrev pub TaiEnds : {C : Type 0} (words : List (List ℕ)) (status : ℕ) (readings : C → Option (List Tai64n))
-    (clock read : C) (old new : Console) → Type 0
-TaiEnds words status readings clock read old new = StampsEnd words status (readings clock) (readings read) old new
+    (clock read : C) (reader reads writer writes faults tells : Device) → Type 0
+TaiEnds words status readings clock read reader reads writer writes faults tells =
+    StampsEnd words status (readings clock) (readings read) (console reader writer faults) (console reads writes tells)
 
 -- the texts of words
 abbrev pub texts : List (Bor (List ℕ)) → List (List ℕ)

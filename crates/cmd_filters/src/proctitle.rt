@@ -1,8 +1,9 @@
 //! The command `readproctitle`.
-ghost use Rattle.std.specs.Prelude.{◌≡◌, ◌↔◌, ◌<◌, ◌≢◌, [], ◌∷◌, ◌++◌, length, map, OnOk, IfOk, IfErr, IsErrOf};
+ghost use Rattle.std.specs.Prelude.{◌≡◌, ◌↔◌, ◌<◌, ◌≢◌, [], ◌∷◌, ◌++◌, length, OnOk, IfOk, IfErr, IsErrOf};
 ghost use Rattle.tai_status.specs.Counted.{Fails, Works, Wrote, WroteFront, IsRead};
 ghost use Rattle.env_title.specs.Title.{new_title, title_text};
 ghost use Rattle.cmd_base.specs.Console.{console};
+ghost use Rattle.cmd_filters.specs.Stamped.{texts};
 ghost use Rattle.cmd_filters.specs.Title.{NoTitle, ShowsTitle, ShowsRead, TitleEnds, WritesTitle, proctitle_told};
 ghost use Rattle.cmd_filters.specs.Title.{proctitle_status};
 
@@ -154,7 +155,7 @@ pub fn run_readproctitle<A: Allocator + Clone, D: Read, W: Write, E: Write>(
     writer: &mut Output<W>,
     faults: &mut Output<E>,
 ) -> u8
-    ensures ends { TitleEnds (map (λ word. word.now) words.now) result
+    ensures ends { TitleEnds (texts words.now) result
         (console reader.old writer.old faults.old) (console reader.new writer.new faults.new) }
 {
     match words.last() {

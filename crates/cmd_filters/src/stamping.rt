@@ -1,6 +1,5 @@
 //! The command `tai64n`.
 ghost use Rattle.std.specs.Prelude.{◌≡◌, ◌<◌, [], length};
-ghost use Rattle.cmd_base.specs.Console.{console};
 ghost use Rattle.cmd_filters.specs.Stamped.{TaiEnds, stamp_told, texts};
 
 use cmd_base::{DONE, TROUBLE, report, usage};
@@ -19,7 +18,7 @@ pub fn run_tai64n<D: Read, W: Write, E: Write, C: TimeSource>(
     clock: &mut C,
 ) -> u8
     ensures ends { TaiEnds (texts words.now) result C.readings clock.old clock.new
-        (console reader.old writer.old faults.old) (console reader.new writer.new faults.new) }
+        reader.old reader.new writer.old writer.new faults.old faults.new }
     ensures unasked { 0 < length words.now → clock.new ≡ clock.old }
 {
     if words.is_empty() {
@@ -36,7 +35,7 @@ fn stamp_input<D: Read, W: Write, E: Write, C: TimeSource>(
     clock: &mut C,
 ) -> u8
     ensures ends { TaiEnds [] result C.readings clock.old clock.new
-        (console reader.old writer.old faults.old) (console reader.new writer.new faults.new) }
+        reader.old reader.new writer.old writer.new faults.old faults.new }
 {
     match stamp_lines(reader, writer, clock) {
         Ok(_) => DONE,

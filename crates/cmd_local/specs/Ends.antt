@@ -2,7 +2,7 @@
 use Rattle.std.specs.Prelude.{◌≡◌, ◌≢◌, ℕ, ℤ, List, [], ◌∷◌, ◌++◌, codes, map}
 use Rattle.std.specs.Borrow.{Bor}
 use Rattle.tai_status.specs.Counted.{Device, Fails, Works, Gives, Wrote, WroteFront, IsRead, Tells}
-use Rattle.cmd_base.specs.Console.{Console, EndsWell}
+use Rattle.cmd_base.specs.Console.{Console, EndsWell, console}
 use Rattle.cmd_base.specs.Told.{RefusesWords}
 use Rattle.cmd_local.specs.Lines.{localised}
 use Rattle.cmd_local.specs.declared.localising.LocalFault.{LocalFault}
@@ -54,6 +54,12 @@ pub record LocalByStatus (ahead : ℤ → ℤ) (status : ℕ) (old new : Console
 abbrev pub LocalEnds : (ahead : ℤ → ℤ) (words : List (List ℕ)) (status : ℕ) (old new : Console) → Type 0
 LocalEnds ahead [] status old new = LocalByStatus ahead status old new
 LocalEnds ahead (word ∷ words) status old new = RefusesWords status old new
+
+-- The same, of each device as it was and is.
+abbrev pub FilterEnds : (ahead : ℤ → ℤ) (words : List (List ℕ)) (status : ℕ)
+    (reader reads writer writes faults tells : Device) → Type 0
+FilterEnds ahead words status reader reads writer writes faults tells =
+    LocalEnds ahead words status (console reader writer faults) (console reads writes tells)
 
 -- the texts of words
 abbrev pub texts : List (Bor (List ℕ)) → List (List ℕ)

@@ -2,7 +2,7 @@
 ghost use Rattle.std.specs.Prelude.{◌≡◌, ◌<◌, ◌≤◌, ◌+◌, ◌-◌, length, take, drop, slice_range, OnOk, OnErr, IfOk, IfErr};
 ghost use Rattle.tai_status.specs.Counted.{CountsRead, Fails, Works, Gives, GivesNothing, IsRead, Wrote, WroteFront};
 ghost use Rattle.cmd_base.specs.Console.{console};
-ghost use Rattle.cmd_local.specs.Ends.{LocalByStatus, LocalCause, LocalEnds, Localises, local_told, texts};
+ghost use Rattle.cmd_local.specs.Ends.{FilterEnds, LocalByStatus, LocalCause, Localises, local_told, texts};
 ghost use Rattle.cmd_local.specs.Lines.{localised_line};
 ghost use Rattle.cmd_local.specs.Local.{local_text};
 ghost use Rattle.cmd_local.specs.Passing.{IsHeld, Moves, passed};
@@ -171,8 +171,8 @@ pub fn run_tai64nlocal<Z: Zone, D: Read, W: Write, E: Write>(
     writer: &mut Output<W>,
     faults: &mut Output<E>,
 ) -> u8
-    ensures ends { LocalEnds (Z.ahead_at zone.now) (texts words.now) result
-        (console reader.old writer.old faults.old) (console reader.new writer.new faults.new) }
+    ensures ends { FilterEnds (Z.ahead_at zone.now) (texts words.now) result
+        reader.old reader.new writer.old writer.new faults.old faults.new }
 {
     if words.is_empty() {
         return run_input(zone, reader, writer, faults);

@@ -1,20 +1,22 @@
 -- How `svstat` ends, by its words, of which the first may name a form.
 use Rattle.std.specs.Prelude.{◌≡◌, ◌≢◌, ℕ, List, [], ◌∷◌, codes}
 use Rattle.tai_status.specs.Counted.{Device}
-use Rattle.cmd_svc.specs.Svstat.{Scene, SvstatEnds, look_line}
+use Rattle.cmd_svc.specs.Sight.{Sight}
+use Rattle.cmd_svc.specs.Svstat.{SvstatEnds, look_line}
 use Rattle.cmd_report.specs.Json.{json_line}
 use Rattle.cmd_report.specs.MetricsEnds.{CountFiles, MetricsEnds}
 
 -- The first word names the form in which the services behind it are told; or it is a service, and the form is svstat's.
-pub record FormEnds (files : CountFiles) (word : List ℕ) (services : List (List ℕ)) (status : ℕ) (old new : Scene)
-    (faults tells : Device) : Type 0 where
-  pub json : word ≡ codes "--json" → SvstatEnds json_line services status old new faults tells
-  pub metrics : word ≡ codes "--metrics" → MetricsEnds files services status old new faults tells
+pub record FormEnds (files : CountFiles) (word : List ℕ) (services : List (List ℕ)) (status : ℕ) (sight sees : Sight)
+    (writer writes faults tells : Device) : Type 0 where
+  pub json : word ≡ codes "--json" → SvstatEnds json_line services status sight sees writer writes faults tells
+  pub metrics : word ≡ codes "--metrics" → MetricsEnds files services status sight sees writer writes faults tells
   pub plain : (word ≢ codes "--json") × (word ≢ codes "--metrics")
-      → SvstatEnds look_line (word ∷ services) status old new faults tells
+      → SvstatEnds look_line (word ∷ services) status sight sees writer writes faults tells
 
-abbrev pub ReportEnds : (files : CountFiles) (words : List (List ℕ)) (status : ℕ) (old new : Scene)
-    (faults tells : Device) → Type 0
-ReportEnds files [] status old new faults tells = SvstatEnds look_line [] status old new faults tells
-ReportEnds files (word ∷ services) status old new faults tells =
-    FormEnds files word services status old new faults tells
+abbrev pub ReportEnds : (files : CountFiles) (words : List (List ℕ)) (status : ℕ) (sight sees : Sight)
+    (writer writes faults tells : Device) → Type 0
+ReportEnds files [] status sight sees writer writes faults tells =
+    SvstatEnds look_line [] status sight sees writer writes faults tells
+ReportEnds files (word ∷ services) status sight sees writer writes faults tells =
+    FormEnds files word services status sight sees writer writes faults tells

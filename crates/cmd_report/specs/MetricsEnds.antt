@@ -2,7 +2,8 @@
 use Rattle.std.specs.Prelude.{◌≡◌, ◌⊎◌, ⊤, ℕ, List, [], ◌∷◌, ◌++◌, map, Option, Some, None}
 use Rattle.tai_status.specs.Counted.{Device, Fails, Tells, Works, Wrote, WroteFront}
 use Rattle.cmd_base.specs.Known.{IsKnown}
-use Rattle.cmd_svc.specs.Svstat.{Scene, Sight, Finds, svstat_told}
+use Rattle.cmd_svc.specs.Sight.{Sight}
+use Rattle.cmd_svc.specs.Svstat.{Scene, Finds, scene, svstat_told}
 use Rattle.cmd_svc.specs.declared.svstat.SvstatFault.TheVariants as why
 use Rattle.cmd_svc.specs.declared.look.Look.{Look}
 use Rattle.cmd_svc.specs.declared.look.Look.TheVariants as look
@@ -83,8 +84,14 @@ pub record WritesNothing (files : CountFiles) (words : List (List ℕ)) (status 
   pub status_is : status ≡ 111
   pub told : Tells faults tells (svstat_told why.OutOfMemory)
 
-abbrev pub MetricsEnds : (files : CountFiles) (words : List (List ℕ)) (status : ℕ) (old new : Scene)
+-- By what was looked at and written.
+abbrev pub WritesMetrics : (files : CountFiles) (words : List (List ℕ)) (status : ℕ) (old new : Scene)
     (faults tells : Device) → Type 0
-MetricsEnds files words status old new faults tells =
+WritesMetrics files words status old new faults tells =
     WritesAll files words status old new faults tells
     ⊎ (WritesFront files words status old new faults tells ⊎ WritesNothing files words status old new faults tells)
+
+abbrev pub MetricsEnds : (files : CountFiles) (words : List (List ℕ)) (status : ℕ) (sight sees : Sight)
+    (writer writes faults tells : Device) → Type 0
+MetricsEnds files words status sight sees writer writes faults tells =
+    WritesMetrics files words status (scene sight writer) (scene sees writes) faults tells

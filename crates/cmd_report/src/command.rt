@@ -1,12 +1,11 @@
 //! The command `svstat`, in each of its forms.
 ghost use Rattle.cmd_svc.specs.Words.{texts};
-ghost use Rattle.cmd_svc.specs.Svstat.{scene};
 ghost use Rattle.cmd_report.specs.Ends.{ReportEnds};
 
 use crate::objects::run_json;
 use crate::report::run_metrics;
 use crate::sources::CountFiles;
-use cmd_svc::{Services, run_svstat};
+use cmd_svc::{Observer, Services, run_svstat};
 use std::alloc::Allocator;
 use std::io::Write;
 use tai_status::{Output, TimeSource};
@@ -15,12 +14,11 @@ use tai_status::{Output, TimeSource};
 /// [`run_metrics`], over the words behind that one; else as [`run_svstat`], over all.
 pub fn run_report<S, F, A, W, E, C>(
     alloc: A,
-    services: &mut S,
+    observer: &mut Observer<S, C>,
     files: &F,
     words: &[&str],
     writer: &mut Output<W>,
     faults: &mut Output<E>,
-    clock: &mut C,
 ) -> u8
 where
     S: Services,
@@ -30,14 +28,13 @@ where
     E: Write,
     C: TimeSource,
     ensures ends { ReportEnds (F.counts_at files.now) (texts words.now) result
-        (scene (S.calls services.old) (C.readings clock.old) writer.old)
-        (scene (S.calls services.new) (C.readings clock.new) writer.new) faults.old faults.new }
+        observer.old observer.new writer.old writer.new faults.old faults.new }
 {
     match words {
-        ["--json", folders @ ..] => run_json(alloc, services, folders, writer, faults, clock),
+        ["--json", folders @ ..] => run_json(alloc, observer, folders, writer, faults),
         ["--metrics", folders @ ..] => {
-            run_metrics(alloc, services, files, folders, writer, faults, clock)
+            run_metrics(alloc, observer, files, folders, writer, faults)
         }
-        _ => run_svstat(alloc, services, words, writer, faults, clock),
+        _ => run_svstat(alloc, observer, words, writer, faults),
     }
 }

@@ -1,13 +1,12 @@
 //! A look at each of many services.
 ghost use Rattle.std.specs.Prelude.{◌≡◌, IfOk, OnErr};
 ghost use Rattle.cmd_svc.specs.Words.{texts};
-ghost use Rattle.cmd_svc.specs.Svstat.{sight};
 ghost use Rattle.cmd_report.specs.MetricsEnds.{counts_of, AreCounts, FindsFront, FindsOne, FindsWords};
 
 use crate::counts::{Counts, counts_in};
 use crate::found::Found;
 use crate::sources::CountFiles;
-use cmd_svc::{Look, Services, look_at};
+use cmd_svc::{Look, Observer, Services, look_at};
 use std::alloc::{AllocError, Allocator};
 use tai_status::TimeSource;
 
@@ -26,16 +25,14 @@ fn read_counts<F: CountFiles>(files: &F, folder: &str, look: &Look) -> Option<Co
 
 /// Looks at the service in a folder, and reads its counts where its status was read.
 fn find_one<'a, S: Services, F: CountFiles, C: TimeSource>(
-    services: &mut S,
+    observer: &mut Observer<S, C>,
     files: &F,
-    clock: &mut C,
     folder: &'a str,
 ) -> Found<'a>
-    ensures finds { FindsOne (F.counts_at files.now) result (sight (S.calls services.old) (C.readings clock.old))
-        (sight (S.calls services.new) (C.readings clock.new)) }
+    ensures finds { FindsOne (F.counts_at files.now) result observer.old observer.new }
     ensures folder { result.folder.now ≡ folder.now }
 {
-    let look = look_at(services, clock, folder);
+    let look = look_at(&mut observer.services, &mut observer.clock, folder);
     Found {
         folder,
         look,
@@ -46,22 +43,18 @@ fn find_one<'a, S: Services, F: CountFiles, C: TimeSource>(
 /// Looks at the services in folders, one after the other.
 pub(crate) fn find_all<'a, S: Services, F: CountFiles, A: Allocator, C: TimeSource>(
     alloc: A,
-    services: &mut S,
+    observer: &mut Observer<S, C>,
     files: &F,
-    clock: &mut C,
     folders: &[&'a str],
 ) -> Result<Vec<Found<'a>, A>, AllocError>
     ensures ok { IfOk result (λ founds.
-        FindsWords (F.counts_at files.now) (texts folders.now) founds.items
-        (sight (S.calls services.old) (C.readings clock.old))
-        (sight (S.calls services.new) (C.readings clock.new))) }
-    ensures err { OnErr result (FindsFront (F.counts_at files.now) (texts folders.now)
-        (sight (S.calls services.old) (C.readings clock.old))
-        (sight (S.calls services.new) (C.readings clock.new))) }
+        FindsWords (F.counts_at files.now) (texts folders.now) founds.items observer.old observer.new) }
+    ensures err { OnErr result
+        (FindsFront (F.counts_at files.now) (texts folders.now) observer.old observer.new) }
 {
     let mut founds = Vec::new(alloc);
     for folder in folders {
-        let found = find_one(services, files, clock, folder);
+        let found = find_one(observer, files, folder);
         if founds.push(found).is_err() {
             return Err(AllocError);
         }

@@ -3,13 +3,13 @@ ghost use Rattle.std.specs.Prelude.{◌≡◌, ◌++◌, codes, IfOk, OnOk};
 ghost use Rattle.json.specs.Lex.{tokens};
 ghost use Rattle.cmd_svc.specs.Words.{texts};
 ghost use Rattle.cmd_svc.specs.Line.{is_running};
-ghost use Rattle.cmd_svc.specs.Svstat.{SvstatEnds, fault_name, scene};
+ghost use Rattle.cmd_svc.specs.Svstat.{SvstatEnds, fault_name};
 ghost use Rattle.cmd_report.specs.Json.{Adds, asked_members, boolean_member, exiting_member, json_line, look_members};
 ghost use Rattle.cmd_report.specs.Json.{look_tokens, null_member, number_member, phase_member, pid_member};
 ghost use Rattle.cmd_report.specs.Json.{process_members, side_name, standing_members, string_member, unreached_text};
 ghost use Rattle.cmd_report.specs.Json.{want_name};
 
-use cmd_svc::{LineForm, Look, Services, Unreached, run_svstat_as};
+use cmd_svc::{LineForm, Look, Observer, Services, Unreached, run_svstat_as};
 use json::Writer;
 use std::alloc::{AllocError, Allocator};
 use std::io::Write;
@@ -265,11 +265,10 @@ impl LineForm for JsonLine {
 /// svstat's.
 pub fn run_json<S, A, W, E, C>(
     alloc: A,
-    services: &mut S,
+    observer: &mut Observer<S, C>,
     words: &[&str],
     writer: &mut Output<W>,
     faults: &mut Output<E>,
-    clock: &mut C,
 ) -> u8
 where
     S: Services,
@@ -278,8 +277,7 @@ where
     E: Write,
     C: TimeSource,
     ensures ends { SvstatEnds json_line (texts words.now) result
-        (scene (S.calls services.old) (C.readings clock.old) writer.old)
-        (scene (S.calls services.new) (C.readings clock.new) writer.new) faults.old faults.new }
+        observer.old observer.new writer.old writer.new faults.old faults.new }
 {
-    run_svstat_as(&JsonLine, alloc, services, words, writer, faults, clock)
+    run_svstat_as(&JsonLine, alloc, observer, words, writer, faults)
 }

@@ -1,13 +1,12 @@
 //! The command `svstat --metrics`.
 ghost use Rattle.cmd_svc.specs.Words.{texts};
-ghost use Rattle.cmd_svc.specs.Svstat.{scene};
 ghost use Rattle.cmd_report.specs.MetricsEnds.{MetricsEnds};
 
 use crate::find::find_all;
 use crate::metrics::metrics_text;
 use crate::sources::CountFiles;
 use cmd_base::{DONE, TROUBLE, report};
-use cmd_svc::{Services, SvstatFault, svstat_told};
+use cmd_svc::{Observer, Services, SvstatFault, svstat_told};
 use std::alloc::Allocator;
 use std::io::Write;
 use tai_status::{Output, TimeSource};
@@ -17,12 +16,11 @@ use tai_status::{Output, TimeSource};
 /// for a fault of the writer.
 pub fn run_metrics<S, F, A, W, E, C>(
     alloc: A,
-    services: &mut S,
+    observer: &mut Observer<S, C>,
     files: &F,
     words: &[&str],
     writer: &mut Output<W>,
     faults: &mut Output<E>,
-    clock: &mut C,
 ) -> u8
 where
     S: Services,
@@ -32,13 +30,12 @@ where
     E: Write,
     C: TimeSource,
     ensures ends { MetricsEnds (F.counts_at files.now) (texts words.now) result
-        (scene (S.calls services.old) (C.readings clock.old) writer.old)
-        (scene (S.calls services.new) (C.readings clock.new) writer.new) faults.old faults.new }
+        observer.old observer.new writer.old writer.new faults.old faults.new }
 {
     let Ok(own) = alloc.clone() else {
         return report(faults, svstat_told(SvstatFault::OutOfMemory), TROUBLE);
     };
-    let Ok(founds) = find_all(own, services, files, clock, words) else {
+    let Ok(founds) = find_all(own, observer, files, words) else {
         return report(faults, svstat_told(SvstatFault::OutOfMemory), TROUBLE);
     };
     let Ok(text) = metrics_text(alloc, &founds) else {

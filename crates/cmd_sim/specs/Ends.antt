@@ -1,5 +1,6 @@
 -- What `sim` tells of its faults, and how it ends.
-use Rattle.std.specs.Prelude.{◌≡◌, ℕ, ◌⊎◌, List, [], ◌∷◌, ◌++◌, bytes_eq, codes, decimal, MatchBool}
+use Rattle.std.specs.Prelude.{◌≡◌, ℕ, ◌⊎◌, List, [], ◌∷◌, ◌++◌, bytes_eq, codes, decimal, map, MatchBool}
+use Rattle.std.specs.Borrow.{Bor}
 use Rattle.tai_status.specs.Counted.{Device, Fails, Works, Wrote, WroteFront, IsRead, Tells}
 use Rattle.cmd_base.specs.Console.{Console, EndsWell}
 use Rattle.cmd_base.specs.Told.{RefusesWords}
@@ -104,6 +105,10 @@ TableByStatus status writer writes faults tells =
 -- The same where nothing is read.
 abbrev pub TableEnds : (status : ℕ) (old new : Console) → Type 0
 TableEnds status old new = (new.reader ≡ old.reader) × TableByStatus status old.writer new.writer old.faults new.faults
+
+-- the texts of words
+abbrev pub texts : List (Bor (List ℕ)) → List (List ℕ)
+texts words = map (λ word. word.now) words
 
 -- `sim` answers its input, `sim table` prints the table, and other words are wrong.
 abbrev pub SimEnds : (words : List (List ℕ)) (status : ℕ) (old new : Console) → Type 0

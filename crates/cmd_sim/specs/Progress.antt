@@ -21,7 +21,7 @@ use Rattle.cmd_sim.specs.declared.fault.Why.{Why}
 use Rattle.cmd_sim.specs.declared.fault.Why.TheVariants as why
 use Rattle.cmd_sim.specs.declared.fault.NoAnswer.{NoAnswer}
 use Rattle.cmd_sim.specs.declared.fault.NoAnswer.TheVariants as none
-use Rattle.cmd_sim.specs.Sim.{Past, Nothing, Service, OfSuite, Said, said, answers, first_refused, tells_scan}
+use Rattle.cmd_sim.specs.Sim.{Past, Nothing, Service, OfSuite, Said, said, said_by, answers, first_refused, tells_scan}
 use Rattle.cmd_sim.specs.Sim.{begins_suite, step_why, stepping}
 
 -- Why a line has no answer
@@ -47,6 +47,12 @@ pub record TellsService (told : Result Said Why) (machine : State) (text : List 
   pub past : History
   pub is : told ≡ Ok (record { texts = text ∷ []; past = Service past })
   pub stands : state_of past ≡ machine
+
+-- A service took what a line says: whatever history led to this machine, the line was answered with this text, after
+-- which the machine stands so.
+abbrev pub StepsService : (line : List ℕ) (old new : State) (text : List ℕ) → Type 0
+StepsService line old new text =
+    (past : History) → state_of past ≡ old → TellsService (said_by (Service past) line) new text
 
 -- A suite took an event: these are the lines of that, and it stands so.
 abbrev pub StepsTo : Result Said Why → (lines : List (List ℕ)) → SuiteState → Type 0

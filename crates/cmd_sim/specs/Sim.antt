@@ -1,6 +1,6 @@
 -- What `sim` prints for the lines of its input.
 use Rattle.std.specs.Prelude.{◌≡◌, ◌⊎◌, ℕ, ◌+◌, ◌-◌, ◌≤◌, nat_lt, bytes_eq, Bool, true, false, if◌then◌else◌, List, []}
-use Rattle.std.specs.Prelude.{◌∷◌, ◌++◌, length, take, codes, flat_map, Option, Some, None, Result, Ok, Err, ⊤}
+use Rattle.std.specs.Prelude.{◌∷◌, ◌++◌, length, take, codes, flat_map, Option, Some, None, Result, Ok, Err, IsErrOf, ⊤}
 use Rattle.std.specs.Io.KnownBytes.{Appends, Consumes}
 use Rattle.tai_status.specs.Label.{Tai64n}
 use Rattle.tai_status.specs.Counted.{Device, AppendsFront}
@@ -26,6 +26,12 @@ use Rattle.suite_core.specs.declared.fault.StepFault.TheVariants as step
 use Rattle.suite_core.specs.Suite.{SuiteState, new_suite, refusal, outs_of, suite_after}
 use Rattle.cmd_sim.specs.declared.fault.Why.{Why}
 use Rattle.cmd_sim.specs.declared.fault.Why.TheVariants as why
+use Rattle.cmd_sim.specs.declared.fault.SimFault.{SimFault}
+use Rattle.cmd_sim.specs.declared.fault.SimFault.TheVariants as sim
+
+-- A fact of the number of the line that is refused, and of why, where one is.
+abbrev pub IfRefused : {A : Type 0} → Result A SimFault → (fact : ℕ → Why → Type 0) → Type 0
+IfRefused result fact = (number : ℕ) (why : Why) → IsErrOf result (sim.Refused number why) → fact number why
 
 -- What was told so far: nothing, a service's history, or a suite as it stands.
 pub data Past : Type 0 where

@@ -11,7 +11,7 @@ ghost use Rattle.suite_core.specs.Suite.{IsSuiteEvent, refusal};
 ghost use Rattle.cmd_sim.specs.declared.fault.Why.{Why};
 ghost use Rattle.cmd_sim.specs.Sim.{Past, Nothing, Service, said, said_by, tells_scan, beginning, stepping};
 ghost use Rattle.cmd_sim.specs.Sim.{refused_step, IsRight, MayWantMemory};
-ghost use Rattle.cmd_sim.specs.Progress.{TellsService, Stands, Says, StepsTo, first_step, texts_in};
+ghost use Rattle.cmd_sim.specs.Progress.{TellsService, Stands, Says, StepsService, StepsTo, first_step, texts_in};
 
 use crate::fault::NoAnswer;
 use arrayvec::ArrayString;
@@ -64,8 +64,7 @@ fn begin_service(line: &[u8]) -> Result<(Machine, ArrayString<128>), NoAnswer>
 
 /// Takes an event of a service.
 fn step_service(machine: &mut Machine, line: &[u8]) -> Result<ArrayString<128>, NoAnswer>
-    ensures ok { IfOk result (λ text. (past : History) → state_of past ≡ machine.old
-        → TellsService (said_by (Service past) line.now) machine.new text.bytes) }
+    ensures ok { IfOk result (λ text. StepsService line.now machine.old machine.new text.bytes) }
     ensures refused { (why : Why) → IsErrOf result (NoAnswer.Refused why)
         → (past : History) → said_by (Service past) line.now ≡ Err why }
     ensures memory { IfErr result (λ none. none ≢ NoAnswer.OutOfMemory) }

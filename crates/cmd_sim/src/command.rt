@@ -1,8 +1,8 @@
 //! The command `sim`.
-ghost use Rattle.std.specs.Prelude.{◌≡◌, map};
+ghost use Rattle.std.specs.Prelude.{◌≡◌};
 ghost use Rattle.tai_status.specs.Counted.{Tells};
 ghost use Rattle.cmd_base.specs.Console.{console};
-ghost use Rattle.cmd_sim.specs.Ends.{AnswersByStatus, SimEnds, TableByStatus, told_of, status_of};
+ghost use Rattle.cmd_sim.specs.Ends.{AnswersByStatus, SimEnds, TableByStatus, texts, told_of, status_of};
 
 use crate::fault::{SimFault, why_name};
 use crate::session::answer_lines;
@@ -90,7 +90,7 @@ pub fn run_sim<A: Allocator + Clone + Copy, D: Read, W: Write, E: Write>(
     writer: &mut Output<W>,
     faults: &mut Output<E>,
 ) -> u8
-    ensures ends { SimEnds (map (λ word. word.now) words.now) result
+    ensures ends { SimEnds (texts words.now) result
         (console reader.old writer.old faults.old) (console reader.new writer.new faults.new) }
 {
     match words {

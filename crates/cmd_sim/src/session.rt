@@ -9,7 +9,7 @@ ghost use Rattle.cmd_sim.specs.declared.answering.Told.TheVariants as code;
 ghost use Rattle.cmd_sim.specs.declared.fault.SimFault.{SimFault};
 ghost use Rattle.cmd_sim.specs.declared.fault.Why.{Why};
 ghost use Rattle.cmd_sim.specs.declared.fault.NoAnswer.{NoAnswer};
-ghost use Rattle.cmd_sim.specs.Sim.{Past, said, at_line, AnswersAll, AnswersUpTo, AnswersFront, LacksMemory};
+ghost use Rattle.cmd_sim.specs.Sim.{IfRefused, Past, said, at_line, AnswersAll, AnswersUpTo, AnswersFront, LacksMemory};
 ghost use Rattle.cmd_sim.specs.Sim.{AnswersWholeLines, MayWantMemory};
 ghost use Rattle.cmd_sim.specs.Progress.{Stands, Says, texts_in};
 ghost use Rattle.cmd_sim.specs.Session.{AnswersLine, AnswersToEnd, GoesOn, LeavesFront, MissesLast, MissesMemory};
@@ -147,7 +147,9 @@ impl<A: Allocator + Clone + Copy> Session<A> {
         ensures told { (number : ℕ) (why : Why) → result ≡ SimFault.Refused number why
             → (number ≡ self.old.count + 1) × (none ≡ NoAnswer.Refused why) }
         ensures told_wrote { (number : ℕ) (why : Why) → result ≡ SimFault.Refused number why
-            → Wrote writer.old writer.new self.old.waiting × Works writer.old writer.new }
+            → Wrote writer.old writer.new self.old.waiting }
+        ensures told_works { (number : ℕ) (why : Why) → result ≡ SimFault.Refused number why
+            → Works writer.old writer.new }
         ensures memory { result ≡ SimFault.OutOfMemory
             → (none ≡ NoAnswer.OutOfMemory) × Wrote writer.old writer.new self.old.waiting }
         ensures write { result ≡ SimFault.Write
@@ -171,12 +173,11 @@ impl<A: Allocator + Clone + Copy> Session<A> {
         requires { self.old.count < 2 ^ 63 }
         ensures ok { OnOk result (AnswersLine line.now writer.old self.old writer.new self.new) }
         ensures count { OnOk result (self.new.count ≡ self.old.count + 1) }
-        ensures refused { (number : ℕ) (why : Why) → IsErrOf result (SimFault.Refused number why)
-            → (past : Past) → Stands past self.old.told → said past line.now ≡ Err why }
-        ensures refused_wrote { (number : ℕ) (why : Why) → IsErrOf result (SimFault.Refused number why)
-            → (number ≡ self.old.count + 1) × Wrote writer.old writer.new self.old.waiting }
-        ensures refused_works { (number : ℕ) (why : Why) → IsErrOf result (SimFault.Refused number why)
-            → Works writer.old writer.new }
+        ensures refused { IfRefused result (λ _ why.
+            (past : Past) → Stands past self.old.told → said past line.now ≡ Err why) }
+        ensures refused_wrote { IfRefused result (λ number _.
+            (number ≡ self.old.count + 1) × Wrote writer.old writer.new self.old.waiting) }
+        ensures refused_works { IfRefused result (λ _ _. Works writer.old writer.new) }
         ensures memory { IsErrOf result SimFault.OutOfMemory
             → (past : Past) → Stands past self.old.told → MayWantMemory past line.now }
         ensures memory_wrote { IsErrOf result SimFault.OutOfMemory → Wrote writer.old writer.new self.old.waiting }
@@ -210,12 +211,11 @@ impl<A: Allocator + Clone + Copy> Session<A> {
             ≤ self.old.count + length lines.old.pending) }
         ensures less { length lines.new.pending ≤ length lines.old.pending }
         ensures bound { lines.new.bound ≡ lines.old.bound }
-        ensures refused { (number : ℕ) (why : Why) → IsErrOf result (SimFault.Refused number why)
-            → RefusesAt number why writer.old lines.old.pending self.old writer.new }
-        ensures near { (number : ℕ) (why : Why) → IsErrOf result (SimFault.Refused number why)
-            → ReadsUpTo number writer.old lines.old.pending self.old }
-        ensures refused_works { (number : ℕ) (why : Why) → IsErrOf result (SimFault.Refused number why)
-            → Works writer.old writer.new }
+        ensures refused { IfRefused result (λ number why.
+            RefusesAt number why writer.old lines.old.pending self.old writer.new) }
+        ensures near { IfRefused result (λ number _.
+            ReadsUpTo number writer.old lines.old.pending self.old) }
+        ensures refused_works { IfRefused result (λ _ _. Works writer.old writer.new) }
         ensures write { IsErrOf result SimFault.Write
             → LeavesFront writer.old lines.old.pending self.old writer.new }
         ensures fault { IsErrOf result SimFault.Write → Fails writer.old writer.new }
@@ -240,12 +240,11 @@ impl<A: Allocator + Clone + Copy> Session<A> {
         requires plain { IsPlain lines.old.pending }
         requires waiting { self.old.waiting ≡ [] }
         ensures all { OnOk result (AnswersToEnd writer.old lines.old.pending self.old writer.new) }
-        ensures refused { (number : ℕ) (why : Why) → IsErrOf result (SimFault.Refused number why)
-            → RefusesLast number why writer.old lines.old.pending self.old writer.new }
-        ensures near { (number : ℕ) (why : Why) → IsErrOf result (SimFault.Refused number why)
-            → ReadsUpTo number writer.old lines.old.pending self.old }
-        ensures refused_works { (number : ℕ) (why : Why) → IsErrOf result (SimFault.Refused number why)
-            → Works writer.old writer.new }
+        ensures refused { IfRefused result (λ number why.
+            RefusesLast number why writer.old lines.old.pending self.old writer.new) }
+        ensures near { IfRefused result (λ number _.
+            ReadsUpTo number writer.old lines.old.pending self.old) }
+        ensures refused_works { IfRefused result (λ _ _. Works writer.old writer.new) }
         ensures write { IsErrOf result SimFault.Write
             → LeavesFront writer.old lines.old.pending self.old writer.new }
         ensures fault { IsErrOf result SimFault.Write → Fails writer.old writer.new }
@@ -278,10 +277,10 @@ pub fn answer_lines<A: Allocator + Clone + Copy, D: Read, W: Write>(
     ensures all { OnOk result (AnswersAll reader.old writer.old writer.new) }
     ensures end { OnOk result (IsRead reader.new) }
     ensures works { OnOk result (Works reader.old reader.new × Works writer.old writer.new) }
-    ensures refused { (number : ℕ) (why : Why) → IsErrOf result (SimFault.Refused number why)
-        → AnswersUpTo reader.old reader.new writer.old writer.new (at_line number why) }
-    ensures refused_works { (number : ℕ) (why : Why) → IsErrOf result (SimFault.Refused number why)
-        → Works reader.old reader.new × Works writer.old writer.new }
+    ensures refused { IfRefused result (λ number why.
+        AnswersUpTo reader.old reader.new writer.old writer.new (at_line number why)) }
+    ensures refused_works { IfRefused result (λ _ _.
+        Works reader.old reader.new × Works writer.old writer.new) }
     ensures memory { IsErrOf result SimFault.OutOfMemory
         → LacksMemory reader.old reader.new writer.old writer.new }
     ensures read { IsErrOf result SimFault.Read

@@ -2,6 +2,7 @@ pub mod Words
 pub mod Line
 pub mod Paths
 pub mod Calls
+pub mod Sight
 pub mod Connecting
 pub mod Turns
 pub mod Svc

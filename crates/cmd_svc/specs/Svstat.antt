@@ -8,7 +8,8 @@ use Rattle.tai_status.specs.declared.loading.Loaded.{Loaded}
 use Rattle.tai_status.specs.declared.record.RecordFault.{RecordFault}
 use Rattle.tai_status.specs.declared.record.RecordFault.TheVariants as fault
 use Rattle.cmd_svc.specs.Line.{status_line}
-use Rattle.cmd_svc.specs.Calls.{Call, Reached, ReadStatus, SoughtDown}
+use Rattle.cmd_svc.specs.Calls.{Reached, ReadStatus, SoughtDown}
+use Rattle.cmd_svc.specs.Sight.{Sight}
 use Rattle.tai_status.specs.Extended.{Extended}
 use Rattle.cmd_svc.specs.Turns.{InTurn}
 use Rattle.cmd_svc.specs.declared.services.Unreached.{Unreached}
@@ -18,21 +19,13 @@ use Rattle.cmd_svc.specs.declared.look.Look.TheVariants as look
 use Rattle.cmd_svc.specs.declared.svstat.SvstatFault.{SvstatFault}
 use Rattle.cmd_svc.specs.declared.svstat.SvstatFault.TheVariants as why
 
--- What a look at services does: the calls that were made, and what the clock gave.
-pub record Sight : Type 0 where
-  pub calls : Option (List Call)
-  pub readings : Option (List Tai64n)
-
-abbrev pub sight : (calls : Option (List Call)) (readings : Option (List Tai64n)) → Sight
-sight calls readings = record { calls = calls; readings = readings }
-
--- What `svstat` works with: that, and what it writes to.
+-- What `svstat` works with: what its looks do, and what it writes to.
 pub record Scene : Type 0 where
   pub sight : Sight
   pub writer : Device
 
-abbrev pub scene : (calls : Option (List Call)) (readings : Option (List Tai64n)) (writer : Device) → Scene
-scene calls readings writer = record { sight = sight calls readings; writer = writer }
+abbrev pub scene : (sight : Sight) (writer : Device) → Scene
+scene sight writer = record { sight = sight; writer = writer }
 
 -- A look at a service
 
@@ -120,7 +113,7 @@ pub record ShowsNot (line_of : Form) (folder : List ℕ) (cause : SvstatFault) (
   pub unwritten : WritesNot cause (line_of folder look ++ 10 ∷ []) old.writer new.writer
 
 -- The words before one have their lines, and that one has not. The words after it are not looked at.
-pub record ShowsUpTo (line_of : Form) (words : List (List ℕ)) (cause : SvstatFault) (old new : Scene) : Type 0 where
+pub record ShowsUpTo (line_of : Form) (words : List (List ℕ)) (old new : Scene) (cause : SvstatFault) : Type 0 where
   pub before : List (List ℕ)
   pub folder : List ℕ
   pub after : List (List ℕ)
@@ -147,12 +140,13 @@ pub record ShowsAll (line_of : Form) (words : List (List ℕ)) (status : ℕ) (o
 pub record Stops (line_of : Form) (words : List (List ℕ)) (status : ℕ) (old new : Scene) (faults tells : Device)
     : Type 0 where
   pub cause : SvstatFault
-  pub stops : ShowsUpTo line_of words cause old new
+  pub stops : ShowsUpTo line_of words old new cause
   pub status_is : status ≡ 111
   pub told : Tells faults tells (svstat_told cause)
 
 -- `svstat`, by its words, with lines of a form
-abbrev pub SvstatEnds : (line_of : Form) (words : List (List ℕ)) (status : ℕ) (old new : Scene) (faults tells : Device)
-    → Type 0
-SvstatEnds line_of words status old new faults tells =
-    ShowsAll line_of words status old new faults tells ⊎ Stops line_of words status old new faults tells
+abbrev pub SvstatEnds : (line_of : Form) (words : List (List ℕ)) (status : ℕ) (sight sees : Sight)
+    (writer writes faults tells : Device) → Type 0
+SvstatEnds line_of words status sight sees writer writes faults tells =
+    ShowsAll line_of words status (scene sight writer) (scene sees writes) faults tells
+    ⊎ Stops line_of words status (scene sight writer) (scene sees writes) faults tells

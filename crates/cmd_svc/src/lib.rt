@@ -8,6 +8,7 @@
 mod form;
 mod line;
 mod look;
+mod observer;
 mod order;
 mod services;
 mod svc;
@@ -19,6 +20,7 @@ mod words;
 pub use form::LineForm;
 pub use line::stat_line;
 pub use look::{Look, fault_name, look_at};
+pub use observer::Observer;
 pub use order::{LETTER_COUNT, LETTERS, Order, OrderBytes, SvcFault};
 pub use services::{Services, Unreached};
 pub use svc::run_svc;

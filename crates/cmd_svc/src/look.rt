@@ -1,6 +1,7 @@
 //! A look at a service.
 ghost use Rattle.std.specs.Prelude.{◌≡◌, ◌++◌, string_bytes, IfOk};
-ghost use Rattle.cmd_svc.specs.Svstat.{Finds, sight, fault_name, look_line, unreached_note};
+ghost use Rattle.cmd_svc.specs.Sight.{sight};
+ghost use Rattle.cmd_svc.specs.Svstat.{Finds, fault_name, look_line, unreached_note};
 
 use crate::line::stat_line;
 use crate::services::{Services, Unreached};

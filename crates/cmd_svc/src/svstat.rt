@@ -8,6 +8,7 @@ ghost use Rattle.cmd_svc.specs.Svstat.{SvstatEnds, WritesNot, svstat_told};
 
 use crate::form::{LineForm, PlainLine};
 use crate::look::{Look, look_at};
+use crate::observer::Observer;
 use crate::services::Services;
 use cmd_base::{DONE, TROUBLE, report};
 use std::alloc::{AllocError, Allocator};
@@ -64,19 +65,16 @@ fn write_line<F: LineForm, A: Allocator + Clone, W: Write>(
 fn show<F: LineForm, S: Services, A: Allocator + Clone, W: Write, C: TimeSource>(
     form: &F,
     alloc: &A,
-    services: &mut S,
+    observer: &mut Observer<S, C>,
     folder: &str,
     writer: &mut Output<W>,
-    clock: &mut C,
 ) -> Result<(), SvstatFault>
     ensures ok { OnOk result (Shows (F.line_of form.now) folder.now
-        (scene (S.calls services.old) (C.readings clock.old) writer.old)
-        (scene (S.calls services.new) (C.readings clock.new) writer.new)) }
+        (scene observer.old writer.old) (scene observer.new writer.new)) }
     ensures err { IfErr result (λ cause. ShowsNot (F.line_of form.now) folder.now cause
-        (scene (S.calls services.old) (C.readings clock.old) writer.old)
-        (scene (S.calls services.new) (C.readings clock.new) writer.new)) }
+        (scene observer.old writer.old) (scene observer.new writer.new)) }
 {
-    let look = look_at(services, clock, folder);
+    let look = look_at(&mut observer.services, &mut observer.clock, folder);
     write_line(form, alloc, folder, &look, writer)
 }
 
@@ -84,21 +82,17 @@ fn show<F: LineForm, S: Services, A: Allocator + Clone, W: Write, C: TimeSource>
 fn show_all<F: LineForm, S: Services, A: Allocator + Clone, W: Write, C: TimeSource>(
     form: &F,
     alloc: &A,
-    services: &mut S,
+    observer: &mut Observer<S, C>,
     folders: &[&str],
     writer: &mut Output<W>,
-    clock: &mut C,
 ) -> Result<(), SvstatFault>
     ensures ok { OnOk result (InTurn (Shows (F.line_of form.now)) (texts folders.now)
-        (scene (S.calls services.old) (C.readings clock.old) writer.old)
-        (scene (S.calls services.new) (C.readings clock.new) writer.new)) }
-    ensures err { IfErr result (λ cause.
-        ShowsUpTo (F.line_of form.now) (texts folders.now) cause
-        (scene (S.calls services.old) (C.readings clock.old) writer.old)
-        (scene (S.calls services.new) (C.readings clock.new) writer.new)) }
+        (scene observer.old writer.old) (scene observer.new writer.new)) }
+    ensures err { IfErr result (ShowsUpTo (F.line_of form.now) (texts folders.now)
+        (scene observer.old writer.old) (scene observer.new writer.new)) }
 {
     for folder in folders {
-        show(form, alloc, services, folder, writer, clock)?;
+        show(form, alloc, observer, folder, writer)?;
     }
     Ok(())
 }
@@ -117,11 +111,10 @@ pub fn svstat_told(fault: SvstatFault) -> &'static [u8]
 pub fn run_svstat_as<F, S, A, W, E, C>(
     form: &F,
     alloc: A,
-    services: &mut S,
+    observer: &mut Observer<S, C>,
     words: &[&str],
     writer: &mut Output<W>,
     faults: &mut Output<E>,
-    clock: &mut C,
 ) -> u8
 where
     F: LineForm,
@@ -131,10 +124,9 @@ where
     E: Write,
     C: TimeSource,
     ensures ends { SvstatEnds (F.line_of form.now) (texts words.now) result
-        (scene (S.calls services.old) (C.readings clock.old) writer.old)
-        (scene (S.calls services.new) (C.readings clock.new) writer.new) faults.old faults.new }
+        observer.old observer.new writer.old writer.new faults.old faults.new }
 {
-    match show_all(form, &alloc, services, words, writer, clock) {
+    match show_all(form, &alloc, observer, words, writer) {
         Ok(()) => DONE,
         Err(fault) => report(faults, svstat_told(fault), TROUBLE),
     }
@@ -147,15 +139,13 @@ where
 /// services after that one are not looked at.
 pub fn run_svstat<S: Services, A: Allocator + Clone, W: Write, E: Write, C: TimeSource>(
     alloc: A,
-    services: &mut S,
+    observer: &mut Observer<S, C>,
     words: &[&str],
     writer: &mut Output<W>,
     faults: &mut Output<E>,
-    clock: &mut C,
 ) -> u8
     ensures ends { SvstatEnds look_line (texts words.now) result
-        (scene (S.calls services.old) (C.readings clock.old) writer.old)
-        (scene (S.calls services.new) (C.readings clock.new) writer.new) faults.old faults.new }
+        observer.old observer.new writer.old writer.new faults.old faults.new }
 {
-    run_svstat_as(&PlainLine, alloc, services, words, writer, faults, clock)
+    run_svstat_as(&PlainLine, alloc, observer, words, writer, faults)
 }

@@ -1,6 +1,6 @@
 -- What `trace --local` prints of a trace: local times in place of labels, and words in place of the digits of records.
 use Rattle.std.specs.Prelude.{ℕ, ℤ, ◌+◌, ◌==◌, Bool, if◌then◌else◌, List, [], ◌∷◌, ◌++◌, map, flat_map, codes, decimal}
-use Rattle.std.specs.Prelude.{Option, Some, None}
+use Rattle.std.specs.Prelude.{◌≡◌, Option, Some, None, Result, OnOk}
 use Rattle.std.specs.List.{enumerate_from}
 use Rattle.tai_status.specs.Label.{Tai64n, label_text}
 use Rattle.tai_status.specs.Phase.{phase_name}
@@ -98,6 +98,13 @@ line_words ahead number event after reply =
 abbrev pub local_line : (ahead : ℤ → ℤ) → (number : ℕ) → History → Event → List ℕ
 local_line ahead number past event =
     line_words ahead number event (state_of (next past event)) (reply_to past event)
+
+-- The line of an entry of this number was added, whatever history led to this machine; if no error came.
+abbrev pub AddsEntry : {A E : Type 0} → Result A E → (ahead : ℤ → ℤ) (number : ℕ) (machine : State) → Event
+    → (old new : List ℕ) → Type 0
+AddsEntry result ahead number machine event old new =
+    (past : History) → state_of past ≡ machine
+    → OnOk result (new ≡ old ++ local_line ahead number past event ++ 10 ∷ [])
 
 -- a line for each entry, numbered from 1
 abbrev pub local_lines : (ahead : ℤ → ℤ) → Told → List (List ℕ)

@@ -1,6 +1,7 @@
 -- What `trace` prints of the text of a trace, what its word after `--break` means, and what it tells of its faults.
 use Rattle.std.specs.Prelude.{◌≡◌, ◌≢◌, ◌<◌, ◌^◌, ⊤, ℕ, ℤ, ◌⊎◌, Bool, true, false, List, [], ◌∷◌, ◌++◌, codes, decimal}
-use Rattle.std.specs.Prelude.{Option, Some, None, Err}
+use Rattle.std.specs.Prelude.{Option, Some, None, Err, option_map}
+use Rattle.std.specs.Borrow.{Bor}
 use Rattle.std.specs.IoError.{error_kind}
 use Rattle.std.specs.declared.io.Error.{Error}
 use Rattle.std.specs.declared.io.ErrorKind.TheVariants.{OutOfMemory}
@@ -67,6 +68,10 @@ IsBreakLine told at line =
 -- seconds at each second of Unix time.
 abbrev pub Times : Type 0
 Times = Option (ℤ → ℤ)
+
+-- the times of a zone, where there is one
+abbrev pub times_in : {Z : Type 0} (ahead_at : Z → ℤ → ℤ) → Option (Bor Z) → Times
+times_in ahead_at zone = option_map (λ zone. ahead_at zone.now) zone
 
 -- local times where they are asked for
 abbrev pub times_asked : (ahead : ℤ → ℤ) → (local : Bool) → Times

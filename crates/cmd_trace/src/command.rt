@@ -1,8 +1,9 @@
 //! The command `trace`.
-ghost use Rattle.std.specs.Prelude.{◌≡◌, map, option_map, None, OnOk, IfErr};
+ghost use Rattle.std.specs.Prelude.{◌≡◌, None, OnOk, IfErr};
 ghost use Rattle.tai_status.specs.Counted.{Works, Tells};
+ghost use Rattle.cmd_local.specs.Ends.{texts};
 ghost use Rattle.cmd_trace.specs.Traced.{FileEnds, Shows, TellsMissed, TextEnds, TraceCause, TraceEnds};
-ghost use Rattle.cmd_trace.specs.Traced.{times_asked, trouble_text, unread_text};
+ghost use Rattle.cmd_trace.specs.Traced.{times_asked, times_in, trouble_text, unread_text};
 
 use crate::break_word::read_spec;
 use crate::fault::TraceTrouble;
@@ -24,11 +25,11 @@ fn show_text<A: Allocator + Clone + Copy, W: Write, Z: Zone>(
     at: Option<Break>,
     writer: &mut Output<W>,
 ) -> Result<(), TraceTrouble>
-    ensures ok { OnOk result (Shows (option_map (λ zone. Z.ahead_at zone.now) zone.entry) text.now at
+    ensures ok { OnOk result (Shows (times_in Z.ahead_at zone.entry) text.now at
         writer.old writer.new) }
     ensures works { OnOk result (Works writer.old writer.new) }
     ensures cause { IfErr result (λ trouble.
-        TraceCause (option_map (λ zone. Z.ahead_at zone.now) zone.entry) trouble text.now at writer.old writer.new) }
+        TraceCause (times_in Z.ahead_at zone.entry) trouble text.now at writer.old writer.new) }
 {
     let told = match read_text(alloc, text) {
         Ok(told) => told,
@@ -79,7 +80,7 @@ fn show_bytes<A: Allocator + Clone + Copy, W: Write, E: Write, Z: Zone>(
     writer: &mut Output<W>,
     faults: &mut Output<E>,
 ) -> u8
-    ensures ends { TextEnds (option_map (λ zone. Z.ahead_at zone.now) zone.entry) text.now at result
+    ensures ends { TextEnds (times_in Z.ahead_at zone.entry) text.now at result
         writer.old writer.new faults.old faults.new }
 {
     match show_text(alloc, zone, text, at, writer) {
@@ -115,7 +116,7 @@ fn trace_file<R: FileSource, W: Write, E: Write, Z: Zone>(
     writer: &mut Output<W>,
     faults: &mut Output<E>,
 ) -> u8
-    ensures ends { FileEnds (option_map (λ zone. Z.ahead_at zone.now) zone.entry) (R.file_at files.now) file.now at
+    ensures ends { FileEnds (times_in Z.ahead_at zone.entry) (R.file_at files.now) file.now at
         result writer.old writer.new faults.old faults.new }
 {
     match files.read_file(alloc, file) {
@@ -151,7 +152,7 @@ fn report_unread<E: Write>(file: &str, faults: &mut Output<E>) -> u8
 
 /// The zone, where local times are asked for.
 fn zone_asked<Z: Zone>(zone: &Z, local: bool) -> Option<&Z>
-    ensures { option_map (λ zone. Z.ahead_at zone.now) result ≡ times_asked (Z.ahead_at zone.now) local }
+    ensures { times_in Z.ahead_at result ≡ times_asked (Z.ahead_at zone.now) local }
 {
     if local { Some(zone) } else { None }
 }
@@ -170,7 +171,7 @@ pub fn run_trace<R: FileSource, W: Write, E: Write, Z: Zone>(
     writer: &mut Output<W>,
     faults: &mut Output<E>,
 ) -> u8
-    ensures ends { TraceEnds (Z.ahead_at zone.now) (R.file_at files.now) (map (λ word. word.now) words.now) result
+    ensures ends { TraceEnds (Z.ahead_at zone.now) (R.file_at files.now) (texts words.now) result
         writer.old writer.new faults.old faults.new }
 {
     if words.is_empty() {

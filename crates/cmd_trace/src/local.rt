@@ -4,8 +4,8 @@ ghost use Rattle.cmd_base.specs.Printed.{printed};
 ghost use Rattle.cmd_local.specs.Digits.{digit, nine_digits};
 ghost use Rattle.sup_core.specs.History.{History, state_of};
 ghost use Rattle.sup_core.specs.Rules.{IsEvent, next};
-ghost use Rattle.cmd_trace.specs.Local.{answer_words, ask_words, asks_words, event_words, exiting_words, line_words};
-ghost use Rattle.cmd_trace.specs.Local.{local_explanation, local_line, local_lines, local_state, paused_words};
+ghost use Rattle.cmd_trace.specs.Local.{AddsEntry, answer_words, ask_words, asks_words, event_words, exiting_words};
+ghost use Rattle.cmd_trace.specs.Local.{line_words, local_explanation, local_lines, local_state, paused_words};
 ghost use Rattle.cmd_trace.specs.Local.{process_words, record_words, reply_words, time_words, want_words};
 
 use cmd_local::{Zone, local_time};
@@ -60,8 +60,8 @@ fn push_entry<A: Allocator, Z: Zone>(
     event: &Event,
 ) -> Result<(), AllocError>
     requires { IsEvent event.now }
-    ensures line { (past : History) → state_of past ≡ machine.old → OnOk result (out.new.items
-        ≡ out.old.items ++ local_line (Z.ahead_at zone.now) number past event.now ++ 10 ∷ []) }
+    ensures line { AddsEntry result (Z.ahead_at zone.now) number machine.old event.now
+        out.old.items out.new.items }
     ensures state { (past : History) → state_of past ≡ machine.old → machine.new ≡ state_of (next past event.now) }
 {
     let reply = machine.step(*event);

@@ -1,7 +1,7 @@
 //! What `trace` prints of a trace.
-ghost use Rattle.std.specs.Prelude.{◌≡◌, ◌++◌, OnOk, IfOk, option_map};
+ghost use Rattle.std.specs.Prelude.{◌≡◌, ◌++◌, OnOk, IfOk};
 ghost use Rattle.cmd_base.specs.Printed.{printed};
-ghost use Rattle.cmd_trace.specs.Traced.{explanation, state_text, IsBreakLine, IsShown};
+ghost use Rattle.cmd_trace.specs.Traced.{explanation, state_text, times_in, IsBreakLine, IsShown};
 
 use crate::local::local_explanation;
 use cmd_local::Zone;
@@ -20,7 +20,7 @@ pub fn shown<A: Allocator + Clone, B: Allocator, Z: Zone>(
     at: Option<Break>,
 ) -> Result<Vec<u8, A>, AllocError>
     ensures { IfOk result (λ text.
-        IsShown (option_map (λ zone. Z.ahead_at zone.now) zone.entry) told.now at text.items) }
+        IsShown (times_in Z.ahead_at zone.entry) told.now at text.items) }
 {
     match (at, zone) {
         (Some(at), _) => break_line(alloc, told, at),

@@ -1,18 +1,22 @@
 -- How `wait` ends.
-use Rattle.std.specs.Prelude.{◌≡◌, ◌≢◌, ◌⊎◌, ℕ, List, [], ◌∷◌, ◌++◌, codes}
+use Rattle.std.specs.Prelude.{◌≡◌, ◌≢◌, ◌⊎◌, ℕ, List, [], ◌∷◌, ◌++◌, codes, Option}
+use Rattle.std.specs.Borrow.{Bor}
 use Rattle.tai_status.specs.Counted.{Device, Tells}
 use Rattle.tai_status.specs.Extended.{Extended}
 use Rattle.tai_status.specs.declared.record.RecordFault.{RecordFault}
 use Rattle.cmd_base.specs.Told.{usage_text}
 use Rattle.cmd_svc.specs.Svstat.{fault_name}
+use Rattle.cmd_svc.specs.Calls.{Call}
 use Rattle.cmd_svc.specs.Turns.{InTurn}
-use Rattle.cmd_wait.specs.Steps.{Read, Sight, IsOver}
+use Rattle.cmd_svc.specs.Words.{texts}
+use Rattle.cmd_wait.specs.Steps.{Step, Read, Sight, sight, IsOver}
 use Rattle.cmd_wait.specs.Watching.{Watched, watched, first_watch}
-use Rattle.cmd_wait.specs.Words.{Order, Asks, AskNothing}
+use Rattle.cmd_wait.specs.Words.{Order, order, Asks, AskNothing}
 use Rattle.cmd_wait.specs.Rounds.{Look, TakesRound, FailsAt, Waits, looks_of, IsAmong, IsFound}
 use Rattle.cmd_wait.specs.declared.finding.Goal.{Goal}
 use Rattle.cmd_wait.specs.declared.finding.Goal.TheVariants as goal
 use Rattle.cmd_wait.specs.declared.finding.WaitFault.{WaitFault}
+use Rattle.cmd_wait.specs.declared.options.Options.{Options}
 use Rattle.cmd_wait.specs.declared.finding.WaitFault.TheVariants as fault
 
 -- What `wait` works with: that, and where it tells faults.
@@ -112,6 +116,13 @@ pub record WaitsFor (order : Order) (status : ℕ) (old new : Scene) : Type 0 wh
   pub waits : Waits order begin order.services (watched first_watch begun) left middle
   pub ends : EndsBy order begin (looks_of waits) left status (scene middle.sight old.faults) new
 
+-- It waits as options say.
+abbrev pub WaitsAsked : Options → (status : ℕ) → (calls asked : Option (List Call)) → (steps taken : Option (List Step))
+    → (faults tells : Device) → Type 0
+WaitsAsked options status calls asked steps taken faults tells =
+    WaitsFor (order options.goal options.limit (texts options.services.now)) status
+    (scene (sight calls steps) faults) (scene (sight asked taken) tells)
+
 -- Ends
 
 -- Words that ask for nothing: the usage is told, and nothing is asked.
@@ -134,5 +145,11 @@ pub record WaitsWords (words : List (List ℕ)) (status : ℕ) (old new : Scene)
   pub waits : LacksMemory status old new ⊎ WaitsFor order status old new
 
 -- `wait`, by its words
-abbrev pub WaitEnds : (words : List (List ℕ)) (status : ℕ) (old new : Scene) → Type 0
-WaitEnds words status old new = RefusesWords words status old new ⊎ WaitsWords words status old new
+abbrev pub EndsByWords : (words : List (List ℕ)) (status : ℕ) (old new : Scene) → Type 0
+EndsByWords words status old new = RefusesWords words status old new ⊎ WaitsWords words status old new
+
+-- The same, of each as it was and is.
+abbrev pub WaitEnds : (words : List (Bor (List ℕ))) (status : ℕ) (calls asked : Option (List Call))
+    (steps taken : Option (List Step)) (faults tells : Device) → Type 0
+WaitEnds words status calls asked steps taken faults tells =
+    EndsByWords (texts words) status (scene (sight calls steps) faults) (scene (sight asked taken) tells)

@@ -1,9 +1,11 @@
 -- What a wait does between two rounds: it rests, and looks whether something changed.
 use Rattle.std.specs.Prelude.{◌≡◌, ◌↔◌, ◌⊎◌, ℕ, ◌+◌, ◌-◌, ◌<◌, ◌==◌, nat_lt, max, List, [], ◌∷◌, Option, Some, None}
 use Rattle.std.specs.Prelude.{Bool, true, false, not, ◌||◌, if◌then◌else◌, IsTrue}
+use Rattle.std.specs.Borrow.{Bor}
 use Rattle.tai_status.specs.Extended.{Extended}
 use Rattle.cmd_svc.specs.Calls.{Call, SoughtChange}
 use Rattle.cmd_svc.specs.Turns.{InTurn}
+use Rattle.cmd_svc.specs.Words.{texts}
 use Rattle.cmd_wait.specs.Steps.{Step, Read, Rested, Sight, sight, IsOver}
 use Rattle.cmd_wait.specs.declared.watch.Watch.{Watch}
 use Rattle.cmd_wait.specs.declared.watch.TheConstants.{MOST_RESTS}
@@ -69,7 +71,8 @@ watched watch sight = record { watch = watch; sight = sight }
 
 -- A rest; then the services that are left were asked when something changed last, and the clock was read. A round is
 -- due where something changed, as said above, and where the time is over.
-pub record Rests (limit : Option ℕ) (begin : ℕ) (left : List (List ℕ)) (due : Bool) (old new : Watched) : Type 0 where
+pub record TakesRest (limit : Option ℕ) (begin : ℕ) (left : List (List ℕ)) (due : Bool) (old new : Watched)
+    : Type 0 where
   pub rested : Option (List Step)
   pub newest : Option ℕ
   pub now : ℕ
@@ -79,11 +82,18 @@ pub record Rests (limit : Option ℕ) (begin : ℕ) (left : List (List ℕ)) (du
   pub noted : new.watch ≡ next_watch old.watch newest
   pub is : IsTrue due ↔ (IsTrue (is_due old.watch newest) ⊎ IsOver limit begin now)
 
+-- The same, of the words for the services that are left, and of each as it was and is.
+abbrev pub Rests : (limit : Option ℕ) (begin : ℕ) (left : List (Bor (List ℕ))) (due : Bool) (watch watches : Watch)
+    (calls asked : Option (List Call)) (steps taken : Option (List Step)) → Type 0
+Rests limit begin left due watch watches calls asked steps taken =
+    TakesRest limit begin (texts left) due (watched watch (sight calls steps)) (watched watches (sight asked taken))
+
 -- So many rests, behind none of which a round was due.
 pub data RestsOn (limit : Option ℕ) (begin : ℕ) (left : List (List ℕ)) (old : Watched)
     : (rests : ℕ) → (now : Watched) → Type 0 where
   none : RestsOn limit begin left old 0 old
-  more : {rests : ℕ} {now new : Watched} → RestsOn limit begin left old rests now → Rests limit begin left false now new
+  more : {rests : ℕ} {now new : Watched} → RestsOn limit begin left old rests now
+      → TakesRest limit begin left false now new
       → RestsOn limit begin left old (rests + 1) new
 
 -- A pause that ends with the first rest behind which a round is due.
@@ -92,8 +102,14 @@ pub record EndsDue (limit : Option ℕ) (begin : ℕ) (left : List (List ℕ)) (
   pub middle : Watched
   pub few : rests < MOST_RESTS
   pub quiet : RestsOn limit begin left old rests middle
-  pub due : Rests limit begin left true middle new
+  pub due : TakesRest limit begin left true middle new
 
 -- A pause ends so, or after as many rests as a second has.
 abbrev pub Pauses : (limit : Option ℕ) (begin : ℕ) (left : List (List ℕ)) (old new : Watched) → Type 0
 Pauses limit begin left old new = EndsDue limit begin left old new ⊎ RestsOn limit begin left old MOST_RESTS new
+
+-- The same, of the words for the services that are left, and of each as it was and is.
+abbrev pub PausesFor : (limit : Option ℕ) (begin : ℕ) (left : List (Bor (List ℕ))) (watch watches : Watch)
+    (calls asked : Option (List Call)) (steps taken : Option (List Step)) → Type 0
+PausesFor limit begin left watch watches calls asked steps taken =
+    Pauses limit begin (texts left) (watched watch (sight calls steps)) (watched watches (sight asked taken))

@@ -1,9 +1,6 @@
 //! The command `wait`.
 ghost use Rattle.std.specs.Prelude.{◌≡◌};
-ghost use Rattle.cmd_svc.specs.Words.{texts};
-ghost use Rattle.cmd_wait.specs.Steps.{sight};
-ghost use Rattle.cmd_wait.specs.Ends.{scene, WaitEnds, WaitsFor};
-ghost use Rattle.cmd_wait.specs.Words.{order};
+ghost use Rattle.cmd_wait.specs.Ends.{WaitEnds, WaitsAsked};
 
 use crate::options::{Options, read_options};
 use crate::pace::Pace;
@@ -30,9 +27,8 @@ fn wait_for<R: Wait, S: Services, P: Pace, A: Allocator, E: Write>(
     faults: &mut Output<E>,
 ) -> u8
     requires { names.items ≡ options.now.services.now }
-    ensures { WaitsFor (order options.now.goal options.now.limit (texts options.now.services.now)) result
-        (scene (sight (S.calls services.old) (P.steps pace.old)) faults.old)
-        (scene (sight (S.calls services.new) (P.steps pace.new)) faults.new) }
+    ensures { WaitsAsked options.now result (S.calls services.old) (S.calls services.new)
+        (P.steps pace.old) (P.steps pace.new) faults.old faults.new }
 {
     let mut left = names;
     let mut watch = Watch::new();
@@ -72,9 +68,8 @@ pub fn run_wait<R: Wait, S: Services, P: Pace, A: Allocator, E: Write>(
     words: &[&str],
     faults: &mut Output<E>,
 ) -> u8
-    ensures ends { WaitEnds (texts words.now) result
-        (scene (sight (S.calls services.old) (P.steps pace.old)) faults.old)
-        (scene (sight (S.calls services.new) (P.steps pace.new)) faults.new) }
+    ensures ends { WaitEnds words.now result (S.calls services.old) (S.calls services.new)
+        (P.steps pace.old) (P.steps pace.new) faults.old faults.new }
 {
     let Some(options) = read_options(words) else {
         return usage(faults);

@@ -1,8 +1,7 @@
 //! The pause between two rounds.
 ghost use Rattle.std.specs.Prelude.{◌≡◌};
 ghost use Rattle.cmd_svc.specs.Words.{texts};
-ghost use Rattle.cmd_wait.specs.Steps.{sight};
-ghost use Rattle.cmd_wait.specs.Watching.{is_same, newer, watched, LearnsNewest, Pauses, Rests};
+ghost use Rattle.cmd_wait.specs.Watching.{is_same, newer, LearnsNewest, PausesFor, Rests};
 
 use crate::pace::Pace;
 use crate::rounds::is_over;
@@ -91,9 +90,8 @@ fn rest_once<S: Services, P: Pace>(
     begin: u64,
     left: &[&str],
 ) -> bool
-    ensures { Rests limit begin (texts left.now) result
-        (watched watch.old (sight (S.calls services.old) (P.steps pace.old)))
-        (watched watch.new (sight (S.calls services.new) (P.steps pace.new))) }
+    ensures { Rests limit begin left.now result watch.old watch.new
+        (S.calls services.old) (S.calls services.new) (P.steps pace.old) (P.steps pace.new) }
 {
     pace.rest();
     let newest = newest_change(services, left);
@@ -110,9 +108,8 @@ pub(crate) fn pause<S: Services, P: Pace>(
     begin: u64,
     left: &[&str],
 )
-    ensures { Pauses limit begin (texts left.now)
-        (watched watch.old (sight (S.calls services.old) (P.steps pace.old)))
-        (watched watch.new (sight (S.calls services.new) (P.steps pace.new))) }
+    ensures { PausesFor limit begin left.now watch.old watch.new
+        (S.calls services.old) (S.calls services.new) (P.steps pace.old) (P.steps pace.new) }
 {
     for _ in 0..MOST_RESTS {
         if rest_once(services, pace, watch, limit, begin, left) {

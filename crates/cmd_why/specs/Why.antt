@@ -18,11 +18,12 @@ use Rattle.cmd_base.specs.Known.{IsKnown}
 use Rattle.cmd_svc.specs.Calls.{Call, Reached, ReadStatus, SoughtDown}
 use Rattle.cmd_svc.specs.declared.services.Unreached.{Unreached}
 use Rattle.cmd_svc.specs.declared.services.Unreached.TheVariants as unreached
+use Rattle.cmd_svc.specs.Sight.{Sight}
 use Rattle.cmd_svc.specs.Svstat.{fault_name}
 use Rattle.cmd_svc.specs.Turns.{InTurn}
 use Rattle.svc_exit.specs.Exits.{IsEnding, Says}
 use Rattle.svc_exit.specs.declared.ending.Ending.{Ending}
-use Rattle.cmd_why.specs.Texts.{ServiceTexts}
+use Rattle.cmd_why.specs.Texts.{Knowledge}
 use Rattle.cmd_why.specs.Facts.{ended_in, facts_of, leads_to}
 use Rattle.cmd_why.specs.Sentences.{why_line}
 use Rattle.cmd_why.specs.Timeline.{bar_of, drawing_lines, left_end}
@@ -100,18 +101,6 @@ is_unread (found.Standing s) = false
 is_unread other = true
 
 -- A look at a service
-
--- What is known of the files of services and of local times: the bytes of a trace, the line of how the last process
--- ended, why a folder can't be looked at, and the text of a label.
-pub record Knowledge : Type 0 where
-  pub traces : List ℕ → Option (List ℕ)
-  pub exits : List ℕ → Option (List ℕ)
-  pub looks : List ℕ → Option (Option ErrorKind)
-  pub times : Tai64n → Option (List ℕ)
-
-abbrev pub knowledge : (texts : ServiceTexts) (times : Tai64n → Option (List ℕ)) → Knowledge
-knowledge texts times =
-    record { traces = texts.traces; exits = texts.exits; looks = texts.looks; times = times }
 
 -- Bytes were read that are no trace, as the fault of a line tells.
 pub record IsRefused (trace : Option (List ℕ)) : Type 0 where
@@ -202,7 +191,7 @@ Reaches k folder (reach.Standing loaded normally_up) past now = ReachesStanding 
 -- reading; and how the process ended of which the trace tells last, by the line of that. A timeline is drawn where it
 -- is asked for.
 pub record FindsStanding (k : Knowledge) (timeline : Bool) (folder : List ℕ) (loaded : Loaded) (normally_up : Bool)
-    (s : Standing) (past now : Option (List Tai64n)) : Type 0 where
+    (past now : Option (List Tai64n)) (s : Standing) : Type 0 where
   pub told : Option Told
   pub trace : IsTraceOf (k.traces folder) told
   pub read : Extended past now (s.now ∷ [])
@@ -220,32 +209,35 @@ Finds k timeline folder (reach.Absent absence) (found.Absent told) past now = (t
 Finds k timeline folder reach.Unread found.Unread past now = now ≡ past
 Finds k timeline folder (reach.Bad cause) (found.Bad told) past now = (told ≡ cause) × (now ≡ past)
 Finds k timeline folder (reach.Standing loaded normally_up) (found.Standing s) past now =
-    FindsStanding k timeline folder loaded normally_up s past now
+    FindsStanding k timeline folder loaded normally_up past now s
 Finds k timeline folder other found past now = ⊥
 
 -- Services in turn
 
--- What `why` works with: the calls that were made, what the clock gave, what it writes to, and whether some service
--- could not be read so far.
+-- What `why` works with: what its looks do, what it writes to, and whether some service could not be read so far.
 pub record Scene : Type 0 where
-  pub calls : Option (List Call)
-  pub readings : Option (List Tai64n)
+  pub sight : Sight
   pub writer : Device
   pub unread : Bool
 
-abbrev pub scene : (calls : Option (List Call)) (readings : Option (List Tai64n)) (writer : Device) → Bool → Scene
-scene calls readings writer unread =
-    record { calls = calls; readings = readings; writer = writer; unread = unread }
+abbrev pub scene : (sight : Sight) (writer : Device) → Bool → Scene
+scene sight writer unread = record { sight = sight; writer = writer; unread = unread }
 
 -- The service in a folder was looked at, and then the text of that was written.
 pub record Shows (k : Knowledge) (timeline : Bool) (folder : List ℕ) (old new : Scene) : Type 0 where
   pub reach : Reach
-  pub reaches : Reaches k folder reach old.calls new.calls
+  pub reaches : Reaches k folder reach old.sight.calls new.sight.calls
   pub found : Found
-  pub finds : Finds k timeline folder reach found old.readings new.readings
+  pub finds : Finds k timeline folder reach found old.sight.readings new.sight.readings
   pub wrote : Wrote old.writer new.writer (found_text folder found)
   pub works : Works old.writer new.writer
   pub unread : new.unread ≡ (old.unread || is_unread found)
+
+-- The same, of what each was and is; where some service before it could not be read, or now.
+abbrev pub ShowsOne : Knowledge → (timeline : Bool) → (folder : List ℕ) → (sight sees : Sight)
+    → (writer writes : Device) → (unread unread_now : Bool) → Type 0
+ShowsOne k timeline folder sight sees writer writes unread unread_now =
+    Shows k timeline folder (scene sight writer unread) (scene sees writes unread_now)
 
 -- A text was not written: there was no memory for it, or the writer failed after a front of it.
 abbrev pub WritesNot : WhyFault → (text : List ℕ) → (old new : Device) → Type 0
@@ -255,71 +247,87 @@ WritesNot fault.Write text old new = WroteFront old new text × Fails old new
 -- There was no memory for the trace of the service in a folder, or for its text; nothing was written.
 pub record LacksMemory (k : Knowledge) (folder : List ℕ) (old new : Scene) : Type 0 where
   pub reach : Reach
-  pub reaches : Reaches k folder reach old.calls new.calls
+  pub reaches : Reaches k folder reach old.sight.calls new.sight.calls
   pub unwritten : new.writer ≡ old.writer
 
 -- The service in a folder was looked at, and the writer failed after a front of the text of that.
 pub record FailsToWrite (k : Knowledge) (timeline : Bool) (folder : List ℕ) (old new : Scene) : Type 0 where
   pub reach : Reach
-  pub reaches : Reaches k folder reach old.calls new.calls
+  pub reaches : Reaches k folder reach old.sight.calls new.sight.calls
   pub found : Found
-  pub finds : Finds k timeline folder reach found old.readings new.readings
+  pub finds : Finds k timeline folder reach found old.sight.readings new.sight.readings
   pub front : WroteFront old.writer new.writer (found_text folder found)
   pub fails : Fails old.writer new.writer
 
-abbrev pub ShowsNot : Knowledge → (timeline : Bool) → (folder : List ℕ) → WhyFault → (old new : Scene) → Type 0
-ShowsNot k timeline folder fault.OutOfMemory old new = LacksMemory k folder old new
-ShowsNot k timeline folder fault.Write old new = FailsToWrite k timeline folder old new
+abbrev pub FailsToShow : Knowledge → (timeline : Bool) → (folder : List ℕ) → WhyFault → (old new : Scene) → Type 0
+FailsToShow k timeline folder fault.OutOfMemory old new = LacksMemory k folder old new
+FailsToShow k timeline folder fault.Write old new = FailsToWrite k timeline folder old new
+
+-- The same, of what each was and is; where some service before it could not be read.
+abbrev pub ShowsNot : Knowledge → (timeline : Bool) → (folder : List ℕ) → (sight sees : Sight)
+    → (writer writes : Device) → (unread : Bool) → WhyFault → Type 0
+ShowsNot k timeline folder sight sees writer writes unread cause =
+    FailsToShow k timeline folder cause (scene sight writer unread) (scene sees writes false)
+
+-- Each word has its line. At the end it is known whether some service could not be read.
+abbrev pub ShowsEach : Knowledge → (timeline : Bool) → (words : List (List ℕ)) → (sight sees : Sight)
+    → (writer writes : Device) → (unread : Bool) → Type 0
+ShowsEach k timeline words sight sees writer writes unread =
+    InTurn (Shows k timeline) words (scene sight writer false) (scene sees writes unread)
 
 -- The words before one have their lines, and that one has not. The words after it are not looked at.
-pub record ShowsUpTo (k : Knowledge) (timeline : Bool) (words : List (List ℕ)) (cause : WhyFault) (old new : Scene)
-    : Type 0 where
+pub record ShowsUpTo (k : Knowledge) (timeline : Bool) (words : List (List ℕ)) (sight sees : Sight)
+    (writer writes : Device) (cause : WhyFault) : Type 0 where
   pub before : List (List ℕ)
   pub folder : List ℕ
   pub after : List (List ℕ)
   pub words_are : words ≡ before ++ folder ∷ after
   pub middle : Scene
-  pub shown : InTurn (Shows k timeline) before old middle
-  pub fails : ShowsNot k timeline folder cause middle new
+  pub shown : InTurn (Shows k timeline) before (scene sight writer false) middle
+  pub fails : FailsToShow k timeline folder cause middle (scene sees writes false)
 
 -- what is told of a fault
 abbrev pub why_told : WhyFault → List ℕ
 why_told fault.OutOfMemory = codes "why: OutOfMemory" ++ 10 ∷ []
 why_told fault.Write = codes "why: write fault" ++ 10 ∷ []
 
--- Ends. The scenes at the beginning and at the end are told by whether some service could not be read so far.
+-- Ends
 
 -- Each word has its text, and nothing is told. The status is 0 where each service could be read.
-pub record ShowsAll (k : Knowledge) (timeline : Bool) (words : List (List ℕ)) (status : ℕ) (old new : Bool → Scene)
-    (faults tells : Device) : Type 0 where
+pub record ShowsAll (k : Knowledge) (timeline : Bool) (words : List (List ℕ)) (status : ℕ) (sight sees : Sight)
+    (writer writes faults tells : Device) : Type 0 where
   pub unread : Bool
-  pub shown : InTurn (Shows k timeline) words (old false) (new unread)
+  pub shown : ShowsEach k timeline words sight sees writer writes unread
   pub status_is : status ≡ (if unread then 111 else 0)
   pub untold : tells ≡ faults
 
 -- A text could not be written, and it is told why.
-pub record Stops (k : Knowledge) (timeline : Bool) (words : List (List ℕ)) (status : ℕ) (old new : Bool → Scene)
-    (faults tells : Device) : Type 0 where
+pub record Stops (k : Knowledge) (timeline : Bool) (words : List (List ℕ)) (status : ℕ) (sight sees : Sight)
+    (writer writes faults tells : Device) : Type 0 where
   pub cause : WhyFault
-  pub stops : ShowsUpTo k timeline words cause (old false) (new false)
+  pub stops : ShowsUpTo k timeline words sight sees writer writes cause
   pub status_is : status ≡ 111
   pub told : Tells faults tells (why_told cause)
 
 -- `why` over services, with timelines or without
-abbrev pub ServicesEnd : Knowledge → (timeline : Bool) → (words : List (List ℕ)) → (status : ℕ)
-    → (old new : Bool → Scene)
-    → (faults tells : Device) → Type 0
-ServicesEnd k timeline words status old new faults tells =
-    ShowsAll k timeline words status old new faults tells ⊎ Stops k timeline words status old new faults tells
+abbrev pub ShowEnds : Knowledge → (timeline : Bool) → (words : List (List ℕ)) → (status : ℕ) → (sight sees : Sight)
+    → (writer writes faults tells : Device) → Type 0
+ShowEnds k timeline words status sight sees writer writes faults tells =
+    ShowsAll k timeline words status sight sees writer writes faults tells
+    ⊎ Stops k timeline words status sight sees writer writes faults tells
 
 -- The first word asks for timelines of the services behind it; or it is a service.
-pub record FormEnds (k : Knowledge) (word : List ℕ) (services : List (List ℕ)) (status : ℕ) (old new : Bool → Scene)
-    (faults tells : Device) : Type 0 where
-  pub timeline : word ≡ codes "--timeline" → ServicesEnd k true services status old new faults tells
-  pub plain : word ≢ codes "--timeline" → ServicesEnd k false (word ∷ services) status old new faults tells
+pub record FormEnds (k : Knowledge) (word : List ℕ) (services : List (List ℕ)) (status : ℕ) (sight sees : Sight)
+    (writer writes faults tells : Device) : Type 0 where
+  pub timeline : word ≡ codes "--timeline"
+      → ShowEnds k true services status sight sees writer writes faults tells
+  pub plain : word ≢ codes "--timeline"
+      → ShowEnds k false (word ∷ services) status sight sees writer writes faults tells
 
 -- `why`, by its words
-abbrev pub WhyEnds : Knowledge → (words : List (List ℕ)) → (status : ℕ) → (old new : Bool → Scene)
-    → (faults tells : Device) → Type 0
-WhyEnds k [] status old new faults tells = ServicesEnd k false [] status old new faults tells
-WhyEnds k (word ∷ services) status old new faults tells = FormEnds k word services status old new faults tells
+abbrev pub WhyEnds : Knowledge → (words : List (List ℕ)) → (status : ℕ) → (sight sees : Sight)
+    → (writer writes faults tells : Device) → Type 0
+WhyEnds k [] status sight sees writer writes faults tells =
+    ShowEnds k false [] status sight sees writer writes faults tells
+WhyEnds k (word ∷ services) status sight sees writer writes faults tells =
+    FormEnds k word services status sight sees writer writes faults tells

@@ -18,6 +18,6 @@ pub use entries::{Kind, before_last, behind_last, last_of};
 pub use facts::{Ended, FLAPPING, Facts, facts_of, last_signal, last_want, recent_starts};
 pub use lines::{Absence, Drawing, Found, Picture, Standing, absence_of, found_line, found_text};
 pub use sentences::why_line;
-pub use sources::{LocalTime, LocalTimes, ServiceFiles};
+pub use sources::{Evidence, LocalTime, LocalTimes, ServiceEvidence, ServiceFiles};
 pub use timeline::{Bar, COLUMNS, Shown, Stretch, bar_of};
 pub use why::{WhyFault, run_why};

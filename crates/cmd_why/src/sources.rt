@@ -46,3 +46,60 @@ pub trait LocalTimes {
     fn local_time(&self, label: &Label) -> LocalTime
         ensures { IsKnown (text_at self.now label.now) result.bytes };
 }
+
+/// What `why` learns of services beside their status: what their files hold, and local times.
+pub trait Evidence {
+    ghost use Rattle.std.specs.Prelude.{◌≡◌, None, IfOk, IfErr, OnErr};
+    ghost use Rattle.cmd_base.specs.Known.{IsKnown, IsMissed};
+    ghost use Rattle.cmd_why.specs.Texts.{Knowledge};
+
+    // what is known of them
+    ghost known: { Self → Knowledge };
+
+    /// All bytes of the trace of the service in a folder.
+    fn read_trace<A: Allocator>(&self, alloc: A, folder: &str) -> io::Result<Vec<u8, A>>
+        ensures held { IfOk result (λ bytes. IsKnown ((known self.now).traces folder.now) bytes.items) }
+        ensures missing { IfErr result (λ fault. IsMissed fault ((known self.now).traces folder.now)) };
+
+    /// The line of how the last process of the service in a folder ended, with its newline.
+    fn read_exit(&self, folder: &str) -> io::Result<ExitText>
+        ensures held { IfOk result (λ line. IsKnown ((known self.now).exits folder.now) line.items) }
+        ensures missing { OnErr result ((known self.now).exits folder.now ≡ None) };
+
+    /// Why the folder of a service can't be looked at, where it can't.
+    fn folder_fault(&self, folder: &str) -> Option<ErrorKind>
+        ensures { IsKnown ((known self.now).looks folder.now) result };
+
+    /// The local time of a label.
+    fn local_time(&self, label: &Label) -> LocalTime
+        ensures { IsKnown ((known self.now).times label.now) result.bytes };
+}
+
+/// The files of services on a system, and the local times of a zone.
+#[derive(Drop)]
+pub struct ServiceEvidence<'a, F: ServiceFiles, T: LocalTimes> {
+    pub files: &'a F,
+    pub times: &'a T,
+}
+
+impl<'a, F: ServiceFiles, T: LocalTimes> Evidence for ServiceEvidence<'a, F, T> {
+    ghost use Rattle.cmd_why.specs.Texts.{knowledge};
+
+    ghost known = { λ evidence. knowledge (F.texts evidence.files.now) (T.text_at evidence.times.now) };
+
+    fn read_trace<A: Allocator>(&self, alloc: A, folder: &str) -> io::Result<Vec<u8, A>> {
+        self.files.read_trace(alloc, folder)
+    }
+
+    fn read_exit(&self, folder: &str) -> io::Result<ExitText> {
+        self.files.read_exit(folder)
+    }
+
+    fn folder_fault(&self, folder: &str) -> Option<ErrorKind> {
+        self.files.folder_fault(folder)
+    }
+
+    fn local_time(&self, label: &Label) -> LocalTime {
+        self.times.local_time(label)
+    }
+}

@@ -4,18 +4,17 @@ ghost use Rattle.std.specs.Option.{option_copied};
 ghost use Rattle.std.specs.Prelude.{option_map};
 ghost use Rattle.tai_status.specs.Counted.{Wrote, Works};
 ghost use Rattle.cmd_svc.specs.Words.{texts};
-ghost use Rattle.cmd_svc.specs.Turns.{InTurn};
 ghost use Rattle.cmd_why.specs.Facts.{ended_in, facts_of};
-ghost use Rattle.cmd_why.specs.Why.{found_text, is_unread, knowledge, scene, why_told, Finds, FindsStanding, IsDrawing};
-ghost use Rattle.cmd_why.specs.Why.{IsEndingOf, IsPicture, IsTraceOf, Reaches, ServicesEnd, Shows, ShowsNot, ShowsUpTo};
-ghost use Rattle.cmd_why.specs.Why.{WhyEnds, WritesNot};
+ghost use Rattle.cmd_why.specs.Why.{found_text, is_unread, why_told, Finds, FindsStanding, IsDrawing};
+ghost use Rattle.cmd_why.specs.Why.{IsEndingOf, IsPicture, IsTraceOf, Reaches, ShowEnds, ShowsEach, ShowsNot};
+ghost use Rattle.cmd_why.specs.Why.{ShowsOne, ShowsUpTo, WhyEnds, WritesNot};
 
 use crate::facts::{Facts, facts_of, leads_to};
 use crate::lines::{Absence, Drawing, Found, Picture, Standing, absence_of, found_text};
-use crate::sources::{LocalTimes, ServiceFiles};
+use crate::sources::Evidence;
 use crate::timeline::{bar_of, left_end};
 use cmd_base::{DONE, TROUBLE, report};
-use cmd_svc::Services;
+use cmd_svc::{Observer, Services};
 use std::alloc::{AllocError, Allocator};
 use std::io::{ErrorKind, Write};
 use sup_trace::{TraceFaultKind, TraceText, read_text};
@@ -46,17 +45,11 @@ pub(crate) enum Reach {
 
 /// Asks the service in a folder whether it is supervised, then for its status, then for its file `down`. The first that
 /// fails ends that.
-fn reach_service<S: Services, F: ServiceFiles, T: LocalTimes>(
-    services: &mut S,
-    files: &F,
-    times: &T,
-    folder: &str,
-) -> Reach
-    ensures { Reaches (knowledge (F.texts files.now) (T.text_at times.now)) folder.now
-        result (S.calls services.old) (S.calls services.new) }
+fn reach_service<S: Services, K: Evidence>(services: &mut S, sources: &K, folder: &str) -> Reach
+    ensures { Reaches (K.known sources.now) folder.now result (S.calls services.old) (S.calls services.new) }
 {
     if let Err(why) = services.reach(folder) {
-        return Reach::Absent(absence_of(why, files.folder_fault(folder)));
+        return Reach::Absent(absence_of(why, sources.folder_fault(folder)));
     }
     let Ok(front) = services.read_status(folder) else {
         return Reach::Unread;
@@ -68,14 +61,14 @@ fn reach_service<S: Services, F: ServiceFiles, T: LocalTimes>(
 }
 
 /// What the trace of the service in a folder tells, where there is one that can be read.
-fn read_told<A: Allocator + Clone, F: ServiceFiles>(
+fn read_told<A: Allocator + Clone, K: Evidence>(
     alloc: &A,
-    files: &F,
+    sources: &K,
     folder: &str,
 ) -> Result<Option<TraceText<A>>, AllocError>
-    ensures { IfOk result (λ told. IsTraceOf ((F.texts files.now).traces folder.now) told) }
+    ensures { IfOk result (λ told. IsTraceOf ((K.known sources.now).traces folder.now) told) }
 {
-    match files.read_trace(alloc.clone()?, folder) {
+    match sources.read_trace(alloc.clone()?, folder) {
         Ok(text) => match read_text(alloc.clone()?, &text) {
             Ok(told) => Ok(Some(told)),
             Err(fault) if fault.kind == TraceFaultKind::OutOfMemory => Err(AllocError),
@@ -98,44 +91,44 @@ fn facts_in<A: Allocator>(told: Option<&TraceText<A>>, status: &View, now: &Labe
 
 /// How the process that ended last ended, where the trace tells of one, and the line of how the last one ended is of
 /// it.
-fn read_how<F: ServiceFiles>(files: &F, folder: &str, facts: Option<&Facts>) -> Option<Ending>
-    ensures { IsEndingOf ((F.texts files.now).exits folder.now) (ended_in (option_copied facts.entry)) result }
+fn read_how<K: Evidence>(sources: &K, folder: &str, facts: Option<&Facts>) -> Option<Ending>
+    ensures { IsEndingOf ((K.known sources.now).exits folder.now) (ended_in (option_copied facts.entry)) result }
 {
     let ended = facts?.ended?;
-    match files.read_exit(folder) {
+    match sources.read_exit(folder) {
         Ok(line) => read_ending(line.as_slice(), ended.pid, &ended.label),
         Err(_) => None,
     }
 }
 
 /// The picture of a trace beside a record, and the local time of its left end.
-fn picture<A: Allocator + Clone, T: LocalTimes>(
+fn picture<A: Allocator + Clone, K: Evidence>(
     alloc: &A,
-    times: &T,
+    sources: &K,
     told: &TraceText<A>,
     status: &View,
     now: &Label,
 ) -> Result<Picture, AllocError>
-    ensures { IfOk result (λ picture. IsPicture (T.text_at times.now) told.now status.now now.now picture) }
+    ensures { IfOk result (λ picture. IsPicture (K.known sources.now).times told.now status.now now.now picture) }
 {
     let leads = leads_to(told, status);
     Ok(Picture {
         bar: bar_of(alloc.clone()?, told, leads, now)?,
-        from: times.local_time(&left_end(told, now)),
+        from: sources.local_time(&left_end(told, now)),
     })
 }
 
 /// What is drawn of a trace, where a timeline is asked for.
-fn draw<A: Allocator + Clone, T: LocalTimes>(
+fn draw<A: Allocator + Clone, K: Evidence>(
     alloc: &A,
-    times: &T,
+    sources: &K,
     timeline: bool,
     told: Option<&TraceText<A>>,
     status: &View,
     now: &Label,
 ) -> Result<Drawing, AllocError>
     ensures { IfOk result (λ drawing.
-        IsDrawing (T.text_at times.now) timeline (option_copied told.entry) status.now now.now drawing) }
+        IsDrawing (K.known sources.now).times timeline (option_copied told.entry) status.now now.now drawing) }
 {
     if !timeline {
         return Ok(Drawing::Unasked);
@@ -143,54 +136,50 @@ fn draw<A: Allocator + Clone, T: LocalTimes>(
     let Some(told) = told else {
         return Ok(Drawing::Untold);
     };
-    Ok(Drawing::Of(picture(alloc, times, told, status, now)?))
+    Ok(Drawing::Of(picture(alloc, sources, told, status, now)?))
 }
 
 /// How the service in a folder stands, whose record tells this.
-fn stand<A: Allocator + Clone, F: ServiceFiles, T: LocalTimes, C: TimeSource>(
+fn stand<A: Allocator + Clone, K: Evidence, C: TimeSource>(
     alloc: &A,
     timeline: bool,
-    files: &F,
-    times: &T,
+    sources: &K,
     clock: &mut C,
     folder: &str,
     loaded: Loaded,
     normally_up: bool,
 ) -> Result<Standing, AllocError>
-    ensures ok { IfOk result (λ standing.
-        FindsStanding (knowledge (F.texts files.now) (T.text_at times.now)) timeline
-        folder.now loaded normally_up standing (C.readings clock.old) (C.readings clock.new)) }
+    ensures { IfOk result (FindsStanding (K.known sources.now) timeline folder.now loaded normally_up
+        (C.readings clock.old) (C.readings clock.new)) }
 {
-    let told = read_told(alloc, files, folder)?;
+    let told = read_told(alloc, sources, folder)?;
     let now = clock.now();
     let status = loaded.view();
     let facts = facts_in(told.as_ref(), &status, &now);
-    let ending = read_how(files, folder, facts.as_ref());
-    let drawing = draw(alloc, times, timeline, told.as_ref(), &status, &now)?;
+    let ending = read_how(sources, folder, facts.as_ref());
+    let drawing = draw(alloc, sources, timeline, told.as_ref(), &status, &now)?;
     Ok(Standing {
         loaded,
         normally_up,
         facts,
         ending,
-        time: times.local_time(&status.label),
+        time: sources.local_time(&status.label),
         now,
         drawing,
     })
 }
 
 /// What a look at the service in a folder found, by what came of its calls.
-fn find<A: Allocator + Clone, F: ServiceFiles, T: LocalTimes, C: TimeSource>(
+fn find<A: Allocator + Clone, K: Evidence, C: TimeSource>(
     alloc: &A,
     timeline: bool,
-    files: &F,
-    times: &T,
+    sources: &K,
     clock: &mut C,
     folder: &str,
     reach: Reach,
 ) -> Result<Found, AllocError>
     ensures { IfOk result (λ found.
-        Finds (knowledge (F.texts files.now) (T.text_at times.now)) timeline
-        folder.now reach found (C.readings clock.old) (C.readings clock.new)) }
+        Finds (K.known sources.now) timeline folder.now reach found (C.readings clock.old) (C.readings clock.new)) }
 {
     match reach {
         Reach::Absent(absence) => Ok(Found::Absent(absence)),
@@ -199,8 +188,7 @@ fn find<A: Allocator + Clone, F: ServiceFiles, T: LocalTimes, C: TimeSource>(
         Reach::Standing(loaded, normally_up) => Ok(Found::Standing(stand(
             alloc,
             timeline,
-            files,
-            times,
+            sources,
             clock,
             folder,
             loaded,
@@ -246,35 +234,29 @@ fn write_text<A: Allocator + Clone, W: Write>(
 
 /// Looks at the service in a folder, and writes the text of that. Whether some service could not be read, this one or
 /// one before it.
-fn show<S, F, T, A, W, C>(
+fn show<S, K, A, W, C>(
     alloc: &A,
     timeline: bool,
-    services: &mut S,
-    files: &F,
-    times: &T,
+    observer: &mut Observer<S, C>,
+    sources: &K,
     folder: &str,
     unread: bool,
     writer: &mut Output<W>,
-    clock: &mut C,
 ) -> Result<bool, WhyFault>
 where
     S: Services,
-    F: ServiceFiles,
-    T: LocalTimes,
+    K: Evidence,
     A: Allocator + Clone,
     W: Write,
     C: TimeSource,
-    ensures ok { IfOk result (λ unread_now.
-        Shows (knowledge (F.texts files.now) (T.text_at times.now)) timeline
-        folder.now (scene (S.calls services.old) (C.readings clock.old) writer.old unread)
-        (scene (S.calls services.new) (C.readings clock.new) writer.new unread_now)) }
-    ensures err { IfErr result (λ cause.
-        ShowsNot (knowledge (F.texts files.now) (T.text_at times.now)) timeline
-        folder.now cause (scene (S.calls services.old) (C.readings clock.old) writer.old unread)
-        (scene (S.calls services.new) (C.readings clock.new) writer.new false)) }
+    ensures ok { IfOk result (ShowsOne (K.known sources.now) timeline folder.now
+        observer.old observer.new writer.old writer.new unread) }
+    ensures err { IfErr result (ShowsNot (K.known sources.now) timeline folder.now
+        observer.old observer.new writer.old writer.new unread) }
 {
-    let reached = reach_service(services, files, times, folder);
-    let Ok(found) = find(alloc, timeline, files, times, clock, folder, reached) else {
+    let reached = reach_service(&mut observer.services, sources, folder);
+    let clock = &mut observer.clock;
+    let Ok(found) = find(alloc, timeline, sources, clock, folder, reached) else {
         return Err(WhyFault::OutOfMemory);
     };
     write_text(alloc, folder, &found, writer)?;
@@ -283,39 +265,28 @@ where
 
 /// Shows the services in folders, one after the other, up to the first whose text can't be written. Whether some
 /// service could not be read.
-fn show_all<S, F, T, A, W, C>(
+fn show_all<S, K, A, W, C>(
     alloc: &A,
     timeline: bool,
-    services: &mut S,
-    files: &F,
-    times: &T,
+    observer: &mut Observer<S, C>,
+    sources: &K,
     folders: &[&str],
     writer: &mut Output<W>,
-    clock: &mut C,
 ) -> Result<bool, WhyFault>
 where
     S: Services,
-    F: ServiceFiles,
-    T: LocalTimes,
+    K: Evidence,
     A: Allocator + Clone,
     W: Write,
     C: TimeSource,
-    ensures ok { IfOk result (λ unread.
-        InTurn (Shows (knowledge (F.texts files.now) (T.text_at times.now)) timeline)
-        (texts folders.now)
-        (scene (S.calls services.old) (C.readings clock.old) writer.old false)
-        (scene (S.calls services.new) (C.readings clock.new) writer.new unread)) }
-    ensures err { IfErr result (λ cause.
-        ShowsUpTo (knowledge (F.texts files.now) (T.text_at times.now)) timeline
-        (texts folders.now) cause
-        (scene (S.calls services.old) (C.readings clock.old) writer.old false)
-        (scene (S.calls services.new) (C.readings clock.new) writer.new false)) }
+    ensures ok { IfOk result (ShowsEach (K.known sources.now) timeline (texts folders.now)
+        observer.old observer.new writer.old writer.new) }
+    ensures err { IfErr result (ShowsUpTo (K.known sources.now) timeline (texts folders.now)
+        observer.old observer.new writer.old writer.new) }
 {
     let mut unread = false;
     for folder in folders {
-        unread = show(
-            alloc, timeline, services, files, times, folder, unread, writer, clock,
-        )?;
+        unread = show(alloc, timeline, observer, sources, folder, unread, writer)?;
     }
     Ok(unread)
 }
@@ -331,33 +302,26 @@ fn fault_text(fault: WhyFault) -> &'static [u8]
 }
 
 /// `why` over services, with timelines or without.
-fn tell_services<S, F, T, A, W, E, C>(
+fn tell_services<S, K, A, W, E, C>(
     alloc: A,
     timeline: bool,
-    services: &mut S,
-    files: &F,
-    times: &T,
+    observer: &mut Observer<S, C>,
+    sources: &K,
     folders: &[&str],
     writer: &mut Output<W>,
     faults: &mut Output<E>,
-    clock: &mut C,
 ) -> u8
 where
     S: Services,
-    F: ServiceFiles,
-    T: LocalTimes,
+    K: Evidence,
     A: Allocator + Clone,
     W: Write,
     E: Write,
     C: TimeSource,
-    ensures ends { ServicesEnd (knowledge (F.texts files.now) (T.text_at times.now))
-        timeline (texts folders.now) result
-        (scene (S.calls services.old) (C.readings clock.old) writer.old)
-        (scene (S.calls services.new) (C.readings clock.new) writer.new) faults.old faults.new }
+    ensures { ShowEnds (K.known sources.now) timeline (texts folders.now) result
+        observer.old observer.new writer.old writer.new faults.old faults.new }
 {
-    match show_all(
-        &alloc, timeline, services, files, times, folders, writer, clock,
-    ) {
+    match show_all(&alloc, timeline, observer, sources, folders, writer) {
         Ok(true) => TROUBLE,
         Ok(false) => DONE,
         Err(fault) => report(faults, fault_text(fault), TROUBLE),
@@ -374,35 +338,28 @@ where
 ///
 /// Answers the status: 0; 111 where a service could not be read, which its line tells; and 111 for a fault of the
 /// writer and for want of memory, and then the services after that one are not looked at.
-pub fn run_why<S, F, T, A, W, E, C>(
+pub fn run_why<S, K, A, W, E, C>(
     alloc: A,
-    services: &mut S,
-    files: &F,
-    times: &T,
+    observer: &mut Observer<S, C>,
+    sources: &K,
     words: &[&str],
     writer: &mut Output<W>,
     faults: &mut Output<E>,
-    clock: &mut C,
 ) -> u8
 where
     S: Services,
-    F: ServiceFiles,
-    T: LocalTimes,
+    K: Evidence,
     A: Allocator + Clone,
     W: Write,
     E: Write,
     C: TimeSource,
-    ensures ends { WhyEnds (knowledge (F.texts files.now) (T.text_at times.now))
-        (texts words.now) result
-        (scene (S.calls services.old) (C.readings clock.old) writer.old)
-        (scene (S.calls services.new) (C.readings clock.new) writer.new) faults.old faults.new }
+    ensures ends { WhyEnds (K.known sources.now) (texts words.now) result
+        observer.old observer.new writer.old writer.new faults.old faults.new }
 {
     match words {
-        ["--timeline", folders @ ..] => tell_services(
-            alloc, true, services, files, times, folders, writer, faults, clock,
-        ),
-        _ => tell_services(
-            alloc, false, services, files, times, words, writer, faults, clock,
-        ),
+        ["--timeline", folders @ ..] => {
+            tell_services(alloc, true, observer, sources, folders, writer, faults)
+        }
+        _ => tell_services(alloc, false, observer, sources, words, writer, faults),
     }
 }

@@ -1,9 +1,12 @@
 //! The table of the commands.
 ghost use Rattle.std.specs.Prelude.{◌≡◌, []};
 ghost use Rattle.cmd_envdir.specs.System.{texts};
-ghost use Rattle.cmd_why.specs.Why.{knowledge};
+ghost use Rattle.cmd_why.specs.Texts.{knowledge};
 ghost use Rattle.tai_status.specs.Counted.{Tells};
-ghost use Rattle.dtools.specs.Commands.{CommandEnds, ProgramEnds, calls_so_far, no_word_told, system};
+ghost use Rattle.dtools.specs.Commands.{ChildEnds, LoggerEnds, PacedEnds, PlainEnds, ReasonEnds, ScanEnds, ServiceEnds};
+ghost use Rattle.dtools.specs.Commands.{ZonedEnds, no_word_told};
+ghost use Rattle.dtools.specs.Programs.{ChildProgram, LoggerProgram, PacedProgram, PlainProgram, ReasonProgram};
+ghost use Rattle.dtools.specs.Programs.{ScanProgram, ServiceProgram, ZonedProgram};
 
 use crate::devices::Devices;
 use cmd_base::{FileSource, REFUSED, report, usage};
@@ -18,7 +21,7 @@ use cmd_svc::{Services, run_svc, run_svok};
 use cmd_svscan::{ServiceSet, run_svscan};
 use cmd_trace::run_trace;
 use cmd_wait::{Pace, run_wait};
-use cmd_why::{LocalTimes, ServiceFiles, run_why};
+use cmd_why::{LocalTimes, ServiceEvidence, ServiceFiles, run_why};
 use mlog_core::PartedInput;
 use std::io::{Read, Write};
 use std::sync::Wait;
@@ -31,14 +34,13 @@ fn run_command<R, L, K, I, S, P, V, T, Z, D, W, E, C>(
     launcher: &mut L,
     store: &mut FolderStore<K>,
     lines: &mut I,
-    services: &mut S,
     service_set: &mut P,
     waiting: &V,
     pace: &mut T,
     zone: &Z,
     name: &str,
     words: &[&str],
-    devices: &mut Devices<D, W, E, C>,
+    devices: &mut Devices<D, W, E, S, C>,
 ) -> u8
 where
     R: FileSource + EnvSystem + ServiceFiles + CountFiles + AllocGlobal,
@@ -57,34 +59,51 @@ where
     requires ready { P.ready service_set.old }
     requires no_logs { store.old.logs ≡ [] }
     requires no_files { store.old.statuses ≡ [] }
-    ensures ends { CommandEnds name.now (texts words.now) result
-        (system (R.file_at rt.now) (R.state rt.now) (knowledge (R.texts rt.now) (Z.text_at zone.now))
-        (Z.ahead_at zone.now) (R.counts_at rt.now))
-        (calls_so_far (L.calls launcher.old) store.old (I.feed lines.old) (S.calls services.old)
-        (P.calls service_set.old) (T.steps pace.old))
-        (calls_so_far (L.calls launcher.new) store.new (I.feed lines.new) (S.calls services.new)
-        (P.calls service_set.new) (T.steps pace.new))
+    ensures plain { PlainEnds name.now (texts words.now) result devices.old devices.new }
+    ensures zoned { ZonedEnds name.now (texts words.now) result (Z.ahead_at zone.now) (R.file_at rt.now)
         devices.old devices.new }
+    ensures child { ChildEnds name.now (texts words.now) result (R.state rt.now)
+        (L.calls launcher.old) (L.calls launcher.new) devices.old devices.new }
+    ensures logs { LoggerEnds name.now (texts words.now) result store.old store.new
+        (I.feed lines.old) (I.feed lines.new) devices.old devices.new }
+    ensures services { ServiceEnds name.now (texts words.now) result (R.counts_at rt.now)
+        devices.old devices.new }
+    ensures why { ReasonEnds name.now (texts words.now) result (knowledge (R.texts rt.now) (Z.text_at zone.now))
+        devices.old devices.new }
+    ensures wait { PacedEnds name.now (texts words.now) result (T.steps pace.old) (T.steps pace.new)
+        devices.old devices.new }
+    ensures scan { ScanEnds name.now (texts words.now) result
+        (P.calls service_set.old) (P.calls service_set.new) devices.old devices.new }
 {
     let Devices {
         reader,
         writer,
         faults,
-        clock,
+        observer,
     } = devices;
     match name {
         "sim" => return run_sim(rt.alloc(), words, reader, writer, faults),
-        "tai64n" => return run_tai64n(words, reader, writer, faults, clock),
+        "tai64n" => return run_tai64n(words, reader, writer, faults, &mut observer.clock),
         "tai64nlocal" => return run_tai64nlocal(zone, words, reader, writer, faults),
         "readproctitle" => return run_readproctitle(rt.alloc(), words, reader, writer, faults),
-        "multilog" => return run_multilog(rt.alloc(), store, words, lines, faults, clock),
-        "svc" => return run_svc(rt.alloc(), services, words, faults),
-        "svstat" => return run_report(rt.alloc(), services, rt, words, writer, faults, clock),
-        "svok" => return run_svok(services, words),
-        "why" => {
-            return run_why(rt.alloc(), services, rt, zone, words, writer, faults, clock);
+        "multilog" => {
+            let clock = &mut observer.clock;
+            return run_multilog(rt.alloc(), store, words, lines, faults, clock);
         }
-        "wait" => return run_wait(waiting, rt.alloc(), services, pace, words, faults),
+        "svc" => return run_svc(rt.alloc(), &mut observer.services, words, faults),
+        "svstat" => return run_report(rt.alloc(), observer, rt, words, writer, faults),
+        "svok" => return run_svok(&mut observer.services, words),
+        "why" => {
+            let evidence = ServiceEvidence {
+                files: rt,
+                times: zone,
+            };
+            return run_why(rt.alloc(), observer, &evidence, words, writer, faults);
+        }
+        "wait" => {
+            let services = &mut observer.services;
+            return run_wait(waiting, rt.alloc(), services, pace, words, faults);
+        }
         "svscan" => return run_svscan(waiting, service_set, words, faults),
         "envdir" => return run_envdir(rt, launcher, rt.alloc(), words, writer, faults),
         "trace" => return run_trace(rt, rt.alloc(), zone, words, writer, faults),
@@ -114,13 +133,12 @@ pub fn run<R, L, K, I, S, P, V, T, Z, D, W, E, C>(
     launcher: &mut L,
     store: &mut FolderStore<K>,
     lines: &mut I,
-    services: &mut S,
     service_set: &mut P,
     waiting: &V,
     pace: &mut T,
     zone: &Z,
     words: &[&str],
-    devices: &mut Devices<D, W, E, C>,
+    devices: &mut Devices<D, W, E, S, C>,
 ) -> u8
 where
     R: FileSource + EnvSystem + ServiceFiles + CountFiles + AllocGlobal,
@@ -139,14 +157,21 @@ where
     requires ready { P.ready service_set.old }
     requires no_logs { store.old.logs ≡ [] }
     requires no_files { store.old.statuses ≡ [] }
-    ensures ends { ProgramEnds (texts words.now) result
-        (system (R.file_at rt.now) (R.state rt.now) (knowledge (R.texts rt.now) (Z.text_at zone.now))
-        (Z.ahead_at zone.now) (R.counts_at rt.now))
-        (calls_so_far (L.calls launcher.old) store.old (I.feed lines.old) (S.calls services.old)
-        (P.calls service_set.old) (T.steps pace.old))
-        (calls_so_far (L.calls launcher.new) store.new (I.feed lines.new) (S.calls services.new)
-        (P.calls service_set.new) (T.steps pace.new))
+    ensures plain { PlainProgram (texts words.now) result devices.old devices.new }
+    ensures zoned { ZonedProgram (texts words.now) result (Z.ahead_at zone.now) (R.file_at rt.now)
         devices.old devices.new }
+    ensures child { ChildProgram (texts words.now) result (R.state rt.now)
+        (L.calls launcher.old) (L.calls launcher.new) devices.old devices.new }
+    ensures logs { LoggerProgram (texts words.now) result store.old store.new
+        (I.feed lines.old) (I.feed lines.new) devices.old devices.new }
+    ensures services { ServiceProgram (texts words.now) result (R.counts_at rt.now)
+        devices.old devices.new }
+    ensures why { ReasonProgram (texts words.now) result (knowledge (R.texts rt.now) (Z.text_at zone.now))
+        devices.old devices.new }
+    ensures wait { PacedProgram (texts words.now) result (T.steps pace.old) (T.steps pace.new)
+        devices.old devices.new }
+    ensures scan { ScanProgram (texts words.now) result
+        (P.calls service_set.old) (P.calls service_set.new) devices.old devices.new }
 {
     match words {
         [name, words @ ..] => run_command(
@@ -154,7 +179,6 @@ where
             launcher,
             store,
             lines,
-            services,
             service_set,
             waiting,
             pace,

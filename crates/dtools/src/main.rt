@@ -11,7 +11,7 @@ use cmd_local::{LocalZone, system_zone};
 use cmd_multilog::{
     FolderStore, LineClock, LineLabels, Stoppable, SystemInput, SystemLogs, stop_channel,
 };
-use cmd_svc::SystemServices;
+use cmd_svc::{Observer, Services, SystemServices};
 use cmd_svscan::{FolderServices, Request, ServiceSet, SystemHost, handle};
 use cmd_wait::SystemPace;
 use command::run;
@@ -36,7 +36,10 @@ fn main(rt: HostRuntime) -> ExitCode {
         reader: Counted::new(rt.stdin()),
         writer: Counted::new(rt.stdout()),
         faults: Counted::new(rt.stderr()),
-        clock: LineClock::new(SystemClock::new(rt), &labels),
+        observer: Observer {
+            services: SystemServices::new(rt),
+            clock: LineClock::new(SystemClock::new(rt), &labels),
+        },
     };
     let alloc = rt.alloc();
     let mut host: Option<SystemHost<HostRuntime>> = None;
@@ -54,12 +57,12 @@ fn logger_channel(rt: &HostRuntime) -> Option<i32> {
 }
 
 /// Runs the program's words, but for its own name.
-fn run_arguments<V, I, P, D, W, E, C>(
+fn run_arguments<V, I, P, D, W, E, S, C>(
     rt: &HostRuntime,
     waiting: &V,
     lines: &mut I,
     service_set: &mut P,
-    devices: &mut Devices<D, W, E, C>,
+    devices: &mut Devices<D, W, E, S, C>,
 ) -> u8
 where
     V: Wait,
@@ -68,6 +71,7 @@ where
     D: Read,
     W: Write,
     E: Write,
+    S: Services,
     C: TimeSource,
     requires { P.ready service_set.old }
 {
@@ -88,7 +92,6 @@ where
             &mut SystemLauncher::new(rt),
             &mut store,
             lines,
-            &mut SystemServices::new(rt),
             service_set,
             waiting,
             &mut SystemPace::new(rt),

@@ -74,3 +74,11 @@ pub record RunsParts (ran : Option RunFault) (script : List Act) (old new : Play
   pub last : Play
   pub turns : TurnsOver begun script old last
   pub ends : EndsBy ran script last new
+
+-- The same, of an input, a store and a clock of which contracts see this.
+abbrev pub PlaysParts : {I S C : Type 0} (ran : Option RunFault) (script : List Act) (feed : I → Feed)
+    (input inputs : I) (state : S → StoreState) (store stored : S) (readings : C → Option (List Tai64n))
+    (clock read : C) → Type 0
+PlaysParts ran script feed input inputs state store stored readings clock read =
+    RunsParts ran script (play (feed input) (state store) (readings clock))
+    (play (feed inputs) (state stored) (readings read))

@@ -6,8 +6,8 @@ use Rattle.tai_status.specs.Counted.{Rose}
 use Rattle.mlog_script.specs.Script.{Act, Plan, log_plans}
 use Rattle.mlog_files.specs.Files.{Files, Step}
 use Rattle.mlog_files.specs.Going.{Standing, rotate_steps, rotated}
-use Rattle.mlog_files.specs.Store.{StoreState, Stays, Reaches}
-use Rattle.mlog_files.specs.Tails.{found}
+use Rattle.mlog_files.specs.Store.{StoreState, Does, Stays, Reaches}
+use Rattle.mlog_files.specs.Tails.{found, StopsOn}
 use Rattle.mlog_files.specs.declared.tail.LogFault.{LogFault}
 use Rattle.mlog_files.specs.declared.tail.LogFault.TheVariants as log_fault
 use Rattle.mlog_core.specs.Run.{ReachesFront}
@@ -25,6 +25,17 @@ abbrev pub stands_rotated : Option Plan → Tai64n → Option Files → Option S
 stands_rotated None reading files = None
 stands_rotated (Some plan) reading None = None
 stands_rotated (Some plan) reading (Some files) = rotated plan.keep (found files) reading
+
+-- The log of this number was rotated under a reading of the clock.
+abbrev pub RotatesLog : (script : List Act) (reading : Tai64n) (log : ℕ) (old new : StoreState) → Type 0
+RotatesLog script reading log old new =
+    Does old new log (rotation (slice_get (log_plans script) log) reading (old.told.files log))
+
+-- It was not, or not wholly.
+abbrev pub RotatesLogUpTo : (script : List Act) (reading : Tai64n) (log : ℕ) (old new : StoreState) → LogFault → Type 0
+RotatesLogUpTo script reading log old new why =
+    StopsOn old new log (rotation (slice_get (log_plans script) log) reading (old.told.files log))
+    (stands_rotated (slice_get (log_plans script) log) reading (old.told.files log)) why
 
 -- All logs of a script were rotated under a reading of the clock, and nothing else was done.
 pub record Rotates (script : List Act) (old new : StoreState) (read reads : Option (List Tai64n)) : Type 0 where

@@ -1,6 +1,6 @@
 -- What a run of multilog does.
-use Rattle.std.specs.Prelude.{◌≡◌, ℕ, ◌+◌, ◌-◌, ◌^◌, ◌<◌, ◌≤◌, min, true, List, [], ◌∷◌, ◌++◌, length, take, fold, slice_get}
-use Rattle.std.specs.Prelude.{Option, Some, None, IfSome, Result, IfOk, IsErrOf}
+use Rattle.std.specs.Prelude.{◌≡◌, ℕ, ◌+◌, ◌-◌, ◌^◌, ◌<◌, ◌≤◌, min, true, List, [], ◌∷◌, ◌++◌, length, take}
+use Rattle.std.specs.Prelude.{fold, slice_get, Option, Some, None, IfSome, Result, IfOk, IsErrOf}
 use Rattle.std.specs.Io.KnownBytes.{Appends}
 use Rattle.tai_status.specs.Label.{Tai64n}
 use Rattle.tai_status.specs.Counted.{Device, AppendsFront, Gives}
@@ -15,6 +15,7 @@ use Rattle.mlog_files.specs.Store.{StoreState, Told, Reaches, WasGiven}
 use Rattle.mlog_files.specs.Tails.{found}
 use Rattle.mlog_line.specs.Given.{Given, nothing, so_far}
 use Rattle.mlog_line.specs.Outputs.{GivenFront}
+use Rattle.mlog_core.specs.Feed.{Feed}
 use Rattle.mlog_core.specs.declared.stream.Counts.{Counts}
 use Rattle.mlog_core.specs.declared.stream.RunFault.{RunFault}
 use Rattle.mlog_core.specs.declared.stream.RunFault.TheVariants as fault
@@ -152,3 +153,16 @@ pub record RunEnds (result : Result Counts RunFault) (script : List Act) (old ne
   pub store : IsErrOf result fault.Store → RunsUpTo script old new fault.Store
   pub spent : IsErrOf result fault.LabelsSpent → RunsUpTo script old new fault.LabelsSpent
   pub memory : IsErrOf result fault.OutOfMemory → new ≡ old
+
+-- The same, of a store and a clock of which contracts see this.
+abbrev pub RunsTo : {S C : Type 0} (result : Result Counts RunFault) (script : List Act) (reader reads : Device)
+    (state : S → StoreState) (store stored : S) (readings : C → Option (List Tai64n)) (clock read : C) → Type 0
+RunsTo result script reader reads state store stored readings clock read =
+    RunEnds result script (world reader (state store) (readings clock)) (world reads (state stored) (readings read))
+
+-- The same, of the part of an input that is read.
+abbrev pub PartRuns : {I S C : Type 0} (result : Result Counts RunFault) (script : List Act) (feed : I → Feed)
+    (input inputs : I) (state : S → StoreState) (store stored : S) (readings : C → Option (List Tai64n))
+    (clock read : C) → Type 0
+PartRuns result script feed input inputs state store stored readings clock read =
+    RunsTo result script (feed input).device (feed inputs).device state store stored readings clock read

@@ -1,6 +1,6 @@
 -- How far a run has come. No public contract speaks of it.
-use Rattle.std.specs.Prelude.{◌≡◌, ℕ, ◌<◌, ◌≤◌, Bool, true, false, List, [], ◌∷◌, ◌++◌, length, take, count_by}
-use Rattle.std.specs.Prelude.{Option, Some, None, Result, OnOk, IfOk, IfErr}
+use Rattle.std.specs.Prelude.{◌≡◌, ℕ, ◌+◌, ◌<◌, ◌≤◌, Bool, true, false, List, [], ◌∷◌, ◌++◌, length, take, drop}
+use Rattle.std.specs.Prelude.{count_by, Option, Some, None, Result, OnOk, IfOk, IfErr}
 use Rattle.tai_status.specs.Label.{Tai64n}
 use Rattle.tai_status.specs.Lines.{texts_of, Sent}
 use Rattle.tai_status.specs.Extended.{Extended}
@@ -18,6 +18,10 @@ use Rattle.mlog_core.specs.Run.{labels_of, given_in}
 use Rattle.mlog_core.specs.declared.feed.Lines.{Lines}
 use Rattle.mlog_core.specs.declared.feed.Taken.{Taken}
 use Rattle.mlog_core.specs.declared.feed.Fed.{Fed}
+
+-- Behind so many bytes there is a newline.
+abbrev pub HasNewlineAt : (bytes : List ℕ) (len : ℕ) → Type 0
+HasNewlineAt bytes len = (len < length bytes) × (bytes ≡ take len bytes ++ 10 ∷ drop (len + 1) bytes)
 
 -- The label of the line that has begun, where one has; the router; the store; and what the clock gave.
 pub record Scene : Type 0 where
@@ -126,6 +130,13 @@ pub record Feeds (result : Result Fed LogFault) (script : List Act) (inside : Op
       → WentUpTo script (scene inside place was read) (scene None now is reads) line bytes why)
   pub serves : Serves script now is
   pub stays : Stays was is
+
+-- The same, of a store and a clock of which contracts see this.
+abbrev pub FeedsTo : {S C : Type 0} (result : Result Fed LogFault) (script : List Act) (inside : Option Tai64n)
+    (place now : Place) (state : S → StoreState) (store stored : S) (readings : C → Option (List Tai64n))
+    (clock read : C) (bytes : List ℕ) → Type 0
+FeedsTo result script inside place now state store stored readings clock read bytes =
+    Feeds result script inside place now (state store) (state stored) (readings clock) (readings read) bytes
 
 -- What a call comes to at the end of the input: the line that had begun has given all that it gives; or it stopped, and
 -- why.

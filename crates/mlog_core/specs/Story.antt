@@ -11,6 +11,7 @@ use Rattle.mlog_files.specs.declared.tail.LogFault.TheVariants as log_fault
 use Rattle.mlog_line.specs.LineRouter.{Place, IsWritten}
 use Rattle.mlog_line.specs.Given.{of_text}
 use Rattle.mlog_line.specs.Outputs.{Takes, Stops}
+use Rattle.mlog_core.specs.Feed.{Feed}
 use Rattle.mlog_core.specs.Scene.{Scene, scene, outputs_of, Went}
 use Rattle.mlog_core.specs.declared.stream.RunFault.{RunFault}
 use Rattle.mlog_core.specs.declared.stream.RunFault.TheVariants as fault
@@ -51,3 +52,11 @@ pub record Runs (result : Result ℕ RunFault) (script : List Act) (place now : 
       → Halted script (scene None place was read) (scene None now is reads) reader reader_now log_fault.Store
   pub spent : IsErrOf result fault.LabelsSpent
       → Halted script (scene None place was read) (scene None now is reads) reader reader_now log_fault.LabelsSpent
+
+-- The same, of the part of an input that is read, and of a store and a clock of which contracts see this.
+abbrev pub RunsOf : {S C I : Type 0} (result : Result ℕ RunFault) (script : List Act) (place now : Place)
+    (state : S → StoreState) (store stored : S) (readings : C → Option (List Tai64n)) (clock read : C)
+    (feed : I → Feed) (input inputs : I) → Type 0
+RunsOf result script place now state store stored readings clock read feed input inputs =
+    Runs result script place now (state store) (state stored) (readings clock) (readings read)
+    (feed input).device (feed inputs).device

@@ -3,7 +3,7 @@ ghost use Rattle.std.specs.Prelude.{◌≡◌, ◌≤◌, ◌<◌, true, Option,
 ghost use Rattle.mlog_script.specs.Selection.{Fits};
 ghost use Rattle.mlog_files.specs.Store.{Stays};
 ghost use Rattle.mlog_line.specs.LineRouter.{IsBare, IsWritten, Serves};
-ghost use Rattle.mlog_core.specs.Scene.{left_of, GoesOn, AreAlike, FeedsLine, Feeds, EndsInput};
+ghost use Rattle.mlog_core.specs.Scene.{left_of, GoesOn, AreAlike, FeedsLine, FeedsTo, EndsInput};
 
 use crate::front::plain_front;
 use mlog_files::{LogFault, LogStore};
@@ -73,8 +73,8 @@ fn feed_part<A: Allocator + Clone, B: Allocator + Clone, S: LogStore, C: TimeSou
 ) -> Result<Fed, LogFault>
     requires serves { Serves script.now router.old (S.state store.old) }
     requires some { 0 < length bytes.now }
-    ensures feeds { Feeds result script.now inside router.old router.new
-        (S.state store.old) (S.state store.new) (C.readings clock.old) (C.readings clock.new) bytes.now }
+    ensures feeds { FeedsTo result script.now inside router.old router.new
+        S.state store.old store.new C.readings clock.old clock.new bytes.now }
     ensures some { IfOk result (λ fed. 0 < fed.len) }
 {
     match inside {
@@ -170,8 +170,8 @@ fn feed_alike<A: Allocator + Clone, B: Allocator + Clone, S: LogStore, C: TimeSo
     bytes: &[u8],
 ) -> Result<Fed, LogFault>
     requires serves { Serves script.now router.old (S.state store.old) }
-    ensures feeds { Feeds result script.now None router.old router.new
-        (S.state store.old) (S.state store.new) (C.readings clock.old) (C.readings clock.new) bytes.now }
+    ensures feeds { FeedsTo result script.now None router.old router.new
+        S.state store.old store.new C.readings clock.old clock.new bytes.now }
     ensures none { IfOk result (λ fed. fed.inside ≡ None) }
 {
     let room = router.room(script).min(bytes.len());
@@ -203,8 +203,8 @@ fn feed_some<A: Allocator + Clone, B: Allocator + Clone, S: LogStore, C: TimeSou
 ) -> Result<Fed, LogFault>
     requires serves { Serves script.now router.old (S.state store.old) }
     requires some { 0 < length bytes.now }
-    ensures feeds { Feeds result script.now inside router.old router.new
-        (S.state store.old) (S.state store.new) (C.readings clock.old) (C.readings clock.new) bytes.now }
+    ensures feeds { FeedsTo result script.now inside router.old router.new
+        S.state store.old store.new C.readings clock.old clock.new bytes.now }
     ensures some { IfOk result (λ fed. 0 < fed.len) }
 {
     match inside {
@@ -228,8 +228,8 @@ fn feed_parts<A: Allocator + Clone, B: Allocator + Clone, S: LogStore, C: TimeSo
     bytes: &[u8],
 ) -> Result<Fed, LogFault>
     requires serves { Serves script.now router.old (S.state store.old) }
-    ensures feeds { Feeds result script.now inside router.old router.new
-        (S.state store.old) (S.state store.new) (C.readings clock.old) (C.readings clock.new) bytes.now }
+    ensures feeds { FeedsTo result script.now inside router.old router.new
+        S.state store.old store.new C.readings clock.old clock.new bytes.now }
     ensures all { IfOk result (λ fed. fed.len ≡ length bytes.now) }
 {
     let mut len = 0;
@@ -258,8 +258,8 @@ pub fn feed_block<A: Allocator + Clone, B: Allocator + Clone, S: LogStore, C: Ti
     bytes: &[u8],
 ) -> Result<Fed, LogFault>
     requires serves { Serves script.now router.old (S.state store.old) }
-    ensures feeds { Feeds result script.now inside router.old router.new
-        (S.state store.old) (S.state store.new) (C.readings clock.old) (C.readings clock.new) bytes.now }
+    ensures feeds { FeedsTo result script.now inside router.old router.new
+        S.state store.old store.new C.readings clock.old clock.new bytes.now }
     ensures all { IfOk result (λ fed. fed.len ≡ length bytes.now) }
     ensures written { OnOk result (IsWritten router.new.tails) }
 {

@@ -1,6 +1,7 @@
 //! What some bytes begin with, before a newline.
-ghost use Rattle.std.specs.Prelude.{◌≡◌, ◌≤◌, ◌<◌, ◌+◌, ◌++◌, ◌∷◌, true, false, length, take, drop};
+ghost use Rattle.std.specs.Prelude.{◌≡◌, ◌≤◌, true, false, length, take};
 ghost use Rattle.tai_status.specs.LineReader.{IsPlain};
+ghost use Rattle.mlog_core.specs.Scene.{HasNewlineAt};
 
 use memchr::memchr;
 
@@ -15,8 +16,7 @@ pub struct PlainFront {
 pub fn plain_front(bytes: &[u8]) -> PlainFront
     ensures within { result.len ≤ length bytes.now }
     ensures plain { IsPlain (take result.len bytes.now) }
-    ensures newline { result.ends ≡ true → (result.len < length bytes.now)
-        × (bytes.now ≡ take result.len bytes.now ++ 10 ∷ drop (result.len + 1) bytes.now) }
+    ensures newline { result.ends ≡ true → HasNewlineAt bytes.now result.len }
     ensures none { result.ends ≡ false → result.len ≡ length bytes.now }
 {
     match memchr(b'\n', bytes) {

@@ -1,9 +1,7 @@
 //! How the logs of a script are rotated.
-ghost use Rattle.std.specs.Prelude.{◌≡◌, ◌≤◌, ◌<◌, count_by, slice_get, OnOk, IfErr};
-ghost use Rattle.mlog_script.specs.Script.{is_log, log_plans};
-ghost use Rattle.mlog_files.specs.Store.{Does};
-ghost use Rattle.mlog_files.specs.Tails.{StopsOn};
-ghost use Rattle.mlog_core.specs.Rotate.{rotation, stands_rotated, Rotates, RotatesUpTo};
+ghost use Rattle.std.specs.Prelude.{◌≤◌, ◌<◌, count_by, OnOk, IfErr};
+ghost use Rattle.mlog_script.specs.Script.{is_log};
+ghost use Rattle.mlog_core.specs.Rotate.{Rotates, RotatesLog, RotatesLogUpTo, RotatesUpTo};
 
 use mlog_files::{LogFault, LogStore, Tail};
 use mlog_script::Script;
@@ -18,11 +16,9 @@ fn rotate_log<B: Allocator + Clone, S: LogStore>(
     reading: &Label,
 ) -> Result<(), LogFault>
     requires log { log < (S.state store.old).logs }
-    ensures done { OnOk result (Does (S.state store.old) (S.state store.new) log
-        (rotation (slice_get (log_plans script.now) log) reading.now ((S.state store.old).told.files log))) }
-    ensures stopped { IfErr result (λ why. StopsOn (S.state store.old) (S.state store.new) log
-        (rotation (slice_get (log_plans script.now) log) reading.now ((S.state store.old).told.files log))
-        (stands_rotated (slice_get (log_plans script.now) log) reading.now ((S.state store.old).told.files log)) why) }
+    ensures done { OnOk result (RotatesLog script.now reading.now log (S.state store.old) (S.state store.new)) }
+    ensures stopped { IfErr result
+        (RotatesLogUpTo script.now reading.now log (S.state store.old) (S.state store.new)) }
 {
     match script.log(log) {
         Some(plan) => {
@@ -42,8 +38,8 @@ pub(crate) fn rotate_all<B: Allocator + Clone, S: LogStore, C: TimeSource>(
     requires logs { count_by is_log script.now ≤ (S.state store.old).logs }
     ensures done { OnOk result (Rotates script.now (S.state store.old) (S.state store.new)
         (C.readings clock.old) (C.readings clock.new)) }
-    ensures stopped { IfErr result (λ why. RotatesUpTo script.now (S.state store.old) (S.state store.new)
-        (C.readings clock.old) (C.readings clock.new) why) }
+    ensures stopped { IfErr result (RotatesUpTo script.now (S.state store.old) (S.state store.new)
+        (C.readings clock.old) (C.readings clock.new)) }
 {
     let reading = clock.now();
     for log in 0..script.logs() {

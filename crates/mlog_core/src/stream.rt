@@ -3,8 +3,8 @@ ghost use Rattle.std.specs.Prelude.{◌≡◌, ◌≤◌, count_by, OnOk, IsErrO
 ghost use Rattle.tai_status.specs.Counted.{CountsRead, Fails, IsRead, Rose, Works};
 ghost use Rattle.mlog_script.specs.Script.{is_log, is_file};
 ghost use Rattle.mlog_line.specs.LineRouter.{IsWritten, Serves};
-ghost use Rattle.mlog_core.specs.Run.{world, RunEnds};
-ghost use Rattle.mlog_core.specs.Story.{Runs};
+ghost use Rattle.mlog_core.specs.Run.{PartRuns, RunsTo};
+ghost use Rattle.mlog_core.specs.Story.{RunsOf};
 ghost use Rattle.mlog_files.specs.Store.{Stays};
 ghost use Rattle.mlog_files.specs.declared.tail.LogFault.TheVariants as log_fault;
 
@@ -64,8 +64,8 @@ pub fn run<A: Allocator + Clone, B: Allocator + Clone, D: Read, S: LogStore, C: 
     // The store has the logs and status files of the script.
     requires logs { count_by is_log script.now ≤ (S.state store.old).logs }
     requires files { count_by is_file script.now ≤ (S.state store.old).status_files }
-    ensures runs { RunEnds result script.now (world reader.old (S.state store.old) (C.readings clock.old))
-        (world reader.new (S.state store.new) (C.readings clock.new)) }
+    ensures runs { RunsTo result script.now reader.old reader.new
+        S.state store.old store.new C.readings clock.old clock.new }
     ensures end { OnOk result (IsRead reader.new) }
     ensures works { OnOk result (Works reader.old reader.new) }
     ensures stays { Stays (S.state store.old) (S.state store.new) }
@@ -92,9 +92,8 @@ where
     C: TimeSource,
     requires logs { count_by is_log script.now ≤ (S.state store.old).logs }
     requires files { count_by is_file script.now ≤ (S.state store.old).status_files }
-    ensures runs { RunEnds result script.now
-        (world (I.feed input.old).device (S.state store.old) (C.readings clock.old))
-        (world (I.feed input.new).device (S.state store.new) (C.readings clock.new)) }
+    ensures runs { PartRuns result script.now I.feed input.old input.new
+        S.state store.old store.new C.readings clock.old clock.new }
     ensures end { OnOk result (IsRead (I.feed input.new).device) }
     ensures works { OnOk result (Works (I.feed input.old).device (I.feed input.new).device) }
     ensures reads { OnOk result (CountsRead (I.feed input.old).device (I.feed input.new).device) }
@@ -147,8 +146,8 @@ where
     C: TimeSource,
     requires serves { Serves script.now router.old (S.state store.old) }
     requires written { IsWritten router.old.tails }
-    ensures runs { Runs result script.now router.old router.new (S.state store.old) (S.state store.new)
-        (C.readings clock.old) (C.readings clock.new) (I.feed input.old).device (I.feed input.new).device }
+    ensures runs { RunsOf result script.now router.old router.new
+        S.state store.old store.new C.readings clock.old clock.new I.feed input.old input.new }
     ensures written { OnOk result (IsWritten router.new.tails) }
     ensures end { OnOk result (IsRead (I.feed input.new).device) }
     ensures works { OnOk result (Works (I.feed input.old).device (I.feed input.new).device) }

@@ -3,7 +3,7 @@ ghost use Rattle.std.specs.Prelude.{◌≡◌, ◌≤◌, count_by};
 ghost use Rattle.std.specs.Result.{result_err};
 ghost use Rattle.mlog_script.specs.Script.{is_log, is_file};
 ghost use Rattle.mlog_files.specs.Store.{Stays};
-ghost use Rattle.mlog_core.specs.Parts.{play, RunsParts};
+ghost use Rattle.mlog_core.specs.Parts.{PlaysParts};
 
 use crate::parted::PartedInput;
 use crate::rotate::rotate_all;
@@ -33,9 +33,8 @@ where
     C: TimeSource,
     requires logs { count_by is_log script.now ≤ (S.state store.old).logs }
     requires files { count_by is_file script.now ≤ (S.state store.old).status_files }
-    ensures runs { RunsParts (result_err result) script.now
-        (play (I.feed input.old) (S.state store.old) (C.readings clock.old))
-        (play (I.feed input.new) (S.state store.new) (C.readings clock.new)) }
+    ensures runs { PlaysParts (result_err result) script.now I.feed input.old input.new
+        S.state store.old store.new C.readings clock.old clock.new }
     ensures stays { Stays (S.state store.old) (S.state store.new) }
 {
     'parts: loop {

@@ -1,6 +1,11 @@
 -- At which logs lines are selected.
-use Rattle.std.specs.Prelude.{◌≡◌, ◌≢◌, ⊤, ℕ, Bool, true, false, List}
+use Rattle.std.specs.Prelude.{◌≡◌, ◌≢◌, ⊤, ℕ, Bool, true, false, List, length, Result}
 use Rattle.std.specs.List.{list_all, list_any}
+use Rattle.mlog_files.specs.Store.{StoreState}
+use Rattle.mlog_files.specs.declared.tail.Tail.{Tail}
+use Rattle.mlog_files.specs.declared.tail.LogFault.{LogFault}
+use Rattle.mlog_line.specs.Given.{to_first}
+use Rattle.mlog_line.specs.Outputs.{HandsText}
 use Rattle.mlog_line.specs.declared.line_router.Reach.{Reach}
 use Rattle.mlog_line.specs.declared.line_router.Reach.TheVariants as code
 
@@ -19,3 +24,9 @@ logs_in code.Somewhere count = 0
 -- Lines of this reach go to all logs or to none.
 abbrev pub AllOrNone : Reach → Type 0
 AllOrNone reach = reach ≢ code.Somewhere
+
+-- What a call comes to that gives bytes to all logs or to none.
+abbrev pub HandsAlike : {T : Type 0} (result : Result T LogFault) (tails now : List Tail) (was is : StoreState)
+    (bytes : List ℕ) (reach : Reach) → Type 0
+HandsAlike result tails now was is bytes reach =
+    HandsText result tails now was is bytes (to_first (logs_in reach (length tails)))

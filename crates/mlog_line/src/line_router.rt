@@ -3,11 +3,11 @@ ghost use Rattle.std.specs.Prelude.{◌≡◌, ◌≤◌, ◌<◌, [], true, fal
 ghost use Rattle.std.specs.List.{list_all, list_any};
 ghost use Rattle.mlog_script.specs.Script.{is_log, is_file};
 ghost use Rattle.mlog_script.specs.Selection.{chosen, Fits};
-ghost use Rattle.mlog_line.specs.Given.{nothing, to_first};
-ghost use Rattle.mlog_line.specs.Outputs.{Hands, HandsText};
+ghost use Rattle.mlog_line.specs.Given.{nothing};
+ghost use Rattle.mlog_line.specs.Outputs.{Hands};
 ghost use Rattle.mlog_line.specs.LineRouter.{AreOpened, IsAt, IsWritten, IsBare, HaveRoom, Serves, SamePlace};
 ghost use Rattle.mlog_line.specs.LineRouter.{PutsLine, EndsLine, Decides, total_finished, total_removed};
-ghost use Rattle.mlog_line.specs.Reach.{Reaches, logs_in};
+ghost use Rattle.mlog_line.specs.Reach.{HandsAlike, Reaches};
 
 use crate::alerts::alert_chosen;
 use crate::logs::{flush_all, open_all, put_all_within, put_chosen, room_in_all};
@@ -278,8 +278,8 @@ impl<A: Allocator + Clone> LineRouter<A> {
     ) -> Result<(), LogFault>
         requires room { HaveRoom (length bytes.now) self.old.tails }
         requires logs { length self.old.tails ≤ (S.state store.old).logs }
-        ensures hands { HandsText result self.old.tails self.new.tails (S.state store.old) (S.state store.new)
-            bytes.now (to_first (logs_in reach (length self.old.tails))) }
+        ensures hands { HandsAlike result self.old.tails self.new.tails (S.state store.old) (S.state store.new)
+            bytes.now reach }
         ensures same { SamePlace self.old self.new }
     {
         match reach {

@@ -1,7 +1,8 @@
 -- Actions with bytes of their own, as the code holds them.
-use Rattle.std.specs.Prelude.{◌≡◌, false}
+use Rattle.std.specs.Prelude.{◌≡◌, false, List, map, Result, Ok}
 use Rattle.mlog_script.specs.Script.{Act, Stamp, Alert, Size, Keep, Select, Deselect, Status, Log}
 use Rattle.mlog_script.specs.Script.{is_alert, is_log, is_file}
+use Rattle.mlog_script.specs.declared.fault.ScriptFaultKind.{ScriptFaultKind}
 use Rattle.mlog_script.specs.declared.action.Action.{Action}
 use Rattle.mlog_script.specs.declared.action.Action.TheVariants as code
 
@@ -18,3 +19,7 @@ act (code.Log folder) = Log folder.items
 -- No line goes out at the action, neither to an alert nor to a log nor to a status file.
 abbrev pub HasNoOutput : Act → Type 0
 HasNoOutput a = (is_alert a ≡ false) × (is_log a ≡ false) × (is_file a ≡ false)
+
+-- what actions ask, as words say it
+abbrev pub asked_by : {A : Type 0} → List (Action A) → List (Result Act ScriptFaultKind)
+asked_by actions = map (λ action. Ok (act action)) actions

@@ -1,5 +1,5 @@
 -- The names and texts of faults.
-use Rattle.std.specs.Prelude.{ℕ, List, ◌++◌, codes, decimal}
+use Rattle.std.specs.Prelude.{◌≡◌, ℕ, List, ◌++◌, codes, decimal}
 use Rattle.mlog_script.specs.declared.fault.ScriptFault.{ScriptFault}
 use Rattle.mlog_script.specs.declared.fault.ScriptFaultKind.{ScriptFaultKind}
 use Rattle.mlog_script.specs.declared.fault.ScriptFaultKind.TheVariants as kind
@@ -19,3 +19,7 @@ kind_name kind.OutOfMemory = codes "OutOfMemory"
 -- the word that is wrong, and what is wrong with it
 abbrev pub script_fault_text : ScriptFault → List ℕ
 script_fault_text fault = codes "word " ++ (decimal fault.word ++ (codes ": " ++ kind_name fault.kind))
+
+-- There was no memory.
+abbrev pub IsWantOfMemory : ScriptFault → Type 0
+IsWantOfMemory fault = fault.kind ≡ kind.OutOfMemory

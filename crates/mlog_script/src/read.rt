@@ -2,7 +2,7 @@
 ghost use Rattle.std.specs.Prelude.{◌≡◌, ◌<◌, ◌≤◌, ◌++◌, ◌∷◌, [], Ok, true, is_ok, length, map, IfOk, IfErr, OnOk};
 ghost use Rattle.std.specs.Prelude.{IsOkUnless};
 ghost use Rattle.mlog_script.specs.Script.{texts, said, faults};
-ghost use Rattle.mlog_script.specs.Action.{act};
+ghost use Rattle.mlog_script.specs.Action.{act, asked_by};
 
 use crate::action::Action;
 use crate::fault::{ScriptFault, ScriptFaultKind};
@@ -39,8 +39,7 @@ fn add<A: Allocator + Clone>(
     word: &[u8],
 ) -> Result<(), ScriptFaultKind>
     requires { is_ok (said word.now) ≡ true }
-    ensures ok { OnOk result (map (λ action. Ok (act action)) actions.new.items
-        ≡ map (λ action. Ok (act action)) actions.old.items ++ said word.now ∷ []) }
+    ensures ok { OnOk result (asked_by actions.new.items ≡ asked_by actions.old.items ++ said word.now ∷ []) }
     ensures memory { IsOkUnless result ScriptFaultKind.OutOfMemory }
 {
     let own = actions

@@ -3,6 +3,7 @@ ghost use Rattle.std.specs.Prelude.{IfOk, IfErr, IsErrOf, IfSome, IsSome, MatchO
 ghost use Rattle.std.specs.List.{list_any, list_all};
 ghost use Rattle.mlog_script.specs.Script.{texts, said, first_fault, is_stamp, is_alert, is_pattern, is_log, is_file};
 ghost use Rattle.mlog_script.specs.Script.{is_within_limits, log_plans, file_paths};
+ghost use Rattle.mlog_script.specs.Named.{IsWantOfMemory};
 ghost use Rattle.mlog_script.specs.Selection.{stamps};
 ghost use Rattle.mlog_script.specs.Action.{act};
 
@@ -46,9 +47,8 @@ impl<A: Allocator + Clone> Script<A> {
     pub fn read(alloc: A, words: &[&[u8]]) -> Result<Script<A>, ScriptFault>
         ensures ok { IfOk result (λ script. map said (texts words.now) ≡ map (λ action. Ok action) script) }
         ensures refuses { MatchOption (first_fault (texts words.now))
-            (IfErr result (λ fault. fault.kind ≡ ScriptFaultKind.OutOfMemory))
-            (λ fault. IsErrOf result fault) }
-        ensures memory { IfErr result (λ fault. fault.kind ≡ ScriptFaultKind.OutOfMemory
+            (IfErr result IsWantOfMemory) (λ fault. IsErrOf result fault) }
+        ensures memory { IfErr result (λ fault. IsWantOfMemory fault
             → (0 < fault.word) × (fault.word ≤ length words.now)) }
     {
         check(words)?;

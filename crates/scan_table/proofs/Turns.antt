@@ -13,7 +13,7 @@ use Rattle.scan_table.specs.declared.part.PartId.{PartId}
 use Rattle.scan_table.specs.Slots.{Row, is_eligible, eligible, SlotState}
 use Rattle.scan_table.specs.Scan.{AreRising, IsBelow, is_new, new_rows, is_refused, room, slot_of, need, need_where}
 use Rattle.scan_table.specs.Scan.{in_turn, new_slots_at, new_slots_where, restarts_at}
-use Rattle.scan_table.specs.Turns.{turn_need, is_counted, turn_slots, turn_restarts, turn_refused}
+use Rattle.scan_table.specs.Turns.{turn_need, is_counted, row_slots, turn_restarts, turn_refused}
 use Rattle.scan_table.proofs.Rising.{rising-pairs, among-later}
 
 -- the new names of a front and a rest
@@ -162,7 +162,7 @@ within-need left need rest whole e h = grind (arith, nat_tests)
 turn-slots : (slots : List SlotState) (rows : List Row) (n : ℕ) (before : List Row) (row : Row) (after : List Row) →
     before ++ row ∷ after ≡ rows → AreRising rows →
     (if is_eligible row then new_slots_at slots rows n row else [])
-    ≡ turn_slots slots (nat_le (room slots rows) (length (new_rows slots before))) n row
+    ≡ row_slots slots (nat_le (room slots rows) (length (new_rows slots before))) n row
 turn-slots slots rows n before row after whole rising =
     elim (is_eligible row) as (λ b. is_eligible row ≡ b →
     (if b then new_slots_at slots rows n row else [])
@@ -181,7 +181,7 @@ turn-slots slots rows n before row after whole rising =
 
 pub row-slots : (slots : List SlotState) (rows : List Row) (n i : ℕ) (d : Row) → i < length rows → AreRising rows →
     in_turn (need slots rows) (new_slots_at slots rows) n (eligible (drop i rows)) ≡
-    turn_slots slots (nat_le (room slots rows) (length (new_rows slots (take i rows)))) n (slice_index_or rows i d) ++
+    row_slots slots (nat_le (room slots rows) (length (new_rows slots (take i rows)))) n (slice_index_or rows i d) ++
     in_turn (need slots rows) (new_slots_at slots rows)
     (n + turn_need slots (nat_le (room slots rows) (length (new_rows slots (take i rows))))
     (slice_index_or rows i d)) (eligible (drop (i + 1) rows))
@@ -234,10 +234,10 @@ pub slots-turned : (slots : List SlotState) (rows : List Row) (n n' i made r : �
     slice_index_or rows i d ≡ row → made ≡ length (new_rows slots (take i rows)) → r ≡ room slots rows →
     n' ≡ n + turn_need slots (nat_le r made) row →
     list ++ in_turn (need slots rows) (new_slots_at slots rows) n (eligible (drop i rows)) ≡ whole →
-    list' ≡ list ++ turn_slots slots (nat_le r made) n row →
+    list' ≡ list ++ row_slots slots (nat_le r made) n row →
     list' ++ in_turn (need slots rows) (new_slots_at slots rows) n' (eligible (drop (i + 1) rows)) ≡ whole
 slots-turned slots rows n n' i made r d row list list' whole within rising at made-is r-is n-is all more =
-    turned list list' (turn_slots slots (nat_le r made) n row)
+    turned list list' (row_slots slots (nat_le r made) n row)
     (in_turn (need slots rows) (new_slots_at slots rows) n (eligible (drop i rows)))
     (in_turn (need slots rows) (new_slots_at slots rows) n' (eligible (drop (i + 1) rows))) whole all
     (rw (n-is, sym at, made-is, r-is) (row-slots slots rows n i d within rising)) more

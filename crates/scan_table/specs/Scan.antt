@@ -119,6 +119,10 @@ abbrev pub new_slots_where : Bool → ℕ → Row → Option SlotState → List 
 new_slots_where is_refused n row (Some slot) = []
 new_slots_where is_refused n row None = if is_refused then [] else new_slot n row ∷ []
 
+-- the same, of a new name
+abbrev pub new_slot_where : Bool → ℕ → Row → List SlotState
+new_slot_where is_refused n row = new_slots_where is_refused n row None
+
 abbrev pub new_slots_at : List SlotState → List Row → ℕ → Row → List SlotState
 new_slots_at slots rows n row = new_slots_where (is_refused slots rows row) n row (slot_of slots row)
 

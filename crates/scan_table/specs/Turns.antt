@@ -11,8 +11,9 @@ turn_need slots is_refused row = if is_eligible row then need_where is_refused r
 abbrev pub is_counted : List SlotState → Row → Bool
 is_counted slots row = is_eligible row && is_new slots row
 
-abbrev pub turn_slots : List SlotState → Bool → ℕ → Row → List SlotState
-turn_slots slots is_refused n row = if is_eligible row then new_slots_where is_refused n row (slot_of slots row) else []
+-- the slots that a row adds
+abbrev pub row_slots : List SlotState → Bool → ℕ → Row → List SlotState
+row_slots slots is_refused n row = if is_eligible row then new_slots_where is_refused n row (slot_of slots row) else []
 
 abbrev pub turn_restarts : List SlotState → ℕ → Row → List PartId
 turn_restarts slots n row = if is_eligible row then restarts_where n (slot_of slots row) else []

@@ -1,15 +1,15 @@
 //! What a scan does, planned before anything changes.
 ghost use Rattle.std.specs.Prelude.{◌≡◌, ◌+◌, ◌<◌, ◌≤◌, ◌++◌, ◌^◌, ◌∷◌, [], if◌then◌else◌, length, map, take, drop};
-ghost use Rattle.std.specs.Prelude.{nat_le, None, false, IfOk, OnOk, IfErr, option_copied, List, ℕ, vec_len};
+ghost use Rattle.std.specs.Prelude.{nat_le, None, Some, false, IfOk, OnOk, IfErr, option_copied, List, ℕ, vec_len};
 ghost use Rattle.std.specs.Prelude.{vec_capacity};
 ghost use Rattle.std.specs.List.{flat_map};
 ghost use Rattle.scan_table.specs.Slots.{is_pair, roles_of, ended_roles, ids_of};
 ghost use Rattle.scan_table.specs.Scan.{AreRising, has_row, is_dropped, drops, kept, slot_of, room, need_where};
-ghost use Rattle.scan_table.specs.Scan.{needs, is_exhausted, IsCause, lives_from, new_slot, new_slots_where};
-ghost use Rattle.scan_table.specs.Scan.{new_slots, restarts, refused, starts};
+ghost use Rattle.scan_table.specs.Scan.{needs, is_exhausted, IsCause, lives_from, new_slot, new_slot_where};
+ghost use Rattle.scan_table.specs.Scan.{new_slots, restarts, restarts_where, refused, starts};
 ghost use Rattle.scan_table.specs.Index.{names_of, IsIndex, ArePassed};
 ghost use Rattle.scan_table.specs.Order.{fault_of, scan_refusal};
-ghost use Rattle.scan_table.specs.Turns.{turn_need, turn_slots, turn_restarts, turn_refused, is_counted};
+ghost use Rattle.scan_table.specs.Turns.{turn_need, row_slots, turn_restarts, turn_refused, is_counted};
 
 use crate::fault::ScanFault;
 use crate::index::slot_of;
@@ -232,7 +232,7 @@ impl<A: Allocator + Clone> Assignments<A> {
     fn assign_restarts(&mut self, slot: &Slot<A>) -> Result<(), AllocError>
         requires { self.old.number + length (ended_roles slot.now) < 2 ^ 64 }
         ensures restarts { OnOk result (self.new.restarts.items
-            ≡ self.old.restarts.items ++ lives_from self.old.number slot.now.number (ended_roles slot.now)) }
+            ≡ self.old.restarts.items ++ restarts_where self.old.number (Some slot.now)) }
         ensures number { OnOk result (self.new.number ≡ self.old.number + length (ended_roles slot.now)) }
         ensures slots { self.new.slots ≡ self.old.slots }
         ensures refused { self.new.refused ≡ self.old.refused }
@@ -264,7 +264,7 @@ impl<A: Allocator + Clone> Assignments<A> {
         requires fits { self.old.number + need_where (nat_le room self.old.made) row.now None < 2 ^ 64 }
         requires made { self.old.made + 1 < 2 ^ 64 }
         ensures slots { OnOk result (self.new.slots.items
-            ≡ self.old.slots.items ++ new_slots_where (nat_le room self.old.made) self.old.number row.now None) }
+            ≡ self.old.slots.items ++ new_slot_where (nat_le room self.old.made) self.old.number row.now) }
         ensures refused { OnOk result (self.new.refused.items
             ≡ self.old.refused.items ++ (if nat_le room self.old.made then row.now.name ∷ [] else [])) }
         ensures number { OnOk result (self.new.number
@@ -298,7 +298,7 @@ impl<A: Allocator + Clone> Assignments<A> {
         requires fits { self.old.number + turn_need slots.now (nat_le room self.old.made) row.now < 2 ^ 64 }
         requires made { self.old.made + 1 < 2 ^ 64 }
         ensures slots { OnOk result (self.new.slots.items
-            ≡ self.old.slots.items ++ turn_slots slots.now (nat_le room self.old.made) self.old.number row.now) }
+            ≡ self.old.slots.items ++ row_slots slots.now (nat_le room self.old.made) self.old.number row.now) }
         ensures restarts { OnOk result (self.new.restarts.items
             ≡ self.old.restarts.items ++ turn_restarts slots.now self.old.number row.now) }
         ensures refused { OnOk result (self.new.refused.items

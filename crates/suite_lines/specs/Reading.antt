@@ -1,6 +1,6 @@
 -- Reading a suite event's line: what it is the text of, or else why it is the text of nothing.
-use Rattle.std.specs.Prelude.{ℕ, ◌^◌, nat_lt, ◌==◌, ◌&&◌, ◌||◌, Bool, if◌then◌else◌, List, [], ◌∷◌, codes, decimal}
-use Rattle.std.specs.Prelude.{bytes_eq, Option, Some, None, Result, Ok, Err}
+use Rattle.std.specs.Prelude.{◌≡◌, ℕ, ◌^◌, nat_lt, ◌==◌, ◌&&◌, ◌||◌, Bool, if◌then◌else◌, List, [], ◌∷◌, codes}
+use Rattle.std.specs.Prelude.{decimal, bytes_eq, Option, Some, None, Result, Ok, Err}
 use Rattle.std.specs.List.{slice_split}
 use Rattle.std.specs.Str.Parse.{digits_value}
 use Rattle.tai_status.specs.Label.{Tai64n}
@@ -47,6 +47,10 @@ part_of (Some slot) (Some role) (Some life) = Ok (record { slot = slot; role = r
 abbrev pub part_from : List (List ℕ) → Result PartId EventFault
 part_from (slot ∷ role ∷ life ∷ []) = part_of (number_of_text slot) (role_of_text role) (number_of_text life)
 part_from other = Err fault.Line
+
+-- A text has not the three fields of a part.
+abbrev pub IsNoPart : List ℕ → Type 0
+IsNoPart text = part_from (dotted text) ≡ Err fault.Line
 
 -- Rows
 

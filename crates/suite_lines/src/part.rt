@@ -1,10 +1,10 @@
 //! The text of a part, read and written.
 ghost use Rattle.std.specs.Prelude.{◌≡◌, ◌+◌, ◌^◌, ◌<◌, ◌≤◌, ◌==◌, ◌∷◌, [], ◌++◌, length, position, decimal, IfSome};
-ghost use Rattle.std.specs.Prelude.{Err, MatchOption};
+ghost use Rattle.std.specs.Prelude.{MatchOption};
 ghost use Rattle.std.specs.Option.{option_copied};
 ghost use Rattle.arrayvec.specs.ArrayString.{array_string_len};
 ghost use Rattle.suite_lines.specs.Text.{role_name, part_text};
-ghost use Rattle.suite_lines.specs.Reading.{dotted, number_of_text, role_of_text, part_from};
+ghost use Rattle.suite_lines.specs.Reading.{IsNoPart, dotted, number_of_text, role_of_text, part_from};
 ghost use Rattle.suite_lines.specs.Fields.{dotted_after};
 
 use arrayvec::ArrayString;
@@ -69,7 +69,7 @@ fn split_dot(text: &[u8]) -> (&[u8], Option<&[u8]>)
 /// The three fields of a part's text.
 #[tactic(auto, using(crate::proofs::PartTexts::part_from_many))]
 fn part_fields(text: &[u8]) -> Option<(&[u8], &[u8], &[u8])>
-    ensures { MatchOption result (part_from (dotted text.now) ≡ Err EventFault.Line)
+    ensures { MatchOption result (IsNoPart text.now)
         (λ (slot, role, life). dotted text.now ≡ slot.now ∷ role.now ∷ life.now ∷ []) }
 {
     let (slot, Some(rest)) = split_dot(text) else {

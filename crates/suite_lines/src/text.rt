@@ -65,8 +65,8 @@ fn push_drops<A: Allocator + Clone>(
     lines: &mut Vec<String<A>, A>,
     slots: &[u64],
 ) -> Result<(), AllocError>
-    ensures { OnOk result (map (λ line. string_bytes line) lines.new.items
-        ≡ map (λ line. string_bytes line) lines.old.items ++ map drop_text slots.now) }
+    ensures { OnOk result (map (λ it. string_bytes it) lines.new.items
+        ≡ map (λ it. string_bytes it) lines.old.items ++ map drop_text slots.now) }
 {
     for slot in slots {
         lines.push(drop_line(alloc.clone()?, *slot)?)?;
@@ -80,8 +80,8 @@ fn push_begun<A: Allocator + Clone>(
     lines: &mut Vec<String<A>, A>,
     begins: &[Begun],
 ) -> Result<(), AllocError>
-    ensures { OnOk result (map (λ line. string_bytes line) lines.new.items
-        ≡ map (λ line. string_bytes line) lines.old.items ++ map begun_text begins.now) }
+    ensures { OnOk result (map (λ it. string_bytes it) lines.new.items
+        ≡ map (λ it. string_bytes it) lines.old.items ++ map begun_text begins.now) }
 {
     for begun in begins {
         lines.push(begun_line(alloc.clone()?, begun)?)?;
@@ -95,8 +95,8 @@ fn push_refused<A: Allocator + Clone, B: Allocator>(
     lines: &mut Vec<String<A>, A>,
     names: &[Name<B>],
 ) -> Result<(), AllocError>
-    ensures { OnOk result (map (λ line. string_bytes line) lines.new.items
-        ≡ map (λ line. string_bytes line) lines.old.items ++ map refused_text names.now) }
+    ensures { OnOk result (map (λ it. string_bytes it) lines.new.items
+        ≡ map (λ it. string_bytes it) lines.old.items ++ map refused_text names.now) }
 {
     for name in names {
         lines.push(refused_line(alloc.clone()?, name)?)?;

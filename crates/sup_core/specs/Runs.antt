@@ -3,7 +3,7 @@ use Rattle.std.specs.Prelude.{◌≡◌, true, if◌then◌else◌, List, [], �
 use Rattle.sup_core.specs.declared.asks.Ask.{Ask}
 use Rattle.sup_core.specs.declared.asks.Reply.{Reply}
 use Rattle.sup_core.specs.declared.event.Event.{Event}
-use Rattle.sup_core.specs.History.{History, Then}
+use Rattle.sup_core.specs.History.{History, Opened, Then, state_of}
 use Rattle.sup_core.specs.Rules.{IsEvent, takes, asks_of, next, reply_to}
 
 -- the history with these events taken after it, in order
@@ -37,3 +37,7 @@ asks_along past (event ∷ events) = asks_of past event ++ asks_along (Then past
 abbrev pub replies_to : History → List Event → List Reply
 replies_to past [] = []
 replies_to past (event ∷ events) = reply_to past event ∷ replies_to (next past event) events
+
+-- the history that a machine opens with as it stands after these events
+abbrev pub reopened : History → List Event → History
+reopened past events = Opened (state_of (after past events))

@@ -1,7 +1,7 @@
 ghost use Rattle.std.specs.Prelude.{◌≡◌, ◌++◌, List};
 ghost use Rattle.sup_core.specs.declared.event.Event.{Event};
-ghost use Rattle.sup_core.specs.History.{History, Opened, state_of};
-ghost use Rattle.sup_core.specs.Runs.{after, replies_to};
+ghost use Rattle.sup_core.specs.History.{History, state_of};
+ghost use Rattle.sup_core.specs.Runs.{after, reopened, replies_to};
 
 /// A law of histories: two that leave a machine in one state go on alike. So a history may be cut anywhere, and what
 /// came before the cut is told by the machine that stands there.
@@ -11,7 +11,7 @@ pub fn histories_of_one_state()
     ensures replies { (p q : History) (events : List Event) → state_of p ≡ state_of q →
         replies_to p events ≡ replies_to q events }
     ensures state_cut { (past : History) (xs ys : List Event) →
-        state_of (after past (xs ++ ys)) ≡ state_of (after (Opened (state_of (after past xs))) ys) }
+        state_of (after past (xs ++ ys)) ≡ state_of (after (reopened past xs) ys) }
     ensures replies_cut { (past : History) (xs ys : List Event) →
-        replies_to past (xs ++ ys) ≡ replies_to past xs ++ replies_to (Opened (state_of (after past xs))) ys }
+        replies_to past (xs ++ ys) ≡ replies_to past xs ++ replies_to (reopened past xs) ys }
 {}

@@ -1,6 +1,7 @@
 -- The entry at which a replay is to break.
-use Rattle.std.specs.Prelude.{◌≡◌, ℕ, ◌+◌, ◌-◌, ◌<◌, slice_get, IsSomeAnd}
+use Rattle.std.specs.Prelude.{◌≡◌, ◌↔◌, ℕ, ◌+◌, ◌-◌, ◌<◌, Bool, IsTrue, slice_get, IsSomeAnd}
 use Rattle.std.specs.List.{Any}
+use Rattle.tai_status.specs.declared.phase.Phase.{Phase}
 use Rattle.sup_core.specs.declared.asks.Ask.{Ask}
 use Rattle.sup_core.specs.declared.asks.Ask.TheVariants.{Signal}
 use Rattle.sup_core.specs.declared.asks.Reply.{Reply}
@@ -30,6 +31,12 @@ abbrev pub Breaks : Break → History → Event → Type 0
 Breaks (break.Byte byte) past happened = happened ≡ event.Byte byte
 Breaks (break.Phase phase) past happened = phase_of (next past happened) ≡ phase
 Breaks (break.Signal sig) past happened = AsksFor sig (reply_to past happened)
+
+-- Whether it is, wherever this event has this answer and this phase behind it.
+abbrev pub AnswersBreak : (met : Bool) → Break → Event → Reply → Phase → Type 0
+AnswersBreak met at happened reply phase =
+    (past : History) → reply ≡ reply_to past happened → phase ≡ phase_of (next past happened)
+    → IsTrue met ↔ Breaks at past happened
 
 -- The entry at a place, from 0, is such an event where it stands.
 abbrev pub BreaksAt : Told → Break → ℕ → Type 0

@@ -4,4 +4,5 @@ pub mod Trace
 pub mod Explained
 pub mod Breaks
 pub mod Reading
+pub mod Steps
 pub mod Laws

@@ -1,7 +1,7 @@
 -- Reading the text of a trace: what it tells, or else its first faulty line and why that is refused.
 use Rattle.std.specs.Prelude.{◌≡◌, ◌≢◌, ℕ, ◌+◌, ◌^◌, ◌<◌, ◌==◌, ◌&&◌, nat_lt, nat_le, bytes_eq, Bool, true, false}
 use Rattle.std.specs.Prelude.{not, if◌then◌else◌, List, [], ◌∷◌, ◌++◌, length, codes, decimal, Option, Some, None}
-use Rattle.std.specs.Prelude.{option_map, Result, Ok, Err}
+use Rattle.std.specs.Prelude.{option_map, Result, Ok, Err, MatchResult}
 use Rattle.std.specs.List.{slice_split}
 use Rattle.std.specs.Result.{result_ok}
 use Rattle.std.specs.Str.Parse.{digits_value}
@@ -196,6 +196,14 @@ pub record HasEntryAt (text : List ℕ) (line : ℕ) : Type 0 where
   pub number : line ≡ length (front_lines told)
   pub rest : List ℕ
   pub begins : text ≡ lines_text (front_lines told) ++ rest
+
+-- No line up to this one is faulty.
+abbrev pub IsBeforeFaults : (text : List ℕ) (line : ℕ) → Type 0
+IsBeforeFaults text line = (first : TraceFault) → told_from text ≡ Err first → line < first.line
+
+-- This was read; or there was no memory for it.
+abbrev pub ReadsOrStarves : Result Told TraceFault → Told → Type 0
+ReadsOrStarves result told = MatchResult result (λ read. read ≡ told) (λ fault. fault.kind ≡ kind.OutOfMemory)
 
 -- Words of the steps of reading, for private functions alone.
 

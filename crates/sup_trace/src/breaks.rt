@@ -17,15 +17,11 @@ pub enum Break {
 }
 
 impl Break {
-    ghost use Rattle.std.specs.Prelude.{◌≡◌, ◌↔◌, IsTrue};
-    ghost use Rattle.sup_core.specs.History.{History, phase_of};
-    ghost use Rattle.sup_core.specs.Rules.{next, reply_to};
-    ghost use Rattle.sup_trace.specs.Breaks.{Breaks};
+    ghost use Rattle.sup_trace.specs.Breaks.{AnswersBreak};
 
     /// Whether an event, its answer and the phase after it are what is looked for.
     pub(crate) fn is_met(&self, event: &Event, reply: &Reply, phase: Phase) -> bool
-        ensures { (past : History) → reply.now ≡ reply_to past event.now → phase ≡ phase_of (next past event.now) →
-            IsTrue result ↔ Breaks self.now past event.now }
+        ensures { AnswersBreak result self.now event.now reply.now phase }
     {
         match self {
             Break::Byte(byte) => *event == Event::Byte(*byte),

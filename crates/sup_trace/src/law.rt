@@ -1,14 +1,12 @@
 ghost use Rattle.std.specs.Prelude.{◌≡◌, ◌++◌, ℕ, List, Ok};
 ghost use Rattle.sup_core.specs.declared.event.Event.{Event};
-ghost use Rattle.sup_core.specs.State.{State};
-ghost use Rattle.sup_core.specs.History.{Opened, state_of};
-ghost use Rattle.sup_core.specs.Runs.{after, followed_by};
+ghost use Rattle.sup_core.specs.History.{state_of};
+ghost use Rattle.sup_core.specs.Runs.{after};
 ghost use Rattle.sup_trace.specs.Told.{Told, IsTold, replay_of};
 ghost use Rattle.sup_trace.specs.Text.{trace_text};
 ghost use Rattle.sup_trace.specs.Reading.{told_from};
 ghost use Rattle.sup_trace.specs.Trace.{Kept, history_of, noted, noted_along, replay, told_by};
-ghost use Rattle.sup_trace.specs.Trace.{trace_after};
-ghost use Rattle.sup_trace.specs.Laws.{EachComesAsAll, NewTraceKeepsTheTaken};
+ghost use Rattle.sup_trace.specs.Laws.{EachComesAsAll, NewTraceKeepsTheTaken, TracesReplayTheTaken};
 
 /// A law of traces. After any events, one at a time, the last of those that were taken are the entries, as many as
 /// there is room for; the base is the machine after those before them, which are counted up to `2 ^ 63`. So it makes no
@@ -19,8 +17,7 @@ pub fn traces_after_events()
     ensures in_two_goes { (kept : Kept) (xs ys : List Event) → noted (noted kept xs) ys ≡ noted kept (xs ++ ys) }
     ensures replays { (kept : Kept) (events : List Event) →
         replay (noted_along kept events) ≡ state_of (after (history_of kept) events) }
-    ensures replays_taken { (machine : State) (capacity : ℕ) (events : List Event) →
-        replay (trace_after machine capacity events) ≡ state_of (followed_by (Opened machine) events) }
+    ensures replays_taken { TracesReplayTheTaken }
 {}
 
 /// A law of texts. What a text tells is read from it, and a text that is read is the one text of what it tells. A

@@ -9,8 +9,8 @@ ghost use Rattle.sup_trace.specs.Told.{Told, IsTold, IsTraceText, told_of};
 ghost use Rattle.sup_trace.specs.Text.{header, trace_text};
 ghost use Rattle.sup_trace.specs.Reading.{Nothing, Header, Entries, Whole, line_result, heard_of, entry_result};
 ghost use Rattle.sup_trace.specs.Reading.{end_result, kind_of, told_by_parts, parts_of, told_from, HasEntryAt};
-ghost use Rattle.sup_trace.specs.Reading.{AddsEntry, at_base, ReadsLine, ReadsEntry, ReadsItsEntries};
-ghost use Rattle.sup_trace.specs.Reading.{TellsAlike};
+ghost use Rattle.sup_trace.specs.Reading.{AddsEntry, at_base, IsBeforeFaults, ReadsEntry, ReadsOrStarves};
+ghost use Rattle.sup_trace.specs.Steps.{KeepsEntries, ReadsNext, EndsInFault, ReadsAlike, WantsMemory};
 
 use crate::base::read_base;
 use crate::fault::{TraceFault, TraceFaultKind};
@@ -170,14 +170,12 @@ impl<A: Allocator> Reading<A> {
     /// Takes the next line after the base's. Whether it is the end line.
     fn take_next(&mut self, lines: &mut Lines<'_>) -> Result<bool, TraceFault>
         requires room { lines.old.number + length lines.old.rest.now < 2 ^ 64 }
-        ensures ok { IfOk result (λ ended. ReadsLine lines.old.number lines.new.number
-            lines.old.rest.now lines.new.rest.now (Entries self.old) (heard_of ended self.new)) }
+        ensures ok { IfOk result (λ ended.
+            ReadsNext lines.old lines.new (Entries self.old) (heard_of ended self.new)) }
         ensures room { OnOk result (lines.new.number + length lines.new.rest.now < 2 ^ 64) }
         ensures shorter { OnOk result (length lines.new.rest.now < length lines.old.rest.now) }
-        ensures fault { IfErr result (λ fault. fault.kind ≢ kind.OutOfMemory
-            → told_by_parts lines.old.number (Entries self.old) (parts_of lines.old.rest.now) ≡ Err fault) }
-        ensures memory { IfErr result (λ fault. fault.kind ≡ kind.OutOfMemory
-            → ReadsEntry fault.line lines.old.number (Entries self.old) (parts_of lines.old.rest.now)) }
+        ensures fault { IfErr result (EndsInFault lines.old (Entries self.old)) }
+        ensures memory { IfErr result (WantsMemory lines.old (Entries self.old)) }
     {
         let number = lines.number;
         let line = lines.next_line()?;
@@ -191,8 +189,7 @@ impl<A: Allocator> Reading<A> {
 /// Takes the first line.
 fn take_header(lines: &mut Lines<'_>) -> Result<(), TraceFault>
     requires { lines.old.number + length lines.old.rest.now < 2 ^ 64 }
-    ensures ok { OnOk result (ReadsLine lines.old.number lines.new.number
-        lines.old.rest.now lines.new.rest.now Nothing Header) }
+    ensures ok { OnOk result (ReadsNext lines.old lines.new Nothing Header) }
     ensures room { OnOk result (lines.new.number + length lines.new.rest.now < 2 ^ 64) }
     ensures fault { IfErr result (λ fault.
         told_by_parts lines.old.number Nothing (parts_of lines.old.rest.now) ≡ Err fault) }
@@ -209,8 +206,7 @@ fn take_header(lines: &mut Lines<'_>) -> Result<(), TraceFault>
 /// Takes the base's line.
 fn take_base(lines: &mut Lines<'_>) -> Result<(u64, Machine), TraceFault>
     requires { lines.old.number + length lines.old.rest.now < 2 ^ 64 }
-    ensures ok { IfOk result (λ (folded, base). ReadsLine lines.old.number lines.new.number
-        lines.old.rest.now lines.new.rest.now Header (at_base folded base)) }
+    ensures ok { IfOk result (λ (folded, base). ReadsNext lines.old lines.new Header (at_base folded base)) }
     ensures room { OnOk result (lines.new.number + length lines.new.rest.now < 2 ^ 64) }
     ensures fault { IfErr result (λ fault.
         told_by_parts lines.old.number Header (parts_of lines.old.rest.now) ≡ Err fault) }
@@ -227,10 +223,10 @@ fn take_base(lines: &mut Lines<'_>) -> Result<(u64, Machine), TraceFault>
 /// Takes the two lines before the entries.
 fn take_opening(lines: &mut Lines<'_>) -> Result<(u64, Machine), TraceFault>
     requires { lines.old.number + length lines.old.rest.now < 2 ^ 64 }
-    ensures ok { IfOk result (λ (folded, base). TellsAlike lines.old.number Nothing lines.old.rest.now
-        lines.new.number (at_base folded base) lines.new.rest.now) }
-    ensures entry { IfOk result (λ (folded, base). ReadsItsEntries lines.old.number Nothing lines.old.rest.now
-        lines.new.number (at_base folded base) lines.new.rest.now) }
+    ensures ok { IfOk result (λ (folded, base).
+        ReadsAlike lines.old Nothing lines.new (at_base folded base)) }
+    ensures entry { IfOk result (λ (folded, base).
+        KeepsEntries lines.old Nothing lines.new (at_base folded base)) }
     ensures room { OnOk result (lines.new.number + length lines.new.rest.now < 2 ^ 64) }
     ensures fault { IfErr result (λ fault.
         told_by_parts lines.old.number Nothing (parts_of lines.old.rest.now) ≡ Err fault) }
@@ -244,12 +240,10 @@ impl<A: Allocator> Reading<A> {
     /// Takes the lines after the base's, up to the end line.
     fn take_entries(&mut self, lines: &mut Lines<'_>) -> Result<(), TraceFault>
         requires room { lines.old.number + length lines.old.rest.now < 2 ^ 64 }
-        ensures ok { OnOk result (TellsAlike lines.old.number (Entries self.old) lines.old.rest.now
-            lines.new.number (Whole self.new) lines.new.rest.now) }
-        ensures fault { IfErr result (λ fault. fault.kind ≢ kind.OutOfMemory
-            → told_by_parts lines.old.number (Entries self.old) (parts_of lines.old.rest.now) ≡ Err fault) }
-        ensures memory { IfErr result (λ fault. fault.kind ≡ kind.OutOfMemory
-            → ReadsEntry fault.line lines.old.number (Entries self.old) (parts_of lines.old.rest.now)) }
+        ensures ok { OnOk result
+            (ReadsAlike lines.old (Entries self.old) lines.new (Whole self.new)) }
+        ensures fault { IfErr result (EndsInFault lines.old (Entries self.old)) }
+        ensures memory { IfErr result (WantsMemory lines.old (Entries self.old)) }
     {
         'entries: loop {
             if self.take_next(lines)? {
@@ -289,15 +283,13 @@ fn read_lines<A: Allocator>(alloc: A, text: &[u8]) -> Result<TraceText<A>, Trace
 /// The first faulty line is told. Want of memory for an entry is told as a fault of its line.
 pub fn read_text<A: Allocator>(alloc: A, text: &[u8]) -> Result<TraceText<A>, TraceFault>
     ensures found { IfOk result (λ told. IsTold told × (text.now ≡ trace_text told)) }
-    ensures only { (told : Told) → IsTold told → text.now ≡ trace_text told
-        → MatchResult result (λ read. read ≡ told) (λ fault. fault.kind ≡ kind.OutOfMemory) }
+    ensures only { (told : Told) → IsTold told → text.now ≡ trace_text told → ReadsOrStarves result told }
     // Which fault it is.
     ensures fault { IfErr result (λ fault. fault.kind ≢ kind.OutOfMemory → told_from text.now ≡ Err fault) }
     // Memory is wanted at an entry alone: the lines before it are read, its line is, and its event is taken there.
     ensures memory { IfErr result (λ fault. fault.kind ≡ kind.OutOfMemory → HasEntryAt text.now fault.line) }
     // So a faulty line comes after it.
-    ensures later { IfErr result (λ fault. fault.kind ≡ kind.OutOfMemory
-        → (first : TraceFault) → told_from text.now ≡ Err first → fault.line < first.line) }
+    ensures later { IfErr result (λ fault. fault.kind ≡ kind.OutOfMemory → IsBeforeFaults text.now fault.line) }
 {
     read_lines(alloc, text)
 }

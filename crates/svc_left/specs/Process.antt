@@ -1,6 +1,7 @@
 -- The process of a service that was started last, the line that records it, and what became of it.
 use Rattle.std.specs.Prelude.{◌≡◌, ◌≢◌, ◌<◌, ◌^◌, ℕ, ⊤, List, ◌++◌, codes, decimal, length, Option, Some}
 use Rattle.std.specs.Prelude.{None}
+use Rattle.std.specs.Borrow.{Bor}
 use Rattle.svc_left.specs.declared.process.ProcessId.{ProcessId}
 use Rattle.svc_left.specs.declared.process.Found.{Found}
 use Rattle.svc_left.specs.declared.process.Found.TheVariants.{Unknown, Gone, Lives}
@@ -29,3 +30,7 @@ IsFound None boot tick found = found ≡ Unknown
 IsFound (Some process) boot tick (Lives found) = (process.boot ≡ boot) × (tick ≡ Some process.tick) × (found ≡ process)
 IsFound (Some process) boot tick Gone = (process.boot ≡ boot) × (tick ≢ Some process.tick)
 IsFound (Some process) boot tick Unknown = process.boot ≢ boot
+
+-- The number in front of a space, and what stands behind that.
+abbrev pub AreParts : (number : ℕ) (rest : List ℕ) → ℕ × Bor (List ℕ) → Type 0
+AreParts number rest parts = (parts.0 ≡ number) × (parts.1.now ≡ rest)

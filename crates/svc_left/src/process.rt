@@ -3,7 +3,7 @@ ghost use Rattle.std.specs.Prelude.{◌≡◌, ◌<◌, ◌≤◌, ◌+◌, ◌^
 ghost use Rattle.std.specs.Prelude.{position};
 ghost use Rattle.std.specs.Prelude.{Some, IfSome, IsSomeAnd};
 ghost use Rattle.arrayvec.specs.ArrayVec.{array_vec_len};
-ghost use Rattle.svc_left.specs.Process.{IsFound, IsProcess, process_line};
+ghost use Rattle.svc_left.specs.Process.{AreParts, IsFound, IsProcess, process_line};
 ghost use Rattle.svc_left.specs.declared.process.ProcessId.{ProcessId};
 
 use arrayvec::ArrayVec;
@@ -73,7 +73,7 @@ fn space_at(text: &[u8]) -> Option<usize>
 /// The number in front of the first space, and what stands behind that.
 fn split_number(text: &[u8]) -> Option<(u64, &[u8])>
     ensures only { (number : ℕ) (rest : List ℕ) → number < 2 ^ 64 → text.now ≡ decimal number ++ 32 ∷ rest
-        → IsSomeAnd result (λ parts. (parts.0 ≡ number) × (parts.1.now ≡ rest)) }
+        → IsSomeAnd result (AreParts number rest) }
 {
     let at = space_at(text)?;
     let number = read_number(&text[..at])?;

@@ -75,3 +75,20 @@ pub record StampsFront (old new : StampState) : Type 0 where
 abbrev pub StampsSome : (reader read writer written : Device) → (past now : Option (List Tai64n)) → Type 0
 StampsSome reader read writer written past now =
     StampsFront (stamp_state reader writer past) (stamp_state read written now)
+
+-- The same, by a clock that gives its readings so.
+
+abbrev pub StampsBy : {C : Type 0} (reader read writer written : Device) (readings : C → Option (List Tai64n))
+    (past now : C) (count : ℕ) → Type 0
+StampsBy reader read writer written readings past now count =
+    Stamps (stamp_state reader writer (readings past)) (stamp_state read written (readings now)) count
+
+abbrev pub StampsAllBy : {C : Type 0} (reader read writer written : Device) (readings : C → Option (List Tai64n))
+    (past now : C) → Type 0
+StampsAllBy reader read writer written readings past now =
+    StampsAll reader read writer written (readings past) (readings now)
+
+abbrev pub StampsSomeBy : {C : Type 0} (reader read writer written : Device) (readings : C → Option (List Tai64n))
+    (past now : C) → Type 0
+StampsSomeBy reader read writer written readings past now =
+    StampsSome reader read writer written (readings past) (readings now)

@@ -48,3 +48,15 @@ pub record SoFar (old new : StampState) (inside : Bool) (count : ℕ) : Type 0 w
   pub stamps : StampsPart false bytes old.readings new.readings old.writer.bytes new.writer.bytes [] []
   pub inside_is : inside ≡ is_inside false bytes
   pub count_is : count ≡ begun false bytes
+
+-- The same, by a clock that gives its readings so.
+
+abbrev pub StampsPartBy : {C : Type 0} (inside : Bool) (bytes : List ℕ) (readings : C → Option (List Tai64n))
+    (clock read : C) (held holds : Option (List ℕ)) (pending left : List ℕ) → Type 0
+StampsPartBy inside bytes readings clock read held holds pending left =
+    StampsPart inside bytes (readings clock) (readings read) held holds pending left
+
+abbrev pub StampsUpToBy : {C : Type 0} (inside : Bool) (bytes : List ℕ) (readings : C → Option (List Tai64n))
+    (clock read : C) (held holds : Option (List ℕ)) (pending : List ℕ) → Type 0
+StampsUpToBy inside bytes readings clock read held holds pending =
+    StampsUpTo inside bytes (readings clock) (readings read) held holds pending

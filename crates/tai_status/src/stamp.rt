@@ -3,10 +3,10 @@ ghost use Rattle.std.specs.Prelude.{if◌then◌else◌, OnOk, OnErr, IfOk, IsEr
 ghost use Rattle.std.specs.Io.BufRead.{take_through};
 ghost use Rattle.tai_status.specs.Lines.{stamp};
 ghost use Rattle.tai_status.specs.Counted.{Fails, Works, WroteFront, IsRead};
-ghost use Rattle.tai_status.specs.Lines.{stamp_state, Stamps, StampsAll, StampsSome};
+ghost use Rattle.tai_status.specs.Lines.{StampsAllBy, StampsBy, StampsSomeBy};
 ghost use Rattle.tai_status.specs.Extended.{Extended};
 ghost use Rattle.tai_status.specs.Block.{Puts};
-ghost use Rattle.tai_status.specs.Stamping.{StampsPart, StampsUpTo, begun, is_inside};
+ghost use Rattle.tai_status.specs.Stamping.{StampsPartBy, StampsUpToBy, begun, is_inside};
 
 use crate::block::{BLOCK, Block};
 use crate::counted::{DeviceFault, Input, Output};
@@ -71,9 +71,9 @@ fn stamp_part<E: Write, C: TimeSource>(
 ) -> Result<(), DeviceFault>
     requires some { 0 < length part.now }
     requires line { part.now ≡ take_through 10 part.now }
-    ensures ok { OnOk result (StampsPart inside part.now (C.readings clock.old) (C.readings clock.new)
+    ensures ok { OnOk result (StampsPartBy inside part.now C.readings clock.old clock.new
         writer.old.bytes writer.new.bytes block.old block.new) }
-    ensures err { OnErr result (StampsUpTo inside part.now (C.readings clock.old) (C.readings clock.new)
+    ensures err { OnErr result (StampsUpToBy inside part.now C.readings clock.old clock.new
         writer.old.bytes writer.new.bytes block.old) }
     ensures fault { OnErr result (Fails writer.old writer.new) }
     ensures faults { OnOk result (Works writer.old writer.new) }
@@ -94,13 +94,13 @@ fn stamp_block<E: Write, C: TimeSource>(
     clock: &mut C,
 ) -> Result<u64, DeviceFault>
     requires { block.old ≡ [] }
-    ensures ok { OnOk result (StampsPart inside.old bytes.now (C.readings clock.old) (C.readings clock.new)
+    ensures ok { OnOk result (StampsPartBy inside.old bytes.now C.readings clock.old clock.new
         writer.old.bytes writer.new.bytes [] []) }
     ensures inside { OnOk result (inside.new ≡ is_inside inside.old bytes.now) }
     ensures count { IfOk result (λ count. count ≡ begun inside.old bytes.now) }
     ensures lines { IfOk result (λ count. count ≤ length bytes.now) }
     ensures empty { OnOk result (block.new ≡ []) }
-    ensures err { OnErr result (StampsUpTo inside.old bytes.now (C.readings clock.old) (C.readings clock.new)
+    ensures err { OnErr result (StampsUpToBy inside.old bytes.now C.readings clock.old clock.new
         writer.old.bytes writer.new.bytes []) }
     ensures fault { OnErr result (Fails writer.old writer.new) }
     ensures faults { OnOk result (Works writer.old writer.new) }
@@ -125,12 +125,12 @@ fn stamp_parts<E: Write, C: TimeSource>(
     writer: &mut Output<E>,
     clock: &mut C,
 ) -> Result<u64, DeviceFault>
-    ensures ok { OnOk result (StampsPart inside.old bytes.now (C.readings clock.old) (C.readings clock.new)
+    ensures ok { OnOk result (StampsPartBy inside.old bytes.now C.readings clock.old clock.new
         writer.old.bytes writer.new.bytes block.old block.new) }
     ensures inside { OnOk result (inside.new ≡ is_inside inside.old bytes.now) }
     ensures count { IfOk result (λ count. count ≡ begun inside.old bytes.now) }
     ensures lines { IfOk result (λ count. count ≤ length bytes.now) }
-    ensures err { OnErr result (StampsUpTo inside.old bytes.now (C.readings clock.old) (C.readings clock.new)
+    ensures err { OnErr result (StampsUpToBy inside.old bytes.now C.readings clock.old clock.new
         writer.old.bytes writer.new.bytes block.old) }
     ensures fault { OnErr result (Fails writer.old writer.new) }
     ensures faults { OnOk result (Works writer.old writer.new) }
@@ -156,17 +156,17 @@ pub fn stamp_lines<D: Read, E: Write, C: TimeSource>(
     clock: &mut C,
 ) -> Result<u64, StampFault>
     // All lines are stamped and written.
-    ensures done { IfOk result (Stamps (stamp_state reader.old writer.old (C.readings clock.old))
-        (stamp_state reader.new writer.new (C.readings clock.new))) }
+    ensures done { IfOk result (StampsBy reader.old reader.new writer.old writer.new
+        C.readings clock.old clock.new) }
     ensures end { OnOk result (IsRead reader.new) }
     ensures works { OnOk result (Works reader.old reader.new × Works writer.old writer.new) }
     // The reader failed, and all lines that it gave are stamped and written.
     ensures read { IsErrOf result StampFault.Read
-        → StampsAll reader.old reader.new writer.old writer.new (C.readings clock.old) (C.readings clock.new) }
+        → StampsAllBy reader.old reader.new writer.old writer.new C.readings clock.old clock.new }
     ensures unread { IsErrOf result StampFault.Read → Fails reader.old reader.new × Works writer.old writer.new }
     // The writer failed, after a front of the stamped text of what was read.
     ensures write { IsErrOf result StampFault.Write
-        → StampsSome reader.old reader.new writer.old writer.new (C.readings clock.old) (C.readings clock.new) }
+        → StampsSomeBy reader.old reader.new writer.old writer.new C.readings clock.old clock.new }
     ensures unwritten { IsErrOf result StampFault.Write → Works reader.old reader.new × Fails writer.old writer.new }
 {
     let mut bytes = [0; BLOCK];

@@ -1,6 +1,5 @@
 use Rattle.std.proofs.Common.{rules, ◌≡◌, ◌+◌, ◌<◌, ◌++◌, ◌∷◌, ℕ, List, [], take, drop, map, length, get_or, sym, ap}
 use Rattle.std.proofs.Common.{◌∙◌, subst, append_assoc, Bor}
-use Rattle.cmd_svc.specs.Svstat.{sight}
 use Rattle.cmd_svc.proofs.Turns.{taken-one, parts-at}
 use Rattle.cmd_report.specs.declared.found.Found.{Found}
 use Rattle.cmd_report.specs.MetricsEnds.{FindsFront, FindsWords}
@@ -21,10 +20,9 @@ returns-then-is_err-clause-err g c =
     let folder = now (get_or folders i nowhere) in
     let found = c.find_one-found.result in
     let same : found.folder.now ≡ folder = search rules in
-    let old = sight (g.S.Services.calls c.args.services.now) (g.C.TimeSource.readings c.args.clock.now) in
-    let middle = sight (g.S.Services.calls c.loop-folder.services) (g.C.TimeSource.readings c.loop-folder.clock) in
-    let new = sight (g.S.Services.calls c.find_one-found.new.services)
-    (g.C.TimeSource.readings c.find_one-found.new.clock) in
+    let old = c.args.observer.now in
+    let middle = c.loop-folder.observer in
+    let new = c.find_one-found.new.observer in
     let rest = map now (drop (i + 1) folders) in
     let all = finds_words-then files (map now (take i folders)) c.loop-folder.founds.items folder found old middle new
     c.loop-folder.invariant same c.find_one-found.ensures.finds in
@@ -48,10 +46,9 @@ loop-folder-preserved g c =
     let folder = now (get_or folders i nowhere) in
     let found = c.find_one-found.result in
     let same : found.folder.now ≡ folder = search rules in
-    let old = sight (g.S.Services.calls c.args.services.now) (g.C.TimeSource.readings c.args.clock.now) in
-    let middle = sight (g.S.Services.calls c.loop-folder.services) (g.C.TimeSource.readings c.loop-folder.clock) in
-    let new = sight (g.S.Services.calls c.find_one-found.new.services)
-    (g.C.TimeSource.readings c.find_one-found.new.clock) in
+    let old = c.args.observer.now in
+    let middle = c.loop-folder.observer in
+    let new = c.find_one-found.new.observer in
     let all = finds_words-then files (map now (take i folders)) c.loop-folder.founds.items folder found old middle new
     c.loop-folder.invariant same c.find_one-found.ensures.finds in
     let pushed : c.push.new.self.items ≡ c.loop-folder.founds.items ++ found ∷ [] = search rules in

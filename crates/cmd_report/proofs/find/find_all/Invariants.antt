@@ -1,5 +1,4 @@
 use Rattle.std.proofs.Common.{take, map}
-use Rattle.cmd_svc.specs.Svstat.{sight}
 use Rattle.cmd_report.specs.MetricsEnds.{FindsWords}
 use Rattle.cmd_report.proofs.find.find_all.Given as goal
 
@@ -7,5 +6,4 @@ use Rattle.cmd_report.proofs.find.find_all.Given as goal
 abbrev pub invariant-loop-folder : goal.invariant-loop-folder
 invariant-loop-folder g l =
     FindsWords (g.F.CountFiles.counts_at l.files) (map (λ word. word.now) (take l.folder-index l.folders))
-    l.founds.items (sight (g.S.Services.calls l.fn.services) (g.C.TimeSource.readings l.fn.clock))
-    (sight (g.S.Services.calls l.services) (g.C.TimeSource.readings l.clock))
+    l.founds.items l.fn.observer l.observer

@@ -14,18 +14,15 @@ returns-in_err-show-clause-err g c =
     let i = c.loop-folder.folder-index in
     let now : Bor (List ℕ) → List ℕ = λ word. word.now in
     let within : i < length folders = search rules in
-    let old = scene (g.S.Services.calls c.args.services.now) (g.C.TimeSource.readings c.args.clock.now)
-    c.args.writer.now in
-    let new = scene (g.S.Services.calls c.show.new.services) (g.C.TimeSource.readings c.show.new.clock)
-    c.show.new.writer in
+    let old = scene c.args.observer.now c.args.writer.now in
+    let new = scene c.show.new.observer c.show.new.writer in
     let form = g.F.LineForm.line_of c.args.form.now in
-    let stops : ShowsUpTo form (map now folders) c.in_err-show.field-0.0 old new = record {
+    let stops : ShowsUpTo form (map now folders) old new c.in_err-show.field-0.0 = record {
       before = map now (take i folders);
       folder = now (get_or folders i nowhere);
       after = map now (drop (i + 1) folders);
       words_are = parts-at now folders i nowhere within;
-      middle = scene (g.S.Services.calls c.loop-folder.services) (g.C.TimeSource.readings c.loop-folder.clock)
-          c.loop-folder.writer;
+      middle = scene c.loop-folder.observer c.loop-folder.writer;
       shown = c.loop-folder.invariant;
       fails = c.in_err-show.ensures.err;
     } in
@@ -38,12 +35,9 @@ loop-folder-preserved g c =
     let i = c.loop-folder.folder-index in
     let now : Bor (List ℕ) → List ℕ = λ word. word.now in
     let within : i < length folders = search rules in
-    let old = scene (g.S.Services.calls c.args.services.now) (g.C.TimeSource.readings c.args.clock.now)
-    c.args.writer.now in
-    let middle = scene (g.S.Services.calls c.loop-folder.services) (g.C.TimeSource.readings c.loop-folder.clock)
-    c.loop-folder.writer in
-    let new = scene (g.S.Services.calls c.show.new.services) (g.C.TimeSource.readings c.show.new.clock)
-    c.show.new.writer in
+    let old = scene c.args.observer.now c.args.writer.now in
+    let middle = scene c.loop-folder.observer c.loop-folder.writer in
+    let new = scene c.show.new.observer c.show.new.writer in
     let shows = Shows (g.F.LineForm.line_of c.args.form.now) in
     subst (λ (done : List (List ℕ)). InTurn shows done old new) (sym (taken-one now folders i nowhere within))
     (in_turn-then shows (map now (take i folders)) (now (get_or folders i nowhere)) old middle new

@@ -7,5 +7,4 @@ use Rattle.cmd_svc.proofs.svstat.show_all.Given as goal
 abbrev pub invariant-loop-folder : goal.invariant-loop-folder
 invariant-loop-folder g l =
     InTurn (Shows (g.F.LineForm.line_of l.form)) (map (λ word. word.now) (take l.folder-index l.folders))
-    (scene (g.S.Services.calls l.fn.services) (g.C.TimeSource.readings l.fn.clock) l.fn.writer)
-    (scene (g.S.Services.calls l.services) (g.C.TimeSource.readings l.clock) l.writer)
+    (scene l.fn.observer l.fn.writer) (scene l.observer l.writer)

@@ -1,7 +1,7 @@
 use Rattle.std.proofs.Common.{rules, ◌+◌, ◌<◌, ℕ, List, [], take, drop, map, length, get_or, sym, subst, false, Bor}
 use Rattle.cmd_svc.specs.Turns.{InTurn}
 use Rattle.cmd_svc.proofs.Turns.{in_turn-then, taken-one, parts-at}
-use Rattle.cmd_why.specs.Why.{knowledge, scene, Shows, ShowsUpTo}
+use Rattle.cmd_why.specs.Why.{scene, Shows, ShowsUpTo}
 use Rattle.cmd_why.proofs.why.show_all.Goals as goal
 
 nowhere : Bor (List ℕ)
@@ -10,22 +10,18 @@ nowhere = record { ref_ptr = (0, 0); now = [] }
 pub returns-in_err-unread-clause-err : goal.returns-in_err-unread-clause-err
 unfolding nowhere
 returns-in_err-unread-clause-err g c =
-    let k = knowledge (g.F.ServiceFiles.texts c.args.files.now) (g.T.LocalTimes.text_at c.args.times.now) in
+    let k = g.K.Evidence.known c.args.sources.now in
     let folders = c.args.folders.now in
     let i = c.loop-folder.folder-index in
     let now : Bor (List ℕ) → List ℕ = λ word. word.now in
     let within : i < length folders = search rules in
-    let old = scene (g.S.Services.calls c.args.services.now) (g.C.TimeSource.readings c.args.clock.now)
-    c.args.writer.now false in
-    let new = scene (g.S.Services.calls c.show.new.services) (g.C.TimeSource.readings c.show.new.clock)
-    c.show.new.writer false in
-    let stops : ShowsUpTo k c.args.timeline (map now folders) c.in_err-unread.field-0.0 old new = record {
+    let stops : ShowsUpTo k c.args.timeline (map now folders) c.args.observer.now c.show.new.observer c.args.writer.now
+    c.show.new.writer c.in_err-unread.field-0.0 = record {
       before = map now (take i folders);
       folder = now (get_or folders i nowhere);
       after = map now (drop (i + 1) folders);
       words_are = parts-at now folders i nowhere within;
-      middle = scene (g.S.Services.calls c.loop-folder.services) (g.C.TimeSource.readings c.loop-folder.clock)
-          c.loop-folder.writer c.loop-folder.unread;
+      middle = scene c.loop-folder.observer c.loop-folder.writer c.loop-folder.unread;
       shown = c.loop-folder.invariant;
       fails = c.in_err-unread.ensures.err;
     } in
@@ -34,17 +30,14 @@ returns-in_err-unread-clause-err g c =
 pub loop-folder-preserved : goal.loop-folder-preserved
 unfolding nowhere
 loop-folder-preserved g c =
-    let k = knowledge (g.F.ServiceFiles.texts c.args.files.now) (g.T.LocalTimes.text_at c.args.times.now) in
+    let k = g.K.Evidence.known c.args.sources.now in
     let folders = c.args.folders.now in
     let i = c.loop-folder.folder-index in
     let now : Bor (List ℕ) → List ℕ = λ word. word.now in
     let within : i < length folders = search rules in
-    let old = scene (g.S.Services.calls c.args.services.now) (g.C.TimeSource.readings c.args.clock.now)
-    c.args.writer.now false in
-    let middle = scene (g.S.Services.calls c.loop-folder.services) (g.C.TimeSource.readings c.loop-folder.clock)
-    c.loop-folder.writer c.loop-folder.unread in
-    let new = scene (g.S.Services.calls c.show.new.services) (g.C.TimeSource.readings c.show.new.clock)
-    c.show.new.writer c.in_ok-unread.unread in
+    let old = scene c.args.observer.now c.args.writer.now false in
+    let middle = scene c.loop-folder.observer c.loop-folder.writer c.loop-folder.unread in
+    let new = scene c.show.new.observer c.show.new.writer c.in_ok-unread.unread in
     subst (λ (done : List (List ℕ)). InTurn (Shows k c.args.timeline) done old new)
     (sym (taken-one now folders i nowhere within))
     (in_turn-then (Shows k c.args.timeline) (map now (take i folders)) (now (get_or folders i nowhere)) old middle new

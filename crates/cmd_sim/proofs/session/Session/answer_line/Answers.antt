@@ -16,12 +16,12 @@ returns-in-Err-clause-refused_wrote g c = λ number why is.
     let same : c.give_up.result ≡ fault.Refused number why = cc is in (
       (c.give_up.ensures.told number why same).0 ∙ ap (λ (n : ℕ). n + 1) c.in-Err.ensures.count,
       subst (λ (t : List ℕ). Wrote c.args.writer.now c.give_up.new.writer t) c.in-Err.ensures.waiting
-          (c.give_up.ensures.told_wrote number why same).0,
+          (c.give_up.ensures.told_wrote number why same),
     )
 
 pub returns-in-Err-clause-refused_works : goal.returns-in-Err-clause-refused_works
 returns-in-Err-clause-refused_works g c = λ number why is.
-    let same : c.give_up.result ≡ fault.Refused number why = cc is in (c.give_up.ensures.told_wrote number why same).1
+    let same : c.give_up.result ≡ fault.Refused number why = cc is in c.give_up.ensures.told_works number why same
 
 pub returns-in-Err-clause-memory : goal.returns-in-Err-clause-memory
 returns-in-Err-clause-memory g c = λ is.

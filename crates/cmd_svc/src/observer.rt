@@ -1,0 +1,20 @@
+//! What looks at services.
+use crate::services::Services;
+use std::marker::Model;
+use tai_status::TimeSource;
+
+/// Services, and the clock by which they are looked at. Contracts see what was asked of the one, and what the other
+/// gave.
+#[derive(Drop)]
+pub struct Observer<S: Services, C: TimeSource> {
+    pub services: S,
+    pub clock: C,
+}
+
+impl<S: Services, C: TimeSource> Model for Observer<S, C> {
+    ghost use Rattle.cmd_svc.specs.Sight.{Sight, sight};
+
+    ghost Value = { Sight };
+
+    ghost view = { λ observer. sight (S.calls observer.services) (C.readings observer.clock) };
+}
