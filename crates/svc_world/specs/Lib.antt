@@ -4,3 +4,4 @@ pub mod Commands
 pub mod Shell
 pub mod Stats
 pub mod Left
+pub mod Flow
