@@ -5,3 +5,4 @@ pub mod Commands
 pub mod Shell
 pub mod Stats
 pub mod Left
+pub mod Flow

@@ -3,6 +3,7 @@ ghost use Rattle.std.specs.Prelude.{◌≡◌, ◌≤◌, [], ◌∷◌, IfOk, O
 ghost use Rattle.std.specs.Io.{ReadsAtMost, WritesAtMost};
 ghost use Rattle.std.specs.Io.KnownBytes.{ReadConsumes, WriteAppends};
 ghost use Rattle.tai_status.specs.Extended.{Extended};
+ghost use Rattle.svc_world.specs.Flow.{is_over_after, is_watch_asked, wait_millis};
 
 use libc::net::{POLLIN, poll};
 use libc::types::pollfd;
@@ -117,6 +118,31 @@ impl Flow {
     }
 }
 
+/// How an output waits for bytes: whether it is asked too whether outputs may be told to end, and for how many
+/// milliseconds at most; less than 0 is without an end.
+fn wait_of(ends: bool, is_watched: bool) -> (bool, i32)
+    ensures asked { result.0 ≡ is_watch_asked ends is_watched }
+    ensures millis { result.1 ≡ wait_millis ends is_watched }
+{
+    match (ends, is_watched) {
+        (true, _) => (false, 0),
+        (false, true) => (false, PAUSE_MILLIS),
+        (false, false) => (true, -1),
+    }
+}
+
+/// Whether an output is over, which is to end or not, after a wait that found something to read or nothing. None: it
+/// waits again.
+fn is_over_after(ends: bool, is_ready: bool) -> Option<bool>
+    ensures { result ≡ is_over_after ends is_ready }
+{
+    if is_ready || ends {
+        Some(!is_ready)
+    } else {
+        None
+    }
+}
+
 /// Waits until there is something to read of the first descriptor, or the second one is at its end, where that is
 /// given, and for so many milliseconds at most; less than 0 is without an end. Whether each is so.
 fn wait_for_either(first: i32, second: Option<i32>, millis: i32) -> io::Result<(bool, bool)> {
@@ -183,14 +209,11 @@ impl ServiceOutput {
                 return Ok(true);
             }
             let ends = self.flow.ends.load(Ordering::SeqCst);
-            let (watch, millis) = match (ends, self.is_watched) {
-                (true, _) => (None, 0),
-                (false, true) => (None, PAUSE_MILLIS),
-                (false, false) => (Some(self.watch.as_raw_fd()), -1),
-            };
+            let (is_asked, millis) = wait_of(ends, self.is_watched);
+            let watch = is_asked.then_some(self.watch.as_raw_fd());
             let (is_ready, is_watched) = wait_for_either(self.file.as_raw_fd(), watch, millis)?;
-            if is_ready || ends {
-                return Ok(!is_ready);
+            if let Some(is_over) = is_over_after(ends, is_ready) {
+                return Ok(is_over);
             }
             if is_watched {
                 self.is_watched = true;
