@@ -5,7 +5,8 @@ use Rattle.tai_status.specs.Counted.{Device, Fails, Works, Wrote, WroteFront, Is
 use Rattle.cmd_base.specs.Console.{Console, EndsWell}
 use Rattle.cmd_base.specs.Told.{RefusesWords}
 use Rattle.cmd_sim.specs.Sim.{MissesAt}
-use Rattle.cmd_sim.specs.Sim.{Refusal, IsOfSuite, AnswersAll, AnswersUpTo, AnswersFront, AnswersWholeLines, printed_table}
+use Rattle.cmd_sim.specs.Sim.{Refusal, IsOfSuite, AnswersAll, AnswersUpTo, AnswersFront, AnswersWholeLines}
+use Rattle.cmd_sim.specs.Sim.{printed_table}
 use Rattle.cmd_sim.specs.declared.fault.Why.{Why}
 use Rattle.cmd_sim.specs.declared.fault.Why.TheVariants as why
 use Rattle.cmd_sim.specs.declared.fault.SimFault.{SimFault}

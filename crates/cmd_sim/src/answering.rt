@@ -1,5 +1,6 @@
 //! The answers to one line.
-ghost use Rattle.std.specs.Prelude.{◌≡◌, ◌≢◌, ◌≤◌, [], ◌∷◌, length, flat_map, None, IsOk, IfOk, IfErr, IsErrOf, Ok, Err};
+ghost use Rattle.std.specs.Prelude.{◌≡◌, ◌≢◌, ◌≤◌, [], ◌∷◌, length, flat_map, None, IsOk, IfOk, IfErr, IsErrOf, Ok};
+ghost use Rattle.std.specs.Prelude.{Err};
 ghost use Rattle.sup_core.specs.declared.asks.Reply.{Reply};
 ghost use Rattle.sup_core.specs.History.{History, Begin, state_of, phase_of};
 ghost use Rattle.sup_core.specs.Reading.{fields, begin_from};

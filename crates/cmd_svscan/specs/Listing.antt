@@ -83,8 +83,8 @@ abbrev pub IsListed : {E : Type 0} → Result E Error → Type 0
 IsListed (Ok entry) = ⊤
 IsListed (Err fault) = error_kind fault ≡ InvalidFilename
 
--- All entries came. These are the names of those that could be read, in order, and so many others have a name that is no
--- text, or more where that is the greatest count.
+-- All entries came. These are the names of those that could be read, in order, and so many others have a name that is
+-- no text, or more where that is the greatest count.
 pub record Lists {S E : Type 0} (steps : S → Option (Result E Error) → S → Type 0) (name_of : E → List ℕ) (s : S)
     (names : List (List ℕ)) (unnamed : ℕ) : Type 0 where
   pub items : List (Result E Error)

@@ -24,7 +24,8 @@ untaken_in slots losses =
 -- the parts whose last trace was not kept
 abbrev pub untraced_in : List SlotState → List (PartId × Loss) → List (List ℕ)
 untraced_in slots losses =
-    map (λ (lost : PartId × Loss). shown_name slots lost.0) (filter (λ (lost : PartId × Loss). lost.1.lacks_trace) losses)
+    map (λ (lost : PartId × Loss). shown_name slots lost.0)
+    (filter (λ (lost : PartId × Loss). lost.1.lacks_trace) losses)
 
 -- a part that could not be made, and why
 abbrev pub unmade_of : List SlotState → host.Unmade → Unmade

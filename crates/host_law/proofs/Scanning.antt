@@ -111,5 +111,6 @@ scans-same suite rows label old out new is =
 pub scans : ScansAreAlike
 scans suite rows label old out new same is =
     scans-same suite rows label old out new
-    (subst (λ (table : TableState). IsScanned (record { table = table; parts = old.parts; calls = old.calls }) rows label out new)
+    (subst (λ (table : TableState). IsScanned
+    (record { table = table; parts = old.parts; calls = old.calls }) rows label out new)
     (sym same) is)

@@ -7,7 +7,8 @@ use Rattle.scan_table.specs.declared.part.PartId.{PartId}
 use Rattle.svc_house.specs.Calls.{ExtendedWhileKept}
 use Rattle.svc_host.specs.declared.maker.PartFault.{PartFault}
 use Rattle.svc_host.specs.Parts.{HostPart}
-use Rattle.svc_host.specs.Calls.{Call, MadePart, MadePair, KeptTrace, EndedPart, ForgotSlot, WatchedOutputs, EndedOutput}
+use Rattle.svc_host.specs.Calls.{Call, MadePart, MadePair, KeptTrace, EndedPart, ForgotSlot, WatchedOutputs}
+use Rattle.svc_host.specs.Calls.{EndedOutput}
 use Rattle.svc_host.specs.Calls.{AskedIsRead, CountedLost, given_in, returned_in}
 use Rattle.svc_host.specs.declared.pair.Pair.{Pair}
 use Rattle.svc_host.specs.Calls.{AsksPart, AsksPair, GivesBack, HandsOut, HandsOutNone, HandsOutOne, HandsTrace}
@@ -51,7 +52,8 @@ hands-none None = tt
 hands-none (Some calls) = (sym (append-nil (given_in calls)), sym (append-nil (returned_in calls)))
 
 -- and one after the other
-pub hands-then : (a b c : Option (List Call)) (given returned given' returned' : List PartId) → HandsOut a b given returned
+pub hands-then : (a b c : Option (List Call)) (given returned given' returned' : List PartId)
+    → HandsOut a b given returned
     → HandsOut b c given' returned' → HandsOut a c (given ++ given') (returned ++ returned')
 hands-then a b None given returned given' returned' p q = tt
 hands-then a None (Some c) given returned given' returned' p q = absurd q
@@ -120,7 +122,8 @@ trace-handed kept part false id text old new is says handed =
     (subst (λ t. ExtendedWhileKept old new (KeptTrace id t false ∷ [])) says handed))
 
 -- the same of a part of which it is noted that its trace is kept
-pub trace-noted : (kept : Option ℕ) (part new_part : HostPart) (is_kept : Bool) (count : ℕ) (id : PartId) (text : List ℕ)
+pub trace-noted : (kept : Option ℕ) (part new_part : HostPart) (is_kept : Bool) (count : ℕ) (id : PartId)
+    (text : List ℕ)
     (old new : Option (List Call)) → id ≡ part.id → text ≡ text_of part
     → MatchBool is_kept (new_part ≡ record part { kept = Some count }) (new_part ≡ part)
     → ExtendedWhileKept old new (KeptTrace id text is_kept ∷ []) → HandsTrace kept new_part is_kept old new

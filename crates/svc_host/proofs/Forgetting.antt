@@ -1,5 +1,6 @@
 -- Losses that are forgotten, one part after the other.
-use Rattle.std.proofs.Common.{◌≡◌, ℕ, zero, suc, ◌<◌, ◌≤◌, List, [], ◌∷◌, length, map, refl, ap, arith, slice_index_or, slice_set}
+use Rattle.std.proofs.Common.{◌≡◌, ℕ, zero, suc, ◌<◌, ◌≤◌, List, [], ◌∷◌, length, map, refl, ap, arith}
+use Rattle.std.proofs.Common.{slice_index_or, slice_set}
 use Rattle.svc_host.specs.Parts.{HostPart, without_loss}
 
 -- the parts, of which the first so many have forgotten

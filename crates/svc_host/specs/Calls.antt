@@ -86,8 +86,8 @@ AsksPair slot fault old new =
     ⊎ ExtendedWhileKept old new (MadePair slot (Some fault) ∷ [])
     ⊎ ExtendedWhileKept old new (MadePair slot None ∷ [])
 
--- The threads of a pair are to run. Where they run nothing is asked. Else the pair is asked for, once, and runs then, or
--- none more runs than before.
+-- The threads of a pair are to run. Where they run nothing is asked. Else the pair is asked for, once, and runs then,
+-- or none more runs than before.
 abbrev pub StartsPair : (slot : ℕ) → (fault : Option PartFault) → (olds news : List Pair)
     → (old new : Option (List Call)) → Type 0
 StartsPair slot None olds news old new =
@@ -109,8 +109,8 @@ StartsIfPair false slot fault olds news old new = (fault ≡ None) × (news ≡ 
 abbrev pub text_of : HostPart → List ℕ
 text_of part = trace_text (trace_of part.station part.known)
 
--- The trace of a part was handed to the maker, once, where it has grown since it was kept last, and there was memory for
--- its text. Whether its newest trace is kept.
+-- The trace of a part was handed to the maker, once, where it has grown since it was kept last, and there was memory
+-- for its text. Whether its newest trace is kept.
 abbrev pub HandsTrace : (kept : Option ℕ) → HostPart → (is_kept : Bool) → (old new : Option (List Call)) → Type 0
 HandsTrace kept part true old new =
     ((kept ≡ Some (length part.known)) × ExtendedWhileKept old new [])

@@ -1,5 +1,6 @@
 -- The end of all services, in order, and when svscan may leave them.
-use Rattle.std.specs.Prelude.{◌≡◌, ◌⊎◌, ◌<◌, ℕ, zero, suc, ◌==◌, nat_le, nat_lt, Bool, true, false, ◌&&◌, if◌then◌else◌, List}
+use Rattle.std.specs.Prelude.{◌≡◌, ◌⊎◌, ◌<◌, ℕ, zero, suc, ◌==◌, nat_le, nat_lt, Bool, true, false, ◌&&◌}
+use Rattle.std.specs.Prelude.{if◌then◌else◌, List}
 use Rattle.std.specs.Prelude.{MatchBool, length, slice_index_or, slice_set}
 use Rattle.std.specs.List.{All}
 use Rattle.sup_core.specs.History.{state_of}

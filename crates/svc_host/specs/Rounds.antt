@@ -80,8 +80,8 @@ pub record Beginnings : Type 0 where
 abbrev pub beginnings : List HostPart → List Unmade → Option (List Call) → Beginnings
 beginnings parts failed calls = record { parts = parts; failed = unmade_ids failed; calls = calls }
 
--- Of the parts that a scan began each is there now, or failed. Of those for which resources were handed out each is there,
--- or its resources were given back, once.
+-- Of the parts that a scan began each is there now, or failed. Of those for which resources were handed out each is
+-- there, or its resources were given back, once.
 pub record AreBegun (slots : List SlotState) (rows : List Row) (label : Tai64n) (ids : List PartId)
     (old new : Beginnings) : Type 0 where
   pub begun : List HostPart

@@ -51,8 +51,8 @@ pub trait Outlets<O: Outlet + Drop> {
 }
 
 /// What makes the resources of each part. The parts of a slot that is a pair are made after `pair` was asked for
-/// it. Contracts see the calls with their answers, in order (`calls`), where they are kept. They may stop to be kept, as
-/// where there is no memory for more, and are not kept again.
+/// it. Contracts see the calls with their answers, in order (`calls`), where they are kept. They may stop to be kept,
+/// as where there is no memory for more, and are not kept again.
 pub trait Maker {
     ghost use Rattle.std.specs.Prelude.{◌≡◌, Option, None, List, [], ◌∷◌, IfOk};
     ghost use Rattle.std.specs.Result.{result_err};

@@ -54,8 +54,8 @@ fn rest_before_again<R: Wait>(rt: &R, notifier: &Notifier) {
     notifier.wait(rt, Some(Duration::from_millis(AGAIN_MILLIS)));
 }
 
-/// Waits for the first bytes of a pair's output. Whether there are any; else it has ended, or the pair leaves. A read that
-/// fails is tried again.
+/// Waits for the first bytes of a pair's output. Whether there are any; else it has ended, or the pair leaves. A read
+/// that fails is tried again.
 fn has_begun<D: Read + Drop, R: Wait>(
     rt: &R,
     output: &mut GrowingReader<D>,
@@ -253,7 +253,8 @@ impl Pair {
     ) -> Result<Pair, PartFault>
         requires { 0 < capacity }
         ensures slot { IfOk result (λ pair. pair.slot ≡ slot) }
-        ensures asked { OnOk result (ExtendedWhileKept (M.calls maker.old) (M.calls maker.new) (MadePair slot None ∷ [])) }
+        ensures asked { OnOk result (ExtendedWhileKept (M.calls maker.old) (M.calls maker.new)
+            (MadePair slot None ∷ [])) }
         ensures failed { IfErr result (λ fault. AsksPair slot fault (M.calls maker.old) (M.calls maker.new)) }
     {
         let Ok(shared) = Arc::new(alloc, PairShared::new(alloc)?) else {

@@ -15,8 +15,8 @@ use svc_left::ProcessId;
 /// After how many seconds is looked again whether the adopted processes live.
 const LOOK_SECONDS: u64 = 1;
 
-/// At every which look the lines of all processes are read, whatever their folders: one that died and that nobody waited
-/// for has its folder still.
+/// At every which look the lines of all processes are read, whatever their folders: one that died and that nobody
+/// waited for has its folder still.
 const LINES_EVERY: u64 = 5;
 
 /// A process that was adopted, and what its service waits for.
@@ -39,8 +39,8 @@ enum Glimpse {
     Unclear,
 }
 
-/// What is shown by the folder of a process that has this number now, if there is one, and had that one when the line of
-/// the process was read: the kernel gives no number to the folder of another process.
+/// What is shown by the folder of a process that has this number now, if there is one, and had that one when the line
+/// of the process was read: the kernel gives no number to the folder of another process.
 fn glimpse_of(known: Option<u64>, now: Option<u64>) -> Glimpse
     ensures { result ≡ glimpse_of known now }
 {
@@ -78,8 +78,8 @@ struct WatchState {
     notifier: Notifier,
 }
 
-/// Looks once a second whether the adopted processes live, in a thread of its own, and notifies the service of each that
-/// does not. Whoever has the process finds itself that it is gone.
+/// Looks once a second whether the adopted processes live, in a thread of its own, and notifies the service of each
+/// that does not. Whoever has the process finds itself that it is gone.
 pub struct AdoptionWatch {
     state: Arc<WatchState, Global>,
 }

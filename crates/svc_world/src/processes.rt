@@ -107,7 +107,8 @@ fn stat_of<R: Files<File = File>>(files: &R, pid: u32) -> io::Result<Option<Stat
     }
 }
 
-/// The tick at which the process of this number began that lives now, if there is one, or why the kernel can't be asked.
+/// The tick at which the process of this number began that lives now, if there is one, or why the kernel can't be
+/// asked.
 pub(crate) fn tick_of<S: StatSource>(processes: &S, pid: u32) -> io::Result<Option<u64>>
     ensures { IfOk result (λ tick.
         IfSome (S.stat_at processes.now pid) (λ told. tick ≡ option_and_then living_tick told)) }
@@ -118,8 +119,8 @@ pub(crate) fn tick_of<S: StatSource>(processes: &S, pid: u32) -> io::Result<Opti
     }
 }
 
-/// Whether the process lives that began at this tick, by what was found of the one of its number. Where the kernel could
-/// not be asked, it does: taken for dead it would be started again.
+/// Whether the process lives that began at this tick, by what was found of the one of its number. Where the kernel
+/// could not be asked, it does: taken for dead it would be started again.
 fn lives_by(found: io::Result<Option<Stat>>, tick: u64) -> bool
     ensures asked { IfOk found (λ stat. LivesSince tick stat result) }
     ensures unasked { IfErr found (λ _. result ≡ true) }

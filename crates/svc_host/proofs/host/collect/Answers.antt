@@ -6,7 +6,8 @@ use Rattle.svc_host.proofs.host.collect.Goals as goal
 
 pub loop-place-init : goal.loop-place-init
 loop-place-init g c = record {
-  collected = collected_none (host_of c.args.table.now c.args.parts.now.items (g.M.Maker.calls c.args.factory.now.maker));
+  collected = collected_none (host_of c.args.table.now c.args.parts.now.items
+      (g.M.Maker.calls c.args.factory.now.maker));
   count = refl;
   left =
       λ k d less. refl;

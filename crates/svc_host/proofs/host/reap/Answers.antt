@@ -11,7 +11,8 @@ returns-then-ends-clause-returned g c d =
     let part = c.index_mut-part.result.now in
     let old = g.M.Maker.calls c.args.factory.now.maker in
     let new = g.M.Maker.calls c.join_part.new.factory.maker in
-    subst (λ joined. HandsOut old new [] (returned_by joined (slice_index_or parts c.args.place d).id)) (sym c.if-ends.true)
+    subst (λ joined. HandsOut old new [] (returned_by joined (slice_index_or parts c.args.place d).id))
+    (sym c.if-ends.true)
     (subst (λ (here : HostPart). HandsOut old new [] (here.id ∷ []))
     (c.index_mut-part.ensures.value ∙ same_default parts c.args.place part d c.requires)
     (back-one part c.join_part.new.part old new c.join_part.ensures.gives_back))

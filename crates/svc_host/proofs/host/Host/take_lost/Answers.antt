@@ -26,7 +26,8 @@ returns-clause-counts g c =
       logger_seen = c.sight_at.ensures;
       asked = subst (λ has_logger. ExtendedWhileKept (g.M.Maker.calls c.self.inside.factory.maker)
           (g.M.Maker.calls c.lost-count.new.self)
-          (EndedOutput c.in_ok-pair.pair.slot true ∷ CountedLost c.in_ok-pair.pair.slot has_logger c.lost-count.result ∷ []))
+          (EndedOutput c.in_ok-pair.pair.slot true
+          ∷ CountedLost c.in_ok-pair.pair.slot has_logger c.lost-count.result ∷ []))
           c.lives-has_logger.ensures
           (extended-append _ _ _ _ _ c.end_output.ensures.calls c.lost-count.ensures.calls);
     })
