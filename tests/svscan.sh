@@ -647,6 +647,35 @@ END
   is 'nothing was told' '' "$(cat told1 told2 told3)"
 }
 
+# Where svscan has no descriptor left the kernel can't be asked of a process that it adopted: that lives on, and is not
+# started a second time. What ends meanwhile is found once there are descriptors again.
+starved() {
+  local web hard
+  sleeper d/web
+  sleeper d/dies
+  start_session told1 d
+  soon 'up' 10 all_are is_settled d/web d/dies
+  web=$(process d/web)
+  kill -KILL "$svscan"
+  soon 'svscan is dead' 3 is_gone "$svscan"
+  start_session told2 d
+  soon 'both are served' 10 all_are is_served d/web d/dies
+  soon 'and adopted' 5 begins "d/web: up (pid $web)" d/web
+  sleep 1.5
+  hard=$(ulimit -Hn)
+  prlimit --pid "$svscan" --nofile="3:$hard"
+  kill -KILL "$(process d/dies)"
+  sleep 8
+  so 'it lives' lives "$web"
+  is 'no second copy' 1 "$(count d/web/starts)"
+  prlimit --pid "$svscan" --nofile="$hard:$hard"
+  soon 'what ended meanwhile is started again' 15 has_lines 2 d/dies/starts
+  is 'it is as it was' "d/web: up (pid $web) N seconds" "$(stat_line d/web)"
+  svc -t d/web
+  soon 't ends it, and it starts again' 6 is_another d/web "$web"
+  is 'each start by itself' '2 2' "$(count d/web/starts) $(count d/dies/starts)"
+}
+
 # A status record that can't be written is told, and the service goes on; the next one that can be is.
 unwritten() {
   sleeper d/web
@@ -1771,7 +1800,7 @@ play_all() {
   done
 }
 
-scenarios=(life modes_kept exits endings no_run links stubborn killed_service killed_svscan killed_early unwritten new_boot other_user earlier_record changes twice names silent
+scenarios=(life modes_kept exits endings no_run links stubborn killed_service killed_svscan killed_early starved unwritten new_boot other_user earlier_record changes twice names silent
   connections no_supervise rounds untaken own refused last_words upgraded unread ordered first_process two_services child begins_anew shortage
   descriptors_told unchanged)
 # These keep every processor busy, and have the machine for themselves.
