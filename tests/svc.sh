@@ -193,6 +193,10 @@ ended 'supervised: a long path' 0 '' '' svok "$room/$long"
 ended 'no such folder' 100 '' '' svok nosuch
 ended 'no socket' 100 '' '' svok empty
 ended 'a dead socket' 100 '' '' svok dead
+# The socket that it asks is ok: somebody at control alone is no supervisor.
+listen half control
+ended 'control alone' 100 '' '' svok half
+is 'control is not asked' '' "$(grep half heard)"
 ended 'no folder' 100 '' '' svok
 ended 'two folders' 100 '' '' svok s s
 : >heard

@@ -1078,6 +1078,24 @@ END
   python3 ../say.py d/web/supervise/ok u
   sleep 1
   is 'ok takes no letters' down "$(is_put_down d/web && echo down)"
+  # More of them, one after the other, than a queue of connections holds: each is taken.
+  is 'ok takes 6,000 connections' 6000 "$(timeout 60 python3 -c '
+import socket, sys, time
+taken = 0
+for number in range(6000):
+    client = socket.socket(socket.AF_UNIX)
+    client.setblocking(False)
+    for _ in range(200):
+        try:
+            client.connect(sys.argv[1])
+            taken += 1
+            break
+        except BlockingIOError:
+            time.sleep(0.01)
+    else:
+        break
+    client.close()
+print(taken)' d/web/supervise/ok)"
   svc -u d/web
   soon 'served in the end' 3 is_up d/web
 }
