@@ -4,4 +4,4 @@
 pub(crate) const KIT: &str = "rattle-kit-13b logic dac8208d650f15bf";
 
 /// The sum of its sources, as packaging/source-sum tells it.
-pub(crate) const SOURCE: &str = "2b2e1b8fc0bd5b99dc7986bcf02f6e59bb232a27fd39709b4d794bf665e80e53";
+pub(crate) const SOURCE: &str = "efc628bb3b95bb930597345813ed5cfeb1d0256e9623d175c65626a909ada2af";

@@ -91,8 +91,11 @@ impl StatSource for HostRuntime {
 }
 
 /// What the kernel says of the process of this number, if there is one, in one read; or why it can't be asked, as for
-/// want of a descriptor.
+/// want of a descriptor. That it is gone takes none to see.
 fn stat_of<R: Files<File = File>>(files: &R, pid: u32) -> io::Result<Option<Stat>> {
+    if folder_of(files, pid)?.is_none() {
+        return Ok(None);
+    }
     let path = path_of_process(pid, "stat");
     let mut file = match fs::open(files, path.as_str()) {
         Ok(file) => file,
