@@ -12,7 +12,7 @@ program, room, count = sys.argv[1], sys.argv[2], int(sys.argv[3])
 
 
 class Suite:
-    """One suite: how its scanner starts, what its supervisors are called, how it is told to bring one down, its logger."""
+    """One suite: how its scanner starts, what its supervisors are called, how it is reported to bring one down, its logger."""
 
     def __init__(self, name, scanner, supervisors, down, logger):
         self.name, self.scanner, self.supervisors, self.down, self.logger = name, scanner, supervisors, down, logger
@@ -54,9 +54,9 @@ def read(path):
 
 def start(suite, folder):
     """Starts the scanner over a folder, in a session of its own."""
-    told = open(f"{folder}.told", "w")
+    reported = open(f"{folder}.reported", "w")
     return subprocess.Popen(
-        [*suite.scanner, folder], stdin=subprocess.DEVNULL, stdout=told, stderr=told, start_new_session=True
+        [*suite.scanner, folder], stdin=subprocess.DEVNULL, stdout=reported, stderr=reported, start_new_session=True
     )
 
 
@@ -147,11 +147,11 @@ def services(suite):
     names = make(folder, suite, False)
     begin = time.monotonic()
     start(suite, folder)
-    tell(suite, f"{count} services are up", "ms", up(folder, names, begin))
+    report(suite, f"{count} services are up", "ms", up(folder, names, begin))
     time.sleep(8)
     numbers = supervisors(suite)
-    tell(suite, f"memory a service", "KB", memory(numbers) / count)
-    tell(suite, "idle, of a core over 20 s", "%", share_of_core(numbers, 20))
+    report(suite, f"memory a service", "KB", memory(numbers) / count)
+    report(suite, "idle, of a core over 20 s", "%", share_of_core(numbers, 20))
     took = []
     for name in names[:: max(1, count // 20)][:20]:
         number = read(f"{folder}/{name}/up").strip()
@@ -159,14 +159,14 @@ def services(suite):
         subprocess.run([*suite.down, f"{folder}/{name}"], check=True)
         wait_until(lambda: not os.path.exists(f"/proc/{number}"))
         took.append(1000 * (time.monotonic() - begin))
-    tell(suite, "down, median of 20", "ms", statistics.median(took))
+    report(suite, "down, median of 20", "ms", statistics.median(took))
     if suite.name == "dtools":
         for number in numbers:
             send(number, signal.SIGKILL)
         time.sleep(1)
         start(suite, folder)
         time.sleep(8)
-        tell(suite, f"{count} adopted, of a core over 20 s", "%", share_of_core(supervisors(suite), 20))
+        report(suite, f"{count} adopted, of a core over 20 s", "%", share_of_core(supervisors(suite), 20))
     end_all(suite)
 
 
@@ -177,13 +177,13 @@ def pairs(suite):
     begin = time.monotonic()
     start(suite, folder)
     try:
-        tell(suite, f"{count} pairs are up", "ms", up(folder, names, begin))
+        report(suite, f"{count} pairs are up", "ms", up(folder, names, begin))
     except TimeoutError:
         print(f"{suite.name}: not all pairs come up", flush=True)
     time.sleep(8)
     numbers = supervisors(suite)
-    tell(suite, "memory a pair", "KB", memory(numbers) / count)
-    tell(suite, "idle with pairs, of a core over 20 s", "%", share_of_core(numbers, 20))
+    report(suite, "memory a pair", "KB", memory(numbers) / count)
+    report(suite, "idle with pairs, of a core over 20 s", "%", share_of_core(numbers, 20))
     end_all(suite)
 
 
@@ -211,7 +211,7 @@ def one_pair(suite):
                 pass
             took.append((time.monotonic_ns() - begin) / 1000)
             time.sleep(0.001)
-        tell(suite, "a line to its log, median of 1,000", "us", statistics.median(took))
+        report(suite, "a line to its log, median of 1,000", "us", statistics.median(took))
         block = (b"a" * 99 + b"\n") * 320
         before = logged(home)
         begin = time.monotonic()
@@ -220,7 +220,7 @@ def one_pair(suite):
             total += lines.write(block)
         try:
             wait_until(lambda: logged(home) >= before + total, 0.001)
-            tell(suite, "a pair's flow", "MB/s", total / (time.monotonic() - begin) / 1e6)
+            report(suite, "a pair's flow", "MB/s", total / (time.monotonic() - begin) / 1e6)
         except TimeoutError:
             print(f"{suite.name}: the flow does not end", flush=True)
     end_all(suite)
@@ -234,7 +234,7 @@ def logged(home):
         return 0
 
 
-def tell(suite, what, unit, figure):
+def report(suite, what, unit, figure):
     print(f"{what:44} {suite.name:12} {figure:10.3f} {unit}", flush=True)
 
 

@@ -1,4 +1,4 @@
-"""lanes.py: runs the kit's own `rt ci` in this folder, and tells it which crate to take next, and on how many processors.
+"""lanes.py: runs the kit's own `rt ci` in this folder, and reports it which crate to take next, and on how many processors.
 
 `rt ci` goes by the lines of the crates. Here it goes by the seconds that each took, measured, so that what the most work
 waits for comes first; and that crate gets as many processors as its share of all that is left: the others have the rest.
@@ -12,7 +12,7 @@ import shutil
 import sys
 from concurrent.futures import FIRST_COMPLETED, ThreadPoolExecutor, wait
 
-# Processor seconds of each crate's proof, by one job; of one that is not here its lines tell.
+# Processor seconds of each crate's proof, by one job; of one that is not here its lines say.
 SECONDS = {
     "tai_status": 142, "sup_core": 204, "star_match": 40, "mlog_script": 163, "mlog_files": 81,
     "mlog_line": 82, "mlog_core": 119, "svc_mail": 91, "sup_trace": 142, "svc_station": 171, "svc_house": 117,

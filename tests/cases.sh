@@ -1,7 +1,7 @@
 #!/usr/bin/env bash
 # Runs the worked scripts in tests/cases on the program that the first word names, without the kit: NAME is a case's
 # standard input, or the file that the word {} stands for, NAME.args its words, one a line, NAME.stdout what it must print.
-# What it prints, tells and ends with is compared with tests/cases.expected.
+# What it prints, reports and ends with is compared with tests/cases.expected.
 here=$(realpath "$(dirname "$0")")
 . "$here/checks.sh" "$1"
 trap 'rm -rf "$room"' EXIT
@@ -13,14 +13,14 @@ run_case() {
   [ -e "$here/cases/$name" ] && input=$here/cases/$name
   words=("${words[@]/#\{\}/$here/cases/$name}")
   mkdir -p empty
-  (cd empty && timeout 20 "$program" "${words[@]}" <"$input" >../printed 2>../told)
+  (cd empty && timeout 20 "$program" "${words[@]}" <"$input" >../printed 2>../reported)
   status=$?
   if [ -e "$here/cases/$name.stdout" ] && cmp -s printed "$here/cases/$name.stdout"; then
     output=' output=expected'
     : >printed
   fi
-  [ -n "$output" ] && [ ! -s told ] || echo "== $name"
-  cat printed told
+  [ -n "$output" ] && [ ! -s reported ] || echo "== $name"
+  cat printed reported
   echo "case=$name run=ended status=$status runners=1$output proved=no"
 }
 

@@ -11,14 +11,14 @@ trap 'rm -rf "$room"' EXIT
 for name in devices faults; do cc -O1 -shared -fPIC -o $name.so "$tests/$name.c" -ldl || exit 1; done
 
 # over LIBRARY SETTINGS WORDS..: multilog over the file `in` in a new folder, by way of a library, with these variables.
-# What it tells is left in told, its status in status.
+# What it says is left in reported, its status in status.
 over() {
   local library=$1 settings=$2
   shift 2
   rm -rf work
   mkdir work
   # shellcheck disable=SC2086
-  told=$(cd work && timeout 60 env LD_PRELOAD="$room/$library.so" CLOCK=0 $settings "$program" multilog "$@" 2>&1 <../in)
+  reported=$(cd work && timeout 60 env LD_PRELOAD="$room/$library.so" CLOCK=0 $settings "$program" multilog "$@" 2>&1 <../in)
   status=$?
 }
 # so many `a`, and then this
@@ -36,7 +36,7 @@ for most in 1 7 1000 4096; do
   scenario="reads of $most"
   : >in
   over devices $reads t '-*' '+* fatal: *' ./log
-  is 'empty input' "0  current 0 " "$status $told $(files log)"
+  is 'empty input' "0  current 0 " "$status $reported $(files log)"
   printf 'fatal: x' >in
   over devices $reads t '-*' '+* fatal: *' ./log
   is 'a stamped line' "$(printf '@400000000000000a00000000 fatal: x\n.')" "$(cat work/log/current && echo .)"
@@ -53,7 +53,7 @@ for most in 1 7 1000 4096; do
   is 'the 1001st is not' 'current 0 ' "$(files log)"
   as 201 '' >in
   over devices $reads e
-  is 'an alert' "$(as 200 '')" "$told"
+  is 'an alert' "$(as 200 '')" "$reported"
   as 2094 '\n' >in
   over devices $reads s4096 n2 ./log
   is 'not full' 'current 2095 ' "$(files log)"
@@ -71,7 +71,7 @@ for most in 1 7 1000 4096; do
   over devices $reads s4096 ./log
   is 'a line of a million bytes' "0  $(for last in eb ec ed ee ef f0 f1 f2 f3; do
     printf '@400000000000000a000000%s.s 4096 ' $last
-  done)current 577 " "$status $told $(files log)"
+  done)current 577 " "$status $reported $(files log)"
 done
 
 scenario='devices that fail'
@@ -80,18 +80,18 @@ over devices WRITE_MOST=3 ./log
 is 'three bytes a write' '0 abcdef' "$status $(cat work/log/current)"
 for settings in 'WRITE_STOPS=2' 'WRITE_STOPS=2 WRITE_ERROR=5' 'WRITE_STOPS=2 WRITE_ERROR=28'; do
   over devices "WRITE_MOST=3 $settings" ./log
-  is "three bytes, then $settings" '111 multilog: Store abc' "$status $told $(cat work/log/current)"
+  is "three bytes, then $settings" '111 multilog: Store abc' "$status $reported $(cat work/log/current)"
 done
 as 2095 '\n' >in
 over faults "FAULT=rename:1:5 FAULT_MET=met" s4096 n2 ./log
-is 'a file that is not finished' '111 multilog: Store current 2096 ' "$status $told $(files log | tr -d '\0')"
+is 'a file that is not finished' '111 multilog: Store current 2096 ' "$status $reported $(files log | tr -d '\0')"
 { as 2095 '\n'; as 2095 '\n'; } >in
 over faults "FAULT=unlink:1:5 FAULT_MET=met" s4096 n2 ./log
 is 'an old file that stays' '111 multilog: Store 2 x 2096 current 0 ' \
-  "$status $told $(find work/log -name '@*' -size 2096c | wc -l) x 2096 current $(size work/log/current) "
+  "$status $reported $(find work/log -name '@*' -size 2096c | wc -l) x 2096 current $(size work/log/current) "
 printf 'x\nab' >in
 over faults "FAULT=read:2:5 FAULT_MET=met" ./log
-is 'a read that fails' '111 multilog: Read x' "$status $told $(head -n 1 work/log/current)"
+is 'a read that fails' '111 multilog: Read x' "$status $reported $(head -n 1 work/log/current)"
 is 'and a front of the rest' yes "$(printf 'x\nab\n' | head -c "$(size work/log/current)" | cmp - work/log/current && echo yes)"
 scenario=
 counts devices

@@ -14,14 +14,14 @@ leave() {
 }
 trap leave EXIT
 
-# ended NAME STATUS PRINTED TOLD COMMAND..
+# ended NAME STATUS PRINTED REPORTED COMMAND..
 ended() {
-  local name=$1 status=$2 printed=$3 told=$4
+  local name=$1 status=$2 printed=$3 reported=$4
   shift 4
-  timeout 20 "$@" >out 2>told </dev/null
+  timeout 20 "$@" >out 2>reported </dev/null
   is "$name: status" "$status" "$?"
   is "$name: printed" "$printed" "$(cat out)"
-  is "$name: told" "$told" "$(cat told)"
+  is "$name: reported" "$reported" "$(cat reported)"
 }
 
 # until_true COMMAND..: within 10 s
@@ -50,9 +50,9 @@ ended 'words of no folder' 111 '' 'envdir: unable to read nosuch' "$program" env
 mkdir e
 : >e/F=G
 ended 'words of a name with =' 111 '' 'envdir: F=G: NameHasEquals' "$program" envdir --words e
-"$program" envdir --words d >/dev/full 2>told
+"$program" envdir --words d >/dev/full 2>reported
 is 'a full device: status' 111 "$?"
-is 'a full device: told' 'envdir: write fault' "$(cat told)"
+is 'a full device: reported' 'envdir: write fault' "$(cat reported)"
 mkdir -- --words
 printf 'n' >--words/A
 ended 'a folder of that name' 0 n '' "$program" envdir ./--words sh -c 'printf %s "$A"'
@@ -123,7 +123,7 @@ printf '#!/bin/sh\nDTOOLS=%s DAEMONS=%s exec %s ./env %s\n' "$program" "$room/da
 chmod 755 daemon s/web/run
 alive() { local pid; for pid in $(cat daemons 2>/dev/null); do [ -e "/proc/$pid" ] && echo "$pid"; done | xargs; }
 has_started() { [ -s daemons ] && [ "$(wc -l <daemons)" -eq "$1" ]; }
-"$program" svscan s >svscan.out 2>svscan.told </dev/null &
+"$program" svscan s >svscan.out 2>svscan.reported </dev/null &
 svscan=$!
 disown
 is 'the first daemon' yes "$(until_true has_started 1 && echo yes)"

@@ -56,7 +56,7 @@ scan @400000000000000d00000000 d---:a dl--:b d---:c
 def starves(*words, given=b"a line\n@4000000037c219bf2ef02e94 another\n"):
     """Each growth of a command refused in turn."""
     good = subprocess.run([program, *words], input=given, capture_output=True)
-    told = re.compile(rb"(%s|dtools): ((word|line) \d+: )?OutOfMemory\n" % words[0].encode())
+    reported = re.compile(rb"(%s|dtools): ((word|line) \d+: )?OutOfMemory\n" % words[0].encode())
     wrong, number = [], 1
     while True:
         ran = faulted(f"malloc:{number}:12", "met", words, given)
@@ -66,8 +66,8 @@ def starves(*words, given=b"a line\n@4000000037c219bf2ef02e94 another\n"):
         if ran is None:
             wrong.append(f"growth {number}: no end")
             break
-        is_told = ran.returncode == 111 and told.fullmatch(ran.stderr) and plain(good.stdout).startswith(plain(ran.stdout))
-        if not is_told and seen(ran) != seen(good):
+        is_reported = ran.returncode == 111 and reported.fullmatch(ran.stderr) and plain(good.stdout).startswith(plain(ran.stdout))
+        if not is_reported and seen(ran) != seen(good):
             wrong.append(f"growth {number}: status {ran.returncode}, {ran.stdout} {ran.stderr}")
         number += 1
     check("each growth refused: " + " ".join(words), wrong, number - 1)
@@ -76,7 +76,7 @@ def starves(*words, given=b"a line\n@4000000037c219bf2ef02e94 another\n"):
 def logs(error, call):
     """multilog with each call of a kind failing in turn: its files hold a front of the lines, and all where it says nothing."""
     lines = b"".join(b"line %d of the log, which has some more words\n" % number for number in range(1, 301))
-    told = re.compile(rb"multilog: (Read|Store|(word \d+: )?OutOfMemory|unable to open \./log)\n|dtools: OutOfMemory\n")
+    reported = re.compile(rb"multilog: (Read|Store|(word \d+: )?OutOfMemory|unable to open \./log)\n|dtools: OutOfMemory\n")
     wrong, number = [], 1
     while True:
         shutil.rmtree("log", ignore_errors=True)
@@ -94,7 +94,7 @@ def logs(error, call):
         if ran.returncode == 0:
             if kept != lines or ran.stderr:
                 wrong.append(f"{number}: status 0, and {len(kept)} bytes, {ran.stderr}")
-        elif ran.returncode != 111 or not told.fullmatch(ran.stderr):
+        elif ran.returncode != 111 or not reported.fullmatch(ran.stderr):
             wrong.append(f"{number}: status {ran.returncode}, {ran.stderr}")
         number += 1
     check(f"multilog: {call}, error {error}", wrong, number - 1)
@@ -102,7 +102,7 @@ def logs(error, call):
 
 # The services of svscan, a pair among them.
 SERVICES = {"web": "exec sleep 1000", "db": "echo said\nexec sleep 1000", "db/log": "exec cat >>lines"}
-TOLD = re.compile(r"svscan: (OutOfMemory|unable to list|\S+: (unable to (supervise: .*|lock|write status|write the trace)|\d+ bytes were not logged))|"
+REPORTED = re.compile(r"svscan: (OutOfMemory|unable to list|\S+: (unable to (supervise: .*|lock|write status|write the trace)|\d+ bytes were not logged))|"
                   r"dtools: OutOfMemory")
 
 
@@ -164,9 +164,9 @@ def supervised(fault, cycles):
     make_services(here + "/d")
     folders = [f"{here}/d/{name}" for name in SERVICES]
     around = dict(os.environ, FAULT=fault, FAULT_MET=here + "/met", LD_PRELOAD=room + "/faults.so")
-    with open(here + "/told", "w") as told:
+    with open(here + "/reported", "w") as reported:
         svscan = subprocess.Popen([program, "svscan", here + "/d"], env=around, stdin=subprocess.DEVNULL,
-                                  stdout=subprocess.DEVNULL, stderr=told, start_new_session=True)
+                                  stdout=subprocess.DEVNULL, stderr=reported, start_new_session=True)
     wrong = []
 
     def running():
@@ -191,10 +191,10 @@ def supervised(fault, cycles):
         becomes("logged", lines)
         run("svc", "-d", *folders)
         becomes("down", lambda: running() == [0, 0, 0])
-    told = read(here + "/told").splitlines()
-    wrong += ["told: " + line for line in told if not TOLD.fullmatch(line)]
+    reported = read(here + "/reported").splitlines()
+    wrong += ["reported: " + line for line in reported if not REPORTED.fullmatch(line)]
     # It may end only before it has begun anything.
-    if svscan.poll() is not None and (svscan.returncode != 111 or not told or any(started(folder) for folder in folders)):
+    if svscan.poll() is not None and (svscan.returncode != 111 or not reported or any(started(folder) for folder in folders)):
         wrong.append(f"it ended with {svscan.returncode}")
     for pid in [pid for folder in folders for pid in started(folder)]:
         if is_alive(pid):
@@ -216,9 +216,9 @@ def rounds(fault):
     if ran is None:
         wrong.append("no end")
     else:
-        told = ran.stderr.decode().splitlines()
-        wrong += ["told: " + line for line in told if not TOLD.fullmatch(line)]
-        if ran.returncode not in (0, 111) or (ran.returncode == 111 and not told):
+        reported = ran.stderr.decode().splitlines()
+        wrong += ["reported: " + line for line in reported if not REPORTED.fullmatch(line)]
+        if ran.returncode not in (0, 111) or (ran.returncode == 111 and not reported):
             wrong.append(f"it ended with {ran.returncode}")
     left = [pid for name in SERVICES for pid in started(f"{here}/d/{name}") if is_alive(pid)]
     wrong += [f"process {pid} is left" for pid in left]

@@ -131,8 +131,8 @@ wrong=
 for length in $(seq 0 $((${#text} - 1))); do
   printf %s "${text:0:length}" >front
   number=$(($(wc -l <front) + 1))
-  told=$("$program" trace front 2>&1 >out)
-  [ "$told" = "trace: line $number: Line" ] && [ ! -s out ] || wrong+="$length: $told, "
+  reported=$("$program" trace front 2>&1 >out)
+  [ "$reported" = "trace: line $number: Line" ] && [ ! -s out ] || wrong+="$length: $reported, "
 done
 is 'fronts of a trace' '' "$wrong"
 printf %s "$text" >front

@@ -6,7 +6,7 @@ top=$(realpath "$(dirname "$0")/..")
 trap 'rm -rf "$room"' EXIT
 
 # install WORD..: one of the makefile's targets, over this program
-run_make() { make -s -C "$top" PROGRAM="$program" DESTDIR="$room/root" PREFIX=/usr/local "$@" >/dev/null 2>"$room/told"; }
+run_make() { make -s -C "$top" PROGRAM="$program" DESTDIR="$room/root" PREFIX=/usr/local "$@" >/dev/null 2>"$room/reported"; }
 found() { sorted "$(cd root 2>/dev/null && find . -type f -o -type l)"; }
 # sorted PATHS: paths on one line, in byte order
 sorted() { echo $1 | tr ' ' '\n' | LC_ALL=C sort | xargs; }
@@ -71,7 +71,7 @@ is 'completion of an option' '-u' "$(completes svwait -u)"
 is 'completion of a service to wait for' 'services/db' "$(completes svwait -d services/d)"
 is 'completion of a service of dtools' 'services/db' "$(completes dtools svstat services/d)"
 
-make -s -C "$top" PROGRAM="$room/none" DESTDIR="$room/root" install >/dev/null 2>told
+make -s -C "$top" PROGRAM="$room/none" DESTDIR="$room/root" install >/dev/null 2>reported
 is 'no program: status' 2 "$?"
-is 'no program: told' "There is no $room/none yet: make build makes it." "$(head -n 1 told)"
+is 'no program: reported' "There is no $room/none yet: make build makes it." "$(head -n 1 reported)"
 counts install

@@ -104,15 +104,15 @@ exec 3>&-
 wait
 
 # Words and faults.
-"$program" tai64nlocal word </dev/null >out 2>told
+"$program" tai64nlocal word </dev/null >out 2>reported
 is 'a word: status' 100 "$?"
-is 'a word: told' 'dtools: usage' "$(cat told)"
-echo "$noon" | "$program" tai64nlocal >/dev/full 2>told
+is 'a word: reported' 'dtools: usage' "$(cat reported)"
+echo "$noon" | "$program" tai64nlocal >/dev/full 2>reported
 is 'a full device: status' 111 "$?"
-is 'a full device: told' 'tai64nlocal: Write' "$(cat told)"
-"$program" tai64nlocal <. >out 2>told
+is 'a full device: reported' 'tai64nlocal: Write' "$(cat reported)"
+"$program" tai64nlocal <. >out 2>reported
 is 'a folder for the input: status' 111 "$?"
-is 'a folder for the input: told' 'tai64nlocal: Read' "$(cat told)"
+is 'a folder for the input: reported' 'tai64nlocal: Read' "$(cat reported)"
 localised UTC </dev/null >out
 is 'no input: status' 0 "$?"
 is 'no input: printed' '' "$(cat out)"
@@ -153,17 +153,17 @@ record=$(label 1774745999 999999999)
 # traced ZONE [WORD..]: what is printed of it
 traced() { TZ=$1 "$program" trace trace "${@:2}"; }
 
-# told BEFORE AFTER: what is to be printed with these times of the process's start and end
-told() {
+# reported BEFORE AFTER: what is to be printed with these times of the process's start and end
+reported() {
   printf '%s\n' "1 byte x: took record (up 4711, wanted up, exiting, since $1) -> up" \
     "2 byte u: took record (up 4711, wanted up, exiting, since $1) -> up" \
     "3 death $2: took record (down, wanted up, exiting, since $2) -> gone" \
     "state gone (down, wanted up, exiting, since $2)"
 }
-is 'trace: UTC' "$(told '2026-03-29 00:59:59.999999999' '2026-03-29 01:00:02.000000007')" "$(traced UTC --local)"
-is 'trace: Berlin' "$(told '2026-03-29 01:59:59.999999999' '2026-03-29 03:00:02.000000007')" \
+is 'trace: UTC' "$(reported '2026-03-29 00:59:59.999999999' '2026-03-29 01:00:02.000000007')" "$(traced UTC --local)"
+is 'trace: Berlin' "$(reported '2026-03-29 01:59:59.999999999' '2026-03-29 03:00:02.000000007')" \
   "$(traced Europe/Berlin --local)"
-is 'trace: half an hour' "$(told '2026-03-29 06:29:59.999999999' '2026-03-29 06:30:02.000000007')" \
+is 'trace: half an hour' "$(reported '2026-03-29 06:29:59.999999999' '2026-03-29 06:30:02.000000007')" \
   "$(traced Asia/Kolkata --local)"
 is 'trace: a break' 'break 3' "$(traced Asia/Kolkata --local --break phase:gone)"
 is 'trace: without the flag as ever' "$(traced UTC)" "$(traced Asia/Kolkata)"

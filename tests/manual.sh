@@ -53,7 +53,7 @@ for page in "$pages"/man*/*.gz; do
   # The formats are shown, and not typed.
   [ "$name" = dtools-formats.5 ] && continue
   is "$name has an example" yes "$(grep -q '^\$ ' examples && echo yes)"
-  # The pages tell where the package puts the names.
+  # The pages say where the package puts the names.
   sed -i 's|PATH=/usr/lib/dtools/bin|PATH='"$room"'/at/lib/dtools/bin|' examples
   mkdir session
   in_text=

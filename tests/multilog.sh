@@ -9,13 +9,13 @@ export DTOOLS=$program
 mounted=
 trap '[ -n "$mounted" ] && umount "$room/small" 2>/dev/null; rm -rf "$room"' EXIT
 
-# ended NAME STATUS TOLD WORDS..: multilog over the file `in`: its status, and what it tells
+# ended NAME STATUS REPORTED WORDS..: multilog over the file `in`: its status, and what it says
 ended() {
-  local name=$1 status=$2 told=$3
+  local name=$1 status=$2 reported=$3
   shift 3
-  timeout 20 "$program" multilog "$@" <in >out 2>told
+  timeout 20 "$program" multilog "$@" <in >out 2>reported
   is "$name: status" "$status" "$?"
-  is "$name: told" "$told" "$(cat told)"
+  is "$name: reported" "$reported" "$(cat reported)"
   is "$name: printed" '' "$(cat out)"
 }
 
@@ -38,9 +38,9 @@ olds() {
 for row in '100|word 1: SizeRange|s4095' '100|word 1: CountRange|n1' '100|word 2: StampNotFirst|e t' \
   '100|word 2: SameLogTwice|./no ./no' '100|word 1: BadNumber|s0x2000' '100|word 1: Processor|!cat' \
   '100|word 1: UnknownAction|tx' '100|word 1: Pattern|-a**b' '100|word 2: UnknownAction|./no ='; do
-  IFS='|' read -r status told words <<<"$row"
+  IFS='|' read -r status reported words <<<"$row"
   # shellcheck disable=SC2086
-  ended "refused: $words" "$status" "multilog: $told" $words
+  ended "refused: $words" "$status" "multilog: $reported" $words
 done
 is 'refused: still none' no "$([ -e no ] && echo yes || echo no)"
 
@@ -135,7 +135,7 @@ mkdir spent
 ended 'labels spent' 111 'multilog: LabelsSpent' s4096 ./spent
 is 'labels spent: appended' 2096 "$(size spent/current)"
 
-# Folders that can't be opened: the first is told, and those before it are opened, no more.
+# Folders that can't be opened: the first is reported, and those before it are opened, no more.
 : >file
 echo x >in
 ended 'a file for a folder' 111 'multilog: unable to open ./file' ./before ./file ./after
@@ -192,9 +192,9 @@ yes 'a line of text' | head -n 200000 >in
 (
   trap '' XFSZ
   ulimit -f 40
-  timeout 20 "$program" multilog s16777215 ./limited <in 2>told
+  timeout 20 "$program" multilog s16777215 ./limited <in 2>reported
   is 'a limit' 111 "$?"
-  is 'a limit: told' 'multilog: Store' "$(cat told)"
+  is 'a limit: reported' 'multilog: Store' "$(cat reported)"
   cmp -s <(head -c "$(size limited/current)" in) limited/current
   is 'a limit: a front' '0 true' "$? $([ "$(size limited/current)" -ge 40000 ] && echo true)"
   [ "$failed" = 0 ]
@@ -212,7 +212,7 @@ fi
 # over by that. A status file is made anew beside the old one, and takes its place whole.
 if command -v cc >/dev/null && cc -shared -fPIC -o calls.so "$calls" -ldl 2>/dev/null; then
   for number in {1..400}; do echo "line $number of the log, which has some more words"; done >in
-  CALLS=noted LD_PRELOAD=./calls.so timeout 20 "$program" multilog s4096 n2 ./noting '-*' '+*9 of*' =noted.status <in 2>told
+  CALLS=noted LD_PRELOAD=./calls.so timeout 20 "$program" multilog s4096 n2 ./noting '-*' '+*9 of*' =noted.status <in 2>reported
   is 'calls: status' 0 "$?"
   sed 's/@[0-9a-f]*\.s/@/' noted | grep -a noting/ >main
   finished=$(grep -c '^rename ' main)
@@ -284,9 +284,9 @@ is 'the logger is killed: current' 'one two three four five six' "$(xargs <halve
 exec 7>&-
 "$wrapper" ./halves <in
 is 'no TERM: status' 0 "$?"
-"$wrapper" s1 <in 2>told
-is 'the status is that of the logger' '100 multilog: word 1: SizeRange' "$? $(cat told)"
-DTOOLS=$room/none "$wrapper" ./halves <in 2>told
+"$wrapper" s1 <in 2>reported
+is 'the status is that of the logger' '100 multilog: word 1: SizeRange' "$? $(cat reported)"
+DTOOLS=$room/none "$wrapper" ./halves <in 2>reported
 is 'no program: status' 111 "$?"
 
 # ALRM: what is in current becomes an old file, at once where its last line is whole, or else behind that line's
@@ -375,15 +375,15 @@ is 'a rotation by the channel: current' 0 "$(size by/three/current)"
 is 'a rotation by the channel: the smallest goes' '@7fffffffffffffff3b9ac9fe.s @7fffffffffffffff3b9ac9ff.s current lock' \
   "$(ls by/three | xargs)"
 printf 'last\n' >by/three/current
-heard a ./by/three 2>told
-is 'a rotation with no label left' '111 multilog: LabelsSpent last' "$? $(cat told) $(cat by/three/current)"
+heard a ./by/three 2>reported
+is 'a rotation with no label left' '111 multilog: LabelsSpent last' "$? $(cat reported) $(cat by/three/current)"
 printf 'x\n' >by/four/current
 heard aaa ./by/four
 is 'three rotations, one line' '0 1' "$? $(olds by/four)"
 
 # 40 TERMs in a flow of lines: each is in the log once, and in order, and each logger ends with 0.
-# told_40_times NAME COUNT PAUSE: lines with numbers up to COUNT, each after a pause of so many seconds
-told_40_times() {
+# reported_40_times NAME COUNT PAUSE: lines with numbers up to COUNT, each after a pause of so many seconds
+reported_40_times() {
   local turn ends=0
   mkfifo "flow$1"
   python3 -c '
@@ -408,9 +408,9 @@ for number in range(1, count + 1):
   is "40 TERMs, $1: each line once, in order" 0 "$?"
   exec 6<&-
 }
-told_40_times 1 6000000 0
-told_40_times 2 2500 0.001
-told_40_times 3 150 0.02
+reported_40_times 1 6000000 0
+reported_40_times 2 2500 0.001
+reported_40_times 3 150 0.02
 
 # The channel is the pipe that the environment names; where it names none there is none, and TERM ends the program.
 echo x >in

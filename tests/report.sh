@@ -54,15 +54,15 @@ for line, folder in zip(lines, folders):
     print(" ".join(said))
 END
 
-# object NAME WANTED FOLDERS..: what is said of the folders, a line each, with status 0 and nothing told
+# object NAME WANTED FOLDERS..: what is said of the folders, a line each, with status 0 and nothing reported
 object() {
   local name=$1 wanted=$2 before status
   shift 2
   before=$(date +%s)
-  timeout 20 "$program" svstat --json "$@" >out 2>told </dev/null
+  timeout 20 "$program" svstat --json "$@" >out 2>reported </dev/null
   status=$?
   is "$name: status" 0 "$status"
-  is "$name: told" '' "$(cat told)"
+  is "$name: reported" '' "$(cat reported)"
   is "$name" "$wanted" "$(python3 members.py "$before" "$(date +%s)" "$@" <out 2>&1)"
 }
 
@@ -151,15 +151,15 @@ for line in text.split("\n")[:-1]:
     print(f"{now.removeprefix('dtools_service_')}{extra} {folders.index(service)} {value}")
 END
 
-# metrics NAME WANTED FOLDERS..: the samples of these folders, with status 0 and nothing told
+# metrics NAME WANTED FOLDERS..: the samples of these folders, with status 0 and nothing reported
 metrics() {
   local name=$1 wanted=$2 before status
   shift 2
   before=$(date +%s)
-  timeout 20 "$program" svstat --metrics "$@" >out 2>told </dev/null
+  timeout 20 "$program" svstat --metrics "$@" >out 2>reported </dev/null
   status=$?
   is "$name: status" 0 "$status"
-  is "$name: told" '' "$(cat told)"
+  is "$name: reported" '' "$(cat reported)"
   is "$name" "$wanted" "$(python3 samples.py "$before" "$(date +%s)" "$@" <out 2>&1)"
   if command -v promtool >/dev/null; then
     is "$name: promtool" '' "$(promtool check metrics <out 2>&1 || echo "status $?")"
@@ -271,12 +271,12 @@ metrics 'metrics: no service' ''
 object 'a service twice' "$(printf '%s\n' 'error="supervise not running"' 'error="supervise not running"')" nosuch nosuch
 is 'a form is the first word alone' "nosuch: supervise not running
 $room/--json: unable to read status" "$(rm "$room/--json/supervise/status" && "$program" svstat nosuch "$room/--json")"
-timeout 20 "$program" svstat --json nosuch >/dev/full 2>told </dev/null
+timeout 20 "$program" svstat --json nosuch >/dev/full 2>reported </dev/null
 is 'a full device: status' 111 "$?"
-is 'a full device: told' 'svstat: write fault' "$(cat told)"
-timeout 20 "$program" svstat --metrics nosuch >/dev/full 2>told </dev/null
+is 'a full device: reported' 'svstat: write fault' "$(cat reported)"
+timeout 20 "$program" svstat --metrics nosuch >/dev/full 2>reported </dev/null
 is 'metrics: a full device: status' 111 "$?"
-is 'metrics: a full device: told' 'svstat: write fault' "$(cat told)"
+is 'metrics: a full device: reported' 'svstat: write fault' "$(cat reported)"
 
 # A service that svscan keeps.
 mkdir -p services/web

@@ -11,13 +11,13 @@ trap leave EXIT
 export DTOOLS=$program SVDIR=$room/services
 service() { "$top/contrib/dtools-service" "$@"; }
 
-# ended NAME STATUS TOLD WORDS..
+# ended NAME STATUS REPORTED WORDS..
 ended() {
-  local name=$1 status=$2 told=$3
+  local name=$1 status=$2 reported=$3
   shift 3
-  service "$@" >out 2>told
+  service "$@" >out 2>reported
   is "$name: status" "$status" "$?"
-  is "$name: told" "$told" "$(cat told)"
+  is "$name: reported" "$reported" "$(cat reported)"
 }
 
 # soon NAME COMMAND..: the command succeeds within half a minute
@@ -51,7 +51,7 @@ ended 'nothing was added' 1 '' --list x
 ended 'not there' 111 'dtools-service: x: it was not added so' --remove x
 
 set -m
-"$program" svscan services </dev/null >scan.out 2>scan.told &
+"$program" svscan services </dev/null >scan.out 2>scan.reported &
 svscan=$!
 disown
 set +m
@@ -67,5 +67,5 @@ is 'neither is served' '100 100' "$(for part in 'own/a b' 'own/a b/log'; do is_s
 is 'its last words are logged' 'last words' "$(cat 'own/a b/log/main/current')"
 sleep 6
 is 'it does not begin anew' 100 "$(is_served 'own/a b'; echo $?)"
-is 'svscan told nothing' '' "$(cat scan.told)"
+is 'svscan reported nothing' '' "$(cat scan.reported)"
 counts service

@@ -67,9 +67,9 @@ def svc(letters, names):
 
 def stands(names):
     """How each service stands: its process, since when, and what is wanted, as its record and svstat have it."""
-    told = subprocess.run([program, "svstat", "--json", *["d/" + name for name in names]], capture_output=True, text=True).stdout
+    reported = subprocess.run([program, "svstat", "--json", *["d/" + name for name in names]], capture_output=True, text=True).stdout
     found = {}
-    for name, line in zip(names, told.splitlines()):
+    for name, line in zip(names, reported.splitlines()):
         line = json.loads(line)
         line.pop("seconds", None)
         found[name] = line, read(f"d/{name}/supervise/status")[:12]
@@ -81,8 +81,8 @@ svscan = None
 
 def start():
     global svscan
-    with open("told", "ab") as told:
-        svscan = subprocess.Popen([program, "svscan", "d"], stdin=subprocess.DEVNULL, stdout=subprocess.DEVNULL, stderr=told,
+    with open("reported", "ab") as reported:
+        svscan = subprocess.Popen([program, "svscan", "d"], stdin=subprocess.DEVNULL, stdout=subprocess.DEVNULL, stderr=reported,
                                   start_new_session=True)
 
 
@@ -158,7 +158,7 @@ for name in pairs:
     check(f"{name}: no line twice, and in order", [], [line for line, next in zip(whole, whole[1:]) if line >= next][:5])
     check(f"{name}: pieces of torn lines, of one a kill at most", True, len(lines) - len(whole) <= 2 * kills)
     check(f"{name}: missing bytes, within the bound", True, (last[name] - len(whole)) * 15 <= kills * BOUND)
-check("nothing was told", b"", read("told"))
+check("nothing was reported", b"", read("reported"))
 
 kill()
 wrong = []
@@ -172,8 +172,8 @@ check("all are served", True, until(15, lambda: is_served(steady + dying + logge
 time.sleep(2)
 wrong += [f"last: {name} runs {living(name)}" for name in steady + dying if len(living(name)) > 1]
 check("killed soon after the start: never two copies", [], wrong[:10])
-# A process of which a kill kept the record from being written is told; one that is being begun keeps the lock so long.
-check("nothing else was told", b"", re.sub(rb"svscan: \S+: (process \d+ still runs|unable to lock)\n", b"", read("told")))
+# A process of which a kill kept the record from being written is reported; one that is being begun keeps the lock so long.
+check("nothing else was reported", b"", re.sub(rb"svscan: \S+: (process \d+ still runs|unable to lock)\n", b"", read("reported")))
 
 kill()
 for name in steady + dying + loggers:

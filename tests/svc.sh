@@ -13,14 +13,14 @@ leave() {
 }
 trap leave EXIT
 
-# ended NAME STATUS PRINTED TOLD COMMAND WORDS..
+# ended NAME STATUS PRINTED REPORTED COMMAND WORDS..
 ended() {
-  local name=$1 status=$2 printed=$3 told=$4
+  local name=$1 status=$2 printed=$3 reported=$4
   shift 4
-  timeout 5 "$program" "$@" >out 2>told </dev/null
+  timeout 5 "$program" "$@" >out 2>reported </dev/null
   is "$name: status" "$status" "$?"
   is "$name: printed" "$printed" "$(cat out)"
-  is "$name: told" "$told" "$(cat told)"
+  is "$name: reported" "$reported" "$(cat reported)"
 }
 
 # A listener in a folder: it binds sockets below supervise there, and writes what each connection brings as a line of the
@@ -110,7 +110,7 @@ is 'refused: nothing was sent' '' "$(cat heard)"
 ended 'no words' 0 '' '' svc
 ended 'no service' 0 '' '' svc -d
 
-# svc: services that can't be reached are told, and the others are served.
+# svc: services that can't be reached are reported, and the others are served.
 warning='svc: warning: unable to control'
 ended 'others are served' 0 '' "$warning nosuch: not running
 $warning none: not running
@@ -126,7 +126,7 @@ ended 'a path beyond all' 0 '' "$warning $(printf '/%.0s' $(seq 5000)): not runn
 ended 'a slash behind' 0 '' '' svc -t s/
 arrived 'a slash behind' 's/control t'
 
-# svc -W: the same is sent and told, and the status says whether each was reached.
+# svc -W: the same is sent and reported, and the status says whether each was reached.
 ended '-W: each was reached' 0 '' '' svc -W -d s -x
 arrived '-W: each was reached' 's/control d' './-x/control d'
 ended '-W: one was not' 111 '' "$warning nosuch: not running" svc -W -u nosuch s
@@ -210,10 +210,10 @@ stat() {
   bytes "$hex" >s/supervise/status
   local before after
   before=$(date +%s)
-  timeout 5 "$program" svstat s >out 2>told </dev/null
+  timeout 5 "$program" svstat s >out 2>reported </dev/null
   is "$name: status" 0 "$?"
   after=$(date +%s)
-  is "$name: told" '' "$(cat told)"
+  is "$name: reported" '' "$(cat reported)"
   local found=no second
   for second in $(seq "$before" "$after"); do
     [ "$(cat out)" = "${line/SECONDS_SINCE/$((second - since))}" ] && found=yes
@@ -232,7 +232,7 @@ stat 'paused: down file' "${label}671200000164" \
 stat 'down: down file' "${label}000000000064" 's: down SECONDS_SINCE seconds'
 rm s/down
 stat 'in the future' 7fffffffffffffff00000000671200000075 's: up (pid 4711) 0 seconds'
-# Records of 20 bytes tell a phase and whether supervise is to end.
+# Records of 20 bytes report a phase and whether supervise is to end.
 stat 'starting' "${label}0000000000750000" 's: down SECONDS_SINCE seconds, normally up, want up, starting'
 stat 'settling' "${label}6712000000750001" 's: up (pid 4711) SECONDS_SINCE seconds, settling'
 stat 'resting' "${label}0000000000750002" 's: down SECONDS_SINCE seconds, normally up, want up, resting'
@@ -273,8 +273,8 @@ s: unable to read status
 nosuch: supervise not running" '' svstat nosuch "$long" s nosuch
 ended 'a word with a dash' 0 '-x: unable to read status' '' svstat -x
 ended 'svstat without words' 0 '' '' svstat
-timeout 5 "$program" svstat nosuch >/dev/full 2>told </dev/null
+timeout 5 "$program" svstat nosuch >/dev/full 2>reported </dev/null
 is 'a full device: status' 111 "$?"
-is 'a full device: told' 'svstat: write fault' "$(cat told)"
+is 'a full device: reported' 'svstat: write fault' "$(cat reported)"
 
 counts svc

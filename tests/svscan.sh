@@ -1,5 +1,5 @@
 #!/usr/bin/env bash
-# What no contract can say of svscan: that real services in real folders are started, kept, told, logged and ended. Runs
+# What no contract can say of svscan: that real services in real folders are started, kept, reported, logged and ended. Runs
 # the program that the first word names over folders of its own, a scenario for each matter and all side by side, prints
 # each check that fails, and ends with how many did not. Further words are the scenarios that are wanted, where not all
 # are. The wanted values are those of the daemontools pages and of docs/FORMATS.md. It needs python3, for clients that
@@ -63,36 +63,36 @@ not() {
   ! "$@"
 }
 
-# ended NAME STATUS TOLD WORDS..: svscan with these words ends by itself, with this status, and tells this
+# ended NAME STATUS REPORTED WORDS..: svscan with these words ends by itself, with this status, and reports this
 ended() {
-  local name=$1 status=$2 told=$3
+  local name=$1 status=$2 reported=$3
   shift 3
-  timeout -k 1 30 "$program" svscan "$@" >ended.out 2>ended.told </dev/null
+  timeout -k 1 30 "$program" svscan "$@" >ended.out 2>ended.reported </dev/null
   is "$name: status" "$status" "$?"
-  is "$name: told" "$told" "$(cat ended.told)"
+  is "$name: reported" "$reported" "$(cat ended.reported)"
   is "$name: printed" '' "$(cat ended.out)"
 }
 
-# start TOLD WORDS..: starts svscan with these words, by the command `under` if there is one. What it tells is added to
-# the file TOLD, and its number is left in svscan. By job control it gets a process group of its own, which has the
+# start REPORTED WORDS..: starts svscan with these words, by the command `under` if there is one. What it says is added to
+# the file REPORTED, and its number is left in svscan. By job control it gets a process group of its own, which has the
 # signals as they are by default.
 start() {
-  local told=$1
+  local reported=$1
   shift
   set -m
-  "${under[@]}" "$program" svscan "$@" </dev/null >>"$told.out" 2>>"$told" &
+  "${under[@]}" "$program" svscan "$@" </dev/null >>"$reported.out" 2>>"$reported" &
   svscan=$!
   disown
   set +m
   echo "$svscan" >>"$room/$scenario.groups"
 }
 
-# start_session TOLD WORDS..: the same in a session of its own, as a service manager does. Where svscan is a job of a shell,
+# start_session REPORTED WORDS..: the same in a session of its own, as a service manager does. Where svscan is a job of a shell,
 # and is killed while a service is paused, the kernel sends HUP to all of its group.
 start_session() {
-  local told=$1
+  local reported=$1
   shift
-  setsid "$program" svscan "$@" </dev/null >>"$told.out" 2>>"$told" &
+  setsid "$program" svscan "$@" </dev/null >>"$reported.out" 2>>"$reported" &
   svscan=$!
   disown
   echo "$svscan" >>"$room/$scenario.groups"
@@ -167,7 +167,7 @@ echo $$ >pid
 while :; do sleep 0.1; done
 END
   under=(bash -c 'umask 000; exec "$@"' bash)
-  start told d
+  start reported d
   under=()
   soon 'up' 5 is_settled d/web
   local first
@@ -210,7 +210,7 @@ END
   soon 'the trace has d' 8 trace_has d/web 'byte d: took TERM:'
   soon 'the trace has k' 8 trace_has d/web 'byte k: took KILL:'
   is 'the trace ends with a state' 1 "$("$program" trace d/web/supervise/trace | tail -n 1 | grep -c '^state ')"
-  is 'nothing was told' '' "$(cat told told.out)"
+  is 'nothing was reported' '' "$(cat reported reported.out)"
 }
 
 has_line() {
@@ -235,7 +235,7 @@ modes_kept() {
   : >d/found/supervise/lock
   echo 'seventeen letters' >d/found/supervise/status
   under=(bash -c 'umask 777; exec "$@"' bash)
-  start told d
+  start reported d
   under=()
   soon 'up' 5 is_settled d/web
   soon 'found: up' 5 is_settled d/found
@@ -245,7 +245,7 @@ modes_kept() {
   is 'found: served' 0 "$(is_served d/found; echo $?)"
   svc -d d/found
   soon 'found: d' 3 is_put_down d/found
-  is 'nothing was told' '' "$(cat told told.out)"
+  is 'nothing was reported' '' "$(cat reported reported.out)"
 }
 
 # A service that exits at once.
@@ -253,7 +253,7 @@ exits() {
   service d/web <<'END'
 echo >>starts
 END
-  start told d
+  start reported d
   soon 'it starts' 5 test -s d/web/starts
   soon 'it settles' 5 ends ', settling' d/web
   local before after
@@ -284,7 +284,7 @@ END
   is 'o while it is up: no more starts' "$before" "$(count d/web/starts)"
   svc -x d/web
   soon 'x while it is down: the next round starts it again' 8 has_lines $((before + 1)) d/web/starts
-  is 'nothing was told' '' "$(cat told told.out)"
+  is 'nothing was reported' '' "$(cat reported reported.out)"
 }
 
 # exit_says PATTERN FOLDER: how its last process ended, without the label
@@ -296,7 +296,7 @@ counts_are() { [ "$(cat "$2/supervise/counts" 2>/dev/null)" = "$1" ]; }
 counts_are_even() { grep -qE '^([0-9]+) \1$' "$1/supervise/counts"; }
 # it was wanted once, and is down: a record without a process stands between two lives, too
 has_run_once() { wants o "$1" && [ "$(phase "$1")" = '0 4' ]; }
-# its file exit tells of the process that noted its number in pid
+# its file exit reports of the process that noted its number in pid
 ended_last() { [ "$(cat "$1/pid")" = "$(cut -d ' ' -f 1 "$1/supervise/exit")" ]; }
 
 # How processes end, and how many began and ended, in the files exit and counts.
@@ -314,7 +314,7 @@ END
   : >d/down/down
   mkdir -p d/down/supervise
   echo '7 7' >d/down/supervise/counts
-  start told d
+  start reported d
   local name first
   soon 'a status' 5 exit_says '[0-9]+ status 3' d/status
   soon 'a signal' 5 exit_says '[0-9]+ signal SEGV' d/killed
@@ -346,7 +346,7 @@ END
   soon 'd' 3 is_put_down d/web
   soon 'why says it' 8 why_says "Process $first ran .* and ended by SIGTERM after TERM \\(d\\)\\." d/web
   is 'modes' '600 600' "$(stat -c %a d/web/supervise/exit d/web/supervise/counts | xargs)"
-  is 'nothing was told' '' "$(cat told)"
+  is 'nothing was reported' '' "$(cat reported)"
 }
 exists() { [ -e "$1" ] && echo yes || echo no; }
 why_says() { timeout 10 "$program" why "$2" | grep -qE "$1"; }
@@ -360,10 +360,10 @@ no_run() {
   head -c 4000 /dev/urandom | tr -d '\n' | { printf '\177ELF\n'; cat; } >d/garbage/run
   chmod 755 d/garbage/run
   sleeper d/sound
-  start told d
+  start reported d
   soon 'another one is up' 5 is_up d/sound
-  soon 'told of missing' 5 holds '^svscan: missing: unable to run ./run: No such file or directory$' told
-  soon 'told of closed' 5 holds '^svscan: closed: unable to run ./run: Permission denied$' told
+  soon 'reported of missing' 5 holds '^svscan: missing: unable to run ./run: No such file or directory$' reported
+  soon 'reported of closed' 5 holds '^svscan: closed: unable to run ./run: Permission denied$' reported
   local name
   for name in missing closed garbage; do
     is "$name is served" 0 "$(is_served d/$name; echo $?)"
@@ -391,7 +391,7 @@ links() {
   logger pair/log
   ln -s ../real d/web
   ln -s ../pair d/pair
-  start told d
+  start reported d
   soon 'up' 5 is_settled real
   soon 'pair: up' 5 is_settled pair/log
   local first
@@ -418,7 +418,7 @@ links() {
   ln -s ../pair d/pair
   soon 'a new link: it starts again' 8 has_lines 2 real/starts
   soon 'a new link: the pair too' 8 has_lines 2 pair/log/starts
-  is 'nothing was told' '' "$(cat told told.out)"
+  is 'nothing was reported' '' "$(cat reported reported.out)"
 }
 
 # A service that passes over TERM.
@@ -428,7 +428,7 @@ trap '' TERM
 echo $$ >>starts
 while :; do sleep 1; done
 END
-  start told d
+  start reported d
   soon 'up' 5 is_settled d/web
   local first
   first=$(process d/web)
@@ -446,13 +446,13 @@ END
   kill -KILL -- "-$svscan"
   soon 'svscan is dead' 3 is_gone "$svscan"
   # The end of svscan waits for it.
-  start told d 1
+  start reported d 1
   soon 'one round: up' 5 is_settled d/web
   soon 'one round: d was sent' 5 wants d d/web
   soon 'one round: x was sent' 5 ends ', want down, exiting' d/web
   so 'one round: svscan waits' lives "$svscan"
-  soon 'one round: that is told' 8 holds "^svscan: web: process $(process d/web) still runs$" told
-  soon 'one round: and again' 8 has_lines 2 told
+  soon 'one round: that is reported' 8 holds "^svscan: web: process $(process d/web) still runs$" reported
+  soon 'one round: and again' 8 has_lines 2 reported
   svc -k d/web
   soon 'one round: k ends both' 4 not lives "$svscan"
   is 'one round: down' 0 "$(process d/web)"
@@ -462,7 +462,7 @@ END
 # A service that is killed.
 killed_service() {
   sleeper d/web
-  start told d
+  start reported d
   soon 'up' 5 is_settled d/web
   local first
   first=$(process d/web)
@@ -473,7 +473,7 @@ killed_service() {
   is 'once' 2 "$(count d/web/starts)"
 }
 
-# Loggers that are killed. The lines of flow run on while its logger is killed; calm writes when it is told to.
+# Loggers that are killed. The lines of flow run on while its logger is killed; calm writes when it is reported to.
 killed_logger() {
   service d/flow <<'END'
 i=0
@@ -495,7 +495,7 @@ exec sleep 1000
 END
   logger d/flow/log
   logger d/calm/log
-  start told d
+  start reported d
   soon 'calm: its logger is up' 5 is_settled d/calm/log
   local kills=0 first
   for _ in 1 2 3; do
@@ -589,7 +589,7 @@ echo "line 0"
 while :; do sleep 0.05; done
 END
   logger d/pair/log
-  start_session told1 d
+  start_session reported1 d
   soon 'up' 10 all_are is_settled d/web d/paused d/put d/once d/dies d/quiet d/pair d/pair/log
   soon 'its line is logged' 5 has_lines 1 d/pair/log/main/current
   svc -p d/paused
@@ -608,7 +608,7 @@ END
   kill -HUP "$pair"
   sleep 0.5
   so 'a service that writes meanwhile runs on' lives "$pair"
-  start_session told2 d
+  start_session reported2 d
   soon 'all are served' 10 all_are is_served d/web d/paused d/put d/once d/dies d/quiet d/pair d/pair/log
   soon 'what died is started again' 10 has_lines 2 d/dies/starts
   keep_processes web paused put once quiet pair >now
@@ -639,12 +639,12 @@ END
   kept=$(process d/web)
   kill -TERM "$svscan"
   soon 'TERM ends svscan' 3 is_gone "$svscan"
-  start_session told3 d
+  start_session reported3 d
   soon 'served again' 10 all_are is_served d/web d/once d/paused
   is 'the same process' "$kept" "$(process d/web)"
   is 'down is down' '0 0' "$(process d/paused) $(process d/once)"
   is 'no second copies' '2 1 1 1 1' "$(for name in web once paused quiet pair; do count d/$name/starts; done | paste -sd ' ')"
-  is 'nothing was told' '' "$(cat told1 told2 told3)"
+  is 'nothing was reported' '' "$(cat reported1 reported2 reported3)"
 }
 
 # Where svscan has no descriptor left the kernel can't be asked of a process that it adopted: that lives on, and is not
@@ -653,12 +653,12 @@ starved() {
   local web hard
   sleeper d/web
   sleeper d/dies
-  start_session told1 d
+  start_session reported1 d
   soon 'up' 10 all_are is_settled d/web d/dies
   web=$(process d/web)
   kill -KILL "$svscan"
   soon 'svscan is dead' 3 is_gone "$svscan"
-  start_session told2 d
+  start_session reported2 d
   soon 'both are served' 10 all_are is_served d/web d/dies
   soon 'and adopted' 5 begins "d/web: up (pid $web)" d/web
   sleep 1.5
@@ -676,41 +676,41 @@ starved() {
   is 'each start by itself' '2 2' "$(count d/web/starts) $(count d/dies/starts)"
 }
 
-# A status record that can't be written is told, and the service goes on; the next one that can be is.
+# A status record that can't be written is reported, and the service goes on; the next one that can be is.
 unwritten() {
   sleeper d/web
-  start told d
+  start reported d
   soon 'up' 5 is_settled d/web
   local web
   web=$(process d/web)
   mkdir d/web/supervise/status.new
   svc -d d/web
   soon 'd ends it' 5 not lives "$web"
-  soon 'it is told' 5 holds '^svscan: web: unable to write status$' told
+  soon 'it is reported' 5 holds '^svscan: web: unable to write status$' reported
   is 'the record stands' "$web" "$(process d/web)"
   rmdir d/web/supervise/status.new
   svc -u d/web
   soon 'u' 5 is_another d/web "$web"
   soon 'up again' 5 is_settled d/web
-  is 'nothing else was told' 'svscan: web: unable to write status' "$(sort -u told)"
+  is 'nothing else was reported' 'svscan: web: unable to write status' "$(sort -u reported)"
 }
 
 # svscan is killed soon after it starts, 30 times. There is never a second copy of a service. A process of which a kill kept the
-# record from being written is not adopted: that it still runs is told.
+# record from being written is not adopted: that it still runs is reported.
 killed_early() {
   sleeper d/web
   sleeper d/pair
   logger d/pair/log
   local copies=
   for _ in $(seq 30); do
-    start told d
+    start reported d
     sleep "0.0$((RANDOM % 60 + 10))"
     kill -KILL "$svscan"
     until_true 3 is_gone "$svscan"
     copies+=$(copies_of web pair)
   done
   is 'second copies' '' "$copies"
-  start told2 d
+  start reported2 d
   soon 'the logger is up' 10 is_settled d/pair/log
   local name
   for name in web pair; do
@@ -718,11 +718,11 @@ killed_early() {
     is "one $name" 1 "$(living "d/$name" | wc -l)"
   done
 }
-# Whether the one process of a service is the one that svscan has, or is told to run still.
+# Whether the one process of a service is the one that svscan has, or is asked to run still.
 is_found() {
   local number
   number=$(living "d/$1")
-  { [ "$(process "d/$1")" = "$number" ] && is_settled "d/$1"; } || holds "^svscan: $1: process $number still runs$" told2
+  { [ "$(process "d/$1")" = "$number" ] && is_settled "d/$1"; } || holds "^svscan: $1: process $number still runs$" reported2
 }
 # the processes of the starts of a service that live
 living() { while read -r number; do lives "$number" && echo "$number"; done <"$1/starts"; }
@@ -735,7 +735,7 @@ new_boot() {
   sleeper d/put
   sleeper d/web
   sleeper d/same
-  start told d
+  start reported d
   soon 'up' 5 all_are is_settled d/put d/web d/same
   svc -d d/put d/same
   soon 'put down' 5 is_put_down d/put
@@ -751,7 +751,7 @@ new_boot() {
   (cd / && exec sleep 1000) &
   local other=$!
   sed -i "s/^[0-9]*/$other/" d/web/supervise/process
-  start told2 d
+  start reported2 d
   soon 'by its row' 8 is_settled d/put
   soon 'not another process' 8 has_lines 2 d/web/starts
   soon 'web is up' 5 is_settled d/web
@@ -770,20 +770,20 @@ echo $$ >>starts
 exec setpriv --reuid 65534 --regid 65534 --clear-groups sleep 1000
 END
   under=(setpriv --bounding-set -sys_ptrace --inh-caps -sys_ptrace)
-  start told d
+  start reported d
   soon 'up' 5 is_settled d/web
   local web
   web=$(process d/web)
   kill -KILL "$svscan"
   soon 'svscan is dead' 3 is_gone "$svscan"
-  start told2 d
+  start reported2 d
   under=()
   soon 'served' 5 is_served d/web
   sleep 1.5
   is 'the same process' "$web 1" "$(process d/web) $(count d/web/starts)"
   svc -d d/web
   soon 'd' 5 is_put_down d/web
-  is 'nothing was told' '' "$(cat told told2)"
+  is 'nothing was reported' '' "$(cat reported reported2)"
 }
 
 # A record of 18 bytes, as an earlier dtools left it, names a process that still runs.
@@ -796,8 +796,8 @@ earlier_record() {
   printf '\x40\0\0\0\x3a\x4f\xc8\x8a\0\0\0\0'"$(printf '\\x%s' "${digits:6:2}" "${digits:4:2}" "${digits:2:2}" "${digits:0:2}")"'\0u' \
     >d/web/supervise/status
   is 'it has 18 bytes' 18 "$(stat -c %s d/web/supervise/status)"
-  start told d
-  soon 'it is told' 8 holds "^svscan: web: process $old still runs$" told
+  start reported d
+  soon 'it is reported' 8 holds "^svscan: web: process $old still runs$" reported
   is 'the record is kept as it was' 18 "$(stat -c %s d/web/supervise/earlier)"
   is 'no second copy' 0 "$(count d/web/starts)"
   kill -KILL "$old"
@@ -818,7 +818,7 @@ exec sleep 1000
 END
   logger d/web/log
   : >d/web/log/down
-  start told d
+  start reported d
   soon 'the service is up' 5 is_settled d/web
   is 'the logger is down' 'd/web/log: down N seconds' "$(stat_line d/web/log)"
   so 'the service waits' test ! -e d/web/done1
@@ -849,9 +849,9 @@ echo a line
 exec sleep 1000
 END
   echo 'no folder' >d/alone/log
-  start told d
+  start reported d
   soon 'up' 5 is_settled d/first
-  soon 'a file named log makes no pair' 3 holds 'a line' told.out
+  soon 'a file named log makes no pair' 3 holds 'a line' reported.out
   sleeper d/second
   mkdir d/.later
   cp d/second/run d/.later/run
@@ -864,7 +864,7 @@ END
   local first
   first=$(process d/first)
   mv d/first d/renamed
-  soon 'another name: told as locked' 8 holds '^svscan: renamed: unable to lock$' told
+  soon 'another name: reported as locked' 8 holds '^svscan: renamed: unable to lock$' reported
   is 'another name: it goes on' "$first" "$(process d/renamed)"
   svc -dx d/renamed
   soon 'another name: ended' 3 not lives "$first"
@@ -877,23 +877,23 @@ END
   soon 'moved away: ended' 3 not is_served elsewhere/second
   sleep 6
   is 'moved away: it does not start again' 1 "$(count elsewhere/second/starts)"
-  # Names that are no text are told, once a round, and the others are services as ever.
+  # Names that are no text are reported, once a round, and the others are services as ever.
   first=$(process d/renamed)
   : >"d/$(printf '\377')"
   mkdir "d/$(printf 'web\300')"
   sleeper d/third
-  soon 'names that are no text' 8 holds '^svscan: 2 names are not text$' told
+  soon 'names that are no text' 8 holds '^svscan: 2 names are not text$' reported
   soon 'names that are no text: another one starts' 8 is_up d/third
   is 'names that are no text: it goes on' "$first" "$(process d/renamed)"
   sleep 6
-  lies 'names that are no text: once a round' 2 4 "$(grep -c 'names are not text$' told)"
+  lies 'names that are no text: once a round' 2 4 "$(grep -c 'names are not text$' reported)"
   rm -r d/*$'\377'* d/*$'\300'*
   sleep 6
-  local told
-  told=$(count told)
+  local reported
+  reported=$(count reported)
   sleep 6
-  is 'names that are no text: gone' "$told" "$(count told)"
-  is 'nothing else was told' '' "$(grep -v -e '^svscan: renamed: unable to lock$' -e '^svscan: [12] names are not text$' told)"
+  is 'names that are no text: gone' "$reported" "$(count reported)"
+  is 'nothing else was reported' '' "$(grep -v -e '^svscan: renamed: unable to lock$' -e '^svscan: [12] names are not text$' reported)"
 }
 
 # Two svscans over the same services, and two links to one service.
@@ -904,16 +904,16 @@ twice() {
   ln -s ../real d/two
   sleeper d/pair
   logger d/pair/log
-  start told d
+  start reported d
   soon 'up' 5 is_settled real
   soon 'pair: up' 5 is_settled d/pair/log
-  soon 'two links: the other name is told' 5 holds '^svscan: two: unable to lock$' told
+  soon 'two links: the other name is reported' 5 holds '^svscan: two: unable to lock$' reported
   is 'two links: one service' 1 "$(count real/starts)"
   rm d/two
   sleep 6
-  local before told
+  local before reported
   before="$(process real) $(process d/pair) $(process d/pair/log)"
-  told=$(count told)
+  reported=$(count reported)
   mkdir other
   ln -s ../real other/one
   ln -s ../d/pair other/pair
@@ -926,7 +926,7 @@ svscan: pair/log: unable to lock" other 2
   is 'the first is as it was' "$before" "$(process real) $(process d/pair) $(process d/pair/log)"
   is 'started once' '1 1 1' "$(count real/starts) $(count d/pair/starts) $(count d/pair/log/starts)"
   is 'still served' '0 0 0' "$(for name in one pair pair/log; do is_served d/$name; echo $?; done | paste -sd ' ')"
-  is 'the first tells nothing of it' "$told" "$(count told)"
+  is 'the first reports nothing of it' "$reported" "$(count reported)"
   svc -d d/pair d/pair/log d/one
   soon 'd is heard' 3 is_put_down real
   soon 'd is heard by the pair' 3 is_put_down d/pair/log
@@ -954,7 +954,7 @@ END
 exec '$program' multilog ./main
 END
   chmod 755 "$folder/$long/log/run"
-  start told "$room/names/$folder"
+  start reported "$room/names/$folder"
   for name in "${all[@]}"; do
     soon "up: $name" 5 is_settled "$folder/$name"
     is "line: $name" "$folder/$name: up (pid $(cat "$folder/$name/starts")) N seconds" "$(stat_line "$folder/$name")"
@@ -962,15 +962,15 @@ END
     soon "down: $name" 3 is_put_down "$folder/$name"
   done
   soon 'the long name has a logger' 4 is_up "$folder/$long/log"
-  is 'nothing was told' '' "$(cat told told.out)"
-  # A service of any name is told as it is spelled.
+  is 'nothing was reported' '' "$(cat reported reported.out)"
+  # A service of any name is reported as it is spelled.
   svc -u "$folder/${all[4]}"
   soon 'up again' 4 is_settled "$folder/${all[4]}"
   kill -KILL "$svscan"
   soon 'svscan is dead' 3 is_gone "$svscan"
   rm "$folder/${all[4]}/supervise/process"
-  start told2 "$folder"
-  soon 'told by its name' 8 grep -q -F "svscan: ${all[4]}: process " told2
+  start reported2 "$folder"
+  soon 'reported by its name' 8 grep -q -F "svscan: ${all[4]}: process " reported2
 }
 
 # Clients that connect and say nothing, 200 of them.
@@ -992,7 +992,7 @@ END
 silent() {
   sleeper d/held
   sleeper d/other
-  start told d
+  start reported d
   soon 'up' 5 is_settled d/held
   soon 'the other one is up' 5 is_settled d/other
   python3 ../silent.py d/held/supervise/control there &
@@ -1003,7 +1003,7 @@ silent() {
   soon 'another service is served at once' 4 is_put_down d/other
   svc -u d/other
   soon 'and again' 4 wants u d/other
-  soon 'the same one is still told as served' 4 is_served d/held
+  soon 'the same one is still reported as served' 4 is_served d/held
   soon 'the same one has a line' 4 is_up d/held
   kill -KILL "$(process d/held)"
   soon 'the same one starts again after a death' 4 has_lines 2 d/held/starts
@@ -1046,7 +1046,7 @@ trap 'echo ALRM >>signals' ALRM
 echo $$ >>starts
 while :; do sleep 0.1; done
 END
-  start told d
+  start reported d
   soon 'up' 5 is_settled d/web
   local control=d/web/supervise/control first
   first=$(process d/web)
@@ -1118,17 +1118,17 @@ no_supervise() {
     echo "$PWD/d/readonly" >>"$room/$scenario.mounts"
     mount -o remount,bind,ro d/readonly 2>/dev/null && mounted=yes
   fi
-  start told d
+  start reported d
   soon 'another one is up' 5 is_settled d/other
   sleep 6
   so 'a file in its place: it does not start' test ! -e d/file/starts
   is 'a file in its place: not served' 100 "$(is_served d/file; echo $?)"
   [ $mounted = yes ] && so 'read-only: it does not start' test ! -e d/readonly/supervise
   so 'a link into nowhere: it does not start' test ! -e d/lost/starts
-  is 'they are told with the cause, and no other' "svscan: file: unable to supervise: Not a directory
+  is 'they are reported with the cause, and no other' "svscan: file: unable to supervise: Not a directory
 svscan: lost: unable to supervise: No such file or directory$([ $mounted = yes ] && echo "
-svscan: readonly: unable to supervise: Read-only file system")" "$(sort -u told)"
-  lies 'once a round' 2 3 "$(grep -c '^svscan: file: ' told)"
+svscan: readonly: unable to supervise: Read-only file system")" "$(sort -u reported)"
+  lies 'once a round' 2 3 "$(grep -c '^svscan: file: ' reported)"
   so 'a link to nothing: what it names is made' test -f kept/away/lock
   is 'a link to nothing: its own, both ways' '700 700' "$(stat -c %a kept/link kept/away | paste -sd ' ')"
   is 'a link to nothing: up' '0 0' "$(for each in link away; do is_served d/$each; echo $?; done | paste -sd ' ')"
@@ -1141,10 +1141,10 @@ svscan: readonly: unable to supervise: Read-only file system")" "$(sort -u told)
     umount d/readonly
     soon 'read-only: no more' 8 is_up d/readonly
   fi
-  local told
-  told=$(count told)
+  local reported
+  reported=$(count reported)
   sleep 6
-  is 'they are told no more' "$told" "$(count told)"
+  is 'they are reported no more' "$reported" "$(count reported)"
   is 'the other one is as it was' 1 "$(count d/other/starts)"
   # Another user than root has no permission here.
   if [ "$(id -u)" = 0 ] && setpriv --reuid 65534 --clear-groups test -x "$program" 2>/dev/null; then
@@ -1176,7 +1176,7 @@ END
   : >d/down/down
   local begin
   begin=${EPOCHREALTIME/[.,]/}
-  timeout -k 1 40 "$program" svscan d 2 >out 2>told </dev/null
+  timeout -k 1 40 "$program" svscan d 2 >out 2>reported </dev/null
   is 'two rounds: status' 0 "$?"
   local took=$(((${EPOCHREALTIME/[.,]/} - begin) / 1000000))
   lies 'two rounds: seconds' 5 12 $took
@@ -1210,7 +1210,7 @@ svscan: unable to list' "$room/nonexistent" 1
   ended 'no folder' 0 'svscan: .svscan: unable to supervise: Not a directory
 svscan: unable to list' d/web/run 1
   cd d || return
-  start ../told.inside
+  start ../reported.inside
   cd ..
   soon 'the folder that it is in: up' 5 has_lines 2 d/web/starts
 }
@@ -1224,7 +1224,7 @@ last_entries() {
     sleeper real/$name
     ln -s ../real/$name d/$name
   done
-  start told d
+  start reported d
   soon 'all are up' 20 all_are is_settled real/*
   rm d/*
   python3 -c 'import os, socket, time
@@ -1245,7 +1245,7 @@ while not os.path.exists("stop"):
   : >stop
   wait "$sender"
   is 'each trace ends where the service was gone' 100 "$(for name in real/*; do ends_gone "$name" && echo yes; done | wc -l)"
-  is 'nothing is told but bytes that were not taken' '' "$(grep -vE '^svscan: 1..: [0-9]+ bytes were not taken$' told)"
+  is 'nothing is reported but bytes that were not taken' '' "$(grep -vE '^svscan: 1..: [0-9]+ bytes were not taken$' reported)"
 }
 
 # all_are TEST FOLDER..: the test holds of each
@@ -1260,7 +1260,7 @@ not_served() { not is_served "$1"; }
 # Threads, descriptors and sockets are given back where services and pairs end, 100 of them.
 given_back() {
   sleeper d/stays
-  start told d
+  start reported d
   soon 'the first one is up' 10 is_settled d/stays
   local before name
   sleep 1
@@ -1279,7 +1279,7 @@ given_back() {
   soon 'all have ended' 30 all_are not_served real/* real/*/log
   soon 'their threads and descriptors are given back' 12 has "$before" numbers "$svscan"
   is 'their sockets are gone' 0 "$(sockets real)"
-  is 'nothing is told' '' "$(cat told)"
+  is 'nothing is reported' '' "$(cat reported)"
 }
 
 threads() { find "/proc/$1/task" -mindepth 1 -maxdepth 1 | wc -l; }
@@ -1296,45 +1296,45 @@ ends_gone() {
   [[ $(timeout 10 "$program" trace "$1/supervise/trace" | tail -n 2 | head -n 1) == *' -> gone' ]]
 }
 
-# What is posted to a service that ends without it is told, once: here d and x are taken after the second of its start,
+# What is posted to a service that ends without it is reported, once: here d and x are taken after the second of its start,
 # and the rest never. So is a trace that can't be written.
 untaken() {
   service d/short <<<'exit 0'
   sleeper d/other
-  start told d
+  start reported d
   soon 'both are served' 10 all_are is_served d/short d/other
   python3 ../say.py d/short/supervise/control dxccc
-  soon 'bytes are told' 15 holds '^svscan: short: 3 bytes were not taken$' told
+  soon 'bytes are reported' 15 holds '^svscan: short: 3 bytes were not taken$' reported
   soon 'it begins anew' 10 is_served d/short
   mkdir d/other/supervise/trace.new
   svc -dx d/other
-  soon 'a trace is told' 15 holds '^svscan: other: unable to write the trace$' told
+  soon 'a trace is reported' 15 holds '^svscan: other: unable to write the trace$' reported
   soon 'it begins anew' 10 is_served d/other
   sleep 6
-  is 'each is told once' 2 "$(count told)"
+  is 'each is reported once' 2 "$(count reported)"
 }
 
 # svscan is served itself: its own status, a round on demand, bytes that ask for nothing.
 own() {
   sleeper d/web
-  # It is told each round.
+  # It is reported each round.
   sleeper d/file
   echo 'no folder' >d/file/supervise
-  start told d
+  start reported d
   soon 'up' 5 is_settled d/web
   is 'svok' 0 "$(is_served d/.svscan; echo $?)"
   is 'svstat' "d/.svscan: up (pid $svscan) N seconds" "$(stat_line d/.svscan)"
   is 'modes' '700 600 600 600 600' "$(cd d/.svscan/supervise && stat -c %a . control ok status lock | paste -sd ' ')"
-  soon 'a second round' 8 has_lines 2 told
+  soon 'a second round' 8 has_lines 2 reported
   python3 ../say.py d/.svscan/supervise/control 'udopchit12k' wait:1 'z*500' wait:1 'b*4096'
-  is 'bytes that ask for nothing' '2 yes' "$(count told) $(lives "$svscan" && echo yes)"
+  is 'bytes that ask for nothing' '2 yes' "$(count reported) $(lives "$svscan" && echo yes)"
   sleeper d/new
   svc -a d/.svscan
-  soon 'a: a round' 1 has_lines 3 told
+  soon 'a: a round' 1 has_lines 3 reported
   soon 'a: what is new is served' 1 is_served d/new
   local begin=$EPOCHREALTIME
   python3 ../say.py d/.svscan/supervise/control aa
-  soon 'a: again' 1 has_lines 5 told
+  soon 'a: again' 1 has_lines 5 reported
   lies 'a: tenths of a second' 0 30 $(((${EPOCHREALTIME/[.,]/} - ${begin/[.,]/}) / 100000))
   local web
   web=$(process d/web)
@@ -1343,7 +1343,7 @@ own() {
   so 'x before q: the service is gone' not lives "$web"
   is 'its record says so' '0 1 5' "$(process d/.svscan) $(phase d/.svscan)"
   is 'no socket is left' 0 "$(sockets d)"
-  start told2 d
+  start reported2 d
   soon 'up again' 5 is_settled d/web
   web=$(process d/web)
   python3 ../say.py d/.svscan/supervise/control qx
@@ -1359,31 +1359,31 @@ refused() {
   sleeper d/web
   sleeper d/pair
   logger d/pair/log
-  start told d
+  start reported d
   soon 'up' 5 all_are is_settled d/web d/pair d/pair/log
   sleep 6
   listing d >before
   ended 'a second svscan' 111 'svscan: unable to lock d' d
   ended 'a second svscan, of one round' 111 'svscan: unable to lock d' d 1
   cd d || return
-  timeout -k 1 30 "$program" svscan >../inside.out 2>../inside.told </dev/null
+  timeout -k 1 30 "$program" svscan >../inside.out 2>../inside.reported </dev/null
   is 'in the folder itself: status' 111 "$?"
   cd ..
-  is 'in the folder itself: told' 'svscan: unable to lock .' "$(cat inside.told)"
+  is 'in the folder itself: reported' 'svscan: unable to lock .' "$(cat inside.reported)"
   listing d >after
   is 'nothing is changed' '' "$(diff before after)"
-  is 'the first tells nothing of it' '' "$(cat told)"
+  is 'the first reports nothing of it' '' "$(cat reported)"
   kill -KILL "$svscan"
   soon 'svscan is dead' 3 is_gone "$svscan"
-  start told2 d
+  start reported2 d
   soon 'the next one is served' 5 is_served d/.svscan
   # Where its folder can't be made, it runs without.
   sleeper e/web
   echo 'no folder' >e/.svscan
-  start told3 e
+  start reported3 e
   soon 'without its own folder: up' 5 is_settled e/web
   sleep 6
-  is 'without its own folder: told once' 'svscan: .svscan: unable to supervise: Not a directory' "$(cat told3)"
+  is 'without its own folder: reported once' 'svscan: .svscan: unable to supervise: Not a directory' "$(cat reported3)"
 }
 
 # It says its last words after TERM, for 0.3 seconds.
@@ -1395,7 +1395,7 @@ while :; do sleep 0.05; done
 END
 }
 
-# What services say while all end is logged: where svscan is told to end, and where its rounds are over.
+# What services say while all end is logged: where svscan is asked to end, and where its rounds are over.
 last_words() {
   speaker d/web
   logger d/web/log
@@ -1427,7 +1427,7 @@ while :; do sleep 0.1; done
 END
   local all=(d/web d/web/log d/keeps d/keeps/log d/alone d/slow d/slow/log d/never d/never/log) name begin
   set -m
-  "$program" svscan d </dev/null >out 2>told &
+  "$program" svscan d </dev/null >out 2>reported &
   local job=$!
   set +m
   echo "$job" >>"$room/$scenario.groups"
@@ -1444,16 +1444,16 @@ END
   is 'x: never' 'last words TERM' "$(paste -sd ' ' d/never/log/lines) $(cat d/never/log/signals)"
   is 'x: each was started once' "$(printf '1 %.0s' "${all[@]}")" "$(for name in "${all[@]}"; do printf '%s ' "$(count "$name/starts")"; done)"
   is 'x: no process is left' '' "$(for name in "${all[@]}"; do living "$name"; done)"
-  is 'x: what still ran is told' 'never/log' "$(sed -n 's/^svscan: \(.*\): process [0-9]* still runs$/\1/p' told | sort -u | paste -sd ' ')"
+  is 'x: what still ran is reported' 'never/log' "$(sed -n 's/^svscan: \(.*\): process [0-9]* still runs$/\1/p' reported | sort -u | paste -sd ' ')"
   is 'x: no socket is left' 0 "$(sockets d)"
   rm -r d/never d/slow d/keeps
-  timeout -k 1 40 "$program" svscan d 2 >out 2>told2 </dev/null
+  timeout -k 1 40 "$program" svscan d 2 >out 2>reported2 </dev/null
   is 'two rounds: status' 0 "$?"
   is 'two rounds: last words' 2 "$(grep -c '^last words$' d/web/log/main/current)"
-  is 'two rounds: told' '' "$(cat told2)"
+  is 'two rounds: reported' '' "$(cat reported2)"
 }
 
-# svscan is told to end alone, and the next one goes on: nothing is lost, and no process is another.
+# svscan is asked to end alone, and the next one goes on: nothing is lost, and no process is another.
 upgraded() {
   service d/flow <<'END'
 echo $$ >>starts
@@ -1467,7 +1467,7 @@ exec sleep 1000
 END
   logger d/flow/log
   sleeper d/web
-  start_session told d
+  start_session reported d
   soon 'up' 8 all_are is_settled d/flow d/flow/log d/web
   local kept begin
   kept="$(process d/flow) $(process d/web)"
@@ -1476,17 +1476,17 @@ END
     svc -q d/.svscan
     soon 'q: svscan ends' 8 is_gone "$svscan"
     so 'q: the service runs on' live "$(process d/flow)" "$(process d/web)"
-    start_session told d
+    start_session reported d
     soon 'the next one' 8 is_served d/flow/log
   done
   soon 'its last line is logged' 40 holds 'line 100060000 of the stream' d/flow/log/main/current
   seq -f 'line %.0f of the stream' 100000001 100060000 >wanted
   is 'no line is lost, doubled or moved' same "$(cat d/flow/log/main/* 2>/dev/null | grep -a '^line' | cmp wanted - 2>&1 && echo same)"
   is 'the same processes' "$kept" "$(process d/flow) $(process d/web)"
-  is 'nothing was told' '' "$(cat told)"
+  is 'nothing was reported' '' "$(cat reported)"
 }
 
-# A logger that doesn't read as svscan leaves: what it can't have is told, to the byte.
+# A logger that doesn't read as svscan leaves: what it can't have is reported, to the byte.
 unread() {
   local name
   for name in paused down; do
@@ -1503,7 +1503,7 @@ exec cat >>main
 END
     : >d/$name/down
   done
-  start_session told d
+  start_session reported d
   soon 'up' 8 all_are is_settled d/paused/log d/down/log
   svc -p d/paused/log
   svc -d d/down/log
@@ -1519,16 +1519,16 @@ END
   soon 'q: svscan ends' 12 is_gone "$svscan"
   kill -CONT "$cat"
   soon 'the logger reads on, and ends' 5 not lives "$cat"
-  start_session told2 d
+  start_session reported2 d
   soon 'the next one' 8 all_are is_served d/paused/log d/down/log
   svc -u d/down/log
   for name in paused down; do
     soon "$name: all is written" 10 test -e d/$name/done
     soon "$name: its last line is logged" 10 holds 'line 100008000 of the stream' d/$name/log/main
-    is "$name: what is not logged is told" $((8000 * 29)) \
-      $(($(stat -c %s d/$name/log/main) + $(sed -n "s/^svscan: $name: \\([0-9]*\\) bytes were not logged\$/\\1/p" told) + 0))
+    is "$name: what is not logged is reported" $((8000 * 29)) \
+      $(($(stat -c %s d/$name/log/main) + $(sed -n "s/^svscan: $name: \\([0-9]*\\) bytes were not logged\$/\\1/p" reported) + 0))
   done
-  is 'each is told once' 2 "$(count told)"
+  is 'each is reported once' 2 "$(count reported)"
 }
 
 # svscan-run ends everything in order: the last words of a service are in its log, and no process is left, not even of one
@@ -1544,7 +1544,7 @@ END
   service d/short <<<'exit 0'
   sleeper 'd/two words'
   set -m
-  DTOOLS=$program "$contrib/svscan-run" d </dev/null >out 2>told &
+  DTOOLS=$program "$contrib/svscan-run" d </dev/null >out 2>reported &
   local wrapper=$!
   set +m
   echo "$wrapper" >>"$room/$scenario.groups"
@@ -1562,11 +1562,11 @@ END
   is 'last words' 'last words' "$(tail -n 1 d/web/log/main/current)"
   is 'no process is left' '' "$(for number in $processes; do lives "$number" && echo "$number"; done)"
   is 'no service is served' 100 "$(is_served d/web; echo $?)"
-  is 'told' '' "$(cat told)"
-  start told2 d
+  is 'reported' '' "$(cat reported)"
+  start reported2 d
   soon 'the next svscan begins each' 10 all_are is_settled d/web d/web/log 'd/two words'
   is 'a bad folder: status' 143 "$(DTOOLS=$program "$contrib/svscan-run" none/at/all 2>none & sleep 1; kill -TERM $!; wait $!; echo $?)"
-  so 'a bad folder: told' holds '^svscan-run: ' none
+  so 'a bad folder: reported' holds '^svscan-run: ' none
   is 'a folder that another svscan has' '111 svscan: unable to lock d' "$(DTOOLS=$program "$contrib/svscan-run" d 2>locked; echo "$? $(cat locked)")"
 }
 
@@ -1578,7 +1578,7 @@ first_process() {
 exec sleep 1000
 END
   set -m
-  DTOOLS=$program unshare --pid --fork --mount-proc --kill-child "$contrib/svscan-run" d </dev/null >out 2>told &
+  DTOOLS=$program unshare --pid --fork --mount-proc --kill-child "$contrib/svscan-run" d </dev/null >out 2>reported &
   local outer=$! first
   set +m
   echo "$outer" >>"$room/$scenario.groups"
@@ -1590,7 +1590,7 @@ END
   soon 'it ends' 1 not lives "$first"
   wait "$outer"
   is 'status' 0 "$?"
-  is 'told' '' "$(cat told)"
+  is 'reported' '' "$(cat reported)"
 }
 
 # Two services over three rounds, each asked by the programs in turn, until the trace says how one of them ended.
@@ -1599,7 +1599,7 @@ two_services() {
   sleeper R
   mkdir d
   ln -s ../S ../R d
-  "$program" svscan d 3 >out 2>told </dev/null &
+  "$program" svscan d 3 >out 2>reported </dev/null &
   local svscan=$!
   soon 'svok S' 10 is_served S
   soon 'svok R' 10 is_served R
@@ -1611,7 +1611,7 @@ two_services() {
   svc -dx S R
   wait "$svscan"
   is 'status' 0 "$?"
-  is 'told' '' "$(cat told)"
+  is 'reported' '' "$(cat reported)"
   is 'svok after the end' 100 "$(is_served S; echo $?)"
   is 'svstat after the end' 'S: supervise not running' "$(timeout 10 "$program" svstat S)"
   is 'the trace breaks where S was gone' 'break ' \
@@ -1636,7 +1636,7 @@ exec sleep 1000
 END
   done
   under=(env -i A=1 'B=two words' PATH="$PATH" PWD="$PWD")
-  start told d
+  start reported d
   under=()
   soon 'all are ready' 8 are_ready 22
   # ls has one more open, the folder that it lists.
@@ -1645,10 +1645,10 @@ END
   is 'its folder: a logger' "$PWD/d/pair/log" "$(cat d/pair/log/folder)"
   is 'its environment' "A=1 B=two words PATH=$PATH PWD=$PWD" "$(sort d/s1/environment | paste -sd ' ')"
   is 'its signals: none is blocked, none is passed over' '0 0' "$(paste -sd ' ' d/s1/masks)"
-  is 'its streams' "/dev/null $PWD/told.out $PWD/told" "$(paste -sd ' ' d/s1/streams)"
-  is 'its streams: a pair' "/dev/null $PWD/d/pair/supervise/out $PWD/told" "$(sed 's/:.*//' d/pair/streams | paste -sd ' ')"
-  is 'its streams: a logger' "pipe $PWD/told.out $PWD/told" "$(sed 's/:.*//' d/pair/log/streams | paste -sd ' ')"
-  is 'nothing was told' '' "$(cat told told.out)"
+  is 'its streams' "/dev/null $PWD/reported.out $PWD/reported" "$(paste -sd ' ' d/s1/streams)"
+  is 'its streams: a pair' "/dev/null $PWD/d/pair/supervise/out $PWD/reported" "$(sed 's/:.*//' d/pair/streams | paste -sd ' ')"
+  is 'its streams: a logger' "pipe $PWD/reported.out $PWD/reported" "$(sed 's/:.*//' d/pair/log/streams | paste -sd ' ')"
+  is 'nothing was reported' '' "$(cat reported reported.out)"
 }
 
 are_ready() {
@@ -1660,18 +1660,18 @@ shortage() {
   local each
   sleeper d/s1
   under=(bash -c 'ulimit -n 60; exec "$@"' bash)
-  start told d
+  start reported d
   under=()
   soon 'the first is up' 10 is_settled d/s1
   for each in $(seq 2 20); do sleeper "d/s$each"; done
-  soon 'some are told' 15 holds ': unable to supervise: Too many open files$' told
+  soon 'some are reported' 15 holds ': unable to supervise: Too many open files$' reported
   sleep 5
   so 'svscan lives' lives "$svscan"
   local up=()
   for each in d/s{1..20}; do is_served "$each" && is_up "$each" && up+=("$each"); done
   lies 'some are up, and some are not' 1 19 ${#up[@]}
-  is 'those that are not served are told' '' "$(for each in d/s{1..20}; do
-    is_served "$each" || holds "^svscan: ${each##*/}: unable to supervise: Too many open files$" told || echo "$each"
+  is 'those that are not served are reported' '' "$(for each in d/s{1..20}; do
+    is_served "$each" || holds "^svscan: ${each##*/}: unable to supervise: Too many open files$" reported || echo "$each"
   done)"
   local before after
   before=$(ticks "$svscan")
@@ -1682,9 +1682,9 @@ shortage() {
   so 'the service too' lives "$(process "${up[0]:-none}")"
 }
 
-# Ten services and three pairs want 24 + 10 * 4 + 3 * 14 descriptors: with one less that is told, at once and once, and with
+# Ten services and three pairs want 24 + 10 * 4 + 3 * 14 descriptors: with one less that is reported, at once and once, and with
 # as many all are up.
-descriptors_told() {
+descriptors_reported() {
   local each
   for each in d e; do
     for name in s{0..9} p{0..2}; do sleeper "$each/$name"; done
@@ -1693,16 +1693,16 @@ descriptors_told() {
     sleeper "$each/.hidden"
   done
   under=(bash -c 'ulimit -n 105; exec "$@"' bash)
-  start told d
+  start reported d
   under=(bash -c 'ulimit -n 106; exec "$@"' bash)
-  start told2 e
+  start reported2 e
   under=()
   soon 'as many: up' 8 all_are is_settled e/s{0..9} e/p{0..2} e/p{0..2}/log
-  soon 'one less: told' 3 holds '^svscan: 106 descriptors are needed, 105 are allowed$' told
-  is 'one less: first of all' 'svscan: 106 descriptors are needed, 105 are allowed' "$(head -n 1 told)"
+  soon 'one less: reported' 3 holds '^svscan: 106 descriptors are needed, 105 are allowed$' reported
+  is 'one less: first of all' 'svscan: 106 descriptors are needed, 105 are allowed' "$(head -n 1 reported)"
   sleep 6
-  is 'one less: once' 1 "$(grep -c 'descriptors are needed' told)"
-  is 'as many: nothing is told' '' "$(cat told2)"
+  is 'one less: once' 1 "$(grep -c 'descriptors are needed' reported)"
+  is 'as many: nothing is reported' '' "$(cat reported2)"
 }
 
 # A folder that does not change is not listed again, and what comes to it is seen.
@@ -1711,7 +1711,7 @@ unchanged() {
   sleeper d/web
   sleeper real
   ln -s ../there d/link
-  start told d
+  start reported d
   soon 'up' 5 is_settled d/web
   sleep 8
   timeout 11 strace -f -qq -e trace=getdents64,getdents -o listed -p "$svscan"
@@ -1731,7 +1731,7 @@ begins_anew() {
   sleeper d/web
   sleeper d/pair
   logger d/pair/log
-  start told d
+  start reported d
   soon 'up' 5 is_settled d/web
   soon 'the pair is up' 5 is_settled d/pair/log
   sleep 6
@@ -1756,7 +1756,7 @@ begins_anew() {
   soon 'a file in its place: ended' 3 not is_served d/.web
   sleep 6
   is 'a file in its place: it does not start again' 2 "$(count d/.web/starts)"
-  is 'nothing was told' '' "$(cat told)"
+  is 'nothing was reported' '' "$(cat reported)"
 }
 
 ticks() {
@@ -1771,10 +1771,10 @@ many() {
   mkdir d
   (cd d && seq -f 's%04.0f' 1001 | xargs mkdir && seq -f 's%04.0f/down' 1001 | xargs touch)
   under=(bash -c 'ulimit -n $(ulimit -Hn); exec "$@"' bash)
-  "${under[@]}" timeout -k 1 90 "$program" svscan d 1 >out 2>told </dev/null
+  "${under[@]}" timeout -k 1 90 "$program" svscan d 1 >out 2>reported </dev/null
   is 'status' 0 "$?"
   under=()
-  is 'the last one is refused' 'svscan: s1001: TooMany' "$(cat told)"
+  is 'the last one is refused' 'svscan: s1001: TooMany' "$(cat reported)"
   is 'sockets' 0 "$(sockets d)"
   is 'records' 1001 "$(find d -name status -size 20c | wc -l)"
 }
@@ -1820,7 +1820,7 @@ play_all() {
 
 scenarios=(life modes_kept exits endings no_run links stubborn killed_service killed_svscan killed_early starved unwritten new_boot other_user earlier_record changes twice names silent
   connections no_supervise rounds untaken own refused last_words upgraded unread ordered first_process two_services child begins_anew shortage
-  descriptors_told unchanged)
+  descriptors_reported unchanged)
 # These keep every processor busy, and have the machine for themselves.
 crowds=(killed_logger late_logger last_entries given_back many)
 shift

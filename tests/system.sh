@@ -6,13 +6,13 @@ top=$(realpath "$(dirname "$0")/..")
 . "$top/tests/checks.sh" "$1"
 trap 'rm -rf "$room"' EXIT
 
-# ended NAME STATUS TOLD COMMAND..: the command's status, and what it tells; what it prints is left in out.
+# ended NAME STATUS REPORTED COMMAND..: the command's status, and what it says; what it prints is left in out.
 ended() {
-  local name=$1 status=$2 told=$3
+  local name=$1 status=$2 reported=$3
   shift 3
-  timeout 20 "$@" >out 2>told </dev/null
+  timeout 20 "$@" >out 2>reported </dev/null
   is "$name: status" "$status" "$?"
-  is "$name: told" "$told" "$(cat told)"
+  is "$name: reported" "$reported" "$(cat reported)"
 }
 
 envdir() {
@@ -48,7 +48,7 @@ ended 'not in PATH' 111 'envdir: unable to run only_here' "$program" envdir d on
 printf '%s' "$room/bin" >d/PATH
 ended 'in the changed PATH' 5 '' "$program" envdir d only_here
 
-# Faults of a folder, the first one told.
+# Faults of a folder, the first one reported.
 ended 'no folder' 111 'envdir: unable to read nosuch' "$program" envdir nosuch true
 mkdir e
 printf '' >'e/F=G'
@@ -108,15 +108,15 @@ if [ -e "$top/packaging/source-sum" ]; then
   is 'version: the kit' "$(sed -n 's/.*KIT: &str = "\(.*\)";/kit \1/p' "$top/crates/cmd_help/src/source.rt")" "$(sed -n 2p out)"
 fi
 
-# A full device is told.
+# A full device is reported.
 if [ -w /dev/full ]; then
   printf 'begin up @400000000000000a00000000\n' >begin
-  "$program" sim <begin >/dev/full 2>told
+  "$program" sim <begin >/dev/full 2>reported
   is 'a full device' 111 "$?"
-  is 'a full device: told' 'sim: write fault' "$(cat told)"
-  "$program" version >/dev/full 2>told
+  is 'a full device: reported' 'sim: write fault' "$(cat reported)"
+  "$program" version >/dev/full 2>reported
   is 'version on a full device' 111 "$?"
-  is 'version on a full device: told' 'version: write fault' "$(cat told)"
+  is 'version on a full device: reported' 'version: write fault' "$(cat reported)"
 fi
 
 counts system

@@ -24,13 +24,13 @@ until_true() {
   return 1
 }
 
-# ended NAME STATUS TOLD WORDS..: wait with these words ends by itself, with this status, and says this
+# ended NAME STATUS REPORTED WORDS..: wait with these words ends by itself, with this status, and says this
 ended() {
-  local name=$1 status=$2 told=$3
+  local name=$1 status=$2 reported=$3
   shift 3
-  timeout -k 1 120 "$program" wait "$@" >out 2>told </dev/null
+  timeout -k 1 120 "$program" wait "$@" >out 2>reported </dev/null
   is "$name: status" "$status" "$?"
-  is "$name: told" "$told" "$(cat told)"
+  is "$name: reported" "$reported" "$(cat reported)"
   is "$name: printed" '' "$(cat out)"
 }
 
@@ -38,17 +38,17 @@ ended() {
 begun() {
   local name=$1
   shift
-  timeout -k 1 120 "$program" wait "$@" >out 2>told </dev/null &
+  timeout -k 1 120 "$program" wait "$@" >out 2>reported </dev/null &
   waiting=$!
   sleep 0.3
   is "$name: it waits" yes "$(kill -0 "$waiting" 2>/dev/null && echo yes)"
 }
 
-# over NAME STATUS TOLD: what was begun ends so
+# over NAME STATUS REPORTED: what was begun ends so
 over() {
   wait "$waiting"
   is "$1: status" "$2" "$?"
-  is "$1: told" "$3" "$(cat told)"
+  is "$1: reported" "$3" "$(cat reported)"
   is "$1: printed" '' "$(cat out)"
 }
 
@@ -94,11 +94,11 @@ starting=00 settling=01 resting=02 phase_up=03 phase_down=04 gone=05
 # found NAME DIGITS UP DOWN: whether -u and -d take this record
 found() {
   status s "$2"
-  local up_told='' down_told=''
-  [ "$3" = 0 ] || up_told='wait: s: not up in time'
-  [ "$4" = 0 ] || down_told='wait: s: not down in time'
-  ended "$1: -u" "$3" "$up_told" -u -t 0 s
-  ended "$1: -d" "$4" "$down_told" -t 0 -d s
+  local up_reported='' down_reported=''
+  [ "$3" = 0 ] || up_reported='wait: s: not up in time'
+  [ "$4" = 0 ] || down_reported='wait: s: not down in time'
+  ended "$1: -u" "$3" "$up_reported" -u -t 0 s
+  ended "$1: -d" "$4" "$down_reported" -t 0 -d s
   ended "$1: -x" 99 'wait: s: still supervised' -x -t 0 s
 }
 listen s
@@ -254,9 +254,9 @@ if [ "$(id -u)" = 0 ] && command -v setpriv >/dev/null; then
   chmod 700 t/supervise
   cp "$program" "/tmp/wait.$$" && chmod 755 "/tmp/wait.$$"
   for goal in -u -d -x; do
-    timeout 120 setpriv --reuid=65534 --regid=65534 --clear-groups "/tmp/wait.$$" wait $goal t >out 2>told
+    timeout 120 setpriv --reuid=65534 --regid=65534 --clear-groups "/tmp/wait.$$" wait $goal t >out 2>reported
     is "no permission: $goal: status" 111 "$?"
-    is "no permission: $goal: told" 'wait: t: unable to open supervise/ok: Permission denied' "$(cat told)"
+    is "no permission: $goal: reported" 'wait: t: unable to open supervise/ok: Permission denied' "$(cat reported)"
   done
   rm -f "/tmp/wait.$$"
 fi
@@ -266,7 +266,7 @@ for name in 'a b' '%s%n' '*' "it's" '"quoted"' $'two\nlines' 'ä€' '-x' '$HOME
   listen "./$name"
   status "./$name" "$label$some"00$up"00$phase_up"
   ended "the name $name" 0 '' -t 100 -u -- "$name"
-  ended "the name $name: told" 99 "wait: $name: not down in time" -d -t 0 -- "$name"
+  ended "the name $name: reported" 99 "wait: $name: not down in time" -d -t 0 -- "$name"
 done
 long=$room/$(printf 'n%.0s' $(seq 200))
 ended 'a long path' 0 '' "$long"

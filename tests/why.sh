@@ -76,10 +76,10 @@ trace() {
 said() {
   local name=$1 wanted_status=$2 line=$3 folder=${4-s} before got_status moment time found=no second
   before=$(date +%s)
-  timeout 5 "$program" why "$folder" >out 2>told </dev/null
+  timeout 5 "$program" why "$folder" >out 2>reported </dev/null
   got_status=$?
   is "$name: status" "$wanted_status" "$got_status"
-  is "$name: told" '' "$(cat told)"
+  is "$name: reported" '' "$(cat reported)"
   moment=$(printf '%s' "$line" | sed -n 's/.*{\([0-9]*\)}.*/\1/p')
   if [ -n "$moment" ]; then
     time=$(date -u -d "@$((start + moment))" '+%Y-%m-%d %H:%M:%S')
@@ -125,7 +125,7 @@ status 88 4711 0 $up
 said 'up: a file down' 0 's is up since {88}, process 4711, normally down.'
 rm s/down
 
-# Times that no calendar tells.
+# Times that no calendar reports.
 bytes 000000000000000000000000671200000075 >s/supervise/status
 timeout 5 "$program" why s >out
 is 'long ago' 's is up since @000000000000000000000000 (' "$(grep -o '^s is up since @[0-9a-f]* (' out)"
@@ -144,7 +144,7 @@ for day in 2000-02-28 2000-02-29 2000-03-01 2024-12-31 2025-01-01 2100-02-28 210
   is "the day $day" "s is up since $day 23:59:58 (" "$(grep -o '^s is up since [^(]*(' out)"
 done
 
-# What a trace tells beside a record that it leads to. Supervise began at the moment 1, and asked for a start.
+# What a trace says beside a record that it leads to. Supervise began at the moment 1, and asked for a start.
 again
 begun=$(record 1 0 0 $up)
 status 90 4711 0 $up 0 3
@@ -194,7 +194,7 @@ status 88 0 0 $down 0 4
 trace 9 up "$(record 85 11261 0 $down)" - 'death 88'
 said 'd is folded' 0 's is down since {88}, normally up. Process 11261 ran 3.0 s and ended.'
 
-# How it ended: where its file exit says that of the very process, and time, of which the trace tells.
+# How it ended: where its file exit says that of the very process, and time, of which the trace says.
 # ended_so WORDS..: writes how the last process of s ended; MOMENT is when
 ended_so() { printf '%s @%s\n' "$1" "$(digits "$2")" >s/supervise/exit; }
 again
@@ -208,29 +208,29 @@ ended_so '11261 status 0' 88
 said 'with status 0' 0 's is down since {88}, normally up. It was brought down (d). Process 11261 ran 3.0 s and ended with status 0 after TERM (d). 1 start in the last 60 s.'
 ended_so '11261 status 255' 88
 said 'with status 255' 0 's is down since {88}, normally up. It was brought down (d). Process 11261 ran 3.0 s and ended with status 255 after TERM (d). 1 start in the last 60 s.'
-untold='s is down since {88}, normally up. It was brought down (d). Process 11261 ran 3.0 s and ended after TERM (d). 1 start in the last 60 s.'
+unreported='s is down since {88}, normally up. It was brought down (d). Process 11261 ran 3.0 s and ended after TERM (d). 1 start in the last 60 s.'
 ended_so '11261 unknown' 88
-said 'unknown' 0 "$untold"
+said 'unknown' 0 "$unreported"
 ended_so '11262 signal TERM' 88
-said 'of another process' 0 "$untold"
+said 'of another process' 0 "$unreported"
 ended_so '11261 signal TERM' 87
-said 'of another time' 0 "$untold"
+said 'of another time' 0 "$unreported"
 for words in '11261 status 256' '11261 status 03' '11261 signal SIGTERM' '011261 signal TERM' '11261  signal TERM' '11261 signal' ''; do
   ended_so "$words" 88
-  said "no line of an exit: $words" 0 "$untold"
+  said "no line of an exit: $words" 0 "$unreported"
 done
 printf '11261 signal TERM @%s' "$(digits 88)" >s/supervise/exit
-said 'without its newline' 0 "$untold"
+said 'without its newline' 0 "$unreported"
 printf '11261 signal TERM @%s\n\n' "$(digits 88)" >s/supervise/exit
-said 'with two' 0 "$untold"
+said 'with two' 0 "$unreported"
 head -c 1000000 /dev/zero >s/supervise/exit
-said 'a long file' 0 "$untold"
+said 'a long file' 0 "$unreported"
 rm s/supervise/exit
 mkdir s/supervise/exit
-said 'a folder' 0 "$untold"
+said 'a folder' 0 "$unreported"
 rmdir s/supervise/exit
 mkfifo s/supervise/exit
-said 'a pipe' 0 "$untold"
+said 'a pipe' 0 "$unreported"
 rm s/supervise/exit
 status 90 4711 0 $up 0 3
 trace 0 starting "$begun" - 'started 4710 86.25' 'clock 87.25' 'death 89.3' 'started 4711 90' 'clock 91'
@@ -259,7 +259,7 @@ status 30 4711 0 $up
 trace 0 starting "$begun" - 'started 4711 30' 'clock 31'
 said 'long up' 0 's is up since {30}, process 4711.'
 
-# A trace that does not lead to the record: of the record's moment only the record tells, and starts are told at least.
+# A trace that does not lead to the record: of the record's moment only the record says, and starts are reported at least.
 status 95 4712 0 $up 0 1
 trace 0 starting "$begun" - 'started 4710 86' 'clock 87' 'byte t' 'death 89' 'started 4711 90' 'clock 91' 'byte k'
 said 'a trace of a moment before' 0 's is up since {95}, process 4712, settling after its start. At least 2 starts in the last 60 s.'
@@ -270,7 +270,7 @@ said 'a trace of another process' 0 's is up since {90}, process 4712. At least 
 mapfile -t entries < <(for start_at in 50 60 70 80 89; do crash $((4700 + start_at)) $start_at; done)
 trace 0 starting "$begun" - "${entries[@]}"
 said 'flapping at least' 0 's is up since {90}, process 4712. It is flapping: at least 5 starts in the last 60 s.'
-# Bytes that came since the trace are not told, and those that it has are.
+# Bytes that came since the trace are not reported, and those that it has are.
 status 90 4711 1 $down 0 3
 trace 0 starting "$begun" - 'started 4711 90' 'clock 91' 'byte h'
 said 'a trace before p and d' 0 's is up since {90}, process 4711, paused, wanted down. It was sent HUP (h). 1 start in the last 60 s.'
@@ -293,9 +293,9 @@ drawn() {
     bar+=$(many "$1" "$2")
     shift 2
   done
-  timeout 5 "$program" why --timeline s >out 2>told </dev/null
+  timeout 5 "$program" why --timeline s >out 2>reported </dev/null
   is "$name: status" 0 "$?"
-  is "$name: told" '' "$(cat told)"
+  is "$name: reported" '' "$(cat reported)"
   is "$name: lines" 3 "$(wc -l <out)"
   is "$name: its line" 's is ' "$(head -c 5 out)"
   is "$name" "$bar" "$(sed -n 2p out)"
@@ -339,7 +339,7 @@ drawn 'paused and continued' 1 + 19 '#' 1 + 59 =
 status "$(past 40 1)" 4711 0 $up 0 3
 trace 0 starting "$begun" - "failed $(past 10)" "clock $(past 40)" "started 4711 $(past 40 1)" "clock $(past 70)"
 drawn 'attempts' 10 . 1 + 29 '*' 1 + 29 '*' 1 + 9 '#'
-# Of the machine before the entries only its process is told.
+# Of the machine before the entries only its process is reported.
 status 0 0 0 $down 0 4
 trace 3 down "$(record 0 0 0 $down)" -
 drawn 'no entries' 80 .
@@ -370,7 +370,7 @@ for second in $(seq "$before" "$(date +%s)"); do
   [ "$(sed -n 3p out)" = "$(date -u -d "@$second" '+%F %T')$(many 58 ' ')now" ] && found=yes
 done
 is 'all to come: scale' yes "$found"
-# A trace that does not lead to the record tells nothing of what is behind its last label.
+# A trace that does not lead to the record says nothing of what is behind its last label.
 status "$(past 70)" 4799 0 $up 0 3
 trace 0 starting "$begun" - "started 4711 $(past 0)" "clock $(past 0 1)" "death $(past 60)" "started 4712 $(past 60 1)" \
   "clock $(past 60 2)" 'byte h'
@@ -380,10 +380,10 @@ trace 0 starting "$begun" - "${entries[@]:0:86}"
 drawn 'flapping, and a start later' 1 + 49 '#' 28 + 2 '?'
 trace 0 starting "$begun" -
 drawn 'no entries that lead there' 80 '?'
-untold='No timeline: it has no trace that can be read.'
+unreported='No timeline: it has no trace that can be read.'
 rm s/supervise/trace
 timeout 5 "$program" why --timeline s >out
-is 'a timeline of no trace' "$untold" "$(sed -n '2,$p' out)"
+is 'a timeline of no trace' "$unreported" "$(sed -n '2,$p' out)"
 again
 begun=$(record 1 0 0 $up)
 
@@ -474,44 +474,44 @@ said 'a path beyond all' 111 "$far can't be reached." "$far"
 said 'no name' 111 ' is not supervised: there is no such folder.' ''
 
 # Words.
-told() {
+reported() {
   is "$1: status" "$2" "$status"
   is "$1: printed" "$3" "$(cat out)"
-  is "$1: told" "$4" "$(cat told)"
+  is "$1: reported" "$4" "$(cat reported)"
 }
-timeout 5 "$program" why >out 2>told </dev/null
+timeout 5 "$program" why >out 2>reported </dev/null
 status=$?
-told 'no words' 0 '' ''
-timeout 5 "$program" why s nosuch -x empty >out 2>told </dev/null
+reported 'no words' 0 '' ''
+timeout 5 "$program" why s nosuch -x empty >out 2>reported </dev/null
 status=$?
-told 'in order' 111 's is up since @7fffffffffffffff3b9ac9ff (0 s), process 4711.
+reported 'in order' 111 's is up since @7fffffffffffffff3b9ac9ff (0 s), process 4711.
 nosuch is not supervised: there is no such folder.
 -x is up since @7fffffffffffffff3b9ac9ff (0 s), process 4711.
 empty is not supervised: nobody answers at its supervise/ok.' ''
-timeout 5 "$program" why --timeline >out 2>told </dev/null
+timeout 5 "$program" why --timeline >out 2>reported </dev/null
 status=$?
-told 'a timeline of nothing' 0 '' ''
-timeout 5 "$program" why --timeline s nosuch -x >out 2>told </dev/null
+reported 'a timeline of nothing' 0 '' ''
+timeout 5 "$program" why --timeline s nosuch -x >out 2>reported </dev/null
 status=$?
-told 'timelines in order' 111 "s is up since @7fffffffffffffff3b9ac9ff (0 s), process 4711.
-$untold
+reported 'timelines in order' 111 "s is up since @7fffffffffffffff3b9ac9ff (0 s), process 4711.
+$unreported
 nosuch is not supervised: there is no such folder.
 -x is up since @7fffffffffffffff3b9ac9ff (0 s), process 4711.
-$untold" ''
-timeout 5 "$program" why empty --timeline >out 2>told </dev/null
+$unreported" ''
+timeout 5 "$program" why empty --timeline >out 2>reported </dev/null
 status=$?
-told 'a service of that name' 111 'empty is not supervised: nobody answers at its supervise/ok.
+reported 'a service of that name' 111 'empty is not supervised: nobody answers at its supervise/ok.
 --timeline is not supervised: there is no such folder.' ''
-timeout 5 "$program" why --timeline s >/dev/full 2>told </dev/null
+timeout 5 "$program" why --timeline s >/dev/full 2>reported </dev/null
 status=$?
 : >out
-told 'a full device for a timeline' 111 '' 'why: write fault'
-timeout 5 "$program" why $'\xff' >out 2>told </dev/null
+reported 'a full device for a timeline' 111 '' 'why: write fault'
+timeout 5 "$program" why $'\xff' >out 2>reported </dev/null
 status=$?
-told 'words that are no text' 100 '' 'dtools: usage'
-timeout 5 "$program" why s >/dev/full 2>told </dev/null
+reported 'words that are no text' 100 '' 'dtools: usage'
+timeout 5 "$program" why s >/dev/full 2>reported </dev/null
 status=$?
 : >out
-told 'a full device' 111 '' 'why: write fault'
+reported 'a full device' 111 '' 'why: write fault'
 
 counts why

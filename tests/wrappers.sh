@@ -10,15 +10,15 @@ trap 'rm -rf "$room"' EXIT
 real=$(dpkg -L daemontools 2>/dev/null)
 is_real() { grep -qx "/usr/bin/$1" <<<"$real"; }
 
-# ended NAME STATUS PRINTED TOLD COMMAND WORDS..: this command of contrib/ ends so, and the installed one of daemontools with
+# ended NAME STATUS PRINTED REPORTED COMMAND WORDS..: this command of contrib/ ends so, and the installed one of daemontools with
 # the same status and the same bytes printed
 ended() {
-  local name=$1 status=$2 printed=$3 told=$4 command=$5
+  local name=$1 status=$2 printed=$3 reported=$4 command=$5
   shift 5
-  timeout 10 "$top/contrib/$command" "$@" >out 2>told </dev/null
+  timeout 10 "$top/contrib/$command" "$@" >out 2>reported </dev/null
   is "$command, $name: status" "$status" "$?"
   is "$command, $name: printed" "$printed" "$(cat out)"
-  is "$command, $name: told" "$told" "$(cat told)"
+  is "$command, $name: reported" "$reported" "$(cat reported)"
   is_real "$command" || return
   timeout 10 "/usr/bin/$command" "$@" >real.out 2>/dev/null </dev/null
   is "$command of daemontools, $name: status" "$status" "$?"
@@ -48,9 +48,9 @@ printf '#!/bin/sh\n' >seen/own
 chmod 700 seen/own
 chmod 755 .
 ended 'not for the account' 111 '' "setuidgid: unable to run $room/seen/own" setuidgid nobody "$room/seen/own"
-setpriv --reuid 65534 "$top/contrib/setuidgid" root true 2>told
+setpriv --reuid 65534 "$top/contrib/setuidgid" root true 2>reported
 is 'setuidgid, no right: status' 111 "$?"
-is 'setuidgid, no right: told' 'setuidgid: unable to change to the account' "$(cat told)"
+is 'setuidgid, no right: reported' 'setuidgid: unable to change to the account' "$(cat reported)"
 
 ended 'no words' 100 '' 'envuidgid: usage: envuidgid account child' envuidgid
 ended 'no account' 111 '' 'envuidgid: unknown account nosuch' envuidgid nosuch true

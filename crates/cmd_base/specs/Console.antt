@@ -1,4 +1,4 @@
--- The devices of a command: what it reads, what it writes, and where it tells its faults.
+-- The devices of a command: what it reads, what it writes, and where it reports its faults.
 use Rattle.std.specs.Prelude.{◌≡◌}
 use Rattle.tai_status.specs.Counted.{Device, Works}
 
@@ -10,8 +10,8 @@ pub record Console : Type 0 where
 abbrev pub console : (reader writer faults : Device) → Console
 console reader writer faults = record { reader = reader; writer = writer; faults = faults }
 
--- No device failed, and nothing was told.
+-- No device failed, and nothing was reported.
 pub record EndsWell (old new : Console) : Type 0 where
   pub reads : Works old.reader new.reader
   pub writes : Works old.writer new.writer
-  pub untold : new.faults ≡ old.faults
+  pub unreported : new.faults ≡ old.faults

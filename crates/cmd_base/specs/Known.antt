@@ -1,4 +1,4 @@
--- What a command reads of the system around it, where the system tells what it holds.
+-- What a command reads of the system around it, where the system says what it holds.
 use Rattle.std.specs.Prelude.{◌≡◌, ◌≢◌, ⊤, Option, Some, None}
 use Rattle.std.specs.IoError.{error_kind}
 use Rattle.std.specs.declared.io.Error.{Error}

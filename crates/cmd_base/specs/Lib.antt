@@ -1,5 +1,5 @@
 pub mod Console
-pub mod Told
+pub mod Usage
 pub mod Known
 pub mod Paths
 pub mod Printed

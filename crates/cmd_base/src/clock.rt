@@ -3,7 +3,7 @@ use std::time::{Clock, SystemTime, UNIX_EPOCH};
 use tai_status::{Label, TimeSource};
 
 /// The system's clock. Where it can't be read it repeats its last reading, at first the label of Unix
-/// second 0. It tells contracts nothing of what it gave.
+/// second 0. It says nothing to contracts of what it gave.
 #[derive(Drop)]
 pub struct SystemClock<R: Clock + Drop> {
     runtime: R,

@@ -5,7 +5,7 @@ use std::alloc::Allocator;
 use std::io::Read;
 use std::{fs, io};
 
-/// What holds files. Contracts see what a file holds, where it tells that.
+/// What holds files. Contracts see what a file holds, where it says that.
 pub trait FileSource {
     ghost use Rattle.std.specs.Prelude.{ℕ, List, Option, None};
     ghost use Rattle.cmd_base.specs.Known.{IsKnown, IsMissed};
@@ -19,7 +19,7 @@ pub trait FileSource {
         ensures missing { IfErr result (λ fault. IsMissed fault (file_at self.now path.now)) };
 }
 
-/// The system's own files. They tell contracts nothing.
+/// The system's own files. They say nothing to contracts.
 impl FileSource for HostRuntime {
     fn read_file<A: Allocator>(&self, alloc: A, path: &str) -> io::Result<Vec<u8, A>> {
         let mut bytes = Vec::new(alloc);

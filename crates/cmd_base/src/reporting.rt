@@ -1,8 +1,8 @@
 //! How a command reports its faults, and with which status it ends.
 ghost use Rattle.std.specs.Prelude.{◌≡◌, ◌+◌, ◌≤◌, ◌++◌, decimal, OnOk, OnErr};
 ghost use Rattle.arrayvec.specs.ArrayString.{array_string_len};
-ghost use Rattle.tai_status.specs.Counted.{Fails, Tells, Wrote, WroteFront};
-ghost use Rattle.cmd_base.specs.Told.{usage_text};
+ghost use Rattle.tai_status.specs.Counted.{Fails, Reports, Wrote, WroteFront};
+ghost use Rattle.cmd_base.specs.Usage.{usage_text};
 
 use arrayvec::ArrayString;
 use itoa::Buffer;
@@ -20,7 +20,7 @@ pub const TROUBLE: u8 = 111;
 
 /// Prints a text where faults go. That the fault writer failed is passed over.
 pub fn print_fault<E: Write>(faults: &mut Output<E>, text: &[u8])
-    ensures { Tells faults.old faults.new text.now }
+    ensures { Reports faults.old faults.new text.now }
 {
     match faults.write_all(text) {
         Ok(()) => {}
@@ -31,7 +31,7 @@ pub fn print_fault<E: Write>(faults: &mut Output<E>, text: &[u8])
 /// Reports a fault, and answers the status of that.
 pub fn report<E: Write>(faults: &mut Output<E>, text: &[u8], status: u8) -> u8
     ensures status { result ≡ status }
-    ensures told { Tells faults.old faults.new text.now }
+    ensures reported { Reports faults.old faults.new text.now }
 {
     print_fault(faults, text);
     status
@@ -47,7 +47,7 @@ pub fn report_parts<E: Write>(
     status: u8,
 ) -> u8
     ensures status { result ≡ status }
-    ensures told { Tells faults.old faults.new (first.now ++ (second.now ++ third.now)) }
+    ensures reported { Reports faults.old faults.new (first.now ++ (second.now ++ third.now)) }
 {
     match write_parts(faults, first, second, third) {
         Ok(()) => {}
@@ -76,7 +76,7 @@ fn write_parts<W: Write>(
 /// Reports that the words are wrong, and answers the status of that.
 pub fn usage<E: Write>(faults: &mut Output<E>) -> u8
     ensures status { result ≡ 100 }
-    ensures told { Tells faults.old faults.new usage_text }
+    ensures reported { Reports faults.old faults.new usage_text }
 {
     report(faults, b"dtools: usage\n", REFUSED)
 }

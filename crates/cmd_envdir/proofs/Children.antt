@@ -147,16 +147,16 @@ said_whole files variables name distinct =
 
 -- Faults
 
--- What is told where there is no memory is the first fault, where there is one.
+-- What is reported where there is no memory is the first fault, where there is one.
 starved_at : (files : List File) (o : Option EnvFault) → first_fault files ≡ o → IsFirstFault (starved o) files
 starved_at files None is = is
 starved_at files (Some (why.NameHasEquals place)) is = is
 starved_at files (Some (why.NotText place)) is = is
 starved_at files (Some why.OutOfMemory) is = absurd (never_memory files is)
 
-pub starved_first : (files : List File) (told : EnvdirFault) → told ≡ starved (first_fault files)
-    → IsFirstFault told files
-starved_first files told is =
+pub starved_first : (files : List File) (reported : EnvdirFault) → reported ≡ starved (first_fault files)
+    → IsFirstFault reported files
+starved_first files reported is =
     subst (λ (w : EnvdirFault). IsFirstFault w files) (sym is) (starved_at files (first_fault files) refl)
 
 starved_by : (o : Option EnvFault) → (starved o ≢ fault.Unread) × (starved o ≢ fault.NotRun)
@@ -165,9 +165,9 @@ starved_by (Some (why.NameHasEquals place)) = (λ e. cc e, λ e. cc e)
 starved_by (Some (why.NotText place)) = (λ e. cc e, λ e. cc e)
 starved_by (Some why.OutOfMemory) = (λ e. cc e, λ e. cc e)
 
-pub starved_neither : (told : EnvdirFault) (o : Option EnvFault) → told ≡ starved o
-    → (told ≢ fault.Unread) × (told ≢ fault.NotRun)
-starved_neither told o is =
+pub starved_neither : (reported : EnvdirFault) (o : Option EnvFault) → reported ≡ starved o
+    → (reported ≢ fault.Unread) × (reported ≢ fault.NotRun)
+starved_neither reported o is =
     subst (λ (w : EnvdirFault). (w ≢ fault.Unread) × (w ≢ fault.NotRun)) (sym is) (starved_by o)
 
 -- Memory is wanted only where no file has a fault.

@@ -1,4 +1,4 @@
--- How `envdir` ends, and what it tells.
+-- How `envdir` ends, and what it says.
 use Rattle.std.specs.Prelude.{◌≡◌, ◌≢◌, ◌⊎◌, ⊤, ℕ, bytes_eq, MatchBool, List, [], ◌∷◌, ◌++◌, codes, map}
 use Rattle.std.specs.Prelude.{slice_get, Option, Some, None}
 use Rattle.std.specs.Option.{option_map_or}
@@ -7,9 +7,9 @@ use Rattle.env_title.specs.Files.{File, env_after}
 use Rattle.env_title.specs.Faults.{first_fault}
 use Rattle.env_title.specs.declared.fault.EnvFault.{EnvFault}
 use Rattle.env_title.specs.declared.fault.EnvFault.TheVariants as why
-use Rattle.tai_status.specs.Counted.{Device, Fails, Tells, Works, Wrote, WroteFront}
+use Rattle.tai_status.specs.Counted.{Device, Fails, Reports, Works, Wrote, WroteFront}
 use Rattle.cmd_base.specs.Known.{IsKnown}
-use Rattle.cmd_base.specs.Told.{usage_text}
+use Rattle.cmd_base.specs.Usage.{usage_text}
 use Rattle.cmd_envdir.specs.System.{Child, child, Launch, Outputs, SystemState}
 use Rattle.cmd_envdir.specs.Words.{ReadsAsWordsOf}
 use Rattle.cmd_envdir.specs.Child.{AreInByteOrder, StartsOne, FailsToStart}
@@ -18,14 +18,14 @@ use Rattle.cmd_envdir.specs.declared.fault.EnvdirFault.TheVariants as fault
 
 -- Faults
 
--- what is told of a fault, by the words for the folder and the child, and the name of the file that is refused
-abbrev pub envdir_told : (dir child name : List ℕ) → EnvdirFault → List ℕ
-envdir_told dir child name fault.Unread = codes "envdir: unable to read " ++ (dir ++ 10 ∷ [])
-envdir_told dir child name (fault.NameHasEquals place) =
+-- what is reported of a fault, by the words for the folder and the child, and the name of the file that is refused
+abbrev pub envdir_report : (dir child name : List ℕ) → EnvdirFault → List ℕ
+envdir_report dir child name fault.Unread = codes "envdir: unable to read " ++ (dir ++ 10 ∷ [])
+envdir_report dir child name (fault.NameHasEquals place) =
     codes "envdir: " ++ (name ++ (codes ": NameHasEquals" ++ 10 ∷ []))
-envdir_told dir child name (fault.NotText place) = codes "envdir: " ++ (name ++ (codes ": NotText" ++ 10 ∷ []))
-envdir_told dir child name fault.NotRun = codes "envdir: unable to run " ++ (child ++ 10 ∷ [])
-envdir_told dir child name fault.OutOfMemory = codes "envdir: OutOfMemory" ++ 10 ∷ []
+envdir_report dir child name (fault.NotText place) = codes "envdir: " ++ (name ++ (codes ": NotText" ++ 10 ∷ []))
+envdir_report dir child name fault.NotRun = codes "envdir: unable to run " ++ (child ++ 10 ∷ [])
+envdir_report dir child name fault.OutOfMemory = codes "envdir: OutOfMemory" ++ 10 ∷ []
 
 -- the name of the file that a fault is of, empty where it is of none
 abbrev pub name_of : EnvdirFault → List File → List ℕ
@@ -43,7 +43,7 @@ IsFirstFault fault.Unread files = ⊤
 IsFirstFault fault.NotRun files = first_fault files ≡ None
 IsFirstFault fault.OutOfMemory files = first_fault files ≡ None
 
--- what is told where there is no memory: the first fault of the files, where they have one
+-- what is reported where there is no memory: the first fault of the files, where they have one
 abbrev pub starved : Option EnvFault → EnvdirFault
 starved None = fault.OutOfMemory
 starved (Some (why.NameHasEquals place)) = fault.NameHasEquals place
@@ -88,45 +88,45 @@ abbrev pub HasNoChild : (system : SystemState) (past now : Option (List Launch))
 HasNoChild system past now child files cause =
     ((now ≡ past) × (cause ≢ fault.NotRun)) ⊎ RunsNot system past now child files cause
 
--- The files of the folder, in the byte order of their names, made the environment of a child; nothing is told.
+-- The files of the folder, in the byte order of their names, made the environment of a child; nothing is reported.
 pub record EndsWithChild (system : SystemState) (dir : List ℕ) (child : Child) (status : ℕ)
-    (past now : Option (List Launch)) (faults tells : Device) : Type 0 where
+    (past now : Option (List Launch)) (faults reports : Device) : Type 0 where
   pub files : List File
   pub files_are : IsKnown (system.folder dir) files
   pub in_order : AreInByteOrder (map (λ file. file.name) files)
   pub runs : RunsChild system past now child files status
-  pub silent : tells ≡ faults
+  pub silent : reports ≡ faults
 
--- It is told why the files of the folder do nothing.
-pub record TellsWhy (system : SystemState) (dir program : List ℕ) (cause : EnvdirFault) (files : List File) (status : ℕ)
-    (faults tells : Device) : Type 0 where
+-- It is reported why the files of the folder do nothing.
+pub record ReportsWhy (system : SystemState) (dir program : List ℕ) (cause : EnvdirFault) (files : List File) (status : ℕ)
+    (faults reports : Device) : Type 0 where
   pub read : WasRead cause (system.folder dir) files
   pub first : IsFirstFault cause files
   pub status_is : status ≡ 111
-  pub told_why : Tells faults tells (envdir_told dir program (name_of cause files) cause)
+  pub subject_why : Reports faults reports (envdir_report dir program (name_of cause files) cause)
 
--- There was no child, and it is told why.
+-- There was no child, and it is reported why.
 pub record EndsWithout (system : SystemState) (dir : List ℕ) (child : Child) (status : ℕ)
-    (past now : Option (List Launch)) (faults tells : Device) : Type 0 where
+    (past now : Option (List Launch)) (faults reports : Device) : Type 0 where
   pub cause : EnvdirFault
   pub files : List File
-  pub why : TellsWhy system dir child.program cause files status faults tells
+  pub why : ReportsWhy system dir child.program cause files status faults reports
   pub none : HasNoChild system past now child files cause
 
 -- A child is asked for.
 abbrev pub ChildEnds : (system : SystemState) (dir : List ℕ) (child : Child) (status : ℕ)
-    (past now : Option (List Launch)) (faults tells : Device) → Type 0
-ChildEnds system dir child status past now faults tells =
-    EndsWithChild system dir child status past now faults tells
-    ⊎ EndsWithout system dir child status past now faults tells
+    (past now : Option (List Launch)) (faults reports : Device) → Type 0
+ChildEnds system dir child status past now faults reports =
+    EndsWithChild system dir child status past now faults reports
+    ⊎ EndsWithout system dir child status past now faults reports
 
--- A text was written, and nothing is told; or a front of it, and it is told that the writer failed.
+-- A text was written, and nothing is reported; or a front of it, and it is reported that the writer failed.
 pub record EndsWriting (text : List ℕ) (status : ℕ) (old new : Outputs) : Type 0 where
   pub either : (status ≡ 0) ⊎ (status ≡ 111)
   pub wrote : status ≡ 0 → Wrote old.writer new.writer text × Works old.writer new.writer
-  pub untold : status ≡ 0 → new.faults ≡ old.faults
+  pub unreported : status ≡ 0 → new.faults ≡ old.faults
   pub failed : status ≡ 111 → WroteFront old.writer new.writer text × Fails old.writer new.writer
-  pub told : status ≡ 111 → Tells old.faults new.faults (codes "envdir: write fault" ++ 10 ∷ [])
+  pub reported : status ≡ 111 → Reports old.faults new.faults (codes "envdir: write fault" ++ 10 ∷ [])
 
 -- The words of the files of the folder were written, as a shell reads them.
 pub record WritesWords (system : SystemState) (dir : List ℕ) (status : ℕ) (old new : Outputs) : Type 0 where
@@ -137,11 +137,11 @@ pub record WritesWords (system : SystemState) (dir : List ℕ) (status : ℕ) (o
   pub reads : ReadsAsWordsOf files text
   pub writes : EndsWriting text status old new
 
--- The files have no words, and it is told why.
+-- The files have no words, and it is reported why.
 pub record HasNoWords (system : SystemState) (dir : List ℕ) (status : ℕ) (old new : Outputs) : Type 0 where
   pub cause : EnvdirFault
   pub files : List File
-  pub why : TellsWhy system dir [] cause files status old.faults new.faults
+  pub why : ReportsWhy system dir [] cause files status old.faults new.faults
   pub ran : cause ≢ fault.NotRun
   pub unwritten : new.writer ≡ old.writer
 
@@ -150,33 +150,33 @@ abbrev pub WordsEnd : (system : SystemState) (dir : List ℕ) (status : ℕ) (ol
 WordsEnd system dir status old new =
     WritesWords system dir status old new ⊎ HasNoWords system dir status old new
 
--- Words are wrong: nothing is written, and the usage is told.
-pub record TellsUsage (status : ℕ) (old new : Outputs) : Type 0 where
+-- Words are wrong: nothing is written, and the usage is reported.
+pub record ReportsUsage (status : ℕ) (old new : Outputs) : Type 0 where
   pub unwritten : new.writer ≡ old.writer
   pub status_is : status ≡ 100
-  pub told : Tells old.faults new.faults usage_text
+  pub reported : Reports old.faults new.faults usage_text
 
 -- Behind `--words` there is a folder, and nothing else.
 abbrev pub AskedEnds : (system : SystemState) (words : List (List ℕ)) (status : ℕ) (old new : Outputs) → Type 0
-AskedEnds system [] status old new = TellsUsage status old new
+AskedEnds system [] status old new = ReportsUsage status old new
 AskedEnds system (dir ∷ []) status old new = WordsEnd system dir status old new
-AskedEnds system (dir ∷ word ∷ words) status old new = TellsUsage status old new
+AskedEnds system (dir ∷ word ∷ words) status old new = ReportsUsage status old new
 
 -- The words of `envdir` are a folder, a program and arguments; or `--words` and a folder.
 
 -- What it starts: the program. Other words hand over no command.
 abbrev pub EnvdirStarts : (system : SystemState) (words : List (List ℕ)) (status : ℕ) (past now : Option (List Launch))
-    (faults tells : Device) → Type 0
-EnvdirStarts system [] status past now faults tells = now ≡ past
-EnvdirStarts system (word ∷ []) status past now faults tells = now ≡ past
-EnvdirStarts system (word ∷ second ∷ more) status past now faults tells =
+    (faults reports : Device) → Type 0
+EnvdirStarts system [] status past now faults reports = now ≡ past
+EnvdirStarts system (word ∷ []) status past now faults reports = now ≡ past
+EnvdirStarts system (word ∷ second ∷ more) status past now faults reports =
     MatchBool (bytes_eq word (codes "--words")) (now ≡ past)
-    (ChildEnds system word (child second more) status past now faults tells)
+    (ChildEnds system word (child second more) status past now faults reports)
 
 -- What it writes: the words of the folder, or the usage. Where a program is asked for, it writes nothing.
 abbrev pub EnvdirWrites : (system : SystemState) (words : List (List ℕ)) (status : ℕ) (old new : Outputs) → Type 0
-EnvdirWrites system [] status old new = TellsUsage status old new
-EnvdirWrites system (word ∷ []) status old new = TellsUsage status old new
+EnvdirWrites system [] status old new = ReportsUsage status old new
+EnvdirWrites system (word ∷ []) status old new = ReportsUsage status old new
 EnvdirWrites system (word ∷ second ∷ more) status old new =
     MatchBool (bytes_eq word (codes "--words")) (AskedEnds system (second ∷ more) status old new)
     (new.writer ≡ old.writer)

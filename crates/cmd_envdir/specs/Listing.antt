@@ -22,7 +22,7 @@ abbrev pub EndsAtFault : {S E F : Type 0} (steps : S → Option (Result E F) →
 EndsAtFault {S = S} {E = E} steps s fault =
     (entries : List E) × (u : S) × YieldsThen steps s (map Ok entries) (Some (Err fault)) u
 
--- Why names are not listed: memory is wanted, or an entry can't be read, the first of which tells this fault.
+-- Why names are not listed: memory is wanted, or an entry can't be read, the first of which says this fault.
 abbrev pub IsWhyUnlisted : {S E : Type 0} (steps : S → Option (Result E Error) → S → Type 0) (s : S) (fault : Error)
     → Type 0
 IsWhyUnlisted steps s fault = (error_kind fault ≡ OutOfMemory) ⊎ EndsAtFault steps s fault

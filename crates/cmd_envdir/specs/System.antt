@@ -74,7 +74,7 @@ pub record Launch : Type 0 where
 abbrev pub launch_of : {A : Type 0} → Command A → Result ExitStatus Error → Launch
 launch_of command ended = record { start = start_of command; ended = ended }
 
--- What it writes to, and where it tells its faults.
+-- What it writes to, and where it reports its faults.
 pub record Outputs : Type 0 where
   pub writer : Device
   pub faults : Device

@@ -110,7 +110,7 @@ fn child_command<A: Allocator + Clone>(
     Ok(command)
 }
 
-/// The status that tells how a child ended: its exit status, or 111 where a signal ended it.
+/// The status that says how a child ended: its exit status, or 111 where a signal ended it.
 fn child_status(status: ExitStatus) -> u8
     ensures { result ≡ status_of_child (exit_code status) }
 {

@@ -3,11 +3,11 @@ ghost use Rattle.std.specs.Prelude.{◌≡◌, ◌≢◌, ◌<◌, ◌⊎◌, No
 ghost use Rattle.std.specs.IoError.{error_kind};
 ghost use Rattle.env_title.specs.Files.{env_after};
 ghost use Rattle.env_title.specs.Faults.{first_fault};
-ghost use Rattle.tai_status.specs.Counted.{Tells};
+ghost use Rattle.tai_status.specs.Counted.{Reports};
 ghost use Rattle.cmd_envdir.specs.System.{outputs, texts};
 ghost use Rattle.cmd_envdir.specs.Words.{ReadsAsWordsOf};
 ghost use Rattle.cmd_envdir.specs.Ends.{AskedEnds, ChildEnds, EndsWriting, EnvdirStarts, EnvdirWrites, HasNoChild};
-ghost use Rattle.cmd_envdir.specs.Ends.{IsChangedBy, IsFirstFault, RunsChild, WordsEnd, envdir_told, name_of, starved};
+ghost use Rattle.cmd_envdir.specs.Ends.{IsChangedBy, IsFirstFault, RunsChild, WordsEnd, envdir_report, name_of, starved};
 
 use crate::child::{Program, run_child};
 use crate::env_system::EnvSystem;
@@ -33,7 +33,7 @@ fn fault_of(error: Error) -> EnvdirFault
     EnvdirFault::Unread
 }
 
-/// What is told where there is no memory: what is wrong with the first file that can't be applied, where one can't.
+/// What is reported where there is no memory: what is wrong with the first file that can't be applied, where one can't.
 fn starved(first: Option<EnvFault>) -> EnvdirFault
     ensures { result ≡ starved first }
 {
@@ -142,7 +142,7 @@ fn refused_name<A: Allocator>(fault: EnvdirFault, folder: &[FolderFile<A>]) -> &
     }
 }
 
-/// Tells a fault, and answers its status.
+/// Reports a fault, and answers its status.
 fn report_fault<E: Write>(
     fault: EnvdirFault,
     dir: &str,
@@ -151,8 +151,8 @@ fn report_fault<E: Write>(
     faults: &mut Output<E>,
 ) -> u8
     ensures status { result ≡ 111 }
-    ensures told { Tells faults.old faults.new
-        (envdir_told dir.now program.now name.now fault) }
+    ensures reported { Reports faults.old faults.new
+        (envdir_report dir.now program.now name.now fault) }
 {
     match fault {
         EnvdirFault::Unread => report_parts(
@@ -189,7 +189,7 @@ fn report_fault<E: Write>(
     }
 }
 
-/// Runs a program in the environment that the files of a folder make of this one, and answers its status; or tells why
+/// Runs a program in the environment that the files of a folder make of this one, and answers its status; or says why
 /// there is none.
 fn run_in_folder<R: EnvSystem, L: Launcher, A: Allocator + Clone, E: Write>(
     rt: &R,
@@ -225,7 +225,7 @@ fn write_text<W: Write, E: Write>(text: &[u8], writer: &mut Output<W>, faults: &
     }
 }
 
-/// Writes the words by which `env` makes the environment of the files of a folder; or tells why there are none.
+/// Writes the words by which `env` makes the environment of the files of a folder; or says why there are none.
 fn write_words<R: EnvSystem, A: Allocator + Clone, W: Write, E: Write>(
     rt: &R,
     alloc: &A,

@@ -7,7 +7,7 @@ use env_title::Env;
 use std::alloc::{AllocError, Allocator};
 use std::io;
 
-/// The folders, and the variables of the process. Contracts see what they hold, where it tells that.
+/// The folders, and the variables of the process. Contracts see what they hold, where it says that.
 pub trait EnvSystem {
     ghost use Rattle.std.specs.Prelude.{map};
     ghost use Rattle.cmd_base.specs.Known.{IsKnown, IsMissed};
@@ -33,7 +33,7 @@ pub trait EnvSystem {
         ensures known { IfOk result (λ variables. IsKnown (state self.now).variables variables) };
 }
 
-/// The system's own. It tells contracts nothing of what it holds.
+/// The system's own. It says nothing to contracts of what it holds.
 impl EnvSystem for HostRuntime {
     fn read_folder<A: Allocator + Clone>(
         &self,

@@ -16,7 +16,7 @@ pub trait Launcher {
         ensures handed { Extended (calls self.old) (calls self.new) (launch_of command.old result ∷ []) };
 }
 
-/// Starts commands on this system. It tells contracts nothing of what it started.
+/// Starts commands on this system. It says nothing to contracts of what it started.
 #[derive(Drop)]
 pub struct SystemLauncher<R: Processes + Drop> {
     runtime: R,

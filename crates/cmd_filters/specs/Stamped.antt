@@ -2,23 +2,23 @@
 use Rattle.std.specs.Prelude.{◌≡◌, ◌≢◌, ℕ, List, [], ◌∷◌, ◌++◌, codes, map, Option}
 use Rattle.std.specs.Borrow.{Bor}
 use Rattle.tai_status.specs.Label.{Tai64n}
-use Rattle.tai_status.specs.Counted.{Device, Fails, Works, IsRead, Tells}
+use Rattle.tai_status.specs.Counted.{Device, Fails, Works, IsRead, Reports}
 use Rattle.tai_status.specs.Lines.{StampState, stamp_state, Stamps, StampsFront}
 use Rattle.tai_status.specs.declared.stamp.StampFault.{StampFault}
 use Rattle.tai_status.specs.declared.stamp.StampFault.TheVariants as fault
 use Rattle.cmd_base.specs.Console.{Console, EndsWell, console}
-use Rattle.cmd_base.specs.Told.{RefusesWords}
+use Rattle.cmd_base.specs.Usage.{RefusesWords}
 
--- what is told of a fault
-abbrev pub stamp_told : StampFault → List ℕ
-stamp_told fault.Read = codes "tai64n: Read" ++ 10 ∷ []
-stamp_told fault.Write = codes "tai64n: Write" ++ 10 ∷ []
+-- what is reported of a fault
+abbrev pub stamp_report : StampFault → List ℕ
+stamp_report fault.Read = codes "tai64n: Read" ++ 10 ∷ []
+stamp_report fault.Write = codes "tai64n: Write" ++ 10 ∷ []
 
 -- where a command stamps, with what the clock gave so far
 abbrev pub stamp_state_of : Console → Option (List Tai64n) → StampState
 stamp_state_of at readings = stamp_state at.reader at.writer readings
 
--- The whole input was stamped, no device failed, and nothing is told.
+-- The whole input was stamped, no device failed, and nothing is reported.
 pub record StampsInput (past now : Option (List Tai64n)) (old new : Console) : Type 0 where
   pub lines : ℕ
   pub stamps : Stamps (stamp_state_of old past) (stamp_state_of new now) lines
@@ -33,11 +33,11 @@ StampCause fault.Read past now old new = Fails old.reader new.reader × Works ol
 StampCause fault.Write past now old new = Works old.reader new.reader × Fails old.writer new.writer
     × StampsFront (stamp_state_of old past) (stamp_state_of new now)
 
--- A device failed, and it is told which.
+-- A device failed, and it is reported which.
 pub record StampsNoFurther (past now : Option (List Tai64n)) (old new : Console) : Type 0 where
   pub fault : StampFault
   pub cause : StampCause fault past now old new
-  pub told : Tells old.faults new.faults (stamp_told fault)
+  pub reported : Reports old.faults new.faults (stamp_report fault)
 
 -- `tai64n` without words, by its status.
 pub record StampsByStatus (status : ℕ) (past now : Option (List Tai64n)) (old new : Console) : Type 0 where
@@ -52,9 +52,9 @@ StampsEnd (word ∷ words) status past now old new = RefusesWords status old new
 
 -- The same, of a clock that gives its readings so, and of each device as it was and is.
 abbrev pub TaiEnds : {C : Type 0} (words : List (List ℕ)) (status : ℕ) (readings : C → Option (List Tai64n))
-    (clock read : C) (reader reads writer writes faults tells : Device) → Type 0
-TaiEnds words status readings clock read reader reads writer writes faults tells =
-    StampsEnd words status (readings clock) (readings read) (console reader writer faults) (console reads writes tells)
+    (clock read : C) (reader reads writer writes faults reports : Device) → Type 0
+TaiEnds words status readings clock read reader reads writer writes faults reports =
+    StampsEnd words status (readings clock) (readings read) (console reader writer faults) (console reads writes reports)
 
 -- the texts of words
 abbrev pub texts : List (Bor (List ℕ)) → List (List ℕ)

@@ -1,10 +1,10 @@
 -- What `readproctitle` prints: the title of its input, by the readproctitle page of daemontools
 -- (cr.yp.to/daemontools/readproctitle.html).
 use Rattle.std.specs.Prelude.{◌≡◌, ℕ, ◌<◌, ◌-◌, ◌⊎◌, List, [], ◌∷◌, ◌++◌, codes, length, slice_get, MatchOption, Some}
-use Rattle.tai_status.specs.Counted.{Device, Fails, Gives, Wrote, WroteFront, IsRead, Tells}
+use Rattle.tai_status.specs.Counted.{Device, Fails, Gives, Wrote, WroteFront, IsRead, Reports}
 use Rattle.env_title.specs.Title.{TitleParts, new_title, pushed, title_text}
 use Rattle.cmd_base.specs.Console.{Console, EndsWell}
-use Rattle.cmd_base.specs.Told.{RefusesWords}
+use Rattle.cmd_base.specs.Usage.{RefusesWords}
 use Rattle.cmd_filters.specs.declared.proctitle.ProctitleFault.{ProctitleFault}
 use Rattle.cmd_filters.specs.declared.proctitle.ProctitleFault.TheVariants as fault
 
@@ -27,12 +27,12 @@ abbrev pub WritesTitleFront : ℕ → (reader : Device) (old new : Device) → T
 WritesTitleFront len reader old new =
     (input : List ℕ) → reader.bytes ≡ Some input → WroteFront old new (title_line len input)
 
--- what is told of a fault
-abbrev pub proctitle_told : ProctitleFault → List ℕ
-proctitle_told fault.TooShort = codes "readproctitle: TooShort" ++ 10 ∷ []
-proctitle_told fault.OutOfMemory = codes "readproctitle: OutOfMemory" ++ 10 ∷ []
-proctitle_told fault.Read = codes "readproctitle: read fault" ++ 10 ∷ []
-proctitle_told fault.Write = codes "readproctitle: write fault" ++ 10 ∷ []
+-- what is reported of a fault
+abbrev pub proctitle_report : ProctitleFault → List ℕ
+proctitle_report fault.TooShort = codes "readproctitle: TooShort" ++ 10 ∷ []
+proctitle_report fault.OutOfMemory = codes "readproctitle: OutOfMemory" ++ 10 ∷ []
+proctitle_report fault.Read = codes "readproctitle: read fault" ++ 10 ∷ []
+proctitle_report fault.Write = codes "readproctitle: write fault" ++ 10 ∷ []
 
 abbrev pub proctitle_status : ProctitleFault → ℕ
 proctitle_status fault.TooShort = 100
@@ -49,23 +49,23 @@ NoTitle len fault.Read reader reads writer writes = Fails reader reads × (write
 NoTitle len fault.Write reader reads writer writes =
     Fails writer writes × IsRead reads × WritesTitleFront len reader writer writes
 
--- The title of the whole input was written, no device failed, and nothing is told.
+-- The title of the whole input was written, no device failed, and nothing is reported.
 pub record ShowsInput (len : ℕ) (old new : Console) : Type 0 where
   pub end : IsRead new.reader
   pub written : WritesTitle len old.reader old.writer new.writer
   pub well : EndsWell old new
 
--- There is no title, or not the whole of it, and it is told why.
-pub record TellsWhy (len status : ℕ) (old new : Console) : Type 0 where
+-- There is no title, or not the whole of it, and it is reported why.
+pub record ReportsWhy (len status : ℕ) (old new : Console) : Type 0 where
   pub fault : ProctitleFault
   pub cause : NoTitle len fault old.reader new.reader old.writer new.writer
-  pub told : Tells old.faults new.faults (proctitle_told fault)
+  pub reported : Reports old.faults new.faults (proctitle_report fault)
   pub status_is : status ≡ proctitle_status fault
 
 -- The title of this length, by the status. A title under 5 bytes is always refused.
 pub record ShowsTitle (len status : ℕ) (old new : Console) : Type 0 where
   pub short : len < 5 → status ≡ 100
-  pub ends : ((status ≡ 0) × ShowsInput len old new) ⊎ TellsWhy len status old new
+  pub ends : ((status ≡ 0) × ShowsInput len old new) ⊎ ReportsWhy len status old new
 
 -- `readproctitle` shows a title of the length of its last word.
 abbrev pub TitleEnds : (words : List (List ℕ)) (status : ℕ) (old new : Console) → Type 0

@@ -4,7 +4,7 @@ ghost use Rattle.tai_status.specs.Counted.{Fails, Works, Wrote, WroteFront, IsRe
 ghost use Rattle.env_title.specs.Title.{new_title, title_text};
 ghost use Rattle.cmd_base.specs.Console.{console};
 ghost use Rattle.cmd_filters.specs.Stamped.{texts};
-ghost use Rattle.cmd_filters.specs.Title.{NoTitle, ShowsTitle, ShowsRead, TitleEnds, WritesTitle, proctitle_told};
+ghost use Rattle.cmd_filters.specs.Title.{NoTitle, ShowsTitle, ShowsRead, TitleEnds, WritesTitle, proctitle_report};
 ghost use Rattle.cmd_filters.specs.Title.{proctitle_status};
 
 use cmd_base::{DONE, REFUSED, TROUBLE, report, usage};
@@ -104,9 +104,9 @@ fn show_title<A: Allocator + Clone, D: Read, W: Write>(
     write_title(&title, writer)
 }
 
-/// What is told of a fault.
+/// What is reported of a fault.
 fn fault_text(fault: ProctitleFault) -> &'static [u8]
-    ensures { result.now ≡ proctitle_told fault }
+    ensures { result.now ≡ proctitle_report fault }
 {
     match fault {
         ProctitleFault::TooShort => b"readproctitle: TooShort\n",
@@ -126,7 +126,7 @@ fn status(fault: ProctitleFault) -> u8
     }
 }
 
-/// Shows the title of this length of the whole input, or tells why there is none.
+/// Shows the title of this length of the whole input, or says why there is none.
 fn run_title<A: Allocator + Clone, D: Read, W: Write, E: Write>(
     alloc: A,
     len: usize,

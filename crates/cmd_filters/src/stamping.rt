@@ -1,6 +1,6 @@
 //! The command `tai64n`.
 ghost use Rattle.std.specs.Prelude.{◌≡◌, ◌<◌, [], length};
-ghost use Rattle.cmd_filters.specs.Stamped.{TaiEnds, stamp_told, texts};
+ghost use Rattle.cmd_filters.specs.Stamped.{TaiEnds, stamp_report, texts};
 
 use cmd_base::{DONE, TROUBLE, report, usage};
 use std::io::{Read, Write};
@@ -43,9 +43,9 @@ fn stamp_input<D: Read, W: Write, E: Write, C: TimeSource>(
     }
 }
 
-/// What is told of a fault.
+/// What is reported of a fault.
 fn fault_text(fault: StampFault) -> &'static [u8]
-    ensures { result.now ≡ stamp_told fault }
+    ensures { result.now ≡ stamp_report fault }
 {
     match fault {
         StampFault::Read => b"tai64n: Read\n",

@@ -9,18 +9,18 @@ overview = printed (
     codes "  svscan         keeps the services of a folder running" ∷
     codes "  svc            controls services" ∷
     codes "  svstat         shows how services stand" ∷
-    codes "  svok           tells whether a service is supervised" ∷
+    codes "  svok           says whether a service is supervised" ∷
     codes "  wait           returns once services are up, or down, or no longer supervised" ∷
     codes "  multilog       logs lines into folders" ∷
     codes "  tai64n         puts a label before each line" ∷
     codes "  tai64nlocal    shows labels as local times" ∷
-    codes "  envdir         runs a program in the environment that a folder tells" ∷
+    codes "  envdir         runs a program in the environment that a folder says" ∷
     codes "  readproctitle  keeps the last bytes of its input" ∷
     codes "  sim            answers a script of events as supervise would" ∷
     codes "  trace          explains the last events of a service" ∷
     codes "  why            says in plain words how a service stands, and why" ∷
-    codes "  help COMMAND   tells the words of a command; man dtools-COMMAND has the rest" ∷
-    codes "  version        tells which dtools this is" ∷ [])
+    codes "  help COMMAND   reports the words of a command; man dtools-COMMAND has the rest" ∷
+    codes "  version        says which dtools this is" ∷ [])
 
 -- A word of which `help` has nothing.
 abbrev pub HasNoPage : List ℕ → Type 0

@@ -9,18 +9,18 @@ use cmd_base::{DONE, TROUBLE, report, usage};
 use std::io::Write;
 use tai_status::Output;
 
-/// Prints a text, or tells that the writer failed.
+/// Prints a text, or says that the writer failed.
 fn print<W: Write, E: Write>(
     text: &[u8],
-    told: &[u8],
+    reported: &[u8],
     writer: &mut Output<W>,
     faults: &mut Output<E>,
 ) -> u8
-    ensures prints { Prints text.now told.now result writer.old writer.new faults.old faults.new }
+    ensures prints { Prints text.now reported.now result writer.old writer.new faults.old faults.new }
 {
     match writer.write_all(text) {
         Ok(()) => DONE,
-        Err(_) => report(faults, told, TROUBLE),
+        Err(_) => report(faults, reported, TROUBLE),
     }
 }
 

@@ -1,17 +1,17 @@
 -- How `tai64nlocal` ends: by the tai64nlocal page of daemontools (cr.yp.to/daemontools/tai64nlocal.html).
 use Rattle.std.specs.Prelude.{◌≡◌, ◌≢◌, ℕ, ℤ, List, [], ◌∷◌, ◌++◌, codes, map}
 use Rattle.std.specs.Borrow.{Bor}
-use Rattle.tai_status.specs.Counted.{Device, Fails, Works, Gives, Wrote, WroteFront, IsRead, Tells}
+use Rattle.tai_status.specs.Counted.{Device, Fails, Works, Gives, Wrote, WroteFront, IsRead, Reports}
 use Rattle.cmd_base.specs.Console.{Console, EndsWell, console}
-use Rattle.cmd_base.specs.Told.{RefusesWords}
+use Rattle.cmd_base.specs.Usage.{RefusesWords}
 use Rattle.cmd_local.specs.Lines.{localised}
 use Rattle.cmd_local.specs.declared.localising.LocalFault.{LocalFault}
 use Rattle.cmd_local.specs.declared.localising.LocalFault.TheVariants as fault
 
--- what is told of a fault
-abbrev pub local_told : LocalFault → List ℕ
-local_told fault.Read = codes "tai64nlocal: Read" ++ 10 ∷ []
-local_told fault.Write = codes "tai64nlocal: Write" ++ 10 ∷ []
+-- what is reported of a fault
+abbrev pub local_report : LocalFault → List ℕ
+local_report fault.Read = codes "tai64nlocal: Read" ++ 10 ∷ []
+local_report fault.Write = codes "tai64nlocal: Write" ++ 10 ∷ []
 
 -- Bytes were read, and each of their lines was written with local time.
 pub record Localises (ahead : ℤ → ℤ) (reader read writer written : Device) : Type 0 where
@@ -33,17 +33,17 @@ LocalCause ahead fault.Read reader read writer written =
 LocalCause ahead fault.Write reader read writer written =
     Fails writer written × LocalisesFront ahead reader read writer written
 
--- The whole input was written with local time, no device failed, and nothing is told.
+-- The whole input was written with local time, no device failed, and nothing is reported.
 pub record LocalisesInput (ahead : ℤ → ℤ) (old new : Console) : Type 0 where
   pub lines : Localises ahead old.reader new.reader old.writer new.writer
   pub end : IsRead new.reader
   pub well : EndsWell old new
 
--- A device failed, and it is told which.
+-- A device failed, and it is reported which.
 pub record LocalisesNoFurther (ahead : ℤ → ℤ) (old new : Console) : Type 0 where
   pub fault : LocalFault
   pub cause : LocalCause ahead fault old.reader new.reader old.writer new.writer
-  pub told : Tells old.faults new.faults (local_told fault)
+  pub reported : Reports old.faults new.faults (local_report fault)
 
 -- `tai64nlocal` without words, by its status.
 pub record LocalByStatus (ahead : ℤ → ℤ) (status : ℕ) (old new : Console) : Type 0 where
@@ -57,9 +57,9 @@ LocalEnds ahead (word ∷ words) status old new = RefusesWords status old new
 
 -- The same, of each device as it was and is.
 abbrev pub FilterEnds : (ahead : ℤ → ℤ) (words : List (List ℕ)) (status : ℕ)
-    (reader reads writer writes faults tells : Device) → Type 0
-FilterEnds ahead words status reader reads writer writes faults tells =
-    LocalEnds ahead words status (console reader writer faults) (console reads writes tells)
+    (reader reads writer writes faults reports : Device) → Type 0
+FilterEnds ahead words status reader reads writer writes faults reports =
+    LocalEnds ahead words status (console reader writer faults) (console reads writes reports)
 
 -- the texts of words
 abbrev pub texts : List (Bor (List ℕ)) → List (List ℕ)

@@ -208,7 +208,7 @@ fn put_stamped<W: Write>(
     block.put(rest, writer)
 }
 
-/// Puts a line, or enough of its front to tell whether it has a label.
+/// Puts a line, or enough of its front to say whether it has a label.
 pub fn put_line<Z: Zone, W: Write>(
     zone: &Z,
     line: &[u8],
@@ -284,7 +284,7 @@ fn put_part<Z: Zone, W: Write>(
     }
 }
 
-/// Puts the lines of some bytes, but for what may go on to be a label at their end. Tells where that begins.
+/// Puts the lines of some bytes, but for what may go on to be a label at their end. Says where that begins.
 pub fn put_lines<Z: Zone, W: Write>(
     zone: &Z,
     bytes: &[u8],

@@ -2,7 +2,7 @@
 ghost use Rattle.std.specs.Prelude.{◌≡◌, ◌<◌, ◌≤◌, ◌+◌, ◌-◌, length, take, drop, slice_range, OnOk, OnErr, IfOk, IfErr};
 ghost use Rattle.tai_status.specs.Counted.{CountsRead, Fails, Works, Gives, GivesNothing, IsRead, Wrote, WroteFront};
 ghost use Rattle.cmd_base.specs.Console.{console};
-ghost use Rattle.cmd_local.specs.Ends.{FilterEnds, LocalByStatus, LocalCause, Localises, local_told, texts};
+ghost use Rattle.cmd_local.specs.Ends.{FilterEnds, LocalByStatus, LocalCause, Localises, local_report, texts};
 ghost use Rattle.cmd_local.specs.Lines.{localised_line};
 ghost use Rattle.cmd_local.specs.Local.{local_text};
 ghost use Rattle.cmd_local.specs.Passing.{IsHeld, Moves, passed};
@@ -48,7 +48,7 @@ fn read_behind<D: Read>(
     reader.read(&mut bytes[at..])
 }
 
-/// Writes the lines of some bytes, but for what may go on to be a label at their end. Tells where that begins.
+/// Writes the lines of some bytes, but for what may go on to be a label at their end. Says where that begins.
 fn write_lines<Z: Zone, W: Write>(
     zone: &Z,
     bytes: &[u8],
@@ -133,9 +133,9 @@ fn localise_input<Z: Zone, D: Read, W: Write>(
     }
 }
 
-/// What is told of a fault.
+/// What is reported of a fault.
 fn fault_text(fault: LocalFault) -> &'static [u8]
-    ensures { result.now ≡ local_told fault }
+    ensures { result.now ≡ local_report fault }
 {
     match fault {
         LocalFault::Read => b"tai64nlocal: Read\n",
@@ -143,7 +143,7 @@ fn fault_text(fault: LocalFault) -> &'static [u8]
     }
 }
 
-/// Writes the whole input with local time, or tells why not.
+/// Writes the whole input with local time, or says why not.
 fn run_input<Z: Zone, D: Read, W: Write, E: Write>(
     zone: &Z,
     reader: &mut Input<D>,

@@ -352,7 +352,7 @@ if_some_any : {X : Type 0} (x : Option X) (P : Type 0) → P → IfSome x (λ _.
 if_some_any None P p = tt
 if_some_any (Some x) P p = p
 
--- A log whose current file was finished has one again, where the files are told.
+-- A log whose current file was finished has one again, where the files are reported.
 pub finish_begins : (o s n c : Option Folder) (name : List ℕ) → Changes o s Syncs → Changes s n (Renames name)
     → Changes n c Opens
     → IfSome (files_of o) (λ _. IsSome (files_of c))

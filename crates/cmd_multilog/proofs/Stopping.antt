@@ -16,7 +16,7 @@ use Rattle.cmd_multilog.specs.Stop.{before_second, StopsAtALine, LosesNothing}
 
 -- The line in hand
 
--- whether a line is in hand behind some bytes is told by the last
+-- whether a line is in hand behind some bytes is reported by the last
 line_at : (was : Bool) (bs : List ℕ) (k : ℕ) → k < length bs
     → not (nat_eq (slice_index_or bs k 0) 10) ≡ is_in_line was (take (suc k) bs)
 line_at was [] k within = absurd (omega (arith, within))

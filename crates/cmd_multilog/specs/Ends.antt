@@ -1,7 +1,7 @@
 -- How `multilog` ends.
 use Rattle.std.specs.Prelude.{◌≡◌, ◌⊎◌, ⊤, ℕ, List, [], map, slice_get, unwrap_or, Option, Some, None, MatchOption, Ok}
 use Rattle.tai_status.specs.Label.{Tai64n}
-use Rattle.tai_status.specs.Counted.{Device, Tells}
+use Rattle.tai_status.specs.Counted.{Device, Reports}
 use Rattle.mlog_script.specs.Script.{Act, said, first_fault, file_paths}
 use Rattle.mlog_script.specs.declared.fault.ScriptFaultKind.TheVariants as kind
 use Rattle.mlog_core.specs.Feed.{Feed}
@@ -9,13 +9,13 @@ use Rattle.mlog_core.specs.Parts.{Play, play, RunsParts}
 use Rattle.mlog_core.specs.declared.stream.RunFault.{RunFault}
 use Rattle.cmd_multilog.specs.Shelf.{Shelf, state_of}
 use Rattle.cmd_multilog.specs.Opening.{Opens, OpensUpTo, folders_of}
-use Rattle.cmd_multilog.specs.Sayings.{script_told, script_status, run_told, memory_told, unopened_told}
+use Rattle.cmd_multilog.specs.Sayings.{script_report, script_status, run_report, memory_report, unopened_report}
 use Rattle.cmd_multilog.specs.declared.fault.OpenFault.{OpenFault}
 use Rattle.cmd_multilog.specs.declared.fault.OpenFault.TheVariants as why
 use Rattle.cmd_multilog.specs.declared.fault.NoScript.{NoScript}
 use Rattle.cmd_multilog.specs.declared.fault.NoScript.TheVariants as no
 
--- What `multilog` works with: its store, its input, what the clock gave, and where it tells faults.
+-- What `multilog` works with: its store, its input, what the clock gave, and where it reports faults.
 pub record Stage : Type 0 where
   pub store : Shelf
   pub feed : Feed
@@ -32,15 +32,15 @@ stage store feed readings faults =
 abbrev pub IsSaidBy : List Act → List (List ℕ) → Type 0
 IsSaidBy script words = map said words ≡ map (λ action. Ok action) script
 
--- Why words are no script: the first bad word is told; or there is none, and no memory.
+-- Why words are no script: the first bad word is reported; or there is none, and no memory.
 abbrev pub IsRefusal : NoScript → List (List ℕ) → Type 0
 IsRefusal (no.Refused fault) words =
     MatchOption (first_fault words) (fault.kind ≡ kind.OutOfMemory) (λ first. fault ≡ first)
 IsRefusal no.OutOfMemory words = ⊤
 
-abbrev pub refusal_told : NoScript → List ℕ
-refusal_told (no.Refused fault) = script_told fault
-refusal_told no.OutOfMemory = memory_told
+abbrev pub refusal_report : NoScript → List ℕ
+refusal_report (no.Refused fault) = script_report fault
+refusal_report no.OutOfMemory = memory_report
 
 abbrev pub refusal_status : NoScript → ℕ
 refusal_status (no.Refused fault) = script_status fault
@@ -52,28 +52,28 @@ pub record DoesNothing (old new : Stage) : Type 0 where
   pub feed : new.feed ≡ old.feed
   pub readings : new.readings ≡ old.readings
 
--- The words are no script: nothing is done, and it is told why.
+-- The words are no script: nothing is done, and it is reported why.
 pub record Refuses (words : List (List ℕ)) (status : ℕ) (old new : Stage) : Type 0 where
   pub why : NoScript
   pub refusal : IsRefusal why words
   pub nothing : DoesNothing old new
   pub status_is : status ≡ refusal_status why
-  pub told : Tells old.faults new.faults (refusal_told why)
+  pub reported : Reports old.faults new.faults (refusal_report why)
 
 -- The logs
 
-abbrev pub open_told : List Act → OpenFault → List ℕ
-open_told script (why.Unopened log) = unopened_told (unwrap_or (slice_get (folders_of script) log) [])
-open_told script why.OutOfMemory = memory_told
+abbrev pub open_report : List Act → OpenFault → List ℕ
+open_report script (why.Unopened log) = unopened_report (unwrap_or (slice_get (folders_of script) log) [])
+open_report script why.OutOfMemory = memory_report
 
--- A log can't be opened, or there is no memory: nothing is read, and it is told.
+-- A log can't be opened, or there is no memory: nothing is read, and it is reported.
 pub record OpensNotAll (script : List Act) (status : ℕ) (old new : Stage) : Type 0 where
   pub cause : OpenFault
   pub opens : OpensUpTo old.store new.store script cause
   pub unread : new.feed ≡ old.feed
   pub unasked : new.readings ≡ old.readings
   pub status_is : status ≡ 111
-  pub told : Tells old.faults new.faults (open_told script cause)
+  pub reported : Reports old.faults new.faults (open_report script cause)
 
 -- The run
 
@@ -85,17 +85,17 @@ abbrev pub run_status : Option RunFault → ℕ
 run_status None = 0
 run_status (Some fault) = 111
 
-abbrev pub TellsRun : Option RunFault → Device → Device → Type 0
-TellsRun None old new = new ≡ old
-TellsRun (Some fault) old new = Tells old new (run_told fault)
+abbrev pub ReportsRun : Option RunFault → Device → Device → Type 0
+ReportsRun None old new = new ≡ old
+ReportsRun (Some fault) old new = Reports old new (run_report fault)
 
--- The script was run over opened logs, part by part of the input, no folder was asked for, and the fault is told.
+-- The script was run over opened logs, part by part of the input, no folder was asked for, and the fault is reported.
 pub record RunsOpened (script : List Act) (status : ℕ) (old new : Stage) : Type 0 where
   pub ran : Option RunFault
   pub asked : new.store.asked ≡ old.store.asked
   pub runs : RunsParts ran script (play_of old) (play_of new)
   pub status_is : status ≡ run_status ran
-  pub told : TellsRun ran old.faults new.faults
+  pub reported : ReportsRun ran old.faults new.faults
 
 -- The logs were opened, with no call that failed, and then the script was run.
 pub record RunsScript (script : List Act) (status : ℕ) (old new : Stage) : Type 0 where
@@ -112,7 +112,7 @@ abbrev pub MultilogEnds : List (List ℕ) → ℕ → Stage → Stage → Type 0
 MultilogEnds words status old new =
     Refuses words status old new ⊎ ((script : List Act) × IsSaidBy script words × ScriptEnds script status old new)
 
--- The same, over devices, each before and after: the store, the input, the clock, and where faults are told.
+-- The same, over devices, each before and after: the store, the input, the clock, and where faults are reported.
 abbrev pub EndsBy : {I C : Type 0} → (I → Feed) → (C → Option (List Tai64n)) → List (List ℕ) → ℕ
     → (store store_now : Shelf) → (input input_now : I) → (clock clock_now : C) → (faults faults_now : Device)
     → Type 0

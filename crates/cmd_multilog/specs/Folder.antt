@@ -1,4 +1,4 @@
--- The folder of a log, as the system tells it, and what calls do to it.
+-- The folder of a log, as the system reports it, and what calls do to it.
 use Rattle.std.specs.Prelude.{◌≡◌, ◌⊎◌, ⊤, ℕ, Bool, true, false, if◌then◌else◌, List, [], ◌∷◌, ◌++◌, map, length}
 use Rattle.std.specs.Prelude.{bytes_eq, unwrap_or, Option, Some, None, IfSome, MatchOption}
 use Rattle.std.specs.List.{list_any}
@@ -19,7 +19,7 @@ pub record Folder : Type 0 where
   pub synced : Bool
   pub olds : List Old
 
--- the files of a log in a folder: none are told while it has no current file
+-- the files of a log in a folder: none are reported while it has no current file
 abbrev pub files_in : Folder → Option Files
 files_in folder = option_map (λ bytes. record { current = bytes; olds = folder.olds }) folder.current
 
@@ -27,7 +27,7 @@ abbrev pub files_of : Option Folder → Option Files
 files_of None = None
 files_of (Some folder) = files_in folder
 
--- A folder that is told changes so. It goes on being told.
+-- A folder that is reported changes so. It goes on being reported.
 abbrev pub Changes : Option Folder → Option Folder → (Folder → Folder → Type 0) → Type 0
 Changes None None change = ⊤
 Changes None (Some new) change = ⊥
@@ -162,7 +162,7 @@ pub record Status : Type 0 where
 abbrev pub given_of : Option Status → Option (List (List ℕ))
 given_of status = option_map (λ s. s.given) status
 
--- The file was given this content, once. It goes on being told.
+-- The file was given this content, once. It goes on being reported.
 abbrev pub Receives : Option Status → Option Status → List ℕ → Type 0
 Receives None None content = ⊤
 Receives None (Some new) content = ⊥

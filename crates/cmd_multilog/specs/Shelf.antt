@@ -1,4 +1,4 @@
--- What a store over folders holds, and what it tells of it.
+-- What a store over folders holds, and what it says of it.
 use Rattle.std.specs.Prelude.{◌≡◌, ◌⊎◌, ⊤, ℕ, List, [], ◌∷◌, ◌++◌, length, Option, Some, None, IfSome, slice_get}
 use Rattle.std.specs.IoError.{error_kind}
 use Rattle.std.specs.declared.io.Error.{Error}
@@ -8,7 +8,7 @@ use Rattle.mlog_files.specs.Store.{StoreState}
 use Rattle.cmd_multilog.specs.Folder.{Folder, files_of, Begins, Status, given_of}
 use Rattle.tai_status.specs.Extended.{Extended}
 
--- The folders of the logs and the status files, as far as the system tells them; the alerts; the folders that the
+-- The folders of the logs and the status files, as far as the system reports them; the alerts; the folders that the
 -- system was asked for, and the errors that the calls gave by which these are opened; and how many calls failed since.
 pub record Shelf : Type 0 where
   pub logs : List (Option Folder)
@@ -35,7 +35,7 @@ state_of shelf = record {
   status_files = length shelf.statuses;
   asked = shelf.asked;
   failures = shelf.failures;
-  told = record {
+  visible = record {
     files = λ log. files_at (slice_get shelf.logs log);
     statuses = λ file. given_at (slice_get shelf.statuses file);
     alerts = shelf.alerts;

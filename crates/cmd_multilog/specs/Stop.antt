@@ -1,4 +1,4 @@
--- What a logger reads that may be told to rotate its logs, and to stop.
+-- What a logger reads that may be asked to rotate its logs, and to stop.
 use Rattle.std.specs.Prelude.{◌≡◌, ℕ, ◌==◌, ◌⊎◌, ⊤, Bool, true, false, not, if◌then◌else◌, List, [], ◌∷◌, ◌++◌}
 use Rattle.std.specs.Prelude.{Option, Some, None}
 use Rattle.std.specs.List.{flat_map}
@@ -30,7 +30,7 @@ all_behind (word ∷ words) = word.bytes ++ all_behind words
 abbrev pub all_of : Coming → List ℕ
 all_of coming = coming.before ++ all_behind coming.words
 
--- What comes changes so, where it is told. It goes on being told.
+-- What comes changes so, where it is reported. It goes on being reported.
 abbrev pub Changes : Option Coming → Option Coming → (Coming → Coming → Type 0) → Type 0
 Changes None None change = ⊤
 Changes None (Some new) change = ⊥

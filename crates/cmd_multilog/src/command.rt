@@ -1,9 +1,9 @@
 //! The command `multilog`.
 ghost use Rattle.std.specs.Prelude.{◌≡◌, [], slice_get, unwrap_or, IfOk, IfErr};
-ghost use Rattle.tai_status.specs.Counted.{Tells};
+ghost use Rattle.tai_status.specs.Counted.{Reports};
 ghost use Rattle.mlog_script.specs.Script.{texts};
 ghost use Rattle.cmd_multilog.specs.Opening.{folders_of};
-ghost use Rattle.cmd_multilog.specs.Ends.{IsSaidBy, IsRefusal, refusal_told, refusal_status, open_told, EndsBy};
+ghost use Rattle.cmd_multilog.specs.Ends.{IsSaidBy, IsRefusal, refusal_report, refusal_status, open_report, EndsBy};
 
 use crate::fault::{NoScript, OpenFault, run_text, script_status, script_text};
 use crate::log_system::LogSystem;
@@ -16,7 +16,7 @@ use std::alloc::{AllocError, Allocator};
 use std::io::Write;
 use tai_status::{Output, TimeSource};
 
-/// What is told of want of memory.
+/// What is reported of want of memory.
 const NO_MEMORY: &[u8] = b"multilog: OutOfMemory\n";
 
 /// The bytes of words.
@@ -58,10 +58,10 @@ fn read_script<A: Allocator + Clone>(alloc: &A, words: &[&str]) -> Result<Script
     }
 }
 
-/// Tells why words are no script, and answers the status of that.
+/// Says why words are no script, and answers the status of that.
 fn report_refusal<E: Write>(why: NoScript, faults: &mut Output<E>) -> u8
     ensures status { result ≡ refusal_status why }
-    ensures told { Tells faults.old faults.new (refusal_told why) }
+    ensures reported { Reports faults.old faults.new (refusal_report why) }
 {
     match why {
         NoScript::Refused(fault) => {
@@ -81,14 +81,14 @@ fn folder_of<B: Allocator + Clone>(script: &Script<B>, log: usize) -> &[u8]
     }
 }
 
-/// Tells why not all logs are opened, and answers the status of that.
+/// Says why not all logs are opened, and answers the status of that.
 fn report_unopened<B: Allocator + Clone, E: Write>(
     why: OpenFault,
     script: &Script<B>,
     faults: &mut Output<E>,
 ) -> u8
     ensures status { result ≡ 111 }
-    ensures told { Tells faults.old faults.new (open_told script.now why) }
+    ensures reported { Reports faults.old faults.new (open_report script.now why) }
 {
     match why {
         OpenFault::Unopened(log) => {

@@ -1,6 +1,6 @@
-//! Why `multilog` ends early, and what it tells of that.
+//! Why `multilog` ends early, and what it says of that.
 ghost use Rattle.std.specs.Prelude.{◌≡◌};
-ghost use Rattle.cmd_multilog.specs.Sayings.{run_told, script_told, script_status};
+ghost use Rattle.cmd_multilog.specs.Sayings.{run_report, script_report, script_status};
 
 use arrayvec::ArrayString;
 use cmd_base::{REFUSED, TROUBLE, push_number};
@@ -24,9 +24,9 @@ pub enum NoScript {
     OutOfMemory,
 }
 
-/// What is told of a fault of the script.
+/// What is reported of a fault of the script.
 pub(crate) fn script_text(fault: ScriptFault) -> ArrayString<64>
-    ensures { result.bytes ≡ script_told fault }
+    ensures { result.bytes ≡ script_report fault }
 {
     let mut out = ArrayString::new();
     out.push_str("multilog: word ");
@@ -47,9 +47,9 @@ pub(crate) fn script_status(fault: ScriptFault) -> u8
     }
 }
 
-/// What is told of a fault of the run.
+/// What is reported of a fault of the run.
 pub(crate) fn run_text(fault: RunFault) -> &'static [u8]
-    ensures { result.now ≡ run_told fault }
+    ensures { result.now ≡ run_report fault }
 {
     match fault {
         RunFault::Read => b"multilog: Read\n",

@@ -67,7 +67,7 @@ impl<F: LogFolder + Drop, A: Allocator + Clone> FolderLog<F, A> {
         }
     }
 
-    /// Appends a front of the piece to the current file, and tells how long it is.
+    /// Appends a front of the piece to the current file, and says how long it is.
     pub(crate) fn append(&mut self, piece: &[u8]) -> io::Result<usize>
         ensures bound { IfOk result (λ count. count ≤ length piece.now) }
         ensures some { IfOk result (λ count. 0 < length piece.now → 0 < count) }

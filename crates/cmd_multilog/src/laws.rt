@@ -2,7 +2,7 @@
 ghost use Rattle.cmd_multilog.specs.Rising.{LabelsRise};
 ghost use Rattle.cmd_multilog.specs.Stop.{StopsAtALine, LosesNothing, RunsToALine};
 
-/// What a logger is given that may be told to stop or to rotate are whole lines, or all of its input, and nothing of
+/// What a logger is given that may be asked to stop or to rotate are whole lines, or all of its input, and nothing of
 /// the input is lost between its parts; and what it writes of a part is what a run over just these bytes writes.
 pub fn what_a_stop_gives()
     ensures lines { StopsAtALine }

@@ -3,8 +3,8 @@ use crate::rising::RisingLabels;
 use std::cell::Cell;
 use tai_status::{Label, TimeSource};
 
-/// The labels of a logger's lines, as its input and its clock share them: the input tells when bytes came or a word was
-/// heard, and the clock gives a label for each line. They tell contracts nothing.
+/// The labels of a logger's lines, as its input and its clock share them: the input says when bytes came or a word was
+/// heard, and the clock gives a label for each line. They say nothing to contracts.
 #[derive(Drop)]
 pub struct LineLabels {
     labels: Cell<Option<RisingLabels>>,

@@ -6,7 +6,7 @@ use std::alloc::{AllocError, Allocator};
 use std::io;
 
 /// The folder of a log. Contracts see what stands in it, and which errors the calls gave by which it is opened, where
-/// it tells that. A call that fails changed nothing.
+/// it says that. A call that fails changed nothing.
 pub trait LogFolder {
     ghost use Rattle.std.specs.Prelude.{◌≡◌, ◌<◌, ◌≤◌, ◌∷◌, [], List, Option, None, length, take, IfOk, IfErr};
     ghost use Rattle.std.specs.Prelude.{OnOk, OnErr};
@@ -49,7 +49,7 @@ pub trait LogFolder {
         ensures well { OnOk result (gave self.new ≡ gave self.old) }
         ensures gave { IfErr result (λ error. Extended (gave self.old) (gave self.new) (error ∷ [])) };
 
-    /// Appends a front of the piece to the current file, and tells how long it is.
+    /// Appends a front of the piece to the current file, and says how long it is.
     fn append(&mut self, piece: &[u8]) -> io::Result<usize>
         ensures bound { IfOk result (λ count. count ≤ length piece.now) }
         ensures some { IfOk result (λ count. 0 < length piece.now → 0 < count) }
@@ -74,7 +74,7 @@ pub trait LogFolder {
         ensures err { OnErr result (folder self.new ≡ folder self.old) };
 }
 
-/// The place of a status file. Contracts see its path and the contents that it was given, where it tells that.
+/// The place of a status file. Contracts see its path and the contents that it was given, where it says that.
 pub trait StatusFile {
     ghost use Rattle.std.specs.Prelude.{◌≡◌, Option, None, OnOk, OnErr};
     ghost use Rattle.cmd_multilog.specs.Folder.{Status, Receives};
@@ -88,7 +88,7 @@ pub trait StatusFile {
 }
 
 /// What the operating system does for logs, and standard error. Contracts see which folders it was asked for, which
-/// errors the calls gave by which these are opened, and what it alerted, where it tells that.
+/// errors the calls gave by which these are opened, and what it alerted, where it says that.
 pub trait LogSystem {
     type Folder: LogFolder + Drop;
 
@@ -127,7 +127,7 @@ pub trait LogSystem {
     fn status_file(&self, path: &[u8]) -> Result<Self::Status, AllocError>
         ensures { IfOk result (λ file. IfSome (Self.Status.status file) (λ s. s.path ≡ path.now)) };
 
-    /// Alerts a front of the piece, and tells how long it is.
+    /// Alerts a front of the piece, and says how long it is.
     fn alert(&mut self, piece: &[u8]) -> io::Result<usize>
         ensures bound { IfOk result (λ count. count ≤ length piece.now) }
         ensures some { IfOk result (λ count. 0 < length piece.now → 0 < count) }

@@ -1,4 +1,4 @@
-//! The input of a logger that can be told to rotate its logs, and to stop: both come at a line's end, so that no line
+//! The input of a logger that can be asked to rotate its logs, and to stop: both come at a line's end, so that no line
 //! is lost or parted.
 ghost use Rattle.std.specs.Prelude.{◌≡◌, ◌<◌, ◌≤◌, ◌^◌, true, false, IfOk, OnOk, OnErr, length, take};
 
@@ -15,14 +15,14 @@ const MOST_READS: u64 = 1 << 48;
 pub enum Heard {
     /// There is input, or its end.
     Input,
-    /// The logger is told to stop.
+    /// The logger is asked to stop.
     Stop,
-    /// The logger is told to rotate its logs.
+    /// The logger is asked to rotate its logs.
     Rotate,
 }
 
-/// The input of a logger, with the channel by which it is told to stop or to rotate. Contracts see what comes, where
-/// it is told.
+/// The input of a logger, with the channel by which it is asked to stop or to rotate. Contracts see what comes, where
+/// it is reported.
 pub trait LoggerInput {
     ghost use Rattle.std.specs.Prelude.{◌≡◌, ◌<◌, Option, None, IfOk, OnErr, length, take};
     ghost use Rattle.std.specs.Io.{ReadsAtMost};

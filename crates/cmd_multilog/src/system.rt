@@ -17,7 +17,7 @@ const FILE_MODE: u32 = 0o644;
 /// How often a write is tried that is interrupted.
 const TRIES: u32 = 1000;
 
-/// The folder of a log on this system. It tells contracts nothing.
+/// The folder of a log on this system. It says nothing to contracts.
 #[derive(Drop)]
 pub struct SystemFolder<R: Files<File = File> + Drop, A: Allocator = Global> {
     runtime: R,
@@ -151,7 +151,7 @@ impl<R: Files<File = File> + Drop, A: Allocator + Clone> LogFolder for SystemFol
     }
 }
 
-/// The place of a status file on this system. It tells contracts nothing.
+/// The place of a status file on this system. It says nothing to contracts.
 #[derive(Drop)]
 pub struct SystemStatus<R: Files<File = File> + Drop, A: Allocator = Global> {
     runtime: R,
@@ -175,7 +175,7 @@ impl<R: Files<File = File> + Drop, A: Allocator + Clone> StatusFile for SystemSt
     }
 }
 
-/// The folders and files of this system, and its standard error. It tells contracts nothing.
+/// The folders and files of this system, and its standard error. It says nothing to contracts.
 #[derive(Drop)]
 pub struct SystemLogs<R: Files<File = File> + Copy + Drop, E: Write + Drop, A: Allocator = Global> {
     runtime: R,

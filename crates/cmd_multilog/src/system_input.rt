@@ -1,4 +1,4 @@
-//! The system's own input, and the pipe by which a logger is told to stop or to rotate its logs.
+//! The system's own input, and the pipe by which a logger is asked to stop or to rotate its logs.
 use crate::line_clock::LineLabels;
 use crate::stop::{Heard, LoggerInput};
 use libc::net::{POLLIN, POLLNVAL, poll};
@@ -36,7 +36,7 @@ enum Word {
 }
 
 /// The standard input, and the channel where there is one. After each read, and where a rotation is heard, the clock is
-/// read for the labels of the lines. It tells contracts nothing.
+/// read for the labels of the lines. It says nothing to contracts.
 #[derive(Drop)]
 pub struct SystemInput<'l, R: Read + Drop, C: TimeSource + Drop> {
     input: R,

@@ -6,17 +6,17 @@ use Rattle.cmd_svc.specs.Svstat.{SvstatEnds, look_line}
 use Rattle.cmd_report.specs.Json.{json_line}
 use Rattle.cmd_report.specs.MetricsEnds.{CountFiles, MetricsEnds}
 
--- The first word names the form in which the services behind it are told; or it is a service, and the form is svstat's.
+-- The first word names the form in which the services behind it are reported; or it is a service, and the form is svstat's.
 pub record FormEnds (files : CountFiles) (word : List ℕ) (services : List (List ℕ)) (status : ℕ) (sight sees : Sight)
-    (writer writes faults tells : Device) : Type 0 where
-  pub json : word ≡ codes "--json" → SvstatEnds json_line services status sight sees writer writes faults tells
-  pub metrics : word ≡ codes "--metrics" → MetricsEnds files services status sight sees writer writes faults tells
+    (writer writes faults reports : Device) : Type 0 where
+  pub json : word ≡ codes "--json" → SvstatEnds json_line services status sight sees writer writes faults reports
+  pub metrics : word ≡ codes "--metrics" → MetricsEnds files services status sight sees writer writes faults reports
   pub plain : (word ≢ codes "--json") × (word ≢ codes "--metrics")
-      → SvstatEnds look_line (word ∷ services) status sight sees writer writes faults tells
+      → SvstatEnds look_line (word ∷ services) status sight sees writer writes faults reports
 
 abbrev pub ReportEnds : (files : CountFiles) (words : List (List ℕ)) (status : ℕ) (sight sees : Sight)
-    (writer writes faults tells : Device) → Type 0
-ReportEnds files [] status sight sees writer writes faults tells =
-    SvstatEnds look_line [] status sight sees writer writes faults tells
-ReportEnds files (word ∷ services) status sight sees writer writes faults tells =
-    FormEnds files word services status sight sees writer writes faults tells
+    (writer writes faults reports : Device) → Type 0
+ReportEnds files [] status sight sees writer writes faults reports =
+    SvstatEnds look_line [] status sight sees writer writes faults reports
+ReportEnds files (word ∷ services) status sight sees writer writes faults reports =
+    FormEnds files word services status sight sees writer writes faults reports

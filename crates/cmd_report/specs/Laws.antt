@@ -6,7 +6,7 @@ use Rattle.cmd_svc.specs.declared.look.Look.TheVariants as look
 use Rattle.tai_status.specs.declared.record.RecordFault.{RecordFault}
 use Rattle.cmd_report.specs.Json.{unreached_text}
 
--- What is told of a service that was not reached is what svstat's line has behind the folder.
+-- What is reported of a service that was not reached is what svstat's line has behind the folder.
 abbrev pub SameUnreached : Type 0
 SameUnreached = (folder : List ℕ) (why : Unreached)
     → look_line folder (look.Unreached why) ≡ folder ++ (codes ": " ++ unreached_text why)

@@ -1,4 +1,4 @@
--- What is told of services as metrics, in Prometheus' text exposition format
+-- What is reported of services as metrics, in Prometheus' text exposition format
 -- (prometheus.io/docs/instrumenting/exposition_formats): a sample a line, those of one metric together behind its help.
 use Rattle.std.specs.Prelude.{◌≡◌, ℕ, ◌==◌, Bool, true, false, if◌then◌else◌, List, [], ◌∷◌, ◌++◌, codes, decimal}
 use Rattle.std.specs.Prelude.{flat_map, bytes_eq, Option, Some, None}
@@ -25,7 +25,7 @@ abbrev pub is_supervised : Look → Bool
 is_supervised (look.Unreached why) = false
 is_supervised other = true
 
--- whether it stands in a phase, where a record tells that
+-- whether it stands in a phase, where a record says that
 abbrev pub phase_value : Phase → Loaded → Option ℕ
 phase_value phase (Old status) = None
 phase_value phase (New full) = Some (flag_byte (bytes_eq (phase_name full.phase) (phase_name phase)))

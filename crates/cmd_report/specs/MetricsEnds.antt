@@ -1,9 +1,9 @@
 -- How `svstat --metrics` ends: all services are looked at, and then all is written.
 use Rattle.std.specs.Prelude.{◌≡◌, ◌⊎◌, ⊤, ℕ, List, [], ◌∷◌, ◌++◌, map, Option, Some, None}
-use Rattle.tai_status.specs.Counted.{Device, Fails, Tells, Works, Wrote, WroteFront}
+use Rattle.tai_status.specs.Counted.{Device, Fails, Reports, Works, Wrote, WroteFront}
 use Rattle.cmd_base.specs.Known.{IsKnown}
 use Rattle.cmd_svc.specs.Sight.{Sight}
-use Rattle.cmd_svc.specs.Svstat.{Scene, Finds, scene, svstat_told}
+use Rattle.cmd_svc.specs.Svstat.{Scene, Finds, scene, svstat_report}
 use Rattle.cmd_svc.specs.declared.svstat.SvstatFault.TheVariants as why
 use Rattle.cmd_svc.specs.declared.look.Look.{Look}
 use Rattle.cmd_svc.specs.declared.look.Look.TheVariants as look
@@ -16,7 +16,7 @@ use Rattle.cmd_report.specs.declared.found.Found.{Found}
 abbrev pub CountFiles : Type 0
 CountFiles = List ℕ → Option (Option (List ℕ))
 
--- the counts that a file tells, where there is one
+-- the counts that a file says, where there is one
 abbrev pub counts_of : Option (List ℕ) → Option Counts
 counts_of None = None
 counts_of (Some bytes) = counts_in bytes
@@ -58,40 +58,40 @@ pub record FindsFront (files : CountFiles) (words : List (List ℕ)) (old new : 
 
 -- Each word was looked at, and all was written.
 pub record WritesAll (files : CountFiles) (words : List (List ℕ)) (status : ℕ) (old new : Scene)
-    (faults tells : Device) : Type 0 where
+    (faults reports : Device) : Type 0 where
   pub founds : List Found
   pub finds : FindsWords files words founds old.sight new.sight
   pub wrote : Wrote old.writer new.writer (metrics_text founds)
   pub works : Works old.writer new.writer
   pub status_is : status ≡ 0
-  pub untold : tells ≡ faults
+  pub unreported : reports ≡ faults
 
 -- Each word was looked at, and the writer failed after a front of the text.
 pub record WritesFront (files : CountFiles) (words : List (List ℕ)) (status : ℕ) (old new : Scene)
-    (faults tells : Device) : Type 0 where
+    (faults reports : Device) : Type 0 where
   pub founds : List Found
   pub finds : FindsWords files words founds old.sight new.sight
   pub wrote : WroteFront old.writer new.writer (metrics_text founds)
   pub fails : Fails old.writer new.writer
   pub status_is : status ≡ 111
-  pub told : Tells faults tells (svstat_told why.Write)
+  pub reported : Reports faults reports (svstat_report why.Write)
 
 -- There was no memory, and nothing was written.
 pub record WritesNothing (files : CountFiles) (words : List (List ℕ)) (status : ℕ) (old new : Scene)
-    (faults tells : Device) : Type 0 where
+    (faults reports : Device) : Type 0 where
   pub finds : FindsFront files words old.sight new.sight
   pub unwritten : new.writer ≡ old.writer
   pub status_is : status ≡ 111
-  pub told : Tells faults tells (svstat_told why.OutOfMemory)
+  pub reported : Reports faults reports (svstat_report why.OutOfMemory)
 
 -- By what was looked at and written.
 abbrev pub WritesMetrics : (files : CountFiles) (words : List (List ℕ)) (status : ℕ) (old new : Scene)
-    (faults tells : Device) → Type 0
-WritesMetrics files words status old new faults tells =
-    WritesAll files words status old new faults tells
-    ⊎ (WritesFront files words status old new faults tells ⊎ WritesNothing files words status old new faults tells)
+    (faults reports : Device) → Type 0
+WritesMetrics files words status old new faults reports =
+    WritesAll files words status old new faults reports
+    ⊎ (WritesFront files words status old new faults reports ⊎ WritesNothing files words status old new faults reports)
 
 abbrev pub MetricsEnds : (files : CountFiles) (words : List (List ℕ)) (status : ℕ) (sight sees : Sight)
-    (writer writes faults tells : Device) → Type 0
-MetricsEnds files words status sight sees writer writes faults tells =
-    WritesMetrics files words status (scene sight writer) (scene sees writes) faults tells
+    (writer writes faults reports : Device) → Type 0
+MetricsEnds files words status sight sees writer writes faults reports =
+    WritesMetrics files words status (scene sight writer) (scene sees writes) faults reports

@@ -1,4 +1,4 @@
-//! How often a service was started and died, as its file `counts` tells it.
+//! How often a service was started and died, as its file `counts` reports it.
 ghost use Rattle.std.specs.Prelude.{◌≡◌, ◌==◌, ◌<◌, ◌-◌, ◌+◌, ◌*◌, ◌^◌, min, length, position, IfSome};
 ghost use Rattle.std.specs.List.{list_all};
 ghost use Rattle.cmd_report.specs.Counts.{both, counts_in, is_digit, is_numeral, line_counts, number_of, value_of};
@@ -10,7 +10,7 @@ pub struct Counts {
     pub deaths: u64,
 }
 
-/// What the bytes of a file `counts` tell: one line `STARTS DEATHS`, two decimal numbers below 2^64 with no zero in
+/// What the bytes of a file `counts` report: one line `STARTS DEATHS`, two decimal numbers below 2^64 with no zero in
 /// front. Anything else is none.
 pub fn counts_in(bytes: &[u8]) -> Option<Counts>
     ensures { result ≡ counts_in bytes.now }
@@ -29,7 +29,7 @@ fn first_place(bytes: &[u8], wanted: u8) -> Option<usize>
     bytes.iter().position(|byte| *byte == wanted)
 }
 
-/// What a line tells, without its newline.
+/// What a line says, without its newline.
 fn line_counts(line: &[u8]) -> Option<Counts>
     ensures { result ≡ line_counts line.now }
 {
@@ -39,7 +39,7 @@ fn line_counts(line: &[u8]) -> Option<Counts>
     }
 }
 
-/// Counts of which both are told.
+/// Counts of which both are reported.
 fn both(starts: Option<u64>, deaths: Option<u64>) -> Option<Counts>
     ensures { result ≡ both starts deaths }
 {

@@ -10,7 +10,7 @@ use cmd_svc::{Look, Observer, Services, look_at};
 use std::alloc::{AllocError, Allocator};
 use tai_status::TimeSource;
 
-/// What the file `counts` of the service in a folder tells, where it can be read.
+/// What the file `counts` of the service in a folder says, where it can be read.
 fn read_counts<F: CountFiles>(files: &F, folder: &str, look: &Look) -> Option<Counts>
     ensures { AreCounts (F.counts_at files.now folder.now) look.now result }
 {

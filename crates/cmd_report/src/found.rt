@@ -7,6 +7,6 @@ use cmd_svc::Look;
 pub struct Found<'a> {
     pub folder: &'a str,
     pub look: Look,
-    /// Its counts, where its status was read and its file `counts` tells them.
+    /// Its counts, where its status was read and its file `counts` reports them.
     pub counts: Option<Counts>,
 }

@@ -2,7 +2,7 @@
 ghost use Rattle.cmd_report.specs.Label.{LabelsRead};
 ghost use Rattle.cmd_report.specs.Laws.{SameBad, SameUnread, SameUnreached};
 
-/// The errors that a JSON line tells are, word for word, what the line of svstat has behind the folder and `: `.
+/// The errors that a JSON line says are, word for word, what the line of svstat has behind the folder and `: `.
 pub fn same_words()
     ensures unreached { SameUnreached }
     ensures unread { SameUnread }

@@ -24,11 +24,11 @@ use tai_status::{Label, Loaded, Output, RecordFault, TimeSource, View, Want, pha
 /// | `up` | whether it runs |
 /// | `pid` | its process number, `null` where it does not run |
 /// | `seconds` | whole seconds since its last change of process, 0 where that is still to come |
-/// | `phase` | `starting`, `settling`, `up`, `down`, `resting` or `gone`; `null`: a record of 18 bytes tells none |
+/// | `phase` | `starting`, `settling`, `up`, `down`, `resting` or `gone`; `null`: a record of 18 bytes reports none |
 /// | `want` | `up`, `down` or `once` |
 /// | `paused` | whether it is paused |
 /// | `normally` | `down` where its folder has a file `down`, else `up` |
-/// | `exiting` | whether supervise is to end; `null`: a record of 18 bytes does not tell |
+/// | `exiting` | whether supervise is to end; `null`: a record of 18 bytes does not report |
 ///
 /// Of any other there are `path` and `error`: what svstat's line has behind the folder and `: `.
 ///
@@ -191,7 +191,7 @@ fn add_pid<A: Allocator>(writer: &mut Writer<A>, view: &View) -> Result<(), Allo
     }
 }
 
-/// Writes where supervise stands, where a record tells that.
+/// Writes where supervise stands, where a record says that.
 #[tactic(auto, unfolding(crate::specs::Json::phase_member))]
 fn add_phase<A: Allocator>(writer: &mut Writer<A>, loaded: &Loaded) -> Result<(), AllocError>
     ensures { OnOk result (Adds writer.old writer.new (phase_member loaded.now)) }
@@ -234,7 +234,7 @@ fn side_name(up: bool) -> &'static str
     if up { "up" } else { "down" }
 }
 
-/// Writes whether supervise is to end, where a record tells that.
+/// Writes whether supervise is to end, where a record says that.
 #[tactic(auto, unfolding(crate::specs::Json::exiting_member))]
 fn add_exiting<A: Allocator>(writer: &mut Writer<A>, loaded: &Loaded) -> Result<(), AllocError>
     ensures { OnOk result (Adds writer.old writer.new (exiting_member loaded.now)) }

@@ -6,7 +6,7 @@ use crate::find::find_all;
 use crate::metrics::metrics_text;
 use crate::sources::CountFiles;
 use cmd_base::{DONE, TROUBLE, report};
-use cmd_svc::{Observer, Services, SvstatFault, svstat_told};
+use cmd_svc::{Observer, Services, SvstatFault, svstat_report};
 use std::alloc::Allocator;
 use std::io::Write;
 use tai_status::{Output, TimeSource};
@@ -33,16 +33,16 @@ where
         observer.old observer.new writer.old writer.new faults.old faults.new }
 {
     let Ok(own) = alloc.clone() else {
-        return report(faults, svstat_told(SvstatFault::OutOfMemory), TROUBLE);
+        return report(faults, svstat_report(SvstatFault::OutOfMemory), TROUBLE);
     };
     let Ok(founds) = find_all(own, observer, files, words) else {
-        return report(faults, svstat_told(SvstatFault::OutOfMemory), TROUBLE);
+        return report(faults, svstat_report(SvstatFault::OutOfMemory), TROUBLE);
     };
     let Ok(text) = metrics_text(alloc, &founds) else {
-        return report(faults, svstat_told(SvstatFault::OutOfMemory), TROUBLE);
+        return report(faults, svstat_report(SvstatFault::OutOfMemory), TROUBLE);
     };
     match writer.write_all(&text) {
         Ok(()) => DONE,
-        Err(_) => report(faults, svstat_told(SvstatFault::Write), TROUBLE),
+        Err(_) => report(faults, svstat_report(SvstatFault::Write), TROUBLE),
     }
 }

@@ -62,7 +62,7 @@ fn is_supervised(look: &Look) -> bool
     }
 }
 
-/// How many starts are told.
+/// How many starts are reported.
 fn starts_in(counts: Option<Counts>) -> Option<u64>
     ensures { result ≡ starts_in counts }
 {
@@ -72,7 +72,7 @@ fn starts_in(counts: Option<Counts>) -> Option<u64>
     }
 }
 
-/// How many deaths are told.
+/// How many deaths are reported.
 fn deaths_in(counts: Option<Counts>) -> Option<u64>
     ensures { result ≡ deaths_in counts }
 {
@@ -82,7 +82,7 @@ fn deaths_in(counts: Option<Counts>) -> Option<u64>
     }
 }
 
-/// The value of a sample that a look tells.
+/// The value of a sample that a look reports.
 fn look_value(sample: Sample, look: &Look) -> Option<u64>
     ensures { result ≡ look_value sample look.now }
 {
@@ -92,7 +92,7 @@ fn look_value(sample: Sample, look: &Look) -> Option<u64>
     }
 }
 
-/// The value of a sample that a status tells.
+/// The value of a sample that a status says.
 fn standing_value(sample: Sample, loaded: &Loaded, now: &Label) -> Option<u64>
     ensures { result ≡ standing_value sample loaded.now now.now }
 {
@@ -124,7 +124,7 @@ fn wants_up(want: Want) -> bool
     }
 }
 
-/// Whether supervise stands in a phase, where a record tells that.
+/// Whether supervise stands in a phase, where a record says that.
 fn phase_value(phase: Phase, loaded: &Loaded) -> Option<u64>
     ensures { result ≡ phase_value phase loaded.now }
 {

@@ -33,7 +33,7 @@ fn read_front(runtime: &HostRuntime, folder: &str) -> io::Result<CountsFront> {
     Ok(front)
 }
 
-/// The services of this system. They tell contracts nothing.
+/// The services of this system. They say nothing to contracts.
 impl CountFiles for HostRuntime {
     fn read_counts(&self, folder: &str) -> Option<CountsFront> {
         read_front(self, folder).ok()

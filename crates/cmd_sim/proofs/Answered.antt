@@ -27,14 +27,14 @@ use Rattle.suite_core.specs.declared.fault.StepFault.{StepFault}
 use Rattle.suite_core.specs.declared.fault.StepFault.TheVariants as step
 use Rattle.suite_core.specs.Parts.{trace_of}
 use Rattle.suite_core.specs.Suite.{SuiteState, new_suite, IsSuiteEvent, refusal, outs_at, outs_of, suite_after, IsCause}
-use Rattle.cmd_sim.specs.declared.answering.Told.{Told}
-use Rattle.cmd_sim.specs.declared.answering.Told.TheVariants as code
+use Rattle.cmd_sim.specs.declared.answering.Subject.{Subject}
+use Rattle.cmd_sim.specs.declared.answering.Subject.TheVariants as code
 use Rattle.cmd_sim.specs.declared.fault.Why.{Why}
 use Rattle.cmd_sim.specs.declared.fault.Why.TheVariants as why
 use Rattle.cmd_sim.specs.declared.fault.NoAnswer.TheVariants as none
 use Rattle.cmd_sim.specs.Sim.{Past, Nothing, Service, OfSuite, Said, event_why, beginning, going_on, step_why}
-use Rattle.cmd_sim.specs.Sim.{refused_step, stepped_unless, stepping, tells_scan, said_by, said}
-use Rattle.cmd_sim.specs.Progress.{unread, refused_or_missed, unstepped, TellsService, Stands, Says, is_suite_line}
+use Rattle.cmd_sim.specs.Sim.{refused_step, stepped_unless, stepping, spells_scan, said_by, said}
+use Rattle.cmd_sim.specs.Progress.{unread, refused_or_missed, unstepped, SaysService, Stands, Says, is_suite_line}
 use Rattle.cmd_sim.specs.Sim.{IsRight, MayWantMemory}
 
 -- The allocator of an event does not matter.
@@ -110,8 +110,8 @@ refusal_plain : {A : Type 0} (suite : SuiteState) (event : SuiteEvent A) → ref
 refusal_plain suite (Scan rows label) = refl
 refusal_plain suite (At part event) = refl
 
-stepping_plainly : {A : Type 0} (suite : SuiteState) (told : Result (SuiteEvent A) EventFault)
-    → stepping suite (plainly told) ≡ stepping suite told
+stepping_plainly : {A : Type 0} (suite : SuiteState) (subject : Result (SuiteEvent A) EventFault)
+    → stepping suite (plainly subject) ≡ stepping suite subject
 stepping_plainly suite (Err why) = refl
 stepping_plainly suite (Ok event) =
     ap (λ (r : Option StepFault). stepped_unless (refused_step r) suite (plain event)) (refusal_plain suite event)
@@ -128,21 +128,21 @@ pub IsSuiteEvent-spellable : {A : Type 0} (event : SuiteEvent A) → IsSpellable
 IsSuiteEvent-spellable (Scan rows label) h = tt
 IsSuiteEvent-spellable (At part event) h = IsEvent-in_range event h.1
 
-pub unread_so : {A : Type 0} (suite : SuiteState) (told : Result (SuiteEvent A) EventFault) (fault : SuiteLineFault)
+pub unread_so : {A : Type 0} (suite : SuiteState) (subject : Result (SuiteEvent A) EventFault) (fault : SuiteLineFault)
     (why : Why)
-    → IsRead told (Err fault) → unread fault ≡ none.Refused why → stepping suite told ≡ Err why
+    → IsRead subject (Err fault) → unread fault ≡ none.Refused why → stepping suite subject ≡ Err why
 unread_so suite (Ok (Scan rows label)) fault why h is = let missed : none.OutOfMemory ≡ none.Refused why =
     ap unread (sym h) ∙ is in cc missed
 unread_so suite (Ok (At part event)) fault why h is = cc h
 unread_so suite (Err e) fault why h is =
     let same : fault ≡ line_fault e = cc h in
-    ap Err (told_why e why (ap unread (sym same) ∙ is))
+    ap Err (subject_why e why (ap unread (sym same) ∙ is))
   where
-    told_why : (e : EventFault) (why : Why) → unread (line_fault e) ≡ none.Refused why → event_why e ≡ why
-    told_why event.UnknownEvent why is = cc is
-    told_why event.Line why is = cc is
-    told_why event.Number why is = cc is
-    told_why event.Label why is = cc is
+    subject_why : (e : EventFault) (why : Why) → unread (line_fault e) ≡ none.Refused why → event_why e ≡ why
+    subject_why event.UnknownEvent why is = cc is
+    subject_why event.Line why is = cc is
+    subject_why event.Number why is = cc is
+    subject_why event.Label why is = cc is
 
 pub unstepped_so : {A : Type 0} (suite : SuiteState) (event : SuiteEvent A) (fault : StepFault) (why : Why)
     → IsCause (refusal suite event) fault → unstepped fault ≡ none.Refused why → stepping suite (Ok event) ≡ Err why
@@ -165,12 +165,12 @@ unstepped_so suite event fault why cause is = refused (refusal suite event) faul
         unless (refused_step r) why (ap refused_step cause ∙ named (step_why (step.Scan fault)) why is)
     refused r step.OutOfMemory why cause is = cc is
 
-pub stepped_so : {A : Type 0} (suite after : SuiteState) (told : Result (SuiteEvent A) EventFault)
+pub stepped_so : {A : Type 0} (suite after : SuiteState) (subject : Result (SuiteEvent A) EventFault)
     (event : SuiteEvent A) (lines : List (List ℕ))
-    → told ≡ Ok event → refusal suite event ≡ None → after ≡ suite_after suite event
+    → subject ≡ Ok event → refusal suite event ≡ None → after ≡ suite_after suite event
     → lines ≡ flat_map step_lines (outs_of suite event)
-    → stepping suite told ≡ Ok (record { texts = lines; past = OfSuite after })
-stepped_so suite after told event lines is taken goes said_so =
+    → stepping suite subject ≡ Ok (record { texts = lines; past = OfSuite after })
+stepped_so suite after subject event lines is taken goes said_so =
     ap (stepping suite) is ∙ ap (λ (r : Option StepFault). stepped_unless (refused_step r) suite event) taken
     ∙ ap {B = Result Said Why}
     (λ (texts : List (List ℕ)). Ok (record { texts = texts; past = OfSuite (suite_after suite event) }))
@@ -179,8 +179,8 @@ stepped_so suite after told event lines is taken goes said_so =
 
 -- Want of memory at a suite's line
 
-pub read_missed : {A : Type 0} (suite : SuiteState) (told : Result (SuiteEvent A) EventFault) (fault : SuiteLineFault)
-    → IsRead told (Err fault) → unread fault ≡ none.OutOfMemory → IsRight suite told
+pub read_missed : {A : Type 0} (suite : SuiteState) (subject : Result (SuiteEvent A) EventFault) (fault : SuiteLineFault)
+    → IsRead subject (Err fault) → unread fault ≡ none.OutOfMemory → IsRight suite subject
 read_missed suite (Ok (Scan rows label)) fault h is = tt
 read_missed suite (Ok (At part event)) fault h is = cc h
 read_missed suite (Err e) fault h is =
@@ -202,17 +202,17 @@ step_missed refused (step.Scan fault) cause is = ap refused_step cause ∙ unnam
     unnamed None is = refl
 step_missed refused step.OutOfMemory cause is = ap refused_step cause
 
-pub right_so : {A : Type 0} (suite : SuiteState) (told : Result (SuiteEvent A) EventFault) (event : SuiteEvent A)
-    → told ≡ Ok event → refused_step (refusal suite event) ≡ None → IsRight suite told
-right_so {A} suite told event is good =
+pub right_so : {A : Type 0} (suite : SuiteState) (subject : Result (SuiteEvent A) EventFault) (event : SuiteEvent A)
+    → subject ≡ Ok event → refused_step (refusal suite event) ≡ None → IsRight suite subject
+right_so {A} suite subject event is good =
     subst (λ (r : Result (SuiteEvent A) EventFault). IsRight suite r) (sym is) (right event good)
   where
     right : (event : SuiteEvent A) → refused_step (refusal suite event) ≡ None → IsRight suite (Ok event)
     right (Scan rows label) good = tt
     right (At part event) good = good
 
-right_plainly : {A : Type 0} (suite : SuiteState) (told : Result (SuiteEvent A) EventFault) → IsRight suite told
-    → IsRight suite (plainly told)
+right_plainly : {A : Type 0} (suite : SuiteState) (subject : Result (SuiteEvent A) EventFault) → IsRight suite subject
+    → IsRight suite (plainly subject)
 right_plainly suite (Err fault) right = absurd right
 right_plainly suite (Ok (Scan rows label)) right = tt
 right_plainly suite (Ok (At part event)) right = right
@@ -223,11 +223,11 @@ right_any A suite parts right =
     subst (λ (r : Result (SuiteEvent Plain) EventFault). IsRight suite r) (sym (read_plainly A parts))
     (right_plainly suite (suite_event_from {A = A} parts) right)
 
-pub right_ok : {A : Type 0} (suite : SuiteState) (told : Result (SuiteEvent A) EventFault) → IsRight suite told → IsOk told
+pub right_ok : {A : Type 0} (suite : SuiteState) (subject : Result (SuiteEvent A) EventFault) → IsRight suite subject → IsOk subject
 right_ok suite (Err fault) right = absurd right
 right_ok suite (Ok event) right = refl
 
--- The line of a scan tells no event at a part.
+-- The line of a scan reports no event at a part.
 either_right : {A : Type 0} (suite : SuiteState) (rest : List (List ℕ)) (other : Result (SuiteEvent A) EventFault)
     (b : Bool) → b ≡ true
     → IsOk (if b then scan_from {A = A} rest else other) → IsRight suite (if b then scan_from {A = A} rest else other)
@@ -244,37 +244,37 @@ either_right {A} suite rest other true is ok = of_fields rest ok
     of_fields (label ∷ rows) ok = of_right (label_of_text label) (rows_of_texts rows) ok
 either_right suite rest other false is ok = cc is
 
-scan_right : (A : Type 0) (suite : SuiteState) (parts : List (List ℕ)) → tells_scan parts ≡ true
+scan_right : (A : Type 0) (suite : SuiteState) (parts : List (List ℕ)) → spells_scan parts ≡ true
     → IsOk (suite_event_from {A = A} parts) → IsRight suite (suite_event_from {A = A} parts)
 scan_right A suite [] scan ok = cc scan
 scan_right A suite (word ∷ rest) scan ok =
     either_right {A = A} suite rest _ (bytes_eq word (codes "scan")) scan ok
 
-pub first_missed : (A : Type 0) (line : List ℕ) → tells_scan (fields line) ≡ true
+pub first_missed : (A : Type 0) (line : List ℕ) → spells_scan (fields line) ≡ true
     → IsOk (suite_event_from {A = A} (fields line)) → MayWantMemory Nothing line
 first_missed A line scan ok =
     (scan, right_any A (new_suite 0 256) (fields line) (scan_right A (new_suite 0 256) (fields line) scan ok))
 
-pub suite_missed : {A : Type 0} (past : Past) (line : List ℕ) (suite : SuiteState) (now : Told A)
+pub suite_missed : {A : Type 0} (past : Past) (line : List ℕ) (suite : SuiteState) (now : Subject A)
     → Stands past now → now ≡ code.Suite suite → IsRight suite (suite_event_from {A = A} (fields line))
     → MayWantMemory past line
-suite_missed {A} past line suite now stands is right = held past (subst (λ (t : Told A). Stands past t) is stands)
+suite_missed {A} past line suite now stands is right = held past (subst (λ (t : Subject A). Stands past t) is stands)
   where
     held : (past : Past) → Stands {A = A} past (code.Suite suite) → MayWantMemory past line
     held Nothing stands = absurd stands
     held (Service h) stands = absurd stands
-    held (OfSuite told) stands =
-        right_any A told (fields line)
+    held (OfSuite subject) stands =
+        right_any A subject (fields line)
         (subst (λ (s : SuiteState). IsRight s (suite_event_from {A = A} (fields line))) stands right)
 
-pub none_missed : {A : Type 0} (past : Past) (line : List ℕ) (now : Told A) → Stands past now → now ≡ code.Nothing
+pub none_missed : {A : Type 0} (past : Past) (line : List ℕ) (now : Subject A) → Stands past now → now ≡ code.Nothing
     → MayWantMemory Nothing line → MayWantMemory past line
-none_missed {A} past line now stands is lacks = held past (subst (λ (t : Told A). Stands past t) is stands)
+none_missed {A} past line now stands is lacks = held past (subst (λ (t : Subject A). Stands past t) is stands)
   where
     held : (past : Past) → Stands {A = A} past code.Nothing → MayWantMemory past line
     held Nothing stands = lacks
     held (Service h) stands = absurd stands
-    held (OfSuite told) stands = absurd stands
+    held (OfSuite subject) stands = absurd stands
 
 -- Memory is wanting at lines of suites alone.
 pub lacks_suite : (past : Past) (line : List ℕ) → MayWantMemory past line → is_suite_line past line ≡ true
@@ -284,23 +284,23 @@ lacks_suite (OfSuite suite) line lacks = refl
 
 -- A line
 
-pub Says-service : {A : Type 0} (past : Past) (line text : List ℕ) (machine : State) (told : Result Said Why)
-    → said past line ≡ told
-    → TellsService told machine text → Says {A = A} past line (text ∷ []) (code.Service machine)
-Says-service past line text machine told is tells = record {
-  answer = record { texts = text ∷ []; past = Service tells.past };
-  is = is ∙ tells.is;
+pub Says-service : {A : Type 0} (past : Past) (line text : List ℕ) (machine : State) (subject : Result Said Why)
+    → said past line ≡ subject
+    → SaysService subject machine text → Says {A = A} past line (text ∷ []) (code.Service machine)
+Says-service past line text machine subject is reports = record {
+  answer = record { texts = text ∷ []; past = Service reports.past };
+  is = is ∙ reports.is;
   texts_are = refl;
-  stands = tells.stands;
+  stands = reports.stands;
 }
 
 pub Says-suite : {A : Type 0} (past : Past) (line : List ℕ) (texts : List (List ℕ)) (suite : SuiteState)
-    (told : Result Said Why)
-    → said past line ≡ told → told ≡ Ok (record { texts = texts; past = OfSuite suite })
+    (subject : Result Said Why)
+    → said past line ≡ subject → subject ≡ Ok (record { texts = texts; past = OfSuite suite })
     → Says {A = A} past line texts (code.Suite suite)
-Says-suite past line texts suite told is tells = record {
+Says-suite past line texts suite subject is reports = record {
   answer = record { texts = texts; past = OfSuite suite };
-  is = is ∙ tells;
+  is = is ∙ reports;
   texts_are = refl;
   stands = refl;
 }
@@ -308,14 +308,14 @@ Says-suite past line texts suite told is tells = record {
 pub said-short : (past : Past) (line : List ℕ) → length line ≤ 65536 → said past line ≡ said_by past line
 said-short past line short = grind (arith, short)
 
-pub said-first : (line : List ℕ) → length line ≤ 65536 → tells_scan (fields line) ≡ false
+pub said-first : (line : List ℕ) → length line ≤ 65536 → spells_scan (fields line) ≡ false
     → said Nothing line ≡ beginning (begin_from (fields line))
 said-first line short other =
     said-short Nothing line short
     ∙ ap (λ (b : Bool). if b then stepping (new_suite 0 256) (suite_event_from {A = Plain} (fields line)) else beginning
     (begin_from (fields line))) other
 
-pub said-first_scan : (A : Type 0) (line : List ℕ) → length line ≤ 65536 → tells_scan (fields line) ≡ true
+pub said-first_scan : (A : Type 0) (line : List ℕ) → length line ≤ 65536 → spells_scan (fields line) ≡ true
     → said Nothing line ≡ stepping (new_suite 0 256) (suite_event_from {A = A} (fields line))
 said-first_scan A line short scan =
     said-short Nothing line short
@@ -333,9 +333,9 @@ abbrev past_in : Result Said Why → Past
 past_in (Ok answer) = answer.past
 past_in (Err why) = Nothing
 
-stepping-past : {A : Type 0} (suite : SuiteState) (told : Result (SuiteEvent A) EventFault) (next : List ℕ)
+stepping-past : {A : Type 0} (suite : SuiteState) (subject : Result (SuiteEvent A) EventFault) (next : List ℕ)
     (answer : Said)
-    → stepping suite told ≡ Ok answer → is_suite_line answer.past next ≡ true
+    → stepping suite subject ≡ Ok answer → is_suite_line answer.past next ≡ true
 stepping-past suite (Err why) next answer h = cc h
 stepping-past suite (Ok event) next answer h = unless (refused_step (refusal suite event)) h
   where
@@ -343,13 +343,13 @@ stepping-past suite (Ok event) next answer h = unless (refused_step (refusal sui
     unless (Some why) h = cc h
     unless None h = ap (λ (r : Result Said Why). is_suite_line (past_in r) next) (sym h)
 
-beginning-past : (told : Result (Bool × Tai64n) EventFault) (next : List ℕ) (answer : Said) → beginning told ≡ Ok answer
+beginning-past : (subject : Result (Bool × Tai64n) EventFault) (next : List ℕ) (answer : Said) → beginning subject ≡ Ok answer
     → is_suite_line answer.past next ≡ false
 beginning-past (Err why) next answer h = cc h
 beginning-past (Ok opening) next answer h = ap (λ (r : Result Said Why). is_suite_line (past_in r) next) (sym h)
 
-going_on-past : (past : History) (told : Result Event EventFault) (next : List ℕ) (answer : Said)
-    → going_on past told ≡ Ok answer
+going_on-past : (past : History) (subject : Result Event EventFault) (next : List ℕ) (answer : Said)
+    → going_on past subject ≡ Ok answer
     → is_suite_line answer.past next ≡ false
 going_on-past past (Err why) next answer h = cc h
 going_on-past past (Ok event) next answer h = ap (λ (r : Result Said Why). is_suite_line (past_in r) next) (sym h)
@@ -357,7 +357,7 @@ going_on-past past (Ok event) next answer h = ap (λ (r : Result Said Why). is_s
 by-past : (past : Past) (line next : List ℕ) (answer : Said) → said_by past line ≡ Ok answer
     → is_suite_line answer.past next ≡ is_suite_line past line
 by-past Nothing line next answer h =
-    elim (tells_scan (fields line)) as (λ b. tells_scan (fields line) ≡ b
+    elim (spells_scan (fields line)) as (λ b. spells_scan (fields line) ≡ b
     → (if b then stepping (new_suite 0 256) (suite_event_from {A = Plain} (fields line)) else beginning
     (begin_from (fields line))) ≡ Ok answer
     → is_suite_line answer.past next ≡ b) [
@@ -379,12 +379,12 @@ is_suite_line-said past line next answer h =
 
 -- A service's line
 
-pub begun_so : (told : Result (Bool × Tai64n) EventFault) (opening : Bool × Tai64n) (machine : State) (text : List ℕ)
-    → told ≡ Ok opening
+pub begun_so : (subject : Result (Bool × Tai64n) EventFault) (opening : Bool × Tai64n) (machine : State) (text : List ℕ)
+    → subject ≡ Ok opening
     → machine ≡ state_of (Begin opening.0 opening.1)
     → text ≡ answer_text (Took (asks_of_begin (Begin opening.0 opening.1))) (phase_of (Begin opening.0 opening.1))
-    → TellsService (beginning told) machine text
-begun_so told opening machine text is stands said_so = record {
+    → SaysService (beginning subject) machine text
+begun_so subject opening machine text is stands said_so = record {
   past = Begin opening.0 opening.1;
   is = ap beginning is
       ∙ ap {B = Result Said Why}
@@ -408,68 +408,68 @@ lines_more bytes texts outs i out old more new within at so_far here put =
 
 -- As what the code holds goes on
 
-pub service_refused : {A : Type 0} (past : Past) (line : List ℕ) (machine : State) (now : Told A) (why : Why)
+pub service_refused : {A : Type 0} (past : Past) (line : List ℕ) (machine : State) (now : Subject A) (why : Why)
     → Stands past now
     → now ≡ code.Service machine → length line ≤ 65536
     → ((h : History) → going_on h (event_from (fields line)) ≡ Err why)
     → said past line ≡ Err why
 service_refused {A} past line machine now why stands is short refused =
-    held past (subst (λ (t : Told A). Stands past t) is stands)
+    held past (subst (λ (t : Subject A). Stands past t) is stands)
   where
     held : (past : Past) → Stands {A = A} past (code.Service machine) → said past line ≡ Err why
     held Nothing stands = absurd stands
     held (Service h) stands = said-short (Service h) line short ∙ refused h
     held (OfSuite suite) stands = absurd stands
 
-pub service_says : {A : Type 0} (past : Past) (line text : List ℕ) (machine after : State) (now : Told A)
+pub service_says : {A : Type 0} (past : Past) (line text : List ℕ) (machine after : State) (now : Subject A)
     → Stands past now
     → now ≡ code.Service machine → length line ≤ 65536
-    → ((h : History) → state_of h ≡ machine → TellsService (going_on h (event_from (fields line))) after text)
+    → ((h : History) → state_of h ≡ machine → SaysService (going_on h (event_from (fields line))) after text)
     → Says {A = A} past line (text ∷ []) (code.Service after)
-service_says {A} past line text machine after now stands is short tells =
-    held past (subst (λ (t : Told A). Stands past t) is stands)
+service_says {A} past line text machine after now stands is short reports =
+    held past (subst (λ (t : Subject A). Stands past t) is stands)
   where
     held : (past : Past) → Stands {A = A} past (code.Service machine)
         → Says {A = A} past line (text ∷ []) (code.Service after)
     held Nothing stands = absurd stands
     held (Service h) stands =
         Says-service (Service h) line text after (going_on h (event_from (fields line)))
-        (said-short (Service h) line short) (tells h stands)
+        (said-short (Service h) line short) (reports h stands)
     held (OfSuite suite) stands = absurd stands
 
-pub suite_refused : {A : Type 0} (past : Past) (line : List ℕ) (suite : SuiteState) (now : Told A) (why : Why)
+pub suite_refused : {A : Type 0} (past : Past) (line : List ℕ) (suite : SuiteState) (now : Subject A) (why : Why)
     → Stands past now
     → now ≡ code.Suite suite → length line ≤ 65536 → stepping suite (suite_event_from {A = A} (fields line)) ≡ Err why
     → said past line ≡ Err why
 suite_refused {A} past line suite now why stands is short refused =
-    held past (subst (λ (t : Told A). Stands past t) is stands)
+    held past (subst (λ (t : Subject A). Stands past t) is stands)
   where
     held : (past : Past) → Stands {A = A} past (code.Suite suite) → said past line ≡ Err why
     held Nothing stands = absurd stands
     held (Service h) stands = absurd stands
-    held (OfSuite told) stands =
-        said-suite A told line short
+    held (OfSuite subject) stands =
+        said-suite A subject line short
         ∙ ap (λ (s : SuiteState). stepping s (suite_event_from {A = A} (fields line))) (sym stands) ∙ refused
 
 pub suite_says : {A : Type 0} (past : Past) (line : List ℕ) (texts : List (List ℕ)) (suite after : SuiteState)
-    (now : Told A) → Stands past now
+    (now : Subject A) → Stands past now
     → now ≡ code.Suite suite → length line ≤ 65536
     → stepping suite (suite_event_from {A = A} (fields line)) ≡ Ok (record { texts = texts; past = OfSuite after })
     → Says {A = A} past line texts (code.Suite after)
-suite_says {A} past line texts suite after now stands is short tells =
-    held past (subst (λ (t : Told A). Stands past t) is stands)
+suite_says {A} past line texts suite after now stands is short reports =
+    held past (subst (λ (t : Subject A). Stands past t) is stands)
   where
     held : (past : Past) → Stands {A = A} past (code.Suite suite) → Says {A = A} past line texts (code.Suite after)
     held Nothing stands = absurd stands
     held (Service h) stands = absurd stands
-    held (OfSuite told) stands =
-        Says-suite (OfSuite told) line texts after (stepping suite (suite_event_from {A = A} (fields line)))
-        (said-suite A told line short
-        ∙ ap (λ (s : SuiteState). stepping s (suite_event_from {A = A} (fields line))) (sym stands)) tells
+    held (OfSuite subject) stands =
+        Says-suite (OfSuite subject) line texts after (stepping suite (suite_event_from {A = A} (fields line)))
+        (said-suite A subject line short
+        ∙ ap (λ (s : SuiteState). stepping s (suite_event_from {A = A} (fields line))) (sym stands)) reports
 
 pub first_refused_scan : (A : Type 0) (line : List ℕ) (suite : SuiteState) (why : Why) → suite ≡ new_suite 0 256
     → length line ≤ 65536
-    → tells_scan (fields line) ≡ true → stepping suite (suite_event_from {A = A} (fields line)) ≡ Err why
+    → spells_scan (fields line) ≡ true → stepping suite (suite_event_from {A = A} (fields line)) ≡ Err why
     → said Nothing line ≡ Err why
 first_refused_scan A line suite why new short scan refused =
     said-first_scan A line short scan
@@ -477,10 +477,10 @@ first_refused_scan A line suite why new short scan refused =
 
 pub first_says_scan : {A : Type 0} (line : List ℕ) (texts : List (List ℕ)) (suite after : SuiteState)
     → suite ≡ new_suite 0 256 → length line ≤ 65536
-    → tells_scan (fields line) ≡ true
+    → spells_scan (fields line) ≡ true
     → stepping suite (suite_event_from {A = A} (fields line)) ≡ Ok (record { texts = texts; past = OfSuite after })
     → Says {A = A} Nothing line texts (code.Suite after)
-first_says_scan {A} line texts suite after new short scan tells =
+first_says_scan {A} line texts suite after new short scan reports =
     Says-suite Nothing line texts after (stepping suite (suite_event_from {A = A} (fields line)))
     (said-first_scan A line short scan
-    ∙ ap (λ (s : SuiteState). stepping s (suite_event_from {A = A} (fields line))) (sym new)) tells
+    ∙ ap (λ (s : SuiteState). stepping s (suite_event_from {A = A} (fields line))) (sym new)) reports

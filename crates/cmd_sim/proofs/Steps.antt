@@ -4,8 +4,8 @@ use Rattle.std.proofs.Common.{length-append, take, drop, map, Option, Some, None
 use Rattle.std.proofs.Common.{◌∙◌, arith, append_assoc, append-nil}
 use Rattle.std.proofs.lemmas.Grind.{flat_map-append}
 use Rattle.sup_core.specs.Text.{table_text}
-use Rattle.cmd_sim.specs.declared.answering.Told.{Told}
-use Rattle.cmd_sim.specs.declared.answering.Told.TheVariants as code
+use Rattle.cmd_sim.specs.declared.answering.Subject.{Subject}
+use Rattle.cmd_sim.specs.declared.answering.Subject.TheVariants as code
 use Rattle.cmd_sim.specs.declared.fault.Why.{Why}
 use Rattle.cmd_sim.specs.declared.fault.Why.TheVariants as why
 use Rattle.std.specs.Prelude.{flat_map}
@@ -14,10 +14,10 @@ use Rattle.std.proofs.Math.Seq.{take-suc, take-length}
 use Rattle.std.proofs.lemmas.List.{take-append-le, take_more, map_push, map-append, take-append-drop}
 use Rattle.cmd_sim.specs.declared.fault.SimFault.{SimFault}
 use Rattle.cmd_sim.specs.declared.fault.SimFault.TheVariants as sim
-use Rattle.tai_status.specs.Counted.{Device, Works, Tells}
+use Rattle.tai_status.specs.Counted.{Device, Works, Reports}
 use Rattle.cmd_base.specs.Console.{Console}
 use Rattle.cmd_base.specs.Printed.{printed}
-use Rattle.cmd_sim.specs.Ends.{status_of, told_of, AnswersByStatus, SimCause}
+use Rattle.cmd_sim.specs.Ends.{status_of, report_of, AnswersByStatus, SimCause}
 use Rattle.cmd_sim.specs.Sim.{begins_suite, IsOfSuite, Past, Nothing, Said, said, answers, first_refused, Refusal}
 use Rattle.cmd_sim.specs.Sim.{both_sides, printed_for, refused_in, ReadsNear, AnswersUpTo, AnswersWhole, AnswersBefore}
 use Rattle.cmd_sim.specs.Sim.{AnswersPart, AnswersLines, MayWantMemory, MissesAt}
@@ -92,11 +92,11 @@ SoFar-none before held = record {
 
 -- A line further.
 pub SoFar-line : {before now held holds holds2 : Option (List ℕ)} {pending waiting waiting2 : List ℕ} {B : Type 0}
-    {told told2 : Told B} {count : ℕ}
-    (s : SoFar before now held holds pending waiting told count) (line rest : List ℕ) → pending ≡ line ++ 10 ∷ rest
+    {subject subject2 : Subject B} {count : ℕ}
+    (s : SoFar before now held holds pending waiting subject count) (line rest : List ℕ) → pending ≡ line ++ 10 ∷ rest
     → IsPlain line
-    → Answered s.past line told2 holds holds2 waiting waiting2
-    → SoFar before now held holds2 rest waiting2 told2 (count + 1)
+    → Answered s.past line subject2 holds holds2 waiting waiting2
+    → SoFar before now held holds2 rest waiting2 subject2 (count + 1)
 SoFar-line {before} {now} {held} {holds2 = holds2} {waiting2 = waiting2} {count = count} s line rest whole plain a =
     let joined : (more : List ℕ) → (s.done ++ (line ++ 10 ∷ [])) ++ more ≡ s.done ++ (line ++ 10 ∷ more) =
     λ more. append_assoc s.done (line ++ 10 ∷ []) more
@@ -131,17 +131,17 @@ SoFar-line {before} {now} {held} {holds2 = holds2} {waiting2 = waiting2} {count 
 
 -- What comes after the lines so far
 
-SoFar-printed : {before now held holds : Option (List ℕ)} {pending waiting : List ℕ} {B : Type 0} {told : Told B}
+SoFar-printed : {before now held holds : Option (List ℕ)} {pending waiting : List ℕ} {B : Type 0} {subject : Subject B}
     {count : ℕ}
-    (s : SoFar before now held holds pending waiting told count) (more : List ℕ)
+    (s : SoFar before now held holds pending waiting subject count) (more : List ℕ)
     → printed_for (s.done ++ more) ≡ printed s.texts ++ printed (answers s.past (texts_of more))
 SoFar-printed s more =
     ap (λ (t : List (List ℕ)). printed (answers Nothing t)) (s.cut more)
     ∙ ap printed (s.says (texts_of more)) ∙ printed-append s.texts (answers s.past (texts_of more))
 
-SoFar-refused_in : {before now held holds : Option (List ℕ)} {pending waiting : List ℕ} {B : Type 0} {told : Told B}
+SoFar-refused_in : {before now held holds : Option (List ℕ)} {pending waiting : List ℕ} {B : Type 0} {subject : Subject B}
     {count : ℕ}
-    (s : SoFar before now held holds pending waiting told count) (more : List ℕ)
+    (s : SoFar before now held holds pending waiting subject count) (more : List ℕ)
     → refused_in (s.done ++ more) ≡ first_refused (count + 1) s.past (texts_of more)
 SoFar-refused_in s more = ap (first_refused 1 Nothing) (s.cut more) ∙ s.refuses (texts_of more)
 
@@ -158,9 +158,9 @@ Appends-emitted {a} {b} {xs} e = subst (λ (t : List ℕ). Appends a b t) (sym (
 
 -- The answers that waited were written.
 pub SoFar-flush : {before now held holds holds2 : Option (List ℕ)} {pending waiting : List ℕ} {B : Type 0}
-    {told : Told B} {count : ℕ}
-    → SoFar before now held holds pending waiting told count → Appends holds holds2 waiting
-    → SoFar before now held holds2 pending [] told count
+    {subject : Subject B} {count : ℕ}
+    → SoFar before now held holds pending waiting subject count → Appends holds holds2 waiting
+    → SoFar before now held holds2 pending [] subject count
 SoFar-flush s w = record {
   done = s.done;
   lines = s.lines;
@@ -178,9 +178,9 @@ SoFar-flush s w = record {
 }
 
 -- A write failed, after a front of the answers that wait and of those that come next.
-front_of : {before now held holds holds2 : Option (List ℕ)} {pending waiting : List ℕ} {B : Type 0} {told : Told B}
+front_of : {before now held holds holds2 : Option (List ℕ)} {pending waiting : List ℕ} {B : Type 0} {subject : Subject B}
     {count : ℕ}
-    (s : SoFar before now held holds pending waiting told count) (next rest : List ℕ)
+    (s : SoFar before now held holds pending waiting subject count) (next rest : List ℕ)
     → AppendsFront holds holds2 (waiting ++ next)
     → printed (answers s.past (texts_of pending)) ≡ next ++ rest → AnswersPart before now held holds2
 front_of {held = held} {holds2 = holds2} {pending = pending} s next rest f is = record {
@@ -193,15 +193,15 @@ front_of {held = held} {holds2 = holds2} {pending = pending} s next rest f is = 
 }
 
 pub SoFar-unflushed : {before now held holds holds2 : Option (List ℕ)} {pending waiting : List ℕ} {B : Type 0}
-    {told : Told B} {count : ℕ}
-    → SoFar before now held holds pending waiting told count → AppendsFront holds holds2 waiting
+    {subject : Subject B} {count : ℕ}
+    → SoFar before now held holds pending waiting subject count → AppendsFront holds holds2 waiting
     → AnswersPart before now held holds2
 SoFar-unflushed {holds = holds} {holds2 = holds2} {pending = pending} {waiting = waiting} s f =
     front_of s [] (printed (answers s.past (texts_of pending)))
     (subst (λ (t : List ℕ). AppendsFront holds holds2 t) (sym (append-nil waiting)) f) refl
 
-printed_by : (past : Past) (line : List ℕ) (later : List (List ℕ)) (told : Result Said Why) → said past line ≡ told
-    → (rest : List ℕ) × (printed (answers past (line ∷ later)) ≡ text_said told ++ rest)
+printed_by : (past : Past) (line : List ℕ) (later : List (List ℕ)) (subject : Result Said Why) → said past line ≡ subject
+    → (rest : List ℕ) × (printed (answers past (line ∷ later)) ≡ text_said subject ++ rest)
 printed_by past line later (Ok answer) e = (
   printed (answers answer.past later),
   ap printed (answers-said past line later answer e) ∙ printed-append answer.texts (answers answer.past later),
@@ -209,9 +209,9 @@ printed_by past line later (Ok answer) e = (
 printed_by past line later (Err why) e = ([], ap printed (answers-refused past line later why e))
 
 -- A line was not written, or the answers before it were not.
-unwritten : {before now held holds holds2 : Option (List ℕ)} {pending waiting : List ℕ} {B : Type 0} {told : Told B}
+unwritten : {before now held holds holds2 : Option (List ℕ)} {pending waiting : List ℕ} {B : Type 0} {subject : Subject B}
     {count : ℕ}
-    (s : SoFar before now held holds pending waiting told count) (line : List ℕ) (later : List (List ℕ))
+    (s : SoFar before now held holds pending waiting subject count) (line : List ℕ) (later : List (List ℕ))
     → texts_of pending ≡ line ∷ later
     → AppendsFront holds holds2 (waiting ++ text_said (said s.past line)) → AnswersPart before now held holds2
 unwritten s line later cut f =
@@ -220,16 +220,16 @@ unwritten s line later cut f =
     ∙ all.1)
 
 pub SoFar-unwritten : {before now held holds holds2 : Option (List ℕ)} {pending waiting : List ℕ} {B : Type 0}
-    {told : Told B} {count : ℕ}
-    (s : SoFar before now held holds pending waiting told count) (line rest : List ℕ) → pending ≡ line ++ 10 ∷ rest
+    {subject : Subject B} {count : ℕ}
+    (s : SoFar before now held holds pending waiting subject count) (line rest : List ℕ) → pending ≡ line ++ 10 ∷ rest
     → IsPlain line
     → AppendsFront holds holds2 (waiting ++ text_said (said s.past line)) → AnswersPart before now held holds2
 SoFar-unwritten s line rest whole plain f =
     unwritten s line (texts_of rest) (ap texts_of whole ∙ texts_of-line line rest plain) f
 
 pub SoFar-rest_unwritten : {before now held holds holds2 : Option (List ℕ)} {pending waiting : List ℕ} {B : Type 0}
-    {told : Told B} {count : ℕ}
-    (s : SoFar before now held holds pending waiting told count) → 0 < length pending → IsPlain pending
+    {subject : Subject B} {count : ℕ}
+    (s : SoFar before now held holds pending waiting subject count) → 0 < length pending → IsPlain pending
     → AppendsFront holds holds2 (waiting ++ text_said (said s.past pending)) → AnswersPart before now held holds2
 SoFar-rest_unwritten {pending = pending} s some plain f = unwritten s pending [] (texts_of-last pending some plain) f
 
@@ -249,9 +249,9 @@ Consumes-kept (Some xs) (Some ys) (Some zs) bs k l = k ∙ ap (λ (t : List ℕ)
 
 -- More bytes are pending.
 pub SoFar-filled : {before held holds : Option (List ℕ)} {now after : Device} {waiting : List ℕ} {B : Type 0}
-    {told : Told B} {count : ℕ} {old new : Given}
-    → SoFar before now.bytes held holds old.pending waiting told count → Fills now after old new
-    → SoFar before after.bytes held holds new.pending waiting told count
+    {subject : Subject B} {count : ℕ} {old new : Given}
+    → SoFar before now.bytes held holds old.pending waiting subject count → Fills now after old new
+    → SoFar before after.bytes held holds new.pending waiting subject count
 SoFar-filled {before} {now = now} {after = after} {old = old} {new = new} s f = record {
   done = s.done;
   lines = s.lines;
@@ -274,9 +274,9 @@ take-length_append : (xs ys : List (List ℕ)) (n : ℕ) → n ≡ length xs →
 take-length_append xs ys n e = rw e (take-append-le (length xs) xs ys (omega arith) ∙ take-length xs)
 
 -- What was read is the lines so far and what is pending.
-pub SoFar-near : {before now held holds : Option (List ℕ)} {pending waiting : List ℕ} {B : Type 0} {told : Told B}
+pub SoFar-near : {before now held holds : Option (List ℕ)} {pending waiting : List ℕ} {B : Type 0} {subject : Subject B}
     {count : ℕ} (number : ℕ)
-    → SoFar before now held holds pending waiting told count → length pending ≤ 98304 → number ≡ count + 1
+    → SoFar before now held holds pending waiting subject count → length pending ≤ 98304 → number ≡ count + 1
     → ReadsNear before now number
 SoFar-near {pending = pending} {count = count} number s small is =
     let lines : take (number - 1) (texts_of (s.done ++ pending)) ≡ s.lines =
@@ -288,10 +288,10 @@ SoFar-near {pending = pending} {count = count} number s small is =
     record { bytes = s.done ++ pending; read = s.read; near = omega (arith, all, front, small) }
 
 -- A read gave nothing.
-pub SoFar-kept : {before now after held holds : Option (List ℕ)} {pending waiting : List ℕ} {B : Type 0} {told : Told B}
+pub SoFar-kept : {before now after held holds : Option (List ℕ)} {pending waiting : List ℕ} {B : Type 0} {subject : Subject B}
     {count : ℕ}
-    → SoFar before now held holds pending waiting told count → Keeps now after
-    → SoFar before after held holds pending waiting told count
+    → SoFar before now held holds pending waiting subject count → Keeps now after
+    → SoFar before after held holds pending waiting subject count
 SoFar-kept {before} {now} {after} {pending = pending} s k = record {
   done = s.done;
   lines = s.lines;
@@ -326,8 +326,8 @@ more_input (Some xs) None bytes input c e = absurd c
 more_input (Some xs) (Some ys) bytes input c e = let same : input ≡ xs = cc e in (ys, same ∙ c)
 
 -- All was answered and written.
-pub SoFar-end : {before now held holds : Option (List ℕ)} {pending : List ℕ} {B : Type 0} {told : Told B} {count : ℕ}
-    → SoFar before now held holds pending [] told count → pending ≡ [] → IsAtEnd now → AnswersWhole before held holds
+pub SoFar-end : {before now held holds : Option (List ℕ)} {pending : List ℕ} {B : Type 0} {subject : Subject B} {count : ℕ}
+    → SoFar before now held holds pending [] subject count → pending ≡ [] → IsAtEnd now → AnswersWhole before held holds
 SoFar-end {before} {now} {held} {holds} {pending} s none end = λ input is.
     let whole : input ≡ s.done ++ [] = whole_input before now (s.done ++ pending) input s.read end is
     ∙ ap (λ (t : List ℕ). s.done ++ t) none in (
@@ -338,10 +338,10 @@ SoFar-end {before} {now} {held} {holds} {pending} s none end = λ input is.
 
 -- The last line, which has no newline, was answered and written.
 pub SoFar-last : {before now held holds holds2 : Option (List ℕ)} {pending waiting waiting2 : List ℕ} {B : Type 0}
-    {told told2 : Told B} {count : ℕ}
-    (holds3 : Option (List ℕ)) (s : SoFar before now held holds pending waiting told count) → 0 < length pending
+    {subject subject2 : Subject B} {count : ℕ}
+    (holds3 : Option (List ℕ)) (s : SoFar before now held holds pending waiting subject count) → 0 < length pending
     → IsPlain pending → IsAtEnd now
-    → Answered s.past pending told2 holds holds2 waiting waiting2 → Appends holds2 holds3 waiting2
+    → Answered s.past pending subject2 holds holds2 waiting waiting2 → Appends holds2 holds3 waiting2
     → AnswersWhole before held holds3
 SoFar-last {before} {now} {held} {pending = pending} {count = count} holds3 s some plain end a w = λ input is.
     let whole : input ≡ s.done ++ pending = whole_input before now (s.done ++ pending) input s.read end is in
@@ -359,9 +359,9 @@ SoFar-last {before} {now} {held} {pending = pending} {count = count} holds3 s so
 
 -- Lines that are refused
 
-refused_at : {before now held holds : Option (List ℕ)} {pending waiting : List ℕ} {B : Type 0} {told : Told B}
+refused_at : {before now held holds : Option (List ℕ)} {pending waiting : List ℕ} {B : Type 0} {subject : Subject B}
     {count : ℕ}
-    (holds2 : Option (List ℕ)) (s : SoFar before now held holds pending waiting told count) (input more line : List ℕ)
+    (holds2 : Option (List ℕ)) (s : SoFar before now held holds pending waiting subject count) (input more line : List ℕ)
     (later : List (List ℕ)) (why : Why)
     → input ≡ s.done ++ more → texts_of more ≡ line ∷ later → said s.past line ≡ Err why → Appends holds holds2 waiting
     → (refused_in input ≡ Some (record { line = count + 1; why = why })) × Appends held holds2 (printed_for input)
@@ -376,9 +376,9 @@ refused_at {held = held} {count = count} holds2 s input more line later why is c
       subst (λ (t : List ℕ). Appends held holds2 t) (sym nothing) (Appends-emitted (Emits-written s.text w)),
     )
 
-pub SoFar-refused : {before now held holds : Option (List ℕ)} {pending waiting : List ℕ} {B : Type 0} {told : Told B}
+pub SoFar-refused : {before now held holds : Option (List ℕ)} {pending waiting : List ℕ} {B : Type 0} {subject : Subject B}
     {count : ℕ}
-    (holds2 : Option (List ℕ)) (s : SoFar before now held holds pending waiting told count) (line rest : List ℕ)
+    (holds2 : Option (List ℕ)) (s : SoFar before now held holds pending waiting subject count) (line rest : List ℕ)
     (why : Why) → pending ≡ line ++ 10 ∷ rest → IsPlain line
     → said s.past line ≡ Err why → Appends holds holds2 waiting
     → AnswersBefore before held holds2 (record { line = count + 1; why = why })
@@ -392,8 +392,8 @@ SoFar-refused {before} {now} {pending = pending} holds2 s line rest why whole pl
     (texts_of-line line (rest ++ more.0) plain) refused w
 
 pub SoFar-rest_refused : {before now held holds : Option (List ℕ)} {pending waiting : List ℕ} {B : Type 0}
-    {told : Told B} {count : ℕ}
-    (holds2 : Option (List ℕ)) (s : SoFar before now held holds pending waiting told count) (why : Why)
+    {subject : Subject B} {count : ℕ}
+    (holds2 : Option (List ℕ)) (s : SoFar before now held holds pending waiting subject count) (why : Why)
     → 0 < length pending → IsPlain pending → IsAtEnd now
     → said s.past pending ≡ Err why → Appends holds holds2 waiting
     → AnswersBefore before held holds2 (record { line = count + 1; why = why })
@@ -426,9 +426,9 @@ too_long : (past : Past) (front rest : List ℕ) → 65536 < length front → sa
 too_long past front rest long =
     let l : 65536 < length (front ++ rest) = simp length-append (omega arith) in grind (arith, l)
 
-pub SoFar-too_long : {before now held holds : Option (List ℕ)} {pending : List ℕ} {B : Type 0} {told : Told B}
+pub SoFar-too_long : {before now held holds : Option (List ℕ)} {pending : List ℕ} {B : Type 0} {subject : Subject B}
     {count : ℕ}
-    (s : SoFar before now held holds pending [] told count) → 65536 < length pending → IsPlain pending
+    (s : SoFar before now held holds pending [] subject count) → 65536 < length pending → IsPlain pending
     → AnswersBefore before held holds (record { line = count + 1; why = why.Line })
 SoFar-too_long {before} {now} {holds = holds} {pending = pending} s long plain = λ input is.
     let more = more_input before now (s.done ++ pending) input s.read is in
@@ -439,9 +439,9 @@ SoFar-too_long {before} {now} {holds = holds} {pending = pending} s long plain =
 
 -- Want of memory at a suite's line
 
-missed_at : {before now held holds : Option (List ℕ)} {pending waiting : List ℕ} {B : Type 0} {told : Told B}
+missed_at : {before now held holds : Option (List ℕ)} {pending waiting : List ℕ} {B : Type 0} {subject : Subject B}
     {count : ℕ}
-    (s : SoFar before now held holds pending waiting told count) (input more line : List ℕ) (later : List (List ℕ))
+    (s : SoFar before now held holds pending waiting subject count) (input more line : List ℕ) (later : List (List ℕ))
     → input ≡ s.done ++ more → texts_of more ≡ line ∷ later → is_suite_line s.past line ≡ true
     → begins_suite (texts_of input) ≡ true
 missed_at s input more line later is cut suite =
@@ -449,9 +449,9 @@ missed_at s input more line later is cut suite =
     ∙ ap begins_suite (s.cut more ∙ ap (λ (t : List (List ℕ)). s.lines ++ t) cut) ∙ s.suite line later suite
 
 -- Memory was missed at a line that comes next.
-SoFar-missed : {before now held holds : Option (List ℕ)} {pending waiting : List ℕ} {B : Type 0} {told : Told B}
+SoFar-missed : {before now held holds : Option (List ℕ)} {pending waiting : List ℕ} {B : Type 0} {subject : Subject B}
     {count : ℕ}
-    (holds2 : Option (List ℕ)) (s : SoFar before now held holds pending waiting told count) (line : List ℕ)
+    (holds2 : Option (List ℕ)) (s : SoFar before now held holds pending waiting subject count) (line : List ℕ)
     (later : List (List ℕ))
     → texts_of pending ≡ line ∷ later → MayWantMemory s.past line → Appends holds holds2 waiting
     → MissesAt before now held holds2
@@ -466,15 +466,15 @@ SoFar-missed {held = held} {pending = pending} holds2 s line later next wants w 
       past = s.past;
       read = s.read;
       cut = s.cut pending ∙ ap (λ (t : List (List ℕ)). s.lines ++ t) next;
-      told = λ more. s.says more ∙ ap (λ (t : List (List ℕ)). t ++ answers s.past more) (sym same);
+      subject = λ more. s.says more ∙ ap (λ (t : List (List ℕ)). t ++ answers s.past more) (sym same);
       wants = wants;
       text = subst (λ (t : List (List ℕ)). Appends held holds2 (printed t)) (sym same)
           (Appends-emitted (Emits-written s.text w));
     }
 
-pub SoFar-line_missed : {before now held holds : Option (List ℕ)} {waiting : List ℕ} {B : Type 0} {told : Told B}
+pub SoFar-line_missed : {before now held holds : Option (List ℕ)} {waiting : List ℕ} {B : Type 0} {subject : Subject B}
     {count : ℕ} {old new : Given} {text : List ℕ}
-    (holds2 : Option (List ℕ)) (s : SoFar before now held holds old.pending waiting told count) → TakesLine old new
+    (holds2 : Option (List ℕ)) (s : SoFar before now held holds old.pending waiting subject count) → TakesLine old new
     → text ≡ new.line
     → MayWantMemory s.past text → Appends holds holds2 waiting → IsOfSuite before × MissesAt before now held holds2
 SoFar-line_missed {before} {now} {old = old} {new = new} {text = text} holds2 s took same wants w = (
@@ -492,9 +492,9 @@ SoFar-line_missed {before} {now} {old = old} {new = new} {text = text} holds2 s 
       ∙ ap (λ (t : List ℕ). t ∷ texts_of new.pending) (sym same)) wants w,
 )
 
-pub rest_missed : {before now held holds : Option (List ℕ)} {pending waiting text : List ℕ} {B : Type 0} {told : Told B}
+pub rest_missed : {before now held holds : Option (List ℕ)} {pending waiting text : List ℕ} {B : Type 0} {subject : Subject B}
     {count : ℕ}
-    (holds2 : Option (List ℕ)) (s : SoFar before now held holds pending waiting told count) → 0 < length pending
+    (holds2 : Option (List ℕ)) (s : SoFar before now held holds pending waiting subject count) → 0 < length pending
     → IsPlain pending → IsAtEnd now
     → text ≡ pending → MayWantMemory s.past text → Appends holds holds2 waiting → IsOfSuite before
     × MissesAt before now held holds2
@@ -513,24 +513,24 @@ pub on_err_of : {A E P : Type 0} (r : Result A E) (x : E) → IsErrOf r x → On
 on_err_of (Ok a) x is p = absurd (cc is)
 on_err_of (Err e) x is p = p
 
-pub SoFar-begin : (before held : Option (List ℕ)) {pending waiting : List ℕ} {B : Type 0} {told : Told B} {count : ℕ}
-    → pending ≡ [] → waiting ≡ [] → told ≡ code.Nothing → count ≡ 0
-    → SoFar before before held held pending waiting told count
+pub SoFar-begin : (before held : Option (List ℕ)) {pending waiting : List ℕ} {B : Type 0} {subject : Subject B} {count : ℕ}
+    → pending ≡ [] → waiting ≡ [] → subject ≡ code.Nothing → count ≡ 0
+    → SoFar before before held held pending waiting subject count
 SoFar-begin before held p w m c = rw (p, w, m, c) (SoFar-none before held)
 
 pub SoFar-further : {before now held holds holds2 : Option (List ℕ)} {waiting waiting2 : List ℕ} {B : Type 0}
-    {told told2 : Told B} {count count2 : ℕ} {old new : Given} {text : List ℕ}
-    (s : SoFar before now held holds old.pending waiting told count) → TakesLine old new → text ≡ new.line
-    → Answered s.past text told2 holds holds2 waiting waiting2 → count2 ≡ count + 1
-    → SoFar before now held holds2 new.pending waiting2 told2 count2
-SoFar-further {holds = holds} {holds2 = holds2} {waiting = waiting} {waiting2 = waiting2} {told2 = told2} {new =
+    {subject subject2 : Subject B} {count count2 : ℕ} {old new : Given} {text : List ℕ}
+    (s : SoFar before now held holds old.pending waiting subject count) → TakesLine old new → text ≡ new.line
+    → Answered s.past text subject2 holds holds2 waiting waiting2 → count2 ≡ count + 1
+    → SoFar before now held holds2 new.pending waiting2 subject2 count2
+SoFar-further {holds = holds} {holds2 = holds2} {waiting = waiting} {waiting2 = waiting2} {subject2 = subject2} {new =
     new} s took same a counted =
-    let line = subst (λ (t : List ℕ). Answered s.past t told2 holds holds2 waiting waiting2) same a in
+    let line = subst (λ (t : List ℕ). Answered s.past t subject2 holds holds2 waiting waiting2) same a in
     rw counted (SoFar-line s new.line new.pending took.whole took.plain line)
 
-pub SoFar-line_refused : {before now held holds : Option (List ℕ)} {waiting : List ℕ} {B : Type 0} {told : Told B}
+pub SoFar-line_refused : {before now held holds : Option (List ℕ)} {waiting : List ℕ} {B : Type 0} {subject : Subject B}
     {count number : ℕ} {old new : Given} {text : List ℕ}
-    (holds2 : Option (List ℕ)) (s : SoFar before now held holds old.pending waiting told count) (why : Why)
+    (holds2 : Option (List ℕ)) (s : SoFar before now held holds old.pending waiting subject count) (why : Why)
     → TakesLine old new → text ≡ new.line
     → number ≡ count + 1 → said s.past text ≡ Err why → Appends holds holds2 waiting
     → AnswersBefore before held holds2 (record { line = number; why = why })
@@ -539,44 +539,44 @@ SoFar-line_refused {new = new} holds2 s why took same counted refused w =
     ∙ refused) w)
 
 pub SoFar-line_unwritten : {before now held holds holds2 : Option (List ℕ)} {waiting : List ℕ} {B : Type 0}
-    {told : Told B} {count : ℕ} {old new : Given} {text : List ℕ}
-    (s : SoFar before now held holds old.pending waiting told count) → TakesLine old new → text ≡ new.line
+    {subject : Subject B} {count : ℕ} {old new : Given} {text : List ℕ}
+    (s : SoFar before now held holds old.pending waiting subject count) → TakesLine old new → text ≡ new.line
     → AppendsFront holds holds2 (waiting ++ text_said (said s.past text)) → AnswersPart before now held holds2
 SoFar-line_unwritten {holds = holds} {holds2 = holds2} {waiting = waiting} {new = new} s took same f =
     SoFar-unwritten s new.line new.pending took.whole took.plain
     (subst (λ (t : List ℕ). AppendsFront holds holds2 (waiting ++ text_said (said s.past t))) same f)
 
 pub SoFar-flushed : {before now held holds : Option (List ℕ)} {waiting waiting2 : List ℕ} {B : Type 0}
-    {told told2 : Told B} {count count2 : ℕ} {old new : Given}
-    (holds2 : Option (List ℕ)) (s : SoFar before now held holds old.pending waiting told count) → new ≡ old
+    {subject subject2 : Subject B} {count count2 : ℕ} {old new : Given}
+    (holds2 : Option (List ℕ)) (s : SoFar before now held holds old.pending waiting subject count) → new ≡ old
     → Appends holds holds2 waiting
-    → waiting2 ≡ [] → told2 ≡ told → count2 ≡ count → SoFar before now held holds2 new.pending waiting2 told2 count2
+    → waiting2 ≡ [] → subject2 ≡ subject → count2 ≡ count → SoFar before now held holds2 new.pending waiting2 subject2 count2
 SoFar-flushed holds2 s same w none m c = rw (ap (λ (v : Given). v.pending) same, none, m, c) (SoFar-flush s w)
 
 pub flush_failed : {A E : Type 0} {before now held holds holds2 : Option (List ℕ)} {pending waiting : List ℕ}
-    {B : Type 0} {told : Told B} {count : ℕ}
-    (r : Result A E) (x : E) → IsErrOf r x → SoFar before now held holds pending waiting told count
+    {B : Type 0} {subject : Subject B} {count : ℕ}
+    (r : Result A E) (x : E) → IsErrOf r x → SoFar before now held holds pending waiting subject count
     → OnErr r (AppendsFront holds holds2 waiting)
     → AnswersPart before now held holds2
 flush_failed r x is s f = SoFar-unflushed s (on_err_of r x is f)
 
-SoFar-empty : {before now held holds : Option (List ℕ)} {pending waiting : List ℕ} {B : Type 0} {told : Told B}
+SoFar-empty : {before now held holds : Option (List ℕ)} {pending waiting : List ℕ} {B : Type 0} {subject : Subject B}
     {count : ℕ}
-    → SoFar before now held holds pending waiting told count → waiting ≡ []
-    → SoFar before now held holds pending [] told count
-SoFar-empty {before} {now} {held} {holds} {pending} {told = told} {count = count} s none =
-    subst (λ (t : List ℕ). SoFar before now held holds pending t told count) none s
+    → SoFar before now held holds pending waiting subject count → waiting ≡ []
+    → SoFar before now held holds pending [] subject count
+SoFar-empty {before} {now} {held} {holds} {pending} {subject = subject} {count = count} s none =
+    subst (λ (t : List ℕ). SoFar before now held holds pending t subject count) none s
 
-pub long_refused : {before now held holds : Option (List ℕ)} {waiting : List ℕ} {B : Type 0} {told : Told B} {count : ℕ}
+pub long_refused : {before now held holds : Option (List ℕ)} {waiting : List ℕ} {B : Type 0} {subject : Subject B} {count : ℕ}
     (given : Given)
-    → SoFar before now held holds given.pending waiting told count → waiting ≡ [] → given.bound ≡ 65536
+    → SoFar before now held holds given.pending waiting subject count → waiting ≡ [] → given.bound ≡ 65536
     → given.bound < length given.pending
     → IsPlain given.pending → AnswersBefore before held holds (record { line = count + 1; why = why.Line })
 long_refused given s none bound long plain = SoFar-too_long (SoFar-empty s none) (omega (arith, bound, long)) plain
 
 pub read_failed : {before now after held holds : Option (List ℕ)} {pending waiting : List ℕ} {B : Type 0}
-    {told : Told B} {count : ℕ}
-    → SoFar before now held holds pending waiting told count → waiting ≡ [] → IsPlain pending → Keeps now after
+    {subject : Subject B} {count : ℕ}
+    → SoFar before now held holds pending waiting subject count → waiting ≡ [] → IsPlain pending → Keeps now after
     → AnswersLines before after held holds
 read_failed {before} {now} {after} {held} {holds} {pending} s none plain k =
     let e = SoFar-empty s none in
@@ -600,15 +600,15 @@ some_bytes (x ∷ xs) none = omega arith
 pub not_nothing : {b : Bool} (xs : List ℕ) → b ≡ true → (b ≡ false) ↔ (xs ≡ []) → 0 < length xs
 not_nothing {b} xs is none = some_bytes xs (λ e. let off : true ≡ false = sym is ∙ none.1 e in cc off)
 
-pub end_of_nothing : {before now held holds : Option (List ℕ)} {pending waiting : List ℕ} {B : Type 0} {told : Told B}
+pub end_of_nothing : {before now held holds : Option (List ℕ)} {pending waiting : List ℕ} {B : Type 0} {subject : Subject B}
     {count : ℕ}
-    → SoFar before now held holds pending waiting told count → waiting ≡ [] → pending ≡ [] → IsAtEnd now
+    → SoFar before now held holds pending waiting subject count → waiting ≡ [] → pending ≡ [] → IsAtEnd now
     → AnswersWhole before held holds
 end_of_nothing s none nothing end = SoFar-end (SoFar-empty s none) nothing end
 
 pub rest_refused : {before now held holds : Option (List ℕ)} {pending waiting text : List ℕ} {B : Type 0}
-    {told : Told B} {count number : ℕ}
-    (holds2 : Option (List ℕ)) (s : SoFar before now held holds pending waiting told count) (why : Why)
+    {subject : Subject B} {count number : ℕ}
+    (holds2 : Option (List ℕ)) (s : SoFar before now held holds pending waiting subject count) (why : Why)
     → 0 < length pending → IsPlain pending → IsAtEnd now
     → text ≡ pending → number ≡ count + 1 → said s.past text ≡ Err why → Appends holds holds2 waiting
     → AnswersBefore before held holds2 (record { line = number; why = why })
@@ -616,29 +616,29 @@ rest_refused holds2 s why some plain end same counted refused w =
     rw counted (SoFar-rest_refused holds2 s why some plain end (ap (said s.past) (sym same) ∙ refused) w)
 
 pub rest_unwritten : {before now held holds holds2 : Option (List ℕ)} {pending waiting text : List ℕ} {B : Type 0}
-    {told : Told B} {count : ℕ}
-    (s : SoFar before now held holds pending waiting told count) → 0 < length pending → IsPlain pending → text ≡ pending
+    {subject : Subject B} {count : ℕ}
+    (s : SoFar before now held holds pending waiting subject count) → 0 < length pending → IsPlain pending → text ≡ pending
     → AppendsFront holds holds2 (waiting ++ text_said (said s.past text)) → AnswersPart before now held holds2
 rest_unwritten {holds = holds} {holds2 = holds2} {waiting = waiting} s some plain same f =
     SoFar-rest_unwritten s some plain
     (subst (λ (t : List ℕ). AppendsFront holds holds2 (waiting ++ text_said (said s.past t))) same f)
 
 pub rest_answered : {before now held holds holds2 : Option (List ℕ)} {pending waiting waiting2 text : List ℕ}
-    {B : Type 0} {told told2 : Told B} {count : ℕ}
-    (holds3 : Option (List ℕ)) (s : SoFar before now held holds pending waiting told count) → 0 < length pending
+    {B : Type 0} {subject subject2 : Subject B} {count : ℕ}
+    (holds3 : Option (List ℕ)) (s : SoFar before now held holds pending waiting subject count) → 0 < length pending
     → IsPlain pending → IsAtEnd now → text ≡ pending
-    → Answered s.past text told2 holds holds2 waiting waiting2 → Appends holds2 holds3 waiting2
+    → Answered s.past text subject2 holds holds2 waiting waiting2 → Appends holds2 holds3 waiting2
     → AnswersWhole before held holds3
-rest_answered {holds = holds} {holds2 = holds2} {waiting = waiting} {waiting2 = waiting2} {told2 = told2} holds3 s some
+rest_answered {holds = holds} {holds2 = holds2} {waiting = waiting} {waiting2 = waiting2} {subject2 = subject2} holds3 s some
     plain end same a w =
     SoFar-last holds3 s some plain end
-    (subst (λ (t : List ℕ). Answered s.past t told2 holds holds2 waiting waiting2) same a) w
+    (subst (λ (t : List ℕ). Answered s.past t subject2 holds holds2 waiting waiting2) same a) w
 
 -- The last line was answered, and its answer was not written.
 pub rest_unflushed : {before now held holds holds2 holds3 : Option (List ℕ)} {pending waiting waiting2 text : List ℕ}
-    {B : Type 0} {told told2 : Told B} {count : ℕ}
-    (s : SoFar before now held holds pending waiting told count) → 0 < length pending → IsPlain pending → text ≡ pending
-    → Answered s.past text told2 holds holds2 waiting waiting2 → AppendsFront holds2 holds3 waiting2
+    {B : Type 0} {subject subject2 : Subject B} {count : ℕ}
+    (s : SoFar before now held holds pending waiting subject count) → 0 < length pending → IsPlain pending → text ≡ pending
+    → Answered s.past text subject2 holds holds2 waiting waiting2 → AppendsFront holds2 holds3 waiting2
     → AnswersPart before now held holds3
 rest_unflushed {holds = holds} {holds2 = holds2} {holds3 = holds3} {pending = pending} {waiting = waiting} {waiting2 =
     waiting2} s some plain same a f =
@@ -663,10 +663,10 @@ on_ok_both (Ok a) f p q = f p q
 on_ok_both (Err e) f p q = tt
 
 -- The same line, under equal names.
-pub told_as : (before held holds : Option (List ℕ)) {n m : ℕ} {why told : Why} → n ≡ m → why ≡ told
+pub subject_as : (before held holds : Option (List ℕ)) {n m : ℕ} {why subject : Why} → n ≡ m → why ≡ subject
     → AnswersBefore before held holds (record { line = n; why = why })
-    → AnswersBefore before held holds (record { line = m; why = told })
-told_as before held holds {n} {m} {why} {told} e f all =
+    → AnswersBefore before held holds (record { line = m; why = subject })
+subject_as before held holds {n} {m} {why} {subject} e f all =
     subst (λ (r : Refusal). AnswersBefore before held holds r) (ap (λ (k : ℕ). record { line = k; why = why }) e
     ∙ ap (λ (w : Why). record { line = m; why = w }) f) all
 
@@ -722,14 +722,14 @@ rows_further bytes i within =
     (table_text (get_or bytes i 0) false ++ 10 ∷ []))
 
 -- By the fault that ended it.
-pub ends_by : (status : ℕ) (old new : Console) (told : SimFault) → status ≡ status_of told
-    → Tells old.faults new.faults (told_of told)
-    → ((line : ℕ) (why : Why) → told ≡ sim.Refused line why
+pub ends_by : (status : ℕ) (old new : Console) (subject : SimFault) → status ≡ status_of subject
+    → Reports old.faults new.faults (report_of subject)
+    → ((line : ℕ) (why : Why) → subject ≡ sim.Refused line why
     → AnswersUpTo old.reader new.reader old.writer new.writer (record { line = line; why = why })
     × (Works old.reader new.reader × Works old.writer new.writer))
-    → (told ≡ sim.OutOfMemory → SimCause sim.OutOfMemory old new) → (told ≡ sim.Read → SimCause sim.Read old new)
-    → (told ≡ sim.Write → SimCause sim.Write old new) → AnswersByStatus status old new
-ends_by status old new (sim.Refused line why) is tells refused memory read write =
+    → (subject ≡ sim.OutOfMemory → SimCause sim.OutOfMemory old new) → (subject ≡ sim.Read → SimCause sim.Read old new)
+    → (subject ≡ sim.Write → SimCause sim.Write old new) → AnswersByStatus status old new
+ends_by status old new (sim.Refused line why) is reports refused memory read write =
     let all = refused line why refl in
     inr (inl (
       is,
@@ -739,15 +739,15 @@ ends_by status old new (sim.Refused line why) is tells refused memory read write
         reads = all.1.0;
         writes =
             all.1.1;
-        told = tells;
+        subject = reports;
       },
     ))
-ends_by status old new sim.OutOfMemory is tells refused memory read write =
-    inr (inr (is, record { fault = sim.OutOfMemory; cause = memory refl; told = tells }))
-ends_by status old new sim.Read is tells refused memory read write =
-    inr (inr (is, record { fault = sim.Read; cause = read refl; told = tells }))
-ends_by status old new sim.Write is tells refused memory read write =
-    inr (inr (is, record { fault = sim.Write; cause = write refl; told = tells }))
+ends_by status old new sim.OutOfMemory is reports refused memory read write =
+    inr (inr (is, record { fault = sim.OutOfMemory; cause = memory refl; subject = reports }))
+ends_by status old new sim.Read is reports refused memory read write =
+    inr (inr (is, record { fault = sim.Read; cause = read refl; subject = reports }))
+ends_by status old new sim.Write is reports refused memory read write =
+    inr (inr (is, record { fault = sim.Write; cause = write refl; subject = reports }))
 
 -- one row after another
 pub two_rows : {out middle last front : List ℕ} (row row2 : List ℕ) → middle ≡ out ++ row → last ≡ middle ++ row2

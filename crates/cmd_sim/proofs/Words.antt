@@ -4,7 +4,7 @@ use Rattle.std.proofs.Common.{arith}
 use Rattle.std.specs.Prelude.{bytes_eq, codes, MatchBool}
 use Rattle.std.proofs.lemmas.Slice.Eq.{bytes_eq-Decides}
 use Rattle.cmd_base.specs.Console.{Console}
-use Rattle.cmd_base.specs.Told.{RefusesWords}
+use Rattle.cmd_base.specs.Usage.{RefusesWords}
 use Rattle.cmd_sim.specs.Ends.{SimEnds, TableEnds}
 
 differ : (xs ys : List ℕ) → ¬ (xs ≡ ys) → bytes_eq xs ys ≡ false

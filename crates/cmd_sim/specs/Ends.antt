@@ -1,9 +1,9 @@
--- What `sim` tells of its faults, and how it ends.
+-- What `sim` reports of its faults, and how it ends.
 use Rattle.std.specs.Prelude.{◌≡◌, ℕ, ◌⊎◌, List, [], ◌∷◌, ◌++◌, bytes_eq, codes, decimal, map, MatchBool}
 use Rattle.std.specs.Borrow.{Bor}
-use Rattle.tai_status.specs.Counted.{Device, Fails, Works, Wrote, WroteFront, IsRead, Tells}
+use Rattle.tai_status.specs.Counted.{Device, Fails, Works, Wrote, WroteFront, IsRead, Reports}
 use Rattle.cmd_base.specs.Console.{Console, EndsWell}
-use Rattle.cmd_base.specs.Told.{RefusesWords}
+use Rattle.cmd_base.specs.Usage.{RefusesWords}
 use Rattle.cmd_sim.specs.Sim.{MissesAt}
 use Rattle.cmd_sim.specs.Sim.{Refusal, IsOfSuite, AnswersAll, AnswersUpTo, AnswersFront, AnswersWholeLines}
 use Rattle.cmd_sim.specs.Sim.{printed_table}
@@ -31,8 +31,8 @@ words_of fault.OutOfMemory = codes "OutOfMemory"
 words_of fault.Read = codes "read fault"
 words_of fault.Write = codes "write fault"
 
-abbrev pub told_of : SimFault → List ℕ
-told_of fault = codes "sim: " ++ words_of fault ++ 10 ∷ []
+abbrev pub report_of : SimFault → List ℕ
+report_of fault = codes "sim: " ++ words_of fault ++ 10 ∷ []
 
 abbrev pub status_of : SimFault → ℕ
 status_of (fault.Refused line why) = 100
@@ -42,19 +42,19 @@ status_of fault.Write = 111
 
 -- `sim` without words
 
--- No line is refused, the answers to all are written, no device failed, and nothing is told.
+-- No line is refused, the answers to all are written, no device failed, and nothing is reported.
 pub record AnswersInput (old new : Console) : Type 0 where
   pub answers : AnswersAll old.reader old.writer new.writer
   pub end : IsRead new.reader
   pub well : EndsWell old new
 
--- A line is refused, the answers to the lines before it are written, not much more is read, and it is told.
+-- A line is refused, the answers to the lines before it are written, not much more is read, and it is reported.
 pub record RefusesLine (old new : Console) : Type 0 where
   pub refusal : Refusal
   pub answers : AnswersUpTo old.reader new.reader old.writer new.writer refusal
   pub reads : Works old.reader new.reader
   pub writes : Works old.writer new.writer
-  pub told : Tells old.faults new.faults (told_of (fault.Refused refusal.line refusal.why))
+  pub reported : Reports old.faults new.faults (report_of (fault.Refused refusal.line refusal.why))
 
 -- There was no memory, and nothing was read or written; or there was none at a line of a suite.
 abbrev pub MissesMemory : (old new : Console) → Type 0
@@ -71,37 +71,37 @@ SimCause fault.Read old new =
     Fails old.reader new.reader × AnswersWholeLines old.reader new.reader old.writer new.writer
 SimCause fault.Write old new = Fails old.writer new.writer × AnswersFront old.reader new.reader old.writer new.writer
 
--- There is trouble, and it is told what it comes from.
-pub record TellsTrouble (old new : Console) : Type 0 where
+-- There is trouble, and it is reported what it comes from.
+pub record ReportsTrouble (old new : Console) : Type 0 where
   pub fault : SimFault
   pub cause : SimCause fault old new
-  pub told : Tells old.faults new.faults (told_of fault)
+  pub reported : Reports old.faults new.faults (report_of fault)
 
 -- By the status: all lines are answered, one is refused, or there is trouble.
 abbrev pub AnswersByStatus : (status : ℕ) (old new : Console) → Type 0
 AnswersByStatus status old new =
     ((status ≡ 0) × AnswersInput old new)
-    ⊎ (((status ≡ 100) × RefusesLine old new) ⊎ ((status ≡ 111) × TellsTrouble old new))
+    ⊎ (((status ≡ 100) × RefusesLine old new) ⊎ ((status ≡ 111) × ReportsTrouble old new))
 
 -- `sim table`
 
--- The table was written, no device failed, and nothing is told.
-pub record PrintsTable (writer writes faults tells : Device) : Type 0 where
+-- The table was written, no device failed, and nothing is reported.
+pub record PrintsTable (writer writes faults reports : Device) : Type 0 where
   pub written : Wrote writer writes printed_table
   pub works : Works writer writes
-  pub untold : tells ≡ faults
+  pub unreported : reports ≡ faults
 
--- The writer failed after a front of the table, and that is told.
-pub record PrintsNoTable (writer writes faults tells : Device) : Type 0 where
+-- The writer failed after a front of the table, and that is reported.
+pub record PrintsNoTable (writer writes faults reports : Device) : Type 0 where
   pub front : WroteFront writer writes printed_table
   pub failed : Fails writer writes
-  pub told : Tells faults tells (told_of fault.Write)
+  pub reported : Reports faults reports (report_of fault.Write)
 
 -- The table, by the status.
-abbrev pub TableByStatus : (status : ℕ) (writer writes faults tells : Device) → Type 0
-TableByStatus status writer writes faults tells =
-    ((status ≡ 0) × PrintsTable writer writes faults tells)
-    ⊎ ((status ≡ 111) × PrintsNoTable writer writes faults tells)
+abbrev pub TableByStatus : (status : ℕ) (writer writes faults reports : Device) → Type 0
+TableByStatus status writer writes faults reports =
+    ((status ≡ 0) × PrintsTable writer writes faults reports)
+    ⊎ ((status ≡ 111) × PrintsNoTable writer writes faults reports)
 
 -- The same where nothing is read.
 abbrev pub TableEnds : (status : ℕ) (old new : Console) → Type 0

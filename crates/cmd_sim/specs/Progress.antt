@@ -13,15 +13,15 @@ use Rattle.suite_core.specs.Suite.{SuiteState, new_suite}
 use Rattle.suite_lines.specs.Reading.{suite_event_from}
 use Rattle.suite_lines.specs.declared.fault.SuiteLineFault.{SuiteLineFault}
 use Rattle.suite_lines.specs.declared.fault.SuiteLineFault.TheVariants as read
-use Rattle.cmd_sim.specs.declared.answering.Told.{Told}
-use Rattle.cmd_sim.specs.declared.answering.Told.TheVariants as code
+use Rattle.cmd_sim.specs.declared.answering.Subject.{Subject}
+use Rattle.cmd_sim.specs.declared.answering.Subject.TheVariants as code
 use Rattle.cmd_sim.specs.declared.answering.Answer.{Answer}
 use Rattle.cmd_sim.specs.declared.answering.Answer.TheVariants as written
 use Rattle.cmd_sim.specs.declared.fault.Why.{Why}
 use Rattle.cmd_sim.specs.declared.fault.Why.TheVariants as why
 use Rattle.cmd_sim.specs.declared.fault.NoAnswer.{NoAnswer}
 use Rattle.cmd_sim.specs.declared.fault.NoAnswer.TheVariants as none
-use Rattle.cmd_sim.specs.Sim.{Past, Nothing, Service, OfSuite, Said, said, said_by, answers, first_refused, tells_scan}
+use Rattle.cmd_sim.specs.Sim.{Past, Nothing, Service, OfSuite, Said, said, said_by, answers, first_refused, spells_scan}
 use Rattle.cmd_sim.specs.Sim.{begins_suite, step_why, stepping}
 
 -- Why a line has no answer
@@ -43,31 +43,31 @@ unstepped fault = refused_or_missed (step_why fault)
 -- One line
 
 -- A line of a service was answered with this text, after which the machine stands so.
-pub record TellsService (told : Result Said Why) (machine : State) (text : List ℕ) : Type 0 where
+pub record SaysService (subject : Result Said Why) (machine : State) (text : List ℕ) : Type 0 where
   pub past : History
-  pub is : told ≡ Ok (record { texts = text ∷ []; past = Service past })
+  pub is : subject ≡ Ok (record { texts = text ∷ []; past = Service past })
   pub stands : state_of past ≡ machine
 
 -- A service took what a line says: whatever history led to this machine, the line was answered with this text, after
 -- which the machine stands so.
 abbrev pub StepsService : (line : List ℕ) (old new : State) (text : List ℕ) → Type 0
 StepsService line old new text =
-    (past : History) → state_of past ≡ old → TellsService (said_by (Service past) line) new text
+    (past : History) → state_of past ≡ old → SaysService (said_by (Service past) line) new text
 
 -- A suite took an event: these are the lines of that, and it stands so.
 abbrev pub StepsTo : Result Said Why → (lines : List (List ℕ)) → SuiteState → Type 0
-StepsTo told lines suite = told ≡ Ok (record { texts = lines; past = OfSuite suite })
+StepsTo subject lines suite = subject ≡ Ok (record { texts = lines; past = OfSuite suite })
 
 -- what the line of a suite's first event says, by its fields
 abbrev pub first_step : (A : Type 0) → List (List ℕ) → Result Said Why
 first_step A parts = stepping (new_suite 0 256) (suite_event_from {A = A} parts)
 
--- What the code holds stands for what was told.
-abbrev pub Stands : {A : Type 0} → Past → Told A → Type 0
+-- What the code holds stands for what was reported.
+abbrev pub Stands : {A : Type 0} → Past → Subject A → Type 0
 Stands Nothing code.Nothing = ⊤
 Stands (Service past) (code.Service machine) = state_of past ≡ machine
 Stands (OfSuite suite) (code.Suite stands) = stands ≡ suite
-Stands past told = ⊥
+Stands past subject = ⊥
 
 -- the lines of an answer
 abbrev pub texts_in : {A : Type 0} → Answer A → List (List ℕ)
@@ -75,11 +75,11 @@ texts_in (written.Line text) = text.bytes ∷ []
 texts_in (written.Lines lines) = lines
 
 -- A line was answered with these texts, after which what the code holds stands so.
-pub record Says {A : Type 0} (past : Past) (line : List ℕ) (texts : List (List ℕ)) (told : Told A) : Type 0 where
+pub record Says {A : Type 0} (past : Past) (line : List ℕ) (texts : List (List ℕ)) (subject : Subject A) : Type 0 where
   pub answer : Said
   pub is : said past line ≡ Ok answer
   pub texts_are : texts ≡ answer.texts
-  pub stands : Stands answer.past told
+  pub stands : Stands answer.past subject
 
 -- the answers to a line, each with a newline, or nothing where it is refused
 abbrev pub text_said : Result Said Why → List ℕ
@@ -87,22 +87,22 @@ text_said (Ok answer) = printed answer.texts
 text_said (Err why) = []
 
 -- A line was answered, and its answers wait behind those that wait already.
-pub record Answered {A : Type 0} (past : Past) (line : List ℕ) (told : Told A)
+pub record Answered {A : Type 0} (past : Past) (line : List ℕ) (subject : Subject A)
     (held holds : Option (List ℕ)) (waiting left : List ℕ) : Type 0 where
   pub answer : Said
   pub is : said past line ≡ Ok answer
-  pub stands : Stands answer.past told
+  pub stands : Stands answer.past subject
   pub text : Emits held holds waiting left (printed answer.texts)
 
--- whether a line is a suite's, after what was told
+-- whether a line is a suite's, after what was reported
 abbrev pub is_suite_line : Past → List ℕ → Bool
-is_suite_line Nothing line = tells_scan (fields line)
+is_suite_line Nothing line = spells_scan (fields line)
 is_suite_line (Service past) line = false
 is_suite_line (OfSuite suite) line = true
 
 -- The whole lines among the bytes that were read are answered, but for those that are pending. Some
 -- of the answers wait to be written.
-pub record SoFar {A : Type 0} (before now held holds : Option (List ℕ)) (pending waiting : List ℕ) (told : Told A)
+pub record SoFar {A : Type 0} (before now held holds : Option (List ℕ)) (pending waiting : List ℕ) (subject : Subject A)
     (count : ℕ) : Type 0 where
   pub done : List ℕ
   pub lines : List (List ℕ)
@@ -116,6 +116,6 @@ pub record SoFar {A : Type 0} (before now held holds : Option (List ℕ)) (pendi
   pub refuses : (later : List (List ℕ))
       → first_refused 1 Nothing (lines ++ later) ≡ first_refused (count + 1) past later
   pub text : Emits held holds [] waiting (printed texts)
-  pub stands : Stands past told
+  pub stands : Stands past subject
   pub suite : (line : List ℕ) (later : List (List ℕ)) → is_suite_line past line ≡ true
       → begins_suite (lines ++ line ∷ later) ≡ true

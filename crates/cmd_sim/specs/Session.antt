@@ -13,18 +13,18 @@ module _ {A : Type 0} where
   abbrev pub AnswersLine : (line : List ℕ) (writer : Device) (old : Session A)
       (written : Device) (new : Session A) → Type 0
   AnswersLine line writer old written new =
-      (past : Past) → Stands past old.told
-      → Answered past line new.told writer.bytes written.bytes old.waiting new.waiting
+      (past : Past) → Stands past old.subject
+      → Answered past line new.subject writer.bytes written.bytes old.waiting new.waiting
 
   -- A front of the answers that wait, and of those to this line behind them, is written.
   abbrev pub WritesFrontWith : (line : List ℕ) (writer : Device) (old : Session A) (written : Device) → Type 0
   WritesFrontWith line writer old written =
-      (past : Past) → Stands past old.told → WroteFront writer written (old.waiting ++ text_said (said past line))
+      (past : Past) → Stands past old.subject → WroteFront writer written (old.waiting ++ text_said (said past line))
 
   -- how far the session has come, over what the writer holds, with these bytes pending
   abbrev pub HasCome : (before now held : Option (List ℕ)) (writer : Device) (pending : List ℕ) → Session A → Type 0
   HasCome before now held writer pending session =
-      SoFar before now held writer.bytes pending session.waiting session.told session.count
+      SoFar before now held writer.bytes pending session.waiting session.subject session.count
 
   -- Wherever the session was, it has come further.
   abbrev pub GoesOn : (writer : Device) (pending : List ℕ) (old : Session A)

@@ -33,13 +33,13 @@ use Rattle.cmd_sim.specs.declared.fault.SimFault.TheVariants as sim
 abbrev pub IfRefused : {A : Type 0} → Result A SimFault → (fact : ℕ → Why → Type 0) → Type 0
 IfRefused result fact = (number : ℕ) (why : Why) → IsErrOf result (sim.Refused number why) → fact number why
 
--- What was told so far: nothing, a service's history, or a suite as it stands.
+-- What was reported so far: nothing, a service's history, or a suite as it stands.
 pub data Past : Type 0 where
   Nothing : Past
   Service : History → Past
   OfSuite : SuiteState → Past
 
--- What a line says: its answers, and what was told after it.
+-- What a line says: its answers, and what was reported after it.
 pub record Said : Type 0 where
   pub texts : List (List ℕ)
   pub past : Past
@@ -96,14 +96,14 @@ stepping suite (Err fault) = Err (event_why fault)
 stepping suite (Ok event) = stepped_unless (refused_step (refusal suite event)) suite event
 
 -- whether a line's first word is that of a scan
-abbrev pub tells_scan : List (List ℕ) → Bool
-tells_scan [] = false
-tells_scan (word ∷ rest) = bytes_eq word (codes "scan")
+abbrev pub spells_scan : List (List ℕ) → Bool
+spells_scan [] = false
+spells_scan (word ∷ rest) = bytes_eq word (codes "scan")
 
--- The first line begins a service, or a suite where it tells a scan. Each later line is an event.
+-- The first line begins a service, or a suite where it says a scan. Each later line is an event.
 abbrev pub said_by : Past → List ℕ → Result Said Why
 said_by Nothing line =
-    if tells_scan (fields line) then stepping (new_suite 0 256) (suite_event_from {A = Unit {0}} (fields line))
+    if spells_scan (fields line) then stepping (new_suite 0 256) (suite_event_from {A = Unit {0}} (fields line))
     else beginning (begin_from (fields line))
 said_by (Service past) line = going_on past (event_from (fields line))
 said_by (OfSuite suite) line = stepping suite (suite_event_from {A = Unit {0}} (fields line))
@@ -112,16 +112,16 @@ said_by (OfSuite suite) line = stepping suite (suite_event_from {A = Unit {0}} (
 abbrev pub said : Past → List ℕ → Result Said Why
 said past line = if nat_lt 65536 (length line) then Err why.Line else said_by past line
 
--- Nothing but memory can be wanting at a line: it tells an event, and one at a part that is not refused.
+-- Nothing but memory can be wanting at a line: it says an event, and one at a part that is not refused.
 abbrev pub IsRight : {A : Type 0} → SuiteState → Result (SuiteEvent A) EventFault → Type 0
 IsRight suite (Err fault) = ⊥
 IsRight suite (Ok (Scan rows label)) = ⊤
 IsRight {A} suite (Ok (At part event)) = refused_step (refusal {A = A} suite (At part event)) ≡ None
 
--- The same, after what was told. At a line of a service memory is never wanting.
+-- The same, after what was reported. At a line of a service memory is never wanting.
 abbrev pub MayWantMemory : Past → List ℕ → Type 0
 MayWantMemory Nothing line =
-    (tells_scan (fields line) ≡ true) × IsRight (new_suite 0 256) (suite_event_from {A = Unit {0}} (fields line))
+    (spells_scan (fields line) ≡ true) × IsRight (new_suite 0 256) (suite_event_from {A = Unit {0}} (fields line))
 MayWantMemory (Service past) line = ⊥
 MayWantMemory (OfSuite suite) line = IsRight suite (suite_event_from {A = Unit {0}} (fields line))
 
@@ -160,7 +160,7 @@ refused_in input = first_refused 1 Nothing (texts_of input)
 -- whether these lines begin with a suite's
 abbrev pub begins_suite : List (List ℕ) → Bool
 begins_suite [] = false
-begins_suite (line ∷ lines) = tells_scan (fields line)
+begins_suite (line ∷ lines) = spells_scan (fields line)
 
 -- An input begins with a suite's line.
 abbrev pub IsOfSuite : (before : Option (List ℕ)) → Type 0
@@ -202,7 +202,7 @@ pub record MissesAt (before after held holds : Option (List ℕ)) : Type 0 where
   pub past : Past
   pub read : Consumes before after bytes
   pub cut : texts_of bytes ≡ lines ++ line ∷ later
-  pub told : (more : List (List ℕ)) → answers Nothing (lines ++ more) ≡ answers Nothing lines ++ answers past more
+  pub subject : (more : List (List ℕ)) → answers Nothing (lines ++ more) ≡ answers Nothing lines ++ answers past more
   pub wants : MayWantMemory past line
   pub text : Appends held holds (printed (answers Nothing lines))
 

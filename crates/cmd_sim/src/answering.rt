@@ -10,9 +10,9 @@ ghost use Rattle.suite_lines.specs.Reading.{suite_event_from};
 ghost use Rattle.suite_lines.specs.Text.{step_lines};
 ghost use Rattle.suite_core.specs.Suite.{IsSuiteEvent, refusal};
 ghost use Rattle.cmd_sim.specs.declared.fault.Why.{Why};
-ghost use Rattle.cmd_sim.specs.Sim.{Past, Nothing, Service, said, said_by, tells_scan, beginning, stepping};
+ghost use Rattle.cmd_sim.specs.Sim.{Past, Nothing, Service, said, said_by, spells_scan, beginning, stepping};
 ghost use Rattle.cmd_sim.specs.Sim.{refused_step, IsRight, MayWantMemory};
-ghost use Rattle.cmd_sim.specs.Progress.{TellsService, Stands, Says, StepsService, StepsTo, first_step, texts_in};
+ghost use Rattle.cmd_sim.specs.Progress.{SaysService, Stands, Says, StepsService, StepsTo, first_step, texts_in};
 
 use crate::fault::NoAnswer;
 use arrayvec::ArrayString;
@@ -25,9 +25,9 @@ use tai_status::{Label, Lines};
 /// How many entries the trace of a suite's part has room for.
 const TRACE_CAPACITY: usize = 256;
 
-/// What the lines so far told, as far as later lines go on from it.
+/// What the lines so far reported, as far as later lines go on from it.
 #[derive(Drop)]
-pub(crate) enum Told<A: Allocator + Clone = Global> {
+pub(crate) enum Subject<A: Allocator + Clone = Global> {
     Nothing,
     Service(Machine),
     Suite(Suite<A>),
@@ -40,7 +40,7 @@ pub(crate) enum Answer<A: Allocator = Global> {
     Lines(Lines<A>),
 }
 
-/// Where supervise begins, and what is told of it.
+/// Where supervise begins, and what is reported of it.
 fn begin_at(opening: (bool, Label)) -> (Machine, ArrayString<128>)
     ensures machine { result.0 ≡ state_of (Begin opening.0 opening.1) }
     ensures text { result.1.bytes
@@ -55,7 +55,7 @@ fn begin_at(opening: (bool, Label)) -> (Machine, ArrayString<128>)
 /// Begins a service.
 fn begin_service(line: &[u8]) -> Result<(Machine, ArrayString<128>), NoAnswer>
     ensures ok { IfOk result (λ (machine, text).
-        TellsService (beginning (begin_from (fields line.now))) machine text.bytes) }
+        SaysService (beginning (begin_from (fields line.now))) machine text.bytes) }
     ensures refused { (why : Why) → IsErrOf result (NoAnswer.Refused why)
         → beginning (begin_from (fields line.now)) ≡ Err why }
     ensures memory { IfErr result (λ none. none ≢ NoAnswer.OutOfMemory) }
@@ -104,7 +104,7 @@ fn step_event<A: Allocator + Clone + Copy>(
     Ok(lines_of(&alloc, &outs)?)
 }
 
-/// Takes the event of a suite that a line tells.
+/// Takes the event of a suite that a line says.
 fn step_suite<A: Allocator + Clone + Copy>(
     alloc: A,
     suite: &mut Suite<A>,
@@ -121,7 +121,7 @@ fn step_suite<A: Allocator + Clone + Copy>(
     step_event(alloc, suite, &event)
 }
 
-/// Begins a suite with the event that a line tells.
+/// Begins a suite with the event that a line says.
 fn begin_suite<A: Allocator + Clone + Copy>(
     alloc: A,
     line: &[u8],
@@ -138,8 +138,8 @@ fn begin_suite<A: Allocator + Clone + Copy>(
 }
 
 /// Whether a line's first word is that of a scan.
-fn tells_scan(line: &[u8]) -> bool
-    ensures { result ≡ tells_scan (fields line.now) }
+fn spells_scan(line: &[u8]) -> bool
+    ensures { result ≡ spells_scan (fields line.now) }
 {
     let (word, _) = split_field(line);
     word == b"scan".as_slice()
@@ -149,21 +149,21 @@ fn tells_scan(line: &[u8]) -> bool
 fn begin<A: Allocator + Clone + Copy>(
     alloc: A,
     line: &[u8],
-) -> Result<(Told<A>, Answer<A>), NoAnswer>
+) -> Result<(Subject<A>, Answer<A>), NoAnswer>
     requires { length line.now ≤ 65536 }
-    ensures ok { IfOk result (λ (told, answer). Says Nothing line.now (texts_in answer) told) }
+    ensures ok { IfOk result (λ (subject, answer). Says Nothing line.now (texts_in answer) subject) }
     ensures refused { (why : Why) → IsErrOf result (NoAnswer.Refused why) → said Nothing line.now ≡ Err why }
     ensures memory { IsErrOf result NoAnswer.OutOfMemory → MayWantMemory Nothing line.now }
 {
-    if tells_scan(line) {
+    if spells_scan(line) {
         let (suite, lines) = begin_suite(alloc, line)?;
-        return Ok((Told::Suite(suite), Answer::Lines(lines)));
+        return Ok((Subject::Suite(suite), Answer::Lines(lines)));
     }
     let (machine, text) = begin_service(line)?;
-    Ok((Told::Service(machine), Answer::Line(text)))
+    Ok((Subject::Service(machine), Answer::Line(text)))
 }
 
-impl<A: Allocator + Clone + Copy> Told<A> {
+impl<A: Allocator + Clone + Copy> Subject<A> {
     /// Answers a line: the first begins, and each later one is an event.
     pub(crate) fn answer(&mut self, alloc: A, line: &[u8]) -> Result<Answer<A>, NoAnswer>
         requires { length line.now ≤ 65536 }
@@ -175,13 +175,13 @@ impl<A: Allocator + Clone + Copy> Told<A> {
             → (past : Past) → Stands past self.old → MayWantMemory past line.now }
     {
         match self {
-            Told::Nothing => {
-                let (told, answer) = begin(alloc, line)?;
-                *self = told;
+            Subject::Nothing => {
+                let (subject, answer) = begin(alloc, line)?;
+                *self = subject;
                 Ok(answer)
             }
-            Told::Service(machine) => Ok(Answer::Line(step_service(machine, line)?)),
-            Told::Suite(suite) => Ok(Answer::Lines(step_suite(alloc, suite, line)?)),
+            Subject::Service(machine) => Ok(Answer::Line(step_service(machine, line)?)),
+            Subject::Suite(suite) => Ok(Answer::Lines(step_suite(alloc, suite, line)?)),
         }
     }
 }

@@ -1,8 +1,8 @@
 //! The command `sim`.
 ghost use Rattle.std.specs.Prelude.{◌≡◌};
-ghost use Rattle.tai_status.specs.Counted.{Tells};
+ghost use Rattle.tai_status.specs.Counted.{Reports};
 ghost use Rattle.cmd_base.specs.Console.{console};
-ghost use Rattle.cmd_sim.specs.Ends.{AnswersByStatus, SimEnds, TableByStatus, texts, told_of, status_of};
+ghost use Rattle.cmd_sim.specs.Ends.{AnswersByStatus, SimEnds, TableByStatus, texts, report_of, status_of};
 
 use crate::fault::{SimFault, why_name};
 use crate::session::answer_lines;
@@ -13,9 +13,9 @@ use std::alloc::Allocator;
 use std::io::{Read, Write};
 use tai_status::{Input, Output};
 
-/// What is told of a fault.
+/// What is reported of a fault.
 fn fault_text(fault: SimFault) -> ArrayString<64>
-    ensures { result.bytes ≡ told_of fault }
+    ensures { result.bytes ≡ report_of fault }
 {
     let mut out = ArrayString::new();
     match fault {
@@ -43,10 +43,10 @@ fn status(fault: SimFault) -> u8
     }
 }
 
-/// Tells a fault, and answers its status.
+/// Reports a fault, and answers its status.
 fn report_fault<E: Write>(fault: SimFault, faults: &mut Output<E>) -> u8
     ensures status { result ≡ status_of fault }
-    ensures told { Tells faults.old faults.new (told_of fault) }
+    ensures subject { Reports faults.old faults.new (report_of fault) }
 {
     report(faults, fault_text(fault).as_bytes(), status(fault))
 }
@@ -81,7 +81,7 @@ fn show_table<W: Write, E: Write>(writer: &mut Output<W>, faults: &mut Output<E>
 /// event of a suite, and each later line is one; each is answered by one line or more. Another first line begins a
 /// service, each later line is an event of it, and each is answered by one line. With the word `table` it prints the
 /// table of the control bytes, and other words are wrong. Answers the status: 0; 100 where a line is refused, of which
-/// the fault writer tells the number, or for wrong words; 111 for want of memory and for a fault of the reader or the
+/// the fault writer reports the number, or for wrong words; 111 for want of memory and for a fault of the reader or the
 /// writer. The allocator is one of which a copy takes none, as the program's own.
 pub fn run_sim<A: Allocator + Clone + Copy, D: Read, W: Write, E: Write>(
     alloc: A,

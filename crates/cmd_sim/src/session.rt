@@ -1,11 +1,11 @@
-//! A service as the lines tell it, and the answers to them.
+//! A service as the lines say it, and the answers to them.
 ghost use Rattle.std.specs.Prelude.{◌≡◌, ◌≤◌, ◌<◌, ◌+◌, ◌^◌, [], ◌∷◌, ◌++◌, length, OnOk, OnErr, IfOk, IfErr};
 ghost use Rattle.std.specs.Prelude.{IsErrOf, Err, ℕ, ◌≢◌, map, string_bytes};
 ghost use Rattle.tai_status.specs.Counted.{Fails, Works, Wrote, WroteFront, IsRead};
 ghost use Rattle.tai_status.specs.Block.{Puts};
 ghost use Rattle.tai_status.specs.LineReader.{IsPlain};
 ghost use Rattle.cmd_base.specs.Printed.{printed};
-ghost use Rattle.cmd_sim.specs.declared.answering.Told.TheVariants as code;
+ghost use Rattle.cmd_sim.specs.declared.answering.Subject.TheVariants as code;
 ghost use Rattle.cmd_sim.specs.declared.fault.SimFault.{SimFault};
 ghost use Rattle.cmd_sim.specs.declared.fault.Why.{Why};
 ghost use Rattle.cmd_sim.specs.declared.fault.NoAnswer.{NoAnswer};
@@ -15,7 +15,7 @@ ghost use Rattle.cmd_sim.specs.Progress.{Stands, Says, texts_in};
 ghost use Rattle.cmd_sim.specs.Session.{AnswersLine, AnswersToEnd, GoesOn, LeavesFront, MissesLast, MissesMemory};
 ghost use Rattle.cmd_sim.specs.Session.{ReadsUpTo, RefusesAt, RefusesLast, WritesFrontWith};
 
-use crate::answering::{Answer, Told};
+use crate::answering::{Answer, Subject};
 use crate::fault::{NoAnswer, SimFault, Why};
 use std::alloc::{AllocError, Allocator};
 use std::io::{Read, Write};
@@ -24,24 +24,24 @@ use tai_status::{Block, Input, LineFault, LineReader, Output};
 /// The most bytes that a line may have, without its newline.
 const LINE_BOUND: usize = 65_536;
 
-/// What was told so far, how many lines told it, and the answers that wait to be written.
+/// What was reported so far, how many lines reported it, and the answers that wait to be written.
 #[derive(Drop)]
 struct Session<A: Allocator + Clone> {
     alloc: A,
-    told: Told<A>,
+    subject: Subject<A>,
     count: u64,
     waiting: Block,
 }
 
 impl<A: Allocator + Clone + Copy> Session<A> {
     fn new(alloc: A) -> Session<A>
-        ensures told { result.told ≡ code.Nothing }
+        ensures subject { result.subject ≡ code.Nothing }
         ensures count { result.count ≡ 0 }
         ensures waiting { result.waiting ≡ [] }
     {
         Session {
             alloc,
-            told: Told::Nothing,
+            subject: Subject::Nothing,
             count: 0,
             waiting: Block::new(),
         }
@@ -49,19 +49,19 @@ impl<A: Allocator + Clone + Copy> Session<A> {
 
     /// Answers a line.
     fn answer(&mut self, line: &[u8]) -> Result<Answer<A>, NoAnswer>
-        ensures ok { IfOk result (λ answer. (past : Past) → Stands past self.old.told
-            → Says past line.now (texts_in answer) self.new.told) }
+        ensures ok { IfOk result (λ answer. (past : Past) → Stands past self.old.subject
+            → Says past line.now (texts_in answer) self.new.subject) }
         ensures refused { (why : Why) → IsErrOf result (NoAnswer.Refused why)
-            → (past : Past) → Stands past self.old.told → said past line.now ≡ Err why }
+            → (past : Past) → Stands past self.old.subject → said past line.now ≡ Err why }
         ensures memory { IsErrOf result NoAnswer.OutOfMemory
-            → (past : Past) → Stands past self.old.told → MayWantMemory past line.now }
+            → (past : Past) → Stands past self.old.subject → MayWantMemory past line.now }
         ensures count { self.new.count ≡ self.old.count }
         ensures waiting { self.new.waiting ≡ self.old.waiting }
     {
         if line.len() > LINE_BOUND {
             return Err(NoAnswer::Refused(Why::Line));
         }
-        self.told.answer(self.alloc, line)
+        self.subject.answer(self.alloc, line)
     }
 
     /// Writes the answers that wait.
@@ -72,7 +72,7 @@ impl<A: Allocator + Clone + Copy> Session<A> {
         ensures why { IfErr result (λ fault. fault ≡ SimFault.Write) }
         ensures fault { OnErr result (Fails writer.old writer.new) }
         ensures faults { OnOk result (Works writer.old writer.new) }
-        ensures told { self.new.told ≡ self.old.told }
+        ensures subject { self.new.subject ≡ self.old.subject }
         ensures count { self.new.count ≡ self.old.count }
     {
         match self.waiting.flush(writer) {
@@ -88,7 +88,7 @@ impl<A: Allocator + Clone + Copy> Session<A> {
         ensures why { IfErr result (λ fault. fault ≡ SimFault.Write) }
         ensures fault { OnErr result (Fails writer.old writer.new) }
         ensures faults { OnOk result (Works writer.old writer.new) }
-        ensures told { self.new.told ≡ self.old.told }
+        ensures subject { self.new.subject ≡ self.old.subject }
         ensures count { self.new.count ≡ self.old.count }
     {
         match self.waiting.put_both(text, b"\n", writer) {
@@ -110,7 +110,7 @@ impl<A: Allocator + Clone + Copy> Session<A> {
         ensures why { IfErr result (λ fault. fault ≡ SimFault.Write) }
         ensures fault { OnErr result (Fails writer.old writer.new) }
         ensures faults { OnOk result (Works writer.old writer.new) }
-        ensures told { self.new.told ≡ self.old.told }
+        ensures subject { self.new.subject ≡ self.old.subject }
         ensures count { self.new.count ≡ self.old.count }
     {
         match answer {
@@ -132,7 +132,7 @@ impl<A: Allocator + Clone + Copy> Session<A> {
         ensures why { IfErr result (λ fault. fault ≡ SimFault.Write) }
         ensures fault { OnErr result (Fails writer.old writer.new) }
         ensures faults { OnOk result (Works writer.old writer.new) }
-        ensures told { self.new.told ≡ self.old.told }
+        ensures subject { self.new.subject ≡ self.old.subject }
         ensures count { self.new.count ≡ self.old.count }
     {
         for line in lines {
@@ -141,14 +141,14 @@ impl<A: Allocator + Clone + Copy> Session<A> {
         Ok(())
     }
 
-    /// What is told where the next line has no answer. The answers that wait are written first.
+    /// What is reported where the next line has no answer. The answers that wait are written first.
     fn give_up<W: Write>(&mut self, none: NoAnswer, writer: &mut Output<W>) -> SimFault
         requires { self.old.count < 2 ^ 63 }
-        ensures told { (number : ℕ) (why : Why) → result ≡ SimFault.Refused number why
+        ensures subject { (number : ℕ) (why : Why) → result ≡ SimFault.Refused number why
             → (number ≡ self.old.count + 1) × (none ≡ NoAnswer.Refused why) }
-        ensures told_wrote { (number : ℕ) (why : Why) → result ≡ SimFault.Refused number why
+        ensures reported_wrote { (number : ℕ) (why : Why) → result ≡ SimFault.Refused number why
             → Wrote writer.old writer.new self.old.waiting }
-        ensures told_works { (number : ℕ) (why : Why) → result ≡ SimFault.Refused number why
+        ensures reported_works { (number : ℕ) (why : Why) → result ≡ SimFault.Refused number why
             → Works writer.old writer.new }
         ensures memory { result ≡ SimFault.OutOfMemory
             → (none ≡ NoAnswer.OutOfMemory) × Wrote writer.old writer.new self.old.waiting }
@@ -174,12 +174,12 @@ impl<A: Allocator + Clone + Copy> Session<A> {
         ensures ok { OnOk result (AnswersLine line.now writer.old self.old writer.new self.new) }
         ensures count { OnOk result (self.new.count ≡ self.old.count + 1) }
         ensures refused { IfRefused result (λ _ why.
-            (past : Past) → Stands past self.old.told → said past line.now ≡ Err why) }
+            (past : Past) → Stands past self.old.subject → said past line.now ≡ Err why) }
         ensures refused_wrote { IfRefused result (λ number _.
             (number ≡ self.old.count + 1) × Wrote writer.old writer.new self.old.waiting) }
         ensures refused_works { IfRefused result (λ _ _. Works writer.old writer.new) }
         ensures memory { IsErrOf result SimFault.OutOfMemory
-            → (past : Past) → Stands past self.old.told → MayWantMemory past line.now }
+            → (past : Past) → Stands past self.old.subject → MayWantMemory past line.now }
         ensures memory_wrote { IsErrOf result SimFault.OutOfMemory → Wrote writer.old writer.new self.old.waiting }
         ensures write { IsErrOf result SimFault.Write → WritesFrontWith line.now writer.old self.old writer.new }
         ensures fault { IsErrOf result SimFault.Write → Fails writer.old writer.new }

@@ -45,12 +45,12 @@ pub unknown_before : (first others : List ℕ) (letter : ℕ) → first_unknown 
 unknown_before [] others letter some = grind (arith, common_steps)
 unknown_before (x ∷ first) others letter some = grind (arith, common_steps, unknown_before first others letter)
 
--- Letters that were refused: their first unknown one was told.
-pub told : (unknown : Option ℕ) (r : Result Unit SvcFault) (e : SvcFault)
+-- Letters that were refused: their first unknown one was reported.
+pub reported : (unknown : Option ℕ) (r : Result Unit SvcFault) (e : SvcFault)
     → MatchOption unknown (IsOk r) (λ letter. r ≡ Err (UnknownLetter letter)) → r ≡ Err e
     → (letter : ℕ) × (unknown ≡ Some letter) × (e ≡ UnknownLetter letter)
-told None r e cases refused = absurd (grind (arith, common_steps))
-told (Some letter) r e cases refused = (letter, refl, cc)
+reported None r e cases refused = absurd (grind (arith, common_steps))
+reported (Some letter) r e cases refused = (letter, refl, cc)
 
 -- Letters that were taken: none is unknown.
 pub taken : (unknown : Option ℕ) (r : Result Unit SvcFault) (x : Unit)
@@ -58,8 +58,8 @@ pub taken : (unknown : Option ℕ) (r : Result Unit SvcFault) (x : Unit)
 taken None r x cases fine = refl
 taken (Some letter) r x cases fine = cc
 
--- An option word's letters were refused: the first unknown letter of all was told.
-pub told_first : (words : List (Bor (List ℕ))) (i : ℕ) (d : Bor (List ℕ)) (letters : List ℕ) (r : Result Unit SvcFault)
+-- An option word's letters were refused: the first unknown letter of all was reported.
+pub reported_first : (words : List (Bor (List ℕ))) (i : ℕ) (d : Bor (List ℕ)) (letters : List ℕ) (r : Result Unit SvcFault)
     (e : SvcFault)
     → i < length words → is_option (get_or words i d).now ≡ true → letters ≡ drop 1 (get_or words i d).now
     → first_unknown (option_letters (map (λ word. word.now) (drop i words)))
@@ -67,8 +67,8 @@ pub told_first : (words : List (Bor (List ℕ))) (i : ℕ) (d : Bor (List ℕ)) 
     → MatchOption (first_unknown letters) (IsOk r) (λ letter. r ≡ Err (UnknownLetter letter)) → r ≡ Err e
     → (letter : ℕ) × (first_unknown (option_letters (map (λ word. word.now) words)) ≡ Some letter)
     × (e ≡ UnknownLetter letter)
-told_first words i d letters r e within option own same cases refused =
-    let fault = told (first_unknown letters) r e cases refused in
+reported_first words i d letters r e within option own same cases refused =
+    let fault = reported (first_unknown letters) r e cases refused in
     let rest = option_letters (map (λ word. word.now) (drop (i + 1) words)) in
     let first = unknown_before (drop 1 (get_or words i d).now) rest fault.0 (ap first_unknown (sym own) ∙ fault.1) in
     (fault.0, sym same ∙ ap first_unknown (option_here words i d within option) ∙ first, fault.2)

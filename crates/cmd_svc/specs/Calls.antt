@@ -5,7 +5,7 @@ use Rattle.cmd_svc.specs.declared.services.Unreached.{Unreached}
 -- A call of the service in a folder, with what came of it: bytes were sent to it, and arrived, or why they did not;
 -- whether it is supervised was asked, and it is, or why it was not reached; its status file was read, of which these
 -- are the first 21 bytes, or could not be read; a file `down` was looked for; when something in its folder `supervise`
--- changed last was asked, and it was at this time, or that could not be told.
+-- changed last was asked, and it was at this time, or that could not be reported.
 pub data Call : Type 0 where
   Sent : (folder bytes : List ℕ) → (fault : Option Unreached) → Call
   Reached : (folder : List ℕ) → (fault : Option Unreached) → Call

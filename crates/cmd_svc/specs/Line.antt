@@ -1,4 +1,4 @@
--- The line that tells how a service stands, as svstat prints it (cr.yp.to/daemontools/svstat.html).
+-- The line that says how a service stands, as svstat prints it (cr.yp.to/daemontools/svstat.html).
 use Rattle.std.specs.Prelude.{ℕ, ◌-◌, nat_le, Bool, true, false, not, ◌&&◌, if◌then◌else◌, List, [], ◌++◌, codes}
 use Rattle.std.specs.Prelude.{decimal}
 use Rattle.tai_status.specs.Label.{Tai64n}
@@ -47,13 +47,13 @@ want_notes status =
     note (not (is_running status) && wants_up status.want) (codes ", want up")
     ++ note (is_running status && wants_down status.want) (codes ", want down")
 
--- a phase that its process does not tell
+-- a phase that its process does not report
 abbrev pub phase_note : Phase → List ℕ
 phase_note phase.Up = []
 phase_note phase.Down = []
 phase_note other = codes ", " ++ phase_name other
 
--- where supervise stands and whether it is to end, where a record tells that
+-- where supervise stands and whether it is to end, where a record says that
 abbrev pub phase_notes : Loaded → List ℕ
 phase_notes (Old status) = []
 phase_notes (New full) = phase_note full.phase
@@ -62,7 +62,7 @@ abbrev pub is_exiting : Loaded → Bool
 is_exiting (Old status) = false
 is_exiting (New full) = full.exiting
 
--- what a status tells of the service in this folder
+-- what a status says of the service in this folder
 abbrev pub plain_line : List ℕ → Status → Bool → Tai64n → List ℕ
 plain_line folder status normally_up now =
     folder ++ codes ": " ++ state_text status ++ codes " " ++ decimal (seconds status now) ++ codes " seconds"

@@ -3,7 +3,7 @@ use Rattle.std.specs.Prelude.{◌≡◌, ◌<◌, ◌⊎◌, ℕ, Bool, false, �
 use Rattle.std.specs.Prelude.{codes}
 use Rattle.std.specs.Prelude.{bytes_eq, Option, Some, None, is_some, MatchOption, Result, IsErrOf, IsOkUnless}
 use Rattle.hex.specs.Hex.{encode_lower}
-use Rattle.tai_status.specs.Counted.{Device, Tells}
+use Rattle.tai_status.specs.Counted.{Device, Reports}
 use Rattle.cmd_svc.specs.Words.{order_bytes, service_words, unknown_in}
 use Rattle.cmd_svc.specs.Calls.{Call, Sent}
 use Rattle.tai_status.specs.Extended.{Extended}
@@ -13,7 +13,7 @@ use Rattle.cmd_svc.specs.declared.services.Unreached.{Unreached}
 use Rattle.cmd_svc.specs.declared.services.Unreached.TheVariants as unreached
 use Rattle.cmd_svc.specs.Turns.{InTurn}
 
--- What `svc` works with: the calls that were made, and where it tells faults.
+-- What `svc` works with: the calls that were made, and where it reports faults.
 pub record Effects : Type 0 where
   pub calls : Option (List Call)
   pub faults : Device
@@ -31,36 +31,36 @@ sending calls faults missed = record { effects = effects calls faults; missed = 
 
 -- Sayings
 
--- why a service was not reached, as it is told behind its folder
+-- why a service was not reached, as it is reported behind its folder
 abbrev pub reason : Unreached → List ℕ
 reason unreached.NotRunning = codes ": not running" ++ 10 ∷ []
 reason unreached.Denied = codes ": Permission denied" ++ 10 ∷ []
 reason unreached.Unanswered = codes ": no answer" ++ 10 ∷ []
 
--- what is told of a service that can't be reached
-abbrev pub unreached_told : (folder : List ℕ) (why : Unreached) → List ℕ
-unreached_told folder why = codes "svc: warning: unable to control " ++ (folder ++ reason why)
+-- what is reported of a service that can't be reached
+abbrev pub unreached_report : (folder : List ℕ) (why : Unreached) → List ℕ
+unreached_report folder why = codes "svc: warning: unable to control " ++ (folder ++ reason why)
 
--- what is told of a letter that svc does not know
-abbrev pub letter_told : (letter : ℕ) → List ℕ
-letter_told letter = codes "svc: unknown letter " ++ (encode_lower (letter ∷ []) ++ 10 ∷ [])
+-- what is reported of a letter that svc does not know
+abbrev pub letter_report : (letter : ℕ) → List ℕ
+letter_report letter = codes "svc: unknown letter " ++ (encode_lower (letter ∷ []) ++ 10 ∷ [])
 
--- what is told of want of memory
-abbrev pub memory_told : List ℕ
-memory_told = codes "svc: OutOfMemory" ++ 10 ∷ []
+-- what is reported of want of memory
+abbrev pub memory_report : List ℕ
+memory_report = codes "svc: OutOfMemory" ++ 10 ∷ []
 
 -- Services
 
--- That bytes arrived is not told, and that they did not is, with the reason.
-abbrev pub TellsFault : (fault : Option Unreached) (folder : List ℕ) (old new : Device) → Type 0
-TellsFault None folder old new = new ≡ old
-TellsFault (Some why) folder old new = Tells old new (unreached_told folder why)
+-- That bytes arrived is not reported, and that they did not is, with the reason.
+abbrev pub ReportsFault : (fault : Option Unreached) (folder : List ℕ) (old new : Device) → Type 0
+ReportsFault None folder old new = new ≡ old
+ReportsFault (Some why) folder old new = Reports old new (unreached_report folder why)
 
--- These bytes are sent to the service in a folder, once; that they did not arrive is told, once, and kept.
+-- These bytes are sent to the service in a folder, once; that they did not arrive is reported, once, and kept.
 pub record Serves (bytes folder : List ℕ) (old new : Sending) : Type 0 where
   pub fault : Option Unreached
   pub sent : Extended old.effects.calls new.effects.calls (Sent folder bytes fault ∷ [])
-  pub told : TellsFault fault folder old.effects.faults new.effects.faults
+  pub reported : ReportsFault fault folder old.effects.faults new.effects.faults
   pub missed : new.missed ≡ (is_some fault || old.missed)
 
 -- These services get the bytes, one after the other, whichever of them can be reached. No bytes are not sent.
@@ -70,7 +70,7 @@ ServesAll (byte ∷ bytes) services old new = InTurn (Serves (byte ∷ bytes)) s
 
 -- Ends
 
--- Each service got the bytes of the words, or it is told that it can't be reached. The status says whether one could
+-- Each service got the bytes of the words, or it is reported that it can't be reached. The status says whether one could
 -- not.
 pub record ServesWords (missed_status : ℕ) (words : List (List ℕ)) (status : ℕ) (old new : Effects) : Type 0 where
   pub missed : Bool
@@ -83,18 +83,18 @@ abbrev pub RefusesUnknown : {T : Type 0} → (words : List (List ℕ)) (order : 
 RefusesUnknown words order = MatchOption (unknown_in words) (IsOkUnless order cause.OutOfMemory)
     (λ letter. IsErrOf order (cause.UnknownLetter letter))
 
--- There is no memory for the names of the services: nothing is sent, and it is told.
+-- There is no memory for the names of the services: nothing is sent, and it is reported.
 pub record LacksMemory (words : List (List ℕ)) (status : ℕ) (old new : Effects) : Type 0 where
   pub some : 0 < length (service_words words)
   pub status_is : status ≡ 111
   pub unsent : new.calls ≡ old.calls
-  pub told : Tells old.faults new.faults memory_told
+  pub reported : Reports old.faults new.faults memory_report
 
--- A letter is unknown: nothing is sent to anybody, and it is told.
+-- A letter is unknown: nothing is sent to anybody, and it is reported.
 pub record RefusesLetter (letter : ℕ) (status : ℕ) (old new : Effects) : Type 0 where
   pub status_is : status ≡ 100
   pub unsent : new.calls ≡ old.calls
-  pub told : Tells old.faults new.faults (letter_told letter)
+  pub reported : Reports old.faults new.faults (letter_report letter)
 
 -- `svc`, by its words, with this status where a service could not be reached: the first letter that it does not know is
 -- refused.

@@ -4,7 +4,7 @@ use Rattle.cmd_svc.specs.Calls.{Call, Reached}
 use Rattle.tai_status.specs.Extended.{Extended}
 use Rattle.cmd_svc.specs.declared.services.Unreached.{Unreached}
 
--- the status that tells what came of asking
+-- the status that says what came of asking
 abbrev pub whether : (fault : Option Unreached) → ℕ
 whether None = 0
 whether (Some why) = 100

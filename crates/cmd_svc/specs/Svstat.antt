@@ -2,7 +2,7 @@
 use Rattle.std.specs.Prelude.{◌≡◌, ◌⊎◌, ℕ, Bool, not, List, [], ◌∷◌, ◌++◌, codes, Option, Some, None, Ok}
 use Rattle.std.specs.Prelude.{Err}
 use Rattle.tai_status.specs.Label.{Tai64n}
-use Rattle.tai_status.specs.Counted.{Device, Fails, Tells, Works, Wrote, WroteFront}
+use Rattle.tai_status.specs.Counted.{Device, Fails, Reports, Works, Wrote, WroteFront}
 use Rattle.tai_status.specs.Loading.{loaded_from}
 use Rattle.tai_status.specs.declared.loading.Loaded.{Loaded}
 use Rattle.tai_status.specs.declared.record.RecordFault.{RecordFault}
@@ -122,31 +122,31 @@ pub record ShowsUpTo (line_of : Form) (words : List (List ℕ)) (old new : Scene
   pub shown : InTurn (Shows line_of) before old middle
   pub fails : ShowsNot line_of folder cause middle new
 
--- what is told of a fault
-abbrev pub svstat_told : SvstatFault → List ℕ
-svstat_told why.OutOfMemory = codes "svstat: OutOfMemory" ++ 10 ∷ []
-svstat_told why.Write = codes "svstat: write fault" ++ 10 ∷ []
+-- what is reported of a fault
+abbrev pub svstat_report : SvstatFault → List ℕ
+svstat_report why.OutOfMemory = codes "svstat: OutOfMemory" ++ 10 ∷ []
+svstat_report why.Write = codes "svstat: write fault" ++ 10 ∷ []
 
 -- Ends
 
--- Each word has its line, and nothing is told.
-pub record ShowsAll (line_of : Form) (words : List (List ℕ)) (status : ℕ) (old new : Scene) (faults tells : Device)
+-- Each word has its line, and nothing is reported.
+pub record ShowsAll (line_of : Form) (words : List (List ℕ)) (status : ℕ) (old new : Scene) (faults reports : Device)
     : Type 0 where
   pub status_is : status ≡ 0
   pub shown : InTurn (Shows line_of) words old new
-  pub untold : tells ≡ faults
+  pub unreported : reports ≡ faults
 
--- A line could not be written, and it is told why.
-pub record Stops (line_of : Form) (words : List (List ℕ)) (status : ℕ) (old new : Scene) (faults tells : Device)
+-- A line could not be written, and it is reported why.
+pub record Stops (line_of : Form) (words : List (List ℕ)) (status : ℕ) (old new : Scene) (faults reports : Device)
     : Type 0 where
   pub cause : SvstatFault
   pub stops : ShowsUpTo line_of words old new cause
   pub status_is : status ≡ 111
-  pub told : Tells faults tells (svstat_told cause)
+  pub reported : Reports faults reports (svstat_report cause)
 
 -- `svstat`, by its words, with lines of a form
 abbrev pub SvstatEnds : (line_of : Form) (words : List (List ℕ)) (status : ℕ) (sight sees : Sight)
-    (writer writes faults tells : Device) → Type 0
-SvstatEnds line_of words status sight sees writer writes faults tells =
-    ShowsAll line_of words status (scene sight writer) (scene sees writes) faults tells
-    ⊎ Stops line_of words status (scene sight writer) (scene sees writes) faults tells
+    (writer writes faults reports : Device) → Type 0
+SvstatEnds line_of words status sight sees writer writes faults reports =
+    ShowsAll line_of words status (scene sight writer) (scene sees writes) faults reports
+    ⊎ Stops line_of words status (scene sight writer) (scene sees writes) faults reports

@@ -1,7 +1,7 @@
-//! The commands `svc`, `svstat` and `svok`: what a client asks of supervised services, and tells of them.
+//! The commands `svc`, `svstat` and `svok`: what a client asks of supervised services, and reports of them.
 //!
 //! [`assemble`] parts the words of a svc command (<https://cr.yp.to/daemontools/svc.html>): the letters of the option
-//! words in front become control bytes, and the other words are services. [`stat_line`] tells how a service stands, as
+//! words in front become control bytes, and the other words are services. [`stat_line`] says how a service stands, as
 //! svstat prints it (<https://cr.yp.to/daemontools/svstat.html>).
 #![tactic(auto)]
 
@@ -25,6 +25,6 @@ pub use order::{LETTER_COUNT, LETTERS, Order, OrderBytes, SvcFault};
 pub use services::{Services, Unreached};
 pub use svc::run_svc;
 pub use svok::run_svok;
-pub use svstat::{SvstatFault, run_svstat, run_svstat_as, svstat_told};
+pub use svstat::{SvstatFault, run_svstat, run_svstat_as, svstat_report};
 pub use system::SystemServices;
 pub use words::{assemble, is_option};

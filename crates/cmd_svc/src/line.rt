@@ -102,7 +102,7 @@ fn want_note(view: &View) -> &'static str
     }
 }
 
-/// What is to be said where supervise stands so that the process does not tell it.
+/// What is to be said where supervise stands so that the process does not report it.
 fn phase_note(loaded: &Loaded) -> &'static str
     ensures { result.now ≡ phase_notes loaded.now }
 {

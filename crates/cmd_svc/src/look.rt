@@ -58,7 +58,7 @@ fn unreached_note(why: Unreached) -> &'static str
     }
 }
 
-/// The name of what is wrong with a status, as `svstat` tells it.
+/// The name of what is wrong with a status, as `svstat` reports it.
 pub fn fault_name(fault: RecordFault) -> &'static str
     ensures { result.now ≡ fault_name fault }
 {

@@ -45,7 +45,7 @@ pub trait Services {
         ensures sought { Extended (calls self.old) (calls self.new) (SoughtDown folder.now result ∷ []) };
 
     /// When something in the folder `supervise` of the service was made, replaced or removed last, in nanoseconds since
-    /// 1970. None where that can't be told.
+    /// 1970. None where that can't be reported.
     fn changed_at(&mut self, folder: &str) -> Option<u64>
         ensures sought { Extended (calls self.old) (calls self.new) (SoughtChange folder.now result ∷ []) };
 }

@@ -1,9 +1,9 @@
 //! The command `svc`.
 ghost use Rattle.std.specs.Prelude.{◌≡◌, false, if◌then◌else◌};
 ghost use Rattle.cmd_svc.specs.Words.{texts};
-ghost use Rattle.tai_status.specs.Counted.{Tells};
+ghost use Rattle.tai_status.specs.Counted.{Reports};
 ghost use Rattle.cmd_svc.specs.Turns.{InTurn};
-ghost use Rattle.cmd_svc.specs.Svc.{effects, letter_told, missed_status, order_words, reason, sending};
+ghost use Rattle.cmd_svc.specs.Svc.{effects, letter_report, missed_status, order_words, reason, sending};
 ghost use Rattle.cmd_svc.specs.Svc.{OrderEnds, Serves, ServesAll, SvcEnds};
 
 use crate::order::SvcFault;
@@ -14,17 +14,17 @@ use std::alloc::Allocator;
 use std::io::Write;
 use tai_status::{Name, Output};
 
-/// Tells that a letter is unknown, and answers the status of that.
+/// Says that a letter is unknown, and answers the status of that.
 fn report_letter<E: Write>(letter: u8, faults: &mut Output<E>) -> u8
     ensures status { result ≡ 100 }
-    ensures told { Tells faults.old faults.new (letter_told letter) }
+    ensures reported { Reports faults.old faults.new (letter_report letter) }
 {
     let mut digits = [0; 2];
     hex::encode_to_slice(&[letter], &mut digits).unwrap();
     report_parts(faults, b"svc: unknown letter ", &digits, b"\n", REFUSED)
 }
 
-/// Why a service was not reached, as it is told behind its folder.
+/// Why a service was not reached, as it is reported behind its folder.
 fn reason(why: Unreached) -> &'static [u8]
     ensures { result.now ≡ reason why }
 {
@@ -35,7 +35,7 @@ fn reason(why: Unreached) -> &'static [u8]
     }
 }
 
-/// Sends bytes to a service, and tells that it can't be reached, and why. Answers whether some service was not reached,
+/// Sends bytes to a service, and says that it can't be reached, and why. Answers whether some service was not reached,
 /// this one or one before it.
 fn serve<S: Services, E: Write>(
     services: &mut S,
@@ -102,7 +102,7 @@ fn served_status(missed: bool, missed_status: u8) -> u8
     if missed { missed_status } else { DONE }
 }
 
-/// Serves the order that words are, or tells that they are none. Answers the status, which is this one where a service
+/// Serves the order that words are, or says that they are none. Answers the status, which is this one where a service
 /// was not reached.
 fn run_order<S: Services, A: Allocator + Clone, E: Write>(
     alloc: A,
@@ -147,7 +147,7 @@ fn order_words<'a, 'b>(words: &'a [&'b str]) -> &'a [&'b str]
 
 /// The command `svc`: sends the letters of its option words, as control bytes, to each service that its other words
 /// name, in order (<https://cr.yp.to/daemontools/svc.html>). Each letter is sent once. A service that can't be reached
-/// is told as `svc: warning: unable to control DIR: WHY`, and the others are served. No letters, or no services:
+/// is reported as `svc: warning: unable to control DIR: WHY`, and the others are served. No letters, or no services:
 /// nothing is done. Answers the status: 0, also after such warnings, but 111 after one where the first word is `-W`,
 /// which is no option word then; 100 for an unknown letter, and 111 for want of memory: then nothing is sent to
 /// anybody.

@@ -5,7 +5,7 @@ ghost use Rattle.cmd_svc.specs.Svok.{SvokEnds};
 use crate::services::Services;
 use cmd_base::{DONE, REFUSED};
 
-/// The command `svok`: tells by its status whether the service in the folder that its one word names is supervised, 0
+/// The command `svok`: reports by its status whether the service in the folder that its one word names is supervised, 0
 /// where it is, else 100 (<https://cr.yp.to/daemontools/svok.html>). It says nothing and takes no memory. No word, or
 /// more than one, is 100 too, and nothing is asked.
 pub fn run_svok<S: Services>(services: &mut S, words: &[&str]) -> u8

@@ -4,7 +4,7 @@ ghost use Rattle.tai_status.specs.Counted.{Wrote, Works};
 ghost use Rattle.cmd_svc.specs.Words.{texts};
 ghost use Rattle.cmd_svc.specs.Turns.{InTurn};
 ghost use Rattle.cmd_svc.specs.Svstat.{scene, look_line, Shows, ShowsNot, ShowsUpTo};
-ghost use Rattle.cmd_svc.specs.Svstat.{SvstatEnds, WritesNot, svstat_told};
+ghost use Rattle.cmd_svc.specs.Svstat.{SvstatEnds, WritesNot, svstat_report};
 
 use crate::form::{LineForm, PlainLine};
 use crate::look::{Look, look_at};
@@ -97,9 +97,9 @@ fn show_all<F: LineForm, S: Services, A: Allocator + Clone, W: Write, C: TimeSou
     Ok(())
 }
 
-/// What is told of a fault.
-pub fn svstat_told(fault: SvstatFault) -> &'static [u8]
-    ensures { result.now ≡ svstat_told fault }
+/// What is reported of a fault.
+pub fn svstat_report(fault: SvstatFault) -> &'static [u8]
+    ensures { result.now ≡ svstat_report fault }
 {
     match fault {
         SvstatFault::OutOfMemory => b"svstat: OutOfMemory\n",
@@ -128,7 +128,7 @@ where
 {
     match show_all(form, &alloc, observer, words, writer) {
         Ok(()) => DONE,
-        Err(fault) => report(faults, svstat_told(fault), TROUBLE),
+        Err(fault) => report(faults, svstat_report(fault), TROUBLE),
     }
 }
 

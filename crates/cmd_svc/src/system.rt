@@ -21,7 +21,7 @@ const PATH_BYTES: usize = 4096;
 /// How long the path of a socket is at most: its address has one byte more, for the zero behind it.
 const SOCKET_BYTES: usize = 107;
 
-/// The services of this system. It tells contracts nothing, and takes no memory.
+/// The services of this system. It says nothing to contracts, and takes no memory.
 #[derive(Drop)]
 pub struct SystemServices<R: Files<File = File> + Net + Drop> {
     runtime: R,

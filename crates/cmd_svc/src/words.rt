@@ -10,7 +10,7 @@ use tai_status::{Name, Names};
 ///
 /// The option words are those in front that have two bytes or more, begin with `-` and are not `--`; a `--` right
 /// after them is dropped, and the other words are services. Of the further bytes of the option words, the letters,
-/// each is told once, in the order of its first place.
+/// each is reported once, in the order of its first place.
 ///
 /// The first unknown letter is `UnknownLetter`, also where there is no memory. Else `OutOfMemory` comes only where the
 /// allocator refuses the memory for the names of the services. No service takes none.

@@ -1,4 +1,4 @@
 pub mod Ordering
-pub mod Telling
+pub mod Reporting
 pub mod Turning
 pub mod ListedNames

@@ -12,11 +12,11 @@ use Rattle.cmd_svscan.specs.declared.orders.Order.{Order}
 use Rattle.std.proofs.lemmas.List.{map-append}
 use Rattle.tai_status.specs.Extended.{Extended}
 use Rattle.cmd_svscan.specs.declared.orders.Order.TheVariants as order
-use Rattle.cmd_svscan.specs.Rounds.{Effects, Round, GoesOn, Makes, Runs, EndsBy, TellsAll, Turn, IsFollowed, Rests}
-use Rattle.cmd_svscan.specs.Rounds.{Leaves, EndsAll, Close, Ends, EndsAsTold, LeavesAsTold, effects}
+use Rattle.cmd_svscan.specs.Rounds.{Effects, Round, GoesOn, Makes, Runs, EndsBy, ReportsAll, Turn, IsFollowed, Rests}
+use Rattle.cmd_svscan.specs.Rounds.{Leaves, EndsAll, Close, Ends, EndsAsAsked, LeavesAsAsked, effects}
 use Rattle.cmd_svscan.specs.Rounds.{calls_of, lines_of, calls_of_turn, lines_of_turn, calls_of_rest, calls_of_close}
-use Rattle.cmd_svscan.specs.Rounds.{lines_of_close, remaining_told, unlogged_told}
-use Rattle.cmd_svscan.proofs.Telling.{extended-then, extended-none, tells-then}
+use Rattle.cmd_svscan.specs.Rounds.{lines_of_close, remaining_report, unlogged_report}
+use Rattle.cmd_svscan.proofs.Reporting.{extended-then, extended-none, reports-then}
 
 -- how many rounds are left after so many
 abbrev pub IsLeft : (limit left : Option ℕ) (count : ℕ) → Type 0
@@ -29,7 +29,7 @@ pub record IsUnderWay (folder : List ℕ) (limit left : Option ℕ) (old now : E
   pub turns : List Turn
   pub followed : All IsFollowed turns
   pub calls : Extended old.calls now.calls (flat_map (calls_of_turn folder) turns)
-  pub told : TellsAll (flat_map lines_of_turn turns) old.faults now.faults
+  pub reported : ReportsAll (flat_map lines_of_turn turns) old.faults now.faults
   pub left_is : IsLeft limit left (length turns)
 
 flat_map-push : {X A : Type 0} (f : X → List A) (xs : List X) (x : X) → flat_map f (xs ++ x ∷ []) ≡ flat_map f xs ++ f x
@@ -46,7 +46,7 @@ way_none folder limit old some = record {
   turns = [];
   followed = (λ k d less. absurd (omega (arith, less)));
   calls = extended-none old.calls;
-  told = refl;
+  reported = refl;
   left_is = all_left limit some;
 }
 
@@ -65,10 +65,10 @@ way_more folder limit left after old mid now new round way makes on rests same l
           (sym (flat_map-push (calls_of_turn folder) way.turns turn))
           (extended-then old.calls mid.calls new.calls _ _ way.calls
           (extended-then mid.calls now.calls new.calls _ _ makes.calls rests.calls));
-      told = subst (λ (d : Device). TellsAll (flat_map lines_of_turn (way.turns ++ turn ∷ [])) old.faults d) (sym same)
-          (subst (λ (l : List (List ℕ)). TellsAll l old.faults now.faults)
+      reported = subst (λ (d : Device). ReportsAll (flat_map lines_of_turn (way.turns ++ turn ∷ [])) old.faults d) (sym same)
+          (subst (λ (l : List (List ℕ)). ReportsAll l old.faults now.faults)
           (sym (flat_map-push lines_of_turn way.turns turn))
-          (tells-then _ _ old.faults mid.faults now.faults way.told makes.told));
+          (reports-then _ _ old.faults mid.faults now.faults way.reported makes.reported));
       left_is = subst (λ (n : ℕ). IsLeft limit after n) (sym (length-append way.turns (turn ∷ [])))
           (less (length way.turns) way.left_is);
     }
@@ -78,17 +78,17 @@ pub way_closes : (folder : List ℕ) (limit left : Option ℕ) (status : ℕ) (o
     (close : Close)
     → (way : IsUnderWay folder limit left old mid) → Makes folder round mid now
     → Extended now.calls new.calls (calls_of_close close)
-    → TellsAll (lines_of_close close) now.faults new.faults → EndsBy limit (length way.turns + 1) round close status
+    → ReportsAll (lines_of_close close) now.faults new.faults → EndsBy limit (length way.turns + 1) round close status
     → Runs folder limit status old new
-way_closes folder limit left status old mid now new round close way makes closed told ends = record {
+way_closes folder limit left status old mid now new round close way makes closed reported ends = record {
   turns = way.turns;
   last = round;
   close = close;
   followed = way.followed;
   calls = extended-then old.calls mid.calls new.calls _ _ way.calls
       (extended-then mid.calls now.calls new.calls _ _ makes.calls closed);
-  told = tells-then _ _ old.faults mid.faults new.faults way.told
-      (tells-then _ _ mid.faults now.faults new.faults makes.told told);
+  reported = reports-then _ _ old.faults mid.faults new.faults way.reported
+      (reports-then _ _ mid.faults now.faults new.faults makes.reported reported);
   ends = ends;
 }
 
@@ -103,7 +103,7 @@ pub way_fails : (folder : List ℕ) (limit left : Option ℕ) (old mid now new :
     → Makes folder round mid now → (GoesOn round → ⊥) → EndsAll now new → Runs folder limit 111 old new
 way_fails folder limit left old mid now new round way makes off ended =
     way_closes folder limit left 111 old mid now new round (Ends ended.left ended.unlogged) way makes ended.calls
-    ended.told
+    ended.reported
     (inr (refl, off, within limit left (length way.turns) way.left_is))
 
 last : (limit : Option ℕ) (count : ℕ) → IsLeft limit (Some 1) count → limit ≡ Some (count + 1)
@@ -116,20 +116,20 @@ pub way_done : (folder : List ℕ) (limit : Option ℕ) (old mid now new : Effec
     → Makes folder round mid now → GoesOn round → EndsAll now new → Runs folder limit 0 old new
 way_done folder limit old mid now new round way makes on ended =
     way_closes folder limit (Some 1) 0 old mid now new round (Ends ended.left ended.unlogged) way makes ended.calls
-    ended.told
+    ended.reported
     (inl (refl, on, last limit (length way.turns) way.left_is))
 
 -- the end of all was asked for in the rest
-pub way_told : (folder : List ℕ) (limit left : Option ℕ) (old mid now rested new : Effects) (round : Round)
+pub way_report : (folder : List ℕ) (limit left : Option ℕ) (old mid now rested new : Effects) (round : Round)
     → IsUnderWay folder limit left old mid
     → Makes folder round mid now → GoesOn round → Rests order.End now.calls rested.calls → rested.faults ≡ now.faults
     → EndsAll rested new
     → Runs folder limit 0 old new
-way_told folder limit left old mid now rested new round way makes on rests same ended =
-    way_closes folder limit left 0 old mid now new round (EndsAsTold rests.rest ended.left ended.unlogged) way makes
+way_report folder limit left old mid now rested new round way makes on rests same ended =
+    way_closes folder limit left 0 old mid now new round (EndsAsAsked rests.rest ended.left ended.unlogged) way makes
     (extended-then now.calls rested.calls new.calls _ _ rests.calls ended.calls)
-    (subst (λ (d : Device). TellsAll (lines_of_close (EndsAsTold rests.rest ended.left ended.unlogged)) d new.faults)
-    same ended.told)
+    (subst (λ (d : Device). ReportsAll (lines_of_close (EndsAsAsked rests.rest ended.left ended.unlogged)) d new.faults)
+    same ended.reported)
     (refl, on, rests.decides)
 
 -- svscan's own end was asked for in the rest
@@ -139,9 +139,9 @@ pub way_left : (folder : List ℕ) (limit left : Option ℕ) (old mid now rested
     → Leaves rested new
     → Runs folder limit 0 old new
 way_left folder limit left old mid now rested new round way makes on rests same leaves =
-    way_closes folder limit left 0 old mid now new round (LeavesAsTold rests.rest leaves.unlogged) way makes
+    way_closes folder limit left 0 old mid now new round (LeavesAsAsked rests.rest leaves.unlogged) way makes
     (extended-then now.calls rested.calls new.calls _ _ rests.calls leaves.calls)
-    (subst (λ (d : Device). TellsAll (map unlogged_told leaves.unlogged) d new.faults) same leaves.told)
+    (subst (λ (d : Device). ReportsAll (map unlogged_report leaves.unlogged) d new.faults) same leaves.reported)
     (refl, on, rests.decides)
 
 -- one round less is left
@@ -207,29 +207,29 @@ passed-rests order old mid new last so_far heard is = record {
 
 -- Within the end of all
 
--- some still ran, each time, and were told
+-- some still ran, each time, and were reported
 abbrev pub still_left : List Remaining → Call
 still_left some = Ended (Some some)
 
 pub record IsEnding (old now : Effects) : Type 0 where
   pub left : List (List Remaining)
   pub calls : Extended old.calls now.calls (map still_left left)
-  pub told : TellsAll (flat_map (map remaining_told) left) old.faults now.faults
+  pub reported : ReportsAll (flat_map (map remaining_report) left) old.faults now.faults
 
 pub ending-none : (old : Effects) → IsEnding old old
-ending-none old = record { left = []; calls = extended-none old.calls; told = refl }
+ending-none old = record { left = []; calls = extended-none old.calls; reported = refl }
 
 pub ending-more : (old mid new : Effects) (some : List Remaining) → IsEnding old mid
     → Extended mid.calls new.calls (Ended (Some some) ∷ [])
-    → TellsAll (map remaining_told some) mid.faults new.faults → IsEnding old new
-ending-more old mid new some so_far ended told = record {
+    → ReportsAll (map remaining_report some) mid.faults new.faults → IsEnding old new
+ending-more old mid new some so_far ended reported = record {
   left = so_far.left ++ some ∷ [];
   calls = subst (λ (l : List Call). Extended old.calls new.calls l)
       (sym (map-append still_left so_far.left (some ∷ [])))
       (extended-then old.calls mid.calls new.calls _ _ so_far.calls ended);
-  told = subst (λ (l : List (List ℕ)). TellsAll l old.faults new.faults)
-      (sym (flat_map-push (map remaining_told) so_far.left some))
-      (tells-then _ _ old.faults mid.faults new.faults so_far.told told);
+  reported = subst (λ (l : List (List ℕ)). ReportsAll l old.faults new.faults)
+      (sym (flat_map-push (map remaining_report) so_far.left some))
+      (reports-then _ _ old.faults mid.faults new.faults so_far.reported reported);
 }
 
 pub ending-ends : (old mid now new : Effects) → IsEnding old mid → Extended mid.calls now.calls (Ended None ∷ [])
@@ -240,6 +240,6 @@ ending-ends old mid now new so_far ended same leaves = record {
   unlogged = leaves.unlogged;
   calls = extended-then old.calls mid.calls new.calls _ _ so_far.calls
       (extended-then mid.calls now.calls new.calls _ _ ended leaves.calls);
-  told = tells-then _ _ old.faults mid.faults new.faults so_far.told
-      (subst (λ (d : Device). TellsAll (map unlogged_told leaves.unlogged) d new.faults) same leaves.told);
+  reported = reports-then _ _ old.faults mid.faults new.faults so_far.reported
+      (subst (λ (d : Device). ReportsAll (map unlogged_report leaves.unlogged) d new.faults) same leaves.reported);
 }

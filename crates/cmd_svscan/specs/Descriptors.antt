@@ -7,7 +7,7 @@ use Rattle.cmd_svscan.specs.declared.service_set.Shortage.{Shortage}
 abbrev pub descriptors_of : Row → ℕ
 descriptors_of row = if is_eligible row then (if is_pair row then 14 else 4) else 0
 
--- what svscan needs for itself and for the services of these rows, as far as 64 bits can tell it
+-- what svscan needs for itself and for the services of these rows, as far as 64 bits can report it
 abbrev pub descriptors_for : List Row → ℕ
 descriptors_for rows = min (24 + sum_by descriptors_of rows) (2 ^ 64 - 1)
 

@@ -93,7 +93,7 @@ pub record Lists {S E : Type 0} (steps : S → Option (Result E Error) → S →
   pub names_are : names ≡ map name_of (read_of items)
   pub unnamed_are : unnamed ≡ min (count_unread items) (2 ^ 64 - 1)
 
--- Why names are not listed: memory is wanted, or an entry can't be read, the first of which tells this fault.
+-- Why names are not listed: memory is wanted, or an entry can't be read, the first of which says this fault.
 abbrev pub IsWhyUnlisted : {S E : Type 0} (steps : S → Option (Result E Error) → S → Type 0) (s : S) (fault : Error)
     → Type 0
 IsWhyUnlisted {S = S} {E = E} steps s fault =

@@ -1,4 +1,4 @@
--- How svscan itself stands, as its status record tells.
+-- How svscan itself stands, as its status record says.
 use Rattle.std.specs.Prelude.{ℕ, ◌==◌, if◌then◌else◌, true, false}
 use Rattle.tai_status.specs.Label.{Tai64n}
 use Rattle.tai_status.specs.Record.{Status}

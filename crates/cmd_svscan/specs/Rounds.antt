@@ -1,11 +1,11 @@
 -- What svscan does, as a list of rounds (cr.yp.to/daemontools/svscan.html).
 use Rattle.std.specs.Prelude.{◌≡◌, ⊤, ℕ, ◌+◌, ◌≤◌, ◌⊎◌, Bool, true, false, List, [], ◌∷◌, ◌++◌, map, length, flat_map}
 use Rattle.std.specs.Prelude.{codes, decimal, ◌==◌, if◌then◌else◌, All, Option, None, Some, IfSome, Ok, Err}
-use Rattle.tai_status.specs.Counted.{Device, Tells}
+use Rattle.tai_status.specs.Counted.{Device, Reports}
 use Rattle.scan_table.specs.Slots.{Row}
 use Rattle.scan_table.specs.declared.fault.ScanFault.{ScanFault}
 use Rattle.scan_table.specs.declared.fault.ScanFault.TheVariants.{Unsorted, Twice, Exhausted, OutOfMemory}
-use Rattle.cmd_base.specs.Told.{usage_text}
+use Rattle.cmd_base.specs.Usage.{usage_text}
 use Rattle.cmd_base.specs.Causes.{cause_words}
 use Rattle.cmd_base.specs.declared.cause.Cause.{Cause}
 use Rattle.svc_host.specs.declared.maker.PartFault.{PartFault}
@@ -28,7 +28,7 @@ use Rattle.cmd_svscan.specs.Orders.{Rest, Decides}
 use Rattle.tai_status.specs.Extended.{Extended}
 use Rattle.cmd_svscan.specs.Words.{Asks, AskNothing}
 
--- What svscan works with: the calls that were made, and where it tells faults.
+-- What svscan works with: the calls that were made, and where it reports faults.
 pub record Effects : Type 0 where
   pub calls : Option (List Call)
   pub faults : Device
@@ -69,14 +69,14 @@ kind_name (Twice place) = codes "Twice"
 kind_name Exhausted = codes "Exhausted"
 kind_name OutOfMemory = codes "OutOfMemory"
 
--- what is told of a folder that was not listed
+-- what is reported of a folder that was not listed
 abbrev pub unlisted : ListFault → List ℕ
 unlisted list.Unlisted = codes "svscan: unable to list" ++ 10 ∷ []
 unlisted list.OutOfMemory = codes "svscan: OutOfMemory" ++ 10 ∷ []
 
--- what is told of a name
-abbrev pub name_told : (what : List ℕ) (name : List ℕ) → List ℕ
-name_told what name = codes "svscan: " ++ (name ++ what)
+-- what is reported of a name
+abbrev pub name_report : (what : List ℕ) (name : List ℕ) → List ℕ
+name_report what name = codes "svscan: " ++ (name ++ what)
 
 abbrev pub too_many : List ℕ
 too_many = codes ": TooMany" ++ 10 ∷ []
@@ -90,25 +90,25 @@ abbrev pub not_made : PartFault → List ℕ
 not_made part.Locked = codes ": unable to lock" ++ 10 ∷ []
 not_made (part.Refused cause) = unable_to_supervise cause
 
-abbrev pub unmade_told : Unmade → List ℕ
-unmade_told unmade = name_told (not_made unmade.fault) unmade.name
+abbrev pub unmade_report : Unmade → List ℕ
+unmade_report unmade = name_report (not_made unmade.fault) unmade.name
 
 -- so many control bytes were not taken
 abbrev pub not_taken : ℕ → List ℕ
 not_taken count = codes ": " ++ (decimal count ++ (codes " bytes were not taken" ++ 10 ∷ []))
 
-abbrev pub untaken_told : Untaken → List ℕ
-untaken_told untaken = name_told (not_taken untaken.count) untaken.name
+abbrev pub untaken_report : Untaken → List ℕ
+untaken_report untaken = name_report (not_taken untaken.count) untaken.name
 
 abbrev pub unable_to_trace : List ℕ
 unable_to_trace = codes ": unable to write the trace" ++ 10 ∷ []
 
--- what is told of what was lost, and of what a round could not do
+-- what is reported of what was lost, and of what a round could not do
 abbrev pub lines_of_out : RoundOut → List (List ℕ)
 lines_of_out out =
-    map untaken_told out.untaken.items
-    ++ (map (name_told unable_to_trace) out.untraced
-    ++ (map (name_told too_many) out.refused ++ map unmade_told out.unmade.items))
+    map untaken_report out.untaken.items
+    ++ (map (name_report unable_to_trace) out.untraced
+    ++ (map (name_report too_many) out.refused ++ map unmade_report out.unmade.items))
 
 -- so many names are not text
 abbrev pub not_text : ℕ → List ℕ
@@ -127,28 +127,28 @@ abbrev pub lines_of_shortage : Option Shortage → List (List ℕ)
 lines_of_shortage None = []
 lines_of_shortage (Some shortage) = too_few shortage ∷ []
 
--- what is told of what a folder has
+-- what is reported of what a folder has
 abbrev pub lines_of_listing : (unnamed : ℕ) → Option Shortage → List (List ℕ)
 lines_of_listing unnamed shortage = lines_of_unnamed unnamed ++ lines_of_shortage shortage
 
 abbrev pub lines_of_fault : ScanFault → List (List ℕ)
 lines_of_fault fault = (codes "svscan: " ++ (kind_name fault ++ 10 ∷ [])) ∷ []
 
--- the lines that a round tells
+-- the lines that a round reports
 abbrev pub lines_of : Round → List (List ℕ)
 lines_of (Unlisted fault) = unlisted fault ∷ []
 lines_of (Scan listing out) = lines_of_listing listing.unnamed listing.shortage ++ lines_of_out out
 lines_of (Fails listing fault) = lines_of_listing listing.unnamed listing.shortage ++ lines_of_fault fault
 
--- These lines were told, one after the other.
-abbrev pub TellsAll : List (List ℕ) → (old new : Device) → Type 0
-TellsAll [] old new = new ≡ old
-TellsAll (line ∷ lines) old new = (middle : Device) × (Tells old middle line × TellsAll lines middle new)
+-- These lines were reported, one after the other.
+abbrev pub ReportsAll : List (List ℕ) → (old new : Device) → Type 0
+ReportsAll [] old new = new ≡ old
+ReportsAll (line ∷ lines) old new = (middle : Device) × (Reports old middle line × ReportsAll lines middle new)
 
 -- This round was made, and nothing else.
 pub record Makes (folder : List ℕ) (round : Round) (old new : Effects) : Type 0 where
   pub calls : Extended old.calls new.calls (calls_of folder round)
-  pub told : TellsAll (lines_of round) old.faults new.faults
+  pub reported : ReportsAll (lines_of round) old.faults new.faults
 
 -- A round was made, and this is whether svscan goes on.
 abbrev pub TakesRound : (folder : List ℕ) (on : Bool) (old new : Effects) → Type 0
@@ -178,39 +178,39 @@ lines_of_turn turn = lines_of turn.round
 abbrev pub still_runs : ℕ → List ℕ
 still_runs pid = codes ": process " ++ (decimal pid ++ (codes " still runs" ++ 10 ∷ []))
 
-abbrev pub remaining_told : Remaining → List ℕ
-remaining_told remaining = name_told (still_runs remaining.pid) remaining.name
+abbrev pub remaining_report : Remaining → List ℕ
+remaining_report remaining = name_report (still_runs remaining.pid) remaining.name
 
 -- so many bytes were not logged
 abbrev pub not_logged : ℕ → List ℕ
 not_logged count = codes ": " ++ (decimal count ++ (codes " bytes were not logged" ++ 10 ∷ []))
 
-abbrev pub unlogged_told : Unlogged → List ℕ
-unlogged_told unlogged = name_told (not_logged unlogged.count) unlogged.name
+abbrev pub unlogged_report : Unlogged → List ℕ
+unlogged_report unlogged = name_report (not_logged unlogged.count) unlogged.name
 
 -- How a run closes behind its last round: all services are ended, and meanwhile these still ran each five seconds; or
 -- that was asked for in a rest; or svscan's own end was. In the end it leaves the services, and these bytes were not
 -- logged.
 pub data Close : Type 0 where
   Ends : (left : List (List Remaining)) → (unlogged : List Unlogged) → Close
-  EndsAsTold : (rest : Rest) → (left : List (List Remaining)) → (unlogged : List Unlogged) → Close
-  LeavesAsTold : (rest : Rest) → (unlogged : List Unlogged) → Close
+  EndsAsAsked : (rest : Rest) → (left : List (List Remaining)) → (unlogged : List Unlogged) → Close
+  LeavesAsAsked : (rest : Rest) → (unlogged : List Unlogged) → Close
 
 abbrev pub calls_of_end : List (List Remaining) → List Unlogged → List Call
 calls_of_end left unlogged = map (λ some. Ended (Some some)) left ++ Ended None ∷ Left unlogged ∷ []
 
 abbrev pub calls_of_close : Close → List Call
 calls_of_close (Ends left unlogged) = calls_of_end left unlogged
-calls_of_close (EndsAsTold rest left unlogged) = calls_of_rest rest ++ calls_of_end left unlogged
-calls_of_close (LeavesAsTold rest unlogged) = calls_of_rest rest ++ Left unlogged ∷ []
+calls_of_close (EndsAsAsked rest left unlogged) = calls_of_rest rest ++ calls_of_end left unlogged
+calls_of_close (LeavesAsAsked rest unlogged) = calls_of_rest rest ++ Left unlogged ∷ []
 
 abbrev pub lines_of_end : List (List Remaining) → List Unlogged → List (List ℕ)
-lines_of_end left unlogged = flat_map (map remaining_told) left ++ map unlogged_told unlogged
+lines_of_end left unlogged = flat_map (map remaining_report) left ++ map unlogged_report unlogged
 
 abbrev pub lines_of_close : Close → List (List ℕ)
 lines_of_close (Ends left unlogged) = lines_of_end left unlogged
-lines_of_close (EndsAsTold rest left unlogged) = lines_of_end left unlogged
-lines_of_close (LeavesAsTold rest unlogged) = map unlogged_told unlogged
+lines_of_close (EndsAsAsked rest left unlogged) = lines_of_end left unlogged
+lines_of_close (LeavesAsAsked rest unlogged) = map unlogged_report unlogged
 
 -- A rest was taken, after which this is next.
 pub record Rests (order : Order) (old new : Option (List Call)) : Type 0 where
@@ -222,24 +222,24 @@ pub record Rests (order : Order) (old new : Option (List Call)) : Type 0 where
 pub record Leaves (old new : Effects) : Type 0 where
   pub unlogged : List Unlogged
   pub calls : Extended old.calls new.calls (Left unlogged ∷ [])
-  pub told : TellsAll (map unlogged_told unlogged) old.faults new.faults
+  pub reported : ReportsAll (map unlogged_report unlogged) old.faults new.faults
 
 -- All services ended, and then they were left.
 pub record EndsAll (old new : Effects) : Type 0 where
   pub left : List (List Remaining)
   pub unlogged : List Unlogged
   pub calls : Extended old.calls new.calls (calls_of_end left unlogged)
-  pub told : TellsAll (lines_of_end left unlogged) old.faults new.faults
+  pub reported : ReportsAll (lines_of_end left unlogged) old.faults new.faults
 
--- How it ends with its last round, of so many in all: with status 0 after as many as were asked for, or as it was told
+-- How it ends with its last round, of so many in all: with status 0 after as many as were asked for, or as it was asked
 -- in the rest behind it; or with status 111, where that round doesn't go on.
 abbrev pub EndsBy : (limit : Option ℕ) (count : ℕ) (last : Round) (close : Close) (status : ℕ) → Type 0
 EndsBy limit count last (Ends left unlogged) status =
     ((status ≡ 0) × GoesOn last × (limit ≡ Some count))
     ⊎ ((status ≡ 111) × (GoesOn last → ⊥) × IfSome limit (λ rounds. count ≤ rounds))
-EndsBy limit count last (EndsAsTold rest left unlogged) status =
+EndsBy limit count last (EndsAsAsked rest left unlogged) status =
     (status ≡ 0) × GoesOn last × Decides rest order.End
-EndsBy limit count last (LeavesAsTold rest unlogged) status =
+EndsBy limit count last (LeavesAsAsked rest unlogged) status =
     (status ≡ 0) × GoesOn last × Decides rest order.Leave
 
 -- Rounds that go on, each followed by a rest, and then the last one and the close.
@@ -250,13 +250,13 @@ pub record Runs (folder : List ℕ) (limit : Option ℕ) (status : ℕ) (old new
   pub followed : All IsFollowed turns
   pub calls : Extended old.calls new.calls
       (flat_map (calls_of_turn folder) turns ++ (calls_of folder last ++ calls_of_close close))
-  pub told : TellsAll (flat_map lines_of_turn turns ++ (lines_of last ++ lines_of_close close)) old.faults new.faults
+  pub reported : ReportsAll (flat_map lines_of_turn turns ++ (lines_of last ++ lines_of_close close)) old.faults new.faults
   pub ends : EndsBy limit (length turns + 1) last close status
 
--- What is told where svscan is to be served in a folder.
+-- What is reported where svscan is to be served in a folder.
 abbrev pub lines_of_begun : (folder : List ℕ) → Begun → List (List ℕ)
 lines_of_begun folder Served = []
-lines_of_begun folder (Unserved cause) = name_told (unable_to_supervise cause) (codes ".svscan") ∷ []
+lines_of_begun folder (Unserved cause) = name_report (unable_to_supervise cause) (codes ".svscan") ∷ []
 lines_of_begun folder Locked = (codes "svscan: unable to lock " ++ (folder ++ 10 ∷ [])) ∷ []
 
 -- It runs, unless another svscan has the folder.
@@ -269,15 +269,15 @@ pub record BeginsAndRuns (folder : List ℕ) (limit : Option ℕ) (status : ℕ)
   pub begun : Begun
   pub middle : Effects
   pub calls : Extended old.calls middle.calls (Began folder begun ∷ [])
-  pub told : TellsAll (lines_of_begun folder begun) old.faults middle.faults
+  pub reported : ReportsAll (lines_of_begun folder begun) old.faults middle.faults
   pub runs : RunsUnlessLocked begun folder limit status middle new
 
--- Words that ask for nothing: the usage is told, and nothing is asked of the system.
+-- Words that ask for nothing: the usage is reported, and nothing is asked of the system.
 pub record RefusesWords (words : List (List ℕ)) (status : ℕ) (old new : Effects) : Type 0 where
   pub wrong : AskNothing words
   pub status_is : status ≡ 100
   pub unasked : new.calls ≡ old.calls
-  pub told : Tells old.faults new.faults usage_text
+  pub reported : Reports old.faults new.faults usage_text
 
 -- It runs as its words ask.
 pub record RunsWords (words : List (List ℕ)) (status : ℕ) (old new : Effects) : Type 0 where

@@ -2,7 +2,7 @@
 use Rattle.std.specs.Prelude.{◌≡◌, ℕ, ◌<◌, ◌^◌, List, [], ◌∷◌, codes, decimal, Option, None, MatchOption}
 
 -- The word is the decimal text of a number of rounds, 1 to 4294967295.
-pub record TellsRounds (word : List ℕ) (number : ℕ) : Type 0 where
+pub record ReportsRounds (word : List ℕ) (number : ℕ) : Type 0 where
   pub is : word ≡ decimal number
   pub some : 0 < number
   pub below : number < 2 ^ 32
@@ -11,7 +11,7 @@ pub record TellsRounds (word : List ℕ) (number : ℕ) : Type 0 where
 abbrev pub Asks : (words : List (List ℕ)) (folder : List ℕ) (limit : Option ℕ) → Type 0
 Asks [] folder limit = (folder ≡ codes ".") × (limit ≡ None)
 Asks (dir ∷ []) folder limit = (folder ≡ dir) × (limit ≡ None)
-Asks (dir ∷ number ∷ []) folder limit = (folder ≡ dir) × MatchOption limit ⊥ (λ rounds. TellsRounds number rounds)
+Asks (dir ∷ number ∷ []) folder limit = (folder ≡ dir) × MatchOption limit ⊥ (λ rounds. ReportsRounds number rounds)
 Asks (dir ∷ number ∷ other ∷ words) folder limit = ⊥
 
 -- They ask for nothing.

@@ -629,7 +629,7 @@ where
     }
 }
 
-/// Keeps the services of a folder of this system running, by requests to what has their host. It tells contracts
+/// Keeps the services of a folder of this system running, by requests to what has their host. It reports contracts
 /// nothing of its calls.
 ///
 /// That is a function, and not the host itself, since a trait's method can't make threads here.

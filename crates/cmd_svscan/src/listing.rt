@@ -74,7 +74,7 @@ pub struct FolderNames {
     state: Option<FolderState>,
 }
 
-/// The state of the folder at a path, where it can be told.
+/// The state of the folder at a path, where it can be reported.
 fn state_of<R: Files>(rt: &R, path: &str) -> Option<FolderState> {
     let found = fs::metadata(rt, path).ok()?;
     let seconds = u64::try_from(found.mtime()).ok()?;
@@ -86,7 +86,7 @@ fn state_of<R: Files>(rt: &R, path: &str) -> Option<FolderState> {
     })
 }
 
-/// Whether a folder that changed last then, changes its time by another change now: some systems tell whole seconds, or
+/// Whether a folder that changed last then, changes its time by another change now: some systems report whole seconds, or
 /// every second one.
 fn is_past(changed: Label, now: Label) -> bool {
     changed.plus_second().plus_second() < now

@@ -1,13 +1,13 @@
 //! The command `svscan`.
 ghost use Rattle.std.specs.Prelude.{◌≡◌, ◌<◌, ◌++◌, ◌∷◌, [], ℕ, map, true, false, IfSome};
-ghost use Rattle.tai_status.specs.Counted.{Tells};
+ghost use Rattle.tai_status.specs.Counted.{Reports};
 ghost use Rattle.tai_status.specs.Extended.{Extended};
-ghost use Rattle.cmd_svscan.specs.Rounds.{effects, kind_name, name_told, not_taken, unlisted, untaken_told};
+ghost use Rattle.cmd_svscan.specs.Rounds.{effects, kind_name, name_report, not_taken, unlisted, untaken_report};
 ghost use Rattle.cmd_svscan.specs.Rounds.{lines_of_listing, lines_of_out, lines_of_shortage, lines_of_unnamed};
-ghost use Rattle.cmd_svscan.specs.Rounds.{lines_of_begun, not_logged, remaining_told, still_runs, unlogged_told};
-ghost use Rattle.cmd_svscan.specs.Rounds.{not_made, not_text, too_few, unable_to_supervise, unmade_told};
+ghost use Rattle.cmd_svscan.specs.Rounds.{lines_of_begun, not_logged, remaining_report, still_runs, unlogged_report};
+ghost use Rattle.cmd_svscan.specs.Rounds.{not_made, not_text, too_few, unable_to_supervise, unmade_report};
 ghost use Rattle.cmd_svscan.specs.Rounds.{BeginsAndRuns, EndsAll, Leaves, Rests, Runs, SvscanEnds, TakesRound};
-ghost use Rattle.cmd_svscan.specs.Rounds.{TellsAll};
+ghost use Rattle.cmd_svscan.specs.Rounds.{ReportsAll};
 
 use crate::orders::{Order, order_of};
 use crate::service_set::{
@@ -36,14 +36,14 @@ fn kind(fault: ScanFault) -> &'static [u8]
 
 /// Reports names, a line for each.
 fn report_names<E: Write>(names: &[Name], what: &[u8], faults: &mut Output<E>)
-    ensures { TellsAll (map (name_told what.now) names.now) faults.old faults.new }
+    ensures { ReportsAll (map (name_report what.now) names.now) faults.old faults.new }
 {
     for name in names {
         report_parts(faults, b"svscan: ", name.as_str().as_bytes(), what, DONE);
     }
 }
 
-/// What is told of so many control bytes, behind a part's name.
+/// What is reported of so many control bytes, behind a part's name.
 fn not_taken(count: u64) -> ArrayString<64>
     ensures { result.bytes ≡ not_taken count }
 {
@@ -56,7 +56,7 @@ fn not_taken(count: u64) -> ArrayString<64>
 
 /// Reports control bytes that were not taken, a line for each part.
 fn report_untaken<E: Write>(all: &[Untaken], faults: &mut Output<E>)
-    ensures { TellsAll (map untaken_told all.now) faults.old faults.new }
+    ensures { ReportsAll (map untaken_report all.now) faults.old faults.new }
 {
     for untaken in all {
         let text = not_taken(untaken.count);
@@ -65,7 +65,7 @@ fn report_untaken<E: Write>(all: &[Untaken], faults: &mut Output<E>)
     }
 }
 
-/// What is told of a part that can't be supervised, behind its name.
+/// What is reported of a part that can't be supervised, behind its name.
 fn unable_to_supervise(cause: Cause) -> ArrayString<64>
     ensures { result.bytes ≡ unable_to_supervise cause }
 {
@@ -76,7 +76,7 @@ fn unable_to_supervise(cause: Cause) -> ArrayString<64>
     text
 }
 
-/// What is told of a part that was not made, behind its name.
+/// What is reported of a part that was not made, behind its name.
 fn not_made(fault: PartFault) -> ArrayString<64>
     ensures { result.bytes ≡ not_made fault }
 {
@@ -92,7 +92,7 @@ fn not_made(fault: PartFault) -> ArrayString<64>
 
 /// Reports parts that were not made, a line for each.
 fn report_unmade<E: Write>(all: &[Unmade], faults: &mut Output<E>)
-    ensures { TellsAll (map unmade_told all.now) faults.old faults.new }
+    ensures { ReportsAll (map unmade_report all.now) faults.old faults.new }
 {
     for unmade in all {
         let text = not_made(unmade.fault);
@@ -101,7 +101,7 @@ fn report_unmade<E: Write>(all: &[Unmade], faults: &mut Output<E>)
     }
 }
 
-/// What is told of so many names that are not text.
+/// What is reported of so many names that are not text.
 fn not_text(count: u64) -> ArrayString<64>
     ensures { result.bytes ≡ not_text count }
 {
@@ -114,14 +114,14 @@ fn not_text(count: u64) -> ArrayString<64>
 
 /// Reports names that are not text.
 fn report_unnamed<E: Write>(count: u64, faults: &mut Output<E>)
-    ensures { TellsAll (lines_of_unnamed count) faults.old faults.new }
+    ensures { ReportsAll (lines_of_unnamed count) faults.old faults.new }
 {
     if count > 0 {
         print_fault(faults, not_text(count).as_bytes());
     }
 }
 
-/// What is told where there are too few descriptors.
+/// What is reported where there are too few descriptors.
 fn too_few(shortage: Shortage) -> ArrayString<128>
     ensures { result.bytes ≡ too_few shortage }
 {
@@ -136,7 +136,7 @@ fn too_few(shortage: Shortage) -> ArrayString<128>
 
 /// Reports that there are too few descriptors, where that is so.
 fn report_shortage<E: Write>(shortage: Option<Shortage>, faults: &mut Output<E>)
-    ensures { TellsAll (lines_of_shortage shortage) faults.old faults.new }
+    ensures { ReportsAll (lines_of_shortage shortage) faults.old faults.new }
 {
     if let Some(shortage) = shortage {
         print_fault(faults, too_few(shortage).as_bytes());
@@ -145,7 +145,7 @@ fn report_shortage<E: Write>(shortage: Option<Shortage>, faults: &mut Output<E>)
 
 /// Reports what is amiss with what a folder has.
 fn report_listing<E: Write>(unnamed: u64, shortage: Option<Shortage>, faults: &mut Output<E>)
-    ensures { TellsAll (lines_of_listing unnamed shortage) faults.old faults.new }
+    ensures { ReportsAll (lines_of_listing unnamed shortage) faults.old faults.new }
 {
     report_unnamed(unnamed, faults);
     report_shortage(shortage, faults);
@@ -153,7 +153,7 @@ fn report_listing<E: Write>(unnamed: u64, shortage: Option<Shortage>, faults: &m
 
 /// Reports what was lost, and what a round could not do.
 fn report_out<E: Write>(out: &RoundOut, faults: &mut Output<E>)
-    ensures { TellsAll (lines_of_out out.now) faults.old faults.new }
+    ensures { ReportsAll (lines_of_out out.now) faults.old faults.new }
 {
     report_untaken(&out.untaken, faults);
     report_names(
@@ -165,7 +165,7 @@ fn report_out<E: Write>(out: &RoundOut, faults: &mut Output<E>)
     report_unmade(&out.unmade, faults);
 }
 
-/// What is told of a folder that was not listed.
+/// What is reported of a folder that was not listed.
 fn unlisted(fault: ListFault) -> &'static [u8]
     ensures { result.now ≡ unlisted fault }
 {
@@ -175,7 +175,7 @@ fn unlisted(fault: ListFault) -> &'static [u8]
     }
 }
 
-/// One round: lists the folder, scans its rows, and tells what could not be done. Answers whether svscan goes on.
+/// One round: lists the folder, scans its rows, and says what could not be done. Answers whether svscan goes on.
 fn take_round<K: ServiceSet, E: Write>(
     services: &mut K,
     folder: &str,
@@ -210,7 +210,7 @@ fn take_round<K: ServiceSet, E: Write>(
     }
 }
 
-/// What is told of a process that still runs, behind its part's name.
+/// What is reported of a process that still runs, behind its part's name.
 fn still_runs(pid: u32) -> ArrayString<64>
     ensures { result.bytes ≡ still_runs pid }
 {
@@ -223,7 +223,7 @@ fn still_runs(pid: u32) -> ArrayString<64>
 
 /// Reports processes that still run, a line for each.
 fn report_remaining<E: Write>(all: &[Remaining], faults: &mut Output<E>)
-    ensures { TellsAll (map remaining_told all.now) faults.old faults.new }
+    ensures { ReportsAll (map remaining_report all.now) faults.old faults.new }
 {
     for remaining in all {
         let text = still_runs(remaining.pid);
@@ -232,7 +232,7 @@ fn report_remaining<E: Write>(all: &[Remaining], faults: &mut Output<E>)
     }
 }
 
-/// What is told of so many bytes that were not logged, behind a service's name.
+/// What is reported of so many bytes that were not logged, behind a service's name.
 fn not_logged(count: u64) -> ArrayString<64>
     ensures { result.bytes ≡ not_logged count }
 {
@@ -245,7 +245,7 @@ fn not_logged(count: u64) -> ArrayString<64>
 
 /// Reports bytes that were not logged, a line for each service.
 fn report_unlogged<E: Write>(all: &[Unlogged], faults: &mut Output<E>)
-    ensures { TellsAll (map unlogged_told all.now) faults.old faults.new }
+    ensures { ReportsAll (map unlogged_report all.now) faults.old faults.new }
 {
     for unlogged in all {
         let text = not_logged(unlogged.count);
@@ -273,7 +273,7 @@ fn rest<R: Wait, K: ServiceSet>(rt: &R, services: &mut K) -> Order
     unreachable!()
 }
 
-/// The services are left, and what was not logged is told.
+/// The services are left, and what was not logged is reported.
 fn leave<K: ServiceSet, E: Write>(services: &mut K, faults: &mut Output<E>)
     requires ready { K.ready services.old }
     ensures ready { K.ready services.new }
@@ -284,7 +284,7 @@ fn leave<K: ServiceSet, E: Write>(services: &mut K, faults: &mut Output<E>)
     report_unlogged(&unlogged, faults);
 }
 
-/// All services end, in order. What still runs is told each five seconds, and in the end what was not logged.
+/// All services end, in order. What still runs is reported each five seconds, and in the end what was not logged.
 fn end_all<R: Wait, K: ServiceSet, E: Write>(rt: &R, services: &mut K, faults: &mut Output<E>)
     requires ready { K.ready services.old }
     ensures ready { K.ready services.new }
@@ -344,9 +344,9 @@ fn take_rounds<R: Wait, K: ServiceSet, E: Write>(
     unreachable!()
 }
 
-/// Tells whether svscan itself is served in a folder.
+/// Says whether svscan itself is served in a folder.
 fn report_begun<E: Write>(folder: &str, begun: Begun, faults: &mut Output<E>)
-    ensures { TellsAll (lines_of_begun folder.now begun) faults.old faults.new }
+    ensures { ReportsAll (lines_of_begun folder.now begun) faults.old faults.new }
 {
     match begun {
         Begun::Served => {}
@@ -394,7 +394,7 @@ fn begin_and_run<R: Wait, K: ServiceSet, E: Write>(
 /// first of these two counts. With N, which is 1 to 4294967295 without leading zeros, it ends all services after N
 /// rounds; else it doesn't come back, unless by these two or a fault.
 ///
-/// Told on `faults`: `svscan: unable to lock DIR`, where another svscan has the folder; `svscan: .svscan: unable to
+/// Reported on `faults`: `svscan: unable to lock DIR`, where another svscan has the folder; `svscan: .svscan: unable to
 /// supervise: CAUSE`, where it can't be served itself; `svscan: unable to list`, where the folder can't be read, and
 /// `svscan: OutOfMemory` of want of memory: the round does nothing more, and the next one tries again; `svscan: N names
 /// are not text` of names that get no service; `svscan: N descriptors are needed, M are allowed`, where the first

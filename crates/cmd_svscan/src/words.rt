@@ -1,6 +1,6 @@
 //! The words of `svscan`.
 ghost use Rattle.std.specs.Prelude.{◌≡◌, ℕ, map, MatchOption, ⊤, IfSome};
-ghost use Rattle.cmd_svscan.specs.Words.{TellsRounds, Asks, AskNothing};
+ghost use Rattle.cmd_svscan.specs.Words.{ReportsRounds, Asks, AskNothing};
 
 use sup_core::read_number;
 
@@ -12,11 +12,11 @@ pub struct Options<'a> {
     pub rounds: Option<u32>,
 }
 
-/// The number of rounds that a word tells.
+/// The number of rounds that a word says.
 fn read_rounds(word: &str) -> Option<u32>
     ensures { MatchOption result
-        ((number : ℕ) → TellsRounds word.now number → ⊥)
-        (λ number. TellsRounds word.now number) }
+        ((number : ℕ) → ReportsRounds word.now number → ⊥)
+        (λ number. ReportsRounds word.now number) }
 {
     let number = read_number(word.as_bytes())?;
     if number == 0 {

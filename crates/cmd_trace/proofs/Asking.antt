@@ -2,10 +2,10 @@
 use Rattle.std.proofs.Common.{◌≡◌, ◌<◌, ◌∙◌, List, ℕ, Bool, [], ◌∷◌, length, map, Option, None, sym, arith, inl}
 use Rattle.std.specs.Prelude.{ℤ}
 use Rattle.sup_trace.specs.declared.breaks.Break.{Break}
-use Rattle.tai_status.specs.Counted.{Device, Tells}
+use Rattle.tai_status.specs.Counted.{Device, Reports}
 use Rattle.trace_words.specs.Words.{asked_of}
 use Rattle.trace_words.proofs.Examples.{no_word}
-use Rattle.cmd_base.specs.Told.{usage_text}
+use Rattle.cmd_base.specs.Usage.{usage_text}
 use Rattle.cmd_trace.specs.Traced.{AskFor, DoesAsked, TraceEnds}
 
 -- where the command line takes no words, they ask for no file
@@ -16,22 +16,22 @@ asks_nothing words none file at local asked = let never = sym none ∙ asked.1.0
 -- no words at all
 pub ends_without_words : {W : Type 0} (text : W → List ℕ) (words : List W) (ahead : ℤ → ℤ) (file_at : List ℕ
     → Option (List ℕ))
-    (status : ℕ) (writer writes faults tells : Device) → length words ≡ 0 → status ≡ 100 → writes ≡ writer
-    → Tells faults tells usage_text
-    → TraceEnds ahead file_at (map text words) status writer writes faults tells
-ends_without_words text [] ahead file_at status writer writes faults tells none is unwritten told = record {
+    (status : ℕ) (writer writes faults reports : Device) → length words ≡ 0 → status ≡ 100 → writes ≡ writer
+    → Reports faults reports usage_text
+    → TraceEnds ahead file_at (map text words) status writer writes faults reports
+ends_without_words text [] ahead file_at status writer writes faults reports none is unwritten reported = record {
   wrong = asks_nothing [] no_word;
   unwritten = unwritten;
-  told = told;
+  reported = content;
   status_is = is;
 }
-ends_without_words text (word ∷ words) ahead file_at status writer writes faults tells none is unwritten told =
+ends_without_words text (word ∷ words) ahead file_at status writer writes faults reports none is unwritten reported =
     absurd (omega (arith, none))
 
 -- words that ask for something
 pub ends_asked : {W : Type 0} (text : W → List ℕ) (words : List W) (ahead : ℤ → ℤ) (file_at : List ℕ → Option (List ℕ))
-    (status : ℕ) (writer writes faults tells : Device) → 0 < length words
-    → DoesAsked ahead file_at (map text words) status writer writes faults tells
-    → TraceEnds ahead file_at (map text words) status writer writes faults tells
-ends_asked text [] ahead file_at status writer writes faults tells some does = absurd (omega (arith, some))
-ends_asked text (word ∷ words) ahead file_at status writer writes faults tells some does = inl does
+    (status : ℕ) (writer writes faults reports : Device) → 0 < length words
+    → DoesAsked ahead file_at (map text words) status writer writes faults reports
+    → TraceEnds ahead file_at (map text words) status writer writes faults reports
+ends_asked text [] ahead file_at status writer writes faults reports some does = absurd (omega (arith, some))
+ends_asked text (word ∷ words) ahead file_at status writer writes faults reports some does = inl does

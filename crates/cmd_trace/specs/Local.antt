@@ -16,7 +16,7 @@ use Rattle.sup_core.specs.State.{State}
 use Rattle.sup_core.specs.History.{History, state_of}
 use Rattle.sup_core.specs.Rules.{next, reply_to}
 use Rattle.sup_core.specs.Text.{byte_text, signal_name}
-use Rattle.sup_trace.specs.Told.{Told, replay_of}
+use Rattle.sup_trace.specs.Content.{Content, replay_of}
 use Rattle.sup_trace.specs.Explained.{before}
 use Rattle.cmd_base.specs.Printed.{printed}
 use Rattle.cmd_local.specs.Digits.{nine_digits}
@@ -52,7 +52,7 @@ want_words want.Once = codes ", wanted once"
 abbrev pub exiting_words : (exiting : Bool) → List ℕ
 exiting_words exiting = if exiting then codes ", exiting" else []
 
--- What the record of a machine tells, as `up 4711, paused, wanted down, exiting, since 2026-11-25 01:33:02.123456789`:
+-- What the record of a machine reports, as `up 4711, paused, wanted down, exiting, since 2026-11-25 01:33:02.123456789`:
 -- its process; whether that is paused; what is wanted; whether supervise is to end; and the last change of process.
 unfoldable pub record_words : (ahead : ℤ → ℤ) → State → List ℕ
 record_words ahead state =
@@ -107,15 +107,15 @@ AddsEntry result ahead number machine event old new =
     → OnOk result (new ≡ old ++ local_line ahead number past event ++ 10 ∷ [])
 
 -- a line for each entry, numbered from 1
-abbrev pub local_lines : (ahead : ℤ → ℤ) → Told → List (List ℕ)
-local_lines ahead told =
-    map (λ placed. local_line ahead (placed.0 + 1) (before told placed.0) placed.1) (enumerate_from 0 told.entries)
+abbrev pub local_lines : (ahead : ℤ → ℤ) → Content → List (List ℕ)
+local_lines ahead content =
+    map (λ placed. local_line ahead (placed.0 + 1) (before content placed.0) placed.1) (enumerate_from 0 content.entries)
 
--- the line on the machine after the entries: its phase, and what its record tells
+-- the line on the machine after the entries: its phase, and what its record says
 abbrev pub local_state : (ahead : ℤ → ℤ) → State → List ℕ
 local_state ahead state =
     codes "state " ++ phase_name state.phase ++ codes " (" ++ record_words ahead state ++ codes ")" ++ 10 ∷ []
 
 -- a line for each entry, and one on the machine after them
-abbrev pub local_explanation : (ahead : ℤ → ℤ) → Told → List ℕ
-local_explanation ahead told = printed (local_lines ahead told) ++ local_state ahead (replay_of told)
+abbrev pub local_explanation : (ahead : ℤ → ℤ) → Content → List ℕ
+local_explanation ahead content = printed (local_lines ahead content) ++ local_state ahead (replay_of content)

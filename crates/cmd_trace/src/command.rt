@@ -1,8 +1,8 @@
 //! The command `trace`.
 ghost use Rattle.std.specs.Prelude.{◌≡◌, None, OnOk, IfErr};
-ghost use Rattle.tai_status.specs.Counted.{Works, Tells};
+ghost use Rattle.tai_status.specs.Counted.{Works, Reports};
 ghost use Rattle.cmd_local.specs.Ends.{texts};
-ghost use Rattle.cmd_trace.specs.Traced.{FileEnds, Shows, TellsMissed, TextEnds, TraceCause, TraceEnds};
+ghost use Rattle.cmd_trace.specs.Traced.{FileEnds, Shows, ReportsMissed, TextEnds, TraceCause, TraceEnds};
 ghost use Rattle.cmd_trace.specs.Traced.{times_asked, times_in, trouble_text, unread_text};
 
 use crate::break_word::read_spec;
@@ -31,11 +31,11 @@ fn show_text<A: Allocator + Clone + Copy, W: Write, Z: Zone>(
     ensures cause { IfErr result (λ trouble.
         TraceCause (times_in Z.ahead_at zone.entry) trouble text.now at writer.old writer.new) }
 {
-    let told = match read_text(alloc, text) {
-        Ok(told) => told,
+    let content = match read_text(alloc, text) {
+        Ok(content) => content,
         Err(fault) => return Err(TraceTrouble::Refused(fault)),
     };
-    let Ok(shown) = shown(alloc, zone, &told, at) else {
+    let Ok(shown) = shown(alloc, zone, &content, at) else {
         return Err(TraceTrouble::OutOfMemory);
     };
     match writer.write_all(&shown) {
@@ -44,7 +44,7 @@ fn show_text<A: Allocator + Clone + Copy, W: Write, Z: Zone>(
     }
 }
 
-/// What is told of trouble.
+/// What is reported of trouble.
 fn trouble_text(trouble: TraceTrouble) -> ArrayString<64>
     ensures { result.bytes ≡ trouble_text trouble }
 {
@@ -63,15 +63,15 @@ fn trouble_text(trouble: TraceTrouble) -> ArrayString<64>
     out
 }
 
-/// Tells trouble, and answers its status.
+/// Reports trouble, and answers its status.
 fn report_trouble<E: Write>(trouble: TraceTrouble, faults: &mut Output<E>) -> u8
     ensures status { result ≡ 111 }
-    ensures told { Tells faults.old faults.new (trouble_text trouble) }
+    ensures reported { Reports faults.old faults.new (trouble_text trouble) }
 {
     report(faults, trouble_text(trouble).as_bytes(), TROUBLE)
 }
 
-/// Prints what this text tells, with the local times of a zone where there is one, and answers the status.
+/// Prints what this text says, with the local times of a zone where there is one, and answers the status.
 fn show_bytes<A: Allocator + Clone + Copy, W: Write, E: Write, Z: Zone>(
     alloc: A,
     zone: Option<&Z>,
@@ -89,8 +89,8 @@ fn show_bytes<A: Allocator + Clone + Copy, W: Write, E: Write, Z: Zone>(
     }
 }
 
-/// Prints what this text tells, with labels, and answers the status: 0; or 111 for a text that is refused, for want of
-/// memory and for a fault of the writer. A text that is refused is told as such, however little memory there is. The
+/// Prints what this text says, with labels, and answers the status: 0; or 111 for a text that is refused, for want of
+/// memory and for a fault of the writer. A text that is refused is reported as such, however little memory there is. The
 /// allocator is one of which a copy takes none, as the program's own.
 pub fn trace_bytes<A: Allocator + Clone + Copy, W: Write, E: Write>(
     alloc: A,
@@ -105,7 +105,7 @@ pub fn trace_bytes<A: Allocator + Clone + Copy, W: Write, E: Write>(
     show_bytes(alloc, no_zone, text, at, writer, faults)
 }
 
-/// Prints what the text in a file tells, with the local times of a zone where there is one, and answers the status:
+/// Prints what the text in a file says, with the local times of a zone where there is one, and answers the status:
 /// that of `trace_bytes`, and 111 for a file that can't be read.
 fn trace_file<R: FileSource, W: Write, E: Write, Z: Zone>(
     files: &R,
@@ -125,10 +125,10 @@ fn trace_file<R: FileSource, W: Write, E: Write, Z: Zone>(
     }
 }
 
-/// Tells why a file is not read, and answers the status of that. Memory is wanted only where its error says so.
+/// Says why a file is not read, and answers the status of that. Memory is wanted only where its error says so.
 fn report_missed<E: Write>(error: Error, file: &str, faults: &mut Output<E>) -> u8
     ensures status { result ≡ 111 }
-    ensures told { TellsMissed error file.now faults.old faults.new }
+    ensures reported { ReportsMissed error file.now faults.old faults.new }
 {
     if error.kind() == ErrorKind::OutOfMemory {
         return report_trouble(TraceTrouble::OutOfMemory, faults);
@@ -136,10 +136,10 @@ fn report_missed<E: Write>(error: Error, file: &str, faults: &mut Output<E>) -> 
     report_unread(file, faults)
 }
 
-/// Tells that a file can't be read, and answers the status of that.
+/// Says that a file can't be read, and answers the status of that.
 fn report_unread<E: Write>(file: &str, faults: &mut Output<E>) -> u8
     ensures status { result ≡ 111 }
-    ensures told { Tells faults.old faults.new (unread_text file.now) }
+    ensures reported { Reports faults.old faults.new (unread_text file.now) }
 {
     report_parts(
         faults,

@@ -19,19 +19,19 @@ use tai_status::{Label, Want, text};
 /// record (up 4711, wanted down, since 2026-11-25 01:33:02.123456789) -> up` and `state up (up 4711, wanted down, since
 /// 2026-11-25 01:33:02.123456789)`.
 ///
-/// A record is told by the words `up PID` or `down`; `paused`, where its process is; `wanted up`, `wanted down` or
+/// A record is reported by the words `up PID` or `down`; `paused`, where its process is; `wanted up`, `wanted down` or
 /// `wanted once`; `exiting`, where supervise is to end; and `since` the last change of process. A label outside of the
-/// years 1900 to 9999 is told as its own text.
+/// years 1900 to 9999 is reported as its own text.
 pub fn local_explanation<A: Allocator, B: Allocator, Z: Zone>(
     alloc: A,
     zone: &Z,
-    told: &TraceText<B>,
+    content: &TraceText<B>,
 ) -> Result<Vec<u8, A>, AllocError>
-    ensures { IfOk result (λ text. text.items ≡ local_explanation (Z.ahead_at zone.now) told.now) }
+    ensures { IfOk result (λ text. text.items ≡ local_explanation (Z.ahead_at zone.now) content.now) }
 {
     let mut out = Vec::new(alloc);
-    push_entries(&mut out, zone, told)?;
-    push_state(&mut out, zone, &replay(told))?;
+    push_entries(&mut out, zone, content)?;
+    push_state(&mut out, zone, &replay(content))?;
     Ok(out)
 }
 
@@ -39,13 +39,13 @@ pub fn local_explanation<A: Allocator, B: Allocator, Z: Zone>(
 fn push_entries<A: Allocator, B: Allocator, Z: Zone>(
     out: &mut Vec<u8, A>,
     zone: &Z,
-    told: &TraceText<B>,
+    content: &TraceText<B>,
 ) -> Result<(), AllocError>
     ensures { OnOk result (out.new.items
-        ≡ out.old.items ++ printed (local_lines (Z.ahead_at zone.now) told.now)) }
+        ≡ out.old.items ++ printed (local_lines (Z.ahead_at zone.now) content.now)) }
 {
-    let mut machine = told.base();
-    for (place, event) in told.entries().iter().enumerate() {
+    let mut machine = content.base();
+    for (place, event) in content.entries().iter().enumerate() {
         push_entry(out, zone, place as u64 + 1, &mut machine, event)?;
     }
     Ok(())
@@ -205,7 +205,7 @@ fn push_ask<A: Allocator, Z: Zone>(
     }
 }
 
-/// Writes what the record of a machine tells.
+/// Writes what the record of a machine reports.
 #[tactic(auto, unfolding(crate::specs::Local::record_words))]
 fn push_record<A: Allocator, Z: Zone>(
     out: &mut Vec<u8, A>,

@@ -16,30 +16,30 @@ use tai_status::Lines;
 pub fn shown<A: Allocator + Clone, B: Allocator, Z: Zone>(
     alloc: A,
     zone: Option<&Z>,
-    told: &TraceText<B>,
+    content: &TraceText<B>,
     at: Option<Break>,
 ) -> Result<Vec<u8, A>, AllocError>
     ensures { IfOk result (λ text.
-        IsShown (times_in Z.ahead_at zone.entry) told.now at text.items) }
+        IsShown (times_in Z.ahead_at zone.entry) content.now at text.items) }
 {
     match (at, zone) {
-        (Some(at), _) => break_line(alloc, told, at),
-        (None, Some(zone)) => local_explanation(alloc, zone, told),
-        (None, None) => explanation(alloc, told),
+        (Some(at), _) => break_line(alloc, content, at),
+        (None, Some(zone)) => local_explanation(alloc, zone, content),
+        (None, None) => explanation(alloc, content),
     }
 }
 
 /// A line for each entry, and one on the machine after them.
 fn explanation<A: Allocator + Clone, B: Allocator>(
     alloc: A,
-    told: &TraceText<B>,
+    content: &TraceText<B>,
 ) -> Result<Vec<u8, A>, AllocError>
-    ensures { IfOk result (λ text. text.items ≡ explanation told.now) }
+    ensures { IfOk result (λ text. text.items ≡ explanation content.now) }
 {
-    let lines = explain(alloc.clone()?, told)?;
+    let lines = explain(alloc.clone()?, content)?;
     let mut out = Vec::new(alloc);
     push_lines(&mut out, &lines)?;
-    push_state(&mut out, &replay(told))?;
+    push_state(&mut out, &replay(content))?;
     Ok(out)
 }
 
@@ -72,13 +72,13 @@ fn push_state<A: Allocator>(out: &mut Vec<u8, A>, machine: &Machine) -> Result<(
 /// The line on a break.
 fn break_line<A: Allocator, B: Allocator>(
     alloc: A,
-    told: &TraceText<B>,
+    content: &TraceText<B>,
     at: Break,
 ) -> Result<Vec<u8, A>, AllocError>
-    ensures { IfOk result (λ text. IsBreakLine told.now at text.items) }
+    ensures { IfOk result (λ text. IsBreakLine content.now at text.items) }
 {
     let mut out = Vec::new(alloc);
-    match first_break(told, at) {
+    match first_break(content, at) {
         Some(number) => {
             let mut digits = Buffer::new();
             out.extend_from_slice(b"break ")?;

@@ -1,10 +1,10 @@
 -- How `wait` ends.
 use Rattle.std.specs.Prelude.{◌≡◌, ◌≢◌, ◌⊎◌, ℕ, List, [], ◌∷◌, ◌++◌, codes, Option}
 use Rattle.std.specs.Borrow.{Bor}
-use Rattle.tai_status.specs.Counted.{Device, Tells}
+use Rattle.tai_status.specs.Counted.{Device, Reports}
 use Rattle.tai_status.specs.Extended.{Extended}
 use Rattle.tai_status.specs.declared.record.RecordFault.{RecordFault}
-use Rattle.cmd_base.specs.Told.{usage_text}
+use Rattle.cmd_base.specs.Usage.{usage_text}
 use Rattle.cmd_svc.specs.Svstat.{fault_name}
 use Rattle.cmd_svc.specs.Calls.{Call}
 use Rattle.cmd_svc.specs.Turns.{InTurn}
@@ -19,7 +19,7 @@ use Rattle.cmd_wait.specs.declared.finding.WaitFault.{WaitFault}
 use Rattle.cmd_wait.specs.declared.options.Options.{Options}
 use Rattle.cmd_wait.specs.declared.finding.WaitFault.TheVariants as fault
 
--- What `wait` works with: that, and where it tells faults.
+-- What `wait` works with: that, and where it reports faults.
 pub record Scene : Type 0 where
   pub sight : Sight
   pub faults : Device
@@ -29,33 +29,33 @@ scene sight faults = record { sight = sight; faults = faults }
 
 -- Sayings
 
--- why a status is no record, as it is told behind the folder
+-- why a status is no record, as it is reported behind the folder
 abbrev pub bad_note : RecordFault → List ℕ
 bad_note cause = codes ": bad status record: " ++ fault_name cause ++ 10 ∷ []
 
--- why a service can't be waited for, as it is told behind its folder
+-- why a service can't be waited for, as it is reported behind its folder
 abbrev pub fault_note : WaitFault → List ℕ
 fault_note fault.NotSupervised = codes ": supervise not running" ++ 10 ∷ []
 fault_note fault.Denied = codes ": unable to open supervise/ok: Permission denied" ++ 10 ∷ []
 fault_note fault.Unread = codes ": unable to read status" ++ 10 ∷ []
 fault_note (fault.Bad cause) = bad_note cause
 
--- that the time is over, as it is told behind a service's folder
+-- that the time is over, as it is reported behind a service's folder
 abbrev pub over_note : Goal → List ℕ
 over_note goal.Up = codes ": not up in time" ++ 10 ∷ []
 over_note goal.Down = codes ": not down in time" ++ 10 ∷ []
 over_note goal.Unsupervised = codes ": still supervised" ++ 10 ∷ []
 
--- what is told of a service
-abbrev pub told_of : (folder note : List ℕ) → List ℕ
-told_of folder note = codes "wait: " ++ (folder ++ note)
+-- what is reported of a service
+abbrev pub report_of : (folder note : List ℕ) → List ℕ
+report_of folder note = codes "wait: " ++ (folder ++ note)
 
-abbrev pub memory_told : List ℕ
-memory_told = codes "wait: OutOfMemory" ++ 10 ∷ []
+abbrev pub memory_report : List ℕ
+memory_report = codes "wait: OutOfMemory" ++ 10 ∷ []
 
--- That the time is over was told of a service.
-abbrev pub TellsOver : Goal → (folder : List ℕ) (old new : Device) → Type 0
-TellsOver goal folder old new = Tells old new (told_of folder (over_note goal))
+-- That the time is over was reported of a service.
+abbrev pub ReportsOver : Goal → (folder : List ℕ) (old new : Device) → Type 0
+ReportsOver goal folder old new = Reports old new (report_of folder (over_note goal))
 
 -- the status of a service that can't be waited for
 abbrev pub fault_status : WaitFault → ℕ
@@ -66,18 +66,18 @@ fault_status (fault.Bad cause) = 111
 
 -- The last round
 
--- It left no service: 0, and nothing is told. Each service of the order was found as it is waited for, by a look of
+-- It left no service: 0, and nothing is reported. Each service of the order was found as it is waited for, by a look of
 -- this round or of one before it.
 pub record Reaches (order : Order) (before : List Look) (services : List (List ℕ)) (status : ℕ) (old new : Scene)
     : Type 0 where
   pub now : ℕ
   pub takes : TakesRound order now services [] old.sight new.sight
   pub status_is : status ≡ 0
-  pub untold : new.faults ≡ old.faults
+  pub unreported : new.faults ≡ old.faults
   pub found : (folder : List ℕ) → IsAmong folder order.services
       → IsFound order.goal folder (before ++ takes.looked.looks)
 
--- It left services, and the time was over when it began: 99, and each of these is told.
+-- It left services, and the time was over when it began: 99, and each of these is reported.
 pub record RunsOut (order : Order) (begin : ℕ) (services : List (List ℕ)) (status : ℕ) (old new : Scene) : Type 0 where
   pub now : ℕ
   pub left : List (List ℕ)
@@ -85,9 +85,9 @@ pub record RunsOut (order : Order) (begin : ℕ) (services : List (List ℕ)) (s
   pub some : left ≢ []
   pub over : IsOver order.limit begin now
   pub status_is : status ≡ 99
-  pub told : InTurn (TellsOver order.goal) left old.faults new.faults
+  pub reported : InTurn (ReportsOver order.goal) left old.faults new.faults
 
--- A look found a service that can't be waited for: it is told why, with the status of that, and none after it is looked
+-- A look found a service that can't be waited for: it is reported why, with the status of that, and none after it is looked
 -- at.
 pub record Fails (order : Order) (services : List (List ℕ)) (status : ℕ) (old new : Scene) : Type 0 where
   pub now : ℕ
@@ -96,7 +96,7 @@ pub record Fails (order : Order) (services : List (List ℕ)) (status : ℕ) (ol
   pub read : Extended old.sight.steps new.sight.steps (Read now ∷ [])
   pub fails : FailsAt order.goal services folder fault old.sight.calls new.sight.calls
   pub status_is : status ≡ fault_status fault
-  pub told : Tells old.faults new.faults (told_of folder (fault_note fault))
+  pub reported : Reports old.faults new.faults (report_of folder (fault_note fault))
 
 -- By the looks before it, and the services that these left.
 abbrev pub EndsBy : (order : Order) (begin : ℕ) (before : List Look) (services : List (List ℕ)) (status : ℕ)
@@ -118,25 +118,25 @@ pub record WaitsFor (order : Order) (status : ℕ) (old new : Scene) : Type 0 wh
 
 -- It waits as options say.
 abbrev pub WaitsAsked : Options → (status : ℕ) → (calls asked : Option (List Call)) → (steps taken : Option (List Step))
-    → (faults tells : Device) → Type 0
-WaitsAsked options status calls asked steps taken faults tells =
+    → (faults reports : Device) → Type 0
+WaitsAsked options status calls asked steps taken faults reports =
     WaitsFor (order options.goal options.limit (texts options.services.now)) status
-    (scene (sight calls steps) faults) (scene (sight asked taken) tells)
+    (scene (sight calls steps) faults) (scene (sight asked taken) reports)
 
 -- Ends
 
--- Words that ask for nothing: the usage is told, and nothing is asked.
+-- Words that ask for nothing: the usage is reported, and nothing is asked.
 pub record RefusesWords (words : List (List ℕ)) (status : ℕ) (old new : Scene) : Type 0 where
   pub wrong : AskNothing words
   pub status_is : status ≡ 100
   pub unasked : new.sight ≡ old.sight
-  pub told : Tells old.faults new.faults usage_text
+  pub reported : Reports old.faults new.faults usage_text
 
--- There is no memory to keep which services are left: nothing is asked, and it is told.
+-- There is no memory to keep which services are left: nothing is asked, and it is reported.
 pub record LacksMemory (status : ℕ) (old new : Scene) : Type 0 where
   pub status_is : status ≡ 111
   pub unasked : new.sight ≡ old.sight
-  pub told : Tells old.faults new.faults memory_told
+  pub reported : Reports old.faults new.faults memory_report
 
 -- It waits as its words ask.
 pub record WaitsWords (words : List (List ℕ)) (status : ℕ) (old new : Scene) : Type 0 where
@@ -150,6 +150,6 @@ EndsByWords words status old new = RefusesWords words status old new ⊎ WaitsWo
 
 -- The same, of each as it was and is.
 abbrev pub WaitEnds : (words : List (Bor (List ℕ))) (status : ℕ) (calls asked : Option (List Call))
-    (steps taken : Option (List Step)) (faults tells : Device) → Type 0
-WaitEnds words status calls asked steps taken faults tells =
-    EndsByWords (texts words) status (scene (sight calls steps) faults) (scene (sight asked taken) tells)
+    (steps taken : Option (List Step)) (faults reports : Device) → Type 0
+WaitEnds words status calls asked steps taken faults reports =
+    EndsByWords (texts words) status (scene (sight calls steps) faults) (scene (sight asked taken) reports)

@@ -101,7 +101,7 @@ fn reached_if(reached: bool) -> Finding
     }
 }
 
-/// What is found of a service, by what its status file tells.
+/// What is found of a service, by what its status file says.
 fn record_finding(goal: Goal, read: &Result<Loaded, RecordFault>) -> Finding
     ensures { result ≡ record_finding goal read.now }
 {

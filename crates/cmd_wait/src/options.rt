@@ -50,7 +50,7 @@ fn behind_goal<'a>(words: &'a [&'a str]) -> &'a [&'a str]
     }
 }
 
-/// The number of seconds that a word tells.
+/// The number of seconds that a word says.
 fn read_seconds(word: &str) -> Option<u32>
     ensures { MatchOption result
         ((seconds : ℕ) → AreSeconds word.now seconds → ⊥)

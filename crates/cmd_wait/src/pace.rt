@@ -22,7 +22,7 @@ pub trait Pace {
         ensures rested { Extended (steps self.old) (steps self.new) (Rested ∷ []) };
 }
 
-/// The pace by the system's own clock. It tells contracts nothing. Where the clock can't be read it repeats its last
+/// The pace by the system's own clock. It says nothing to contracts. Where the clock can't be read it repeats its last
 /// reading, at first 0.
 #[derive(Drop)]
 pub struct SystemPace<R: Clock + Drop> {

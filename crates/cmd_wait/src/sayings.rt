@@ -1,9 +1,9 @@
-//! What is told of services.
+//! What is reported of services.
 ghost use Rattle.std.specs.Prelude.{◌≡◌};
 ghost use Rattle.cmd_svc.specs.Turns.{InTurn};
 ghost use Rattle.cmd_svc.specs.Words.{texts};
-ghost use Rattle.tai_status.specs.Counted.{Tells};
-ghost use Rattle.cmd_wait.specs.Ends.{bad_note, fault_note, fault_status, over_note, told_of, TellsOver};
+ghost use Rattle.tai_status.specs.Counted.{Reports};
+ghost use Rattle.cmd_wait.specs.Ends.{bad_note, fault_note, fault_status, over_note, report_of, ReportsOver};
 
 use crate::finding::{Goal, WaitFault};
 use crate::rounds::Failure;
@@ -14,7 +14,7 @@ use tai_status::{Output, RecordFault};
 /// The status of a service that is not supervised.
 const NOT_SUPERVISED: u8 = 102;
 
-/// Why a status is no record, as it is told behind a service's folder.
+/// Why a status is no record, as it is reported behind a service's folder.
 fn bad_note(fault: RecordFault) -> &'static [u8]
     ensures { result.now ≡ bad_note fault }
 {
@@ -30,7 +30,7 @@ fn bad_note(fault: RecordFault) -> &'static [u8]
     }
 }
 
-/// Why a service can't be waited for, as it is told behind its folder.
+/// Why a service can't be waited for, as it is reported behind its folder.
 fn fault_note(fault: WaitFault) -> &'static [u8]
     ensures { result.now ≡ fault_note fault }
 {
@@ -55,7 +55,7 @@ fn fault_status(fault: WaitFault) -> u8
 /// Reports that a service can't be waited for, and answers the status of that.
 pub(crate) fn report_failure<E: Write>(failure: &Failure<'_>, faults: &mut Output<E>) -> u8
     ensures status { result ≡ fault_status failure.now.fault }
-    ensures told { Tells faults.old faults.new (told_of failure.now.folder.now (fault_note failure.now.fault)) }
+    ensures reported { Reports faults.old faults.new (report_of failure.now.folder.now (fault_note failure.now.fault)) }
 {
     report_parts(
         faults,
@@ -66,7 +66,7 @@ pub(crate) fn report_failure<E: Write>(failure: &Failure<'_>, faults: &mut Outpu
     )
 }
 
-/// That the time is over, as it is told behind a service's folder.
+/// That the time is over, as it is reported behind a service's folder.
 fn over_note(goal: Goal) -> &'static [u8]
     ensures { result.now ≡ over_note goal }
 {
@@ -79,7 +79,7 @@ fn over_note(goal: Goal) -> &'static [u8]
 
 /// Reports that the time is over, a line for each of these services.
 pub(crate) fn report_over<E: Write>(goal: Goal, left: &[&str], faults: &mut Output<E>)
-    ensures { InTurn (TellsOver goal) (texts left.now) faults.old faults.new }
+    ensures { InTurn (ReportsOver goal) (texts left.now) faults.old faults.new }
 {
     for folder in left {
         report_parts(faults, b"wait: ", folder.as_bytes(), over_note(goal), DONE);

@@ -1,11 +1,11 @@
--- What a trace tells of the processes of a service. Each fact is of the last entry of a kind, or a count of entries.
+-- What a trace says of the processes of a service. Each fact is of the last entry of a kind, or a count of entries.
 use Rattle.std.specs.Prelude.{ℕ, ◌+◌, ◌-◌, ◌*◌, ◌/◌, ◌^◌, nat_le, nat_lt, ◌==◌, ◌&&◌, ◌||◌, not, Bool, true, false}
 use Rattle.std.specs.Prelude.{List, Option, Some, None, count_by}
 use Rattle.tai_status.specs.Label.{Tai64n}
 use Rattle.tai_status.specs.Record.{Status}
 use Rattle.sup_core.specs.declared.event.Event.{Event}
 use Rattle.sup_core.specs.declared.event.Event.TheVariants.{Started, StartFailed, Death}
-use Rattle.sup_trace.specs.Told.{Told, replay_of}
+use Rattle.sup_trace.specs.Content.{Content, replay_of}
 use Rattle.cmd_why.specs.declared.entries.Kind.TheVariants.{Start, Death as OfDeath, Attempt, Control, Signal, Want}
 use Rattle.cmd_why.specs.declared.facts.Ended.{Ended}
 use Rattle.cmd_why.specs.declared.facts.Facts.{Facts}
@@ -35,14 +35,14 @@ abbrev pub is_recent_start : (now : Tai64n) → Event → Bool
 is_recent_start now (Started pid label) = nat_le (nanos label) (nanos now) && nat_le (nanos now) (nanos label + minute)
 is_recent_start now other = false
 
--- how many starts there were in the last 60 seconds, as far as entries tell
+-- how many starts there were in the last 60 seconds, as far as entries say
 abbrev pub recent_starts : (now : Tai64n) → List Event → ℕ
 recent_starts now entries = count_by (is_recent_start now) entries
 
 -- Every start of the last 60 seconds is among the entries: nothing was folded, or the last change of process before the
 -- entries is older.
-abbrev pub reaches_back : Told → (now : Tai64n) → Bool
-reaches_back told now = (told.folded == 0) || nat_lt (nanos told.base.status.label + minute) (nanos now)
+abbrev pub reaches_back : Content → (now : Tai64n) → Bool
+reaches_back content now = (content.folded == 0) || nat_lt (nanos content.base.status.label + minute) (nanos now)
 
 -- Processes
 
@@ -73,35 +73,35 @@ ended_by before entries (Some (Death label)) = Some (ended_at before (before_las
 ended_by before entries other = None
 
 -- the process that ended last
-abbrev pub last_ended : Told → Option Ended
-last_ended told = ended_by told.base.status told.entries (last_of OfDeath told.entries)
+abbrev pub last_ended : Content → Option Ended
+last_ended content = ended_by content.base.status content.entries (last_of OfDeath content.entries)
 
 abbrev pub is_failure : Option Event → Bool
 is_failure (Some (StartFailed label)) = true
 is_failure other = false
 
--- The trace leads to the process that a record tells of, or to the same end of one.
-abbrev pub leads_to : Told → Status → Bool
-leads_to told status =
-    same_label (replay_of told).status.label status.label && ((replay_of told).status.pid == status.pid)
+-- The trace leads to the process that a record says of, or to the same end of one.
+abbrev pub leads_to : Content → Status → Bool
+leads_to content status =
+    same_label (replay_of content).status.label status.label && ((replay_of content).status.pid == status.pid)
 
--- no process is told of since supervise began
-abbrev pub has_not_run : Told → Bool
-has_not_run told = (told.folded == 0) && (told.base.status.pid == 0) && not (has Start told.entries)
+-- no process is reported of since supervise began
+abbrev pub has_not_run : Content → Bool
+has_not_run content = (content.folded == 0) && (content.base.status.pid == 0) && not (has Start content.entries)
 
--- what a trace tells beside the status record of a service, at a clock reading
-abbrev pub facts_of : Told → Status → (now : Tai64n) → Facts
-facts_of told status now = record {
-  leads = leads_to told status;
-  starts = recent_starts now told.entries;
-  reaches = reaches_back told now;
-  sent = byte_in (last_of Signal (behind_last Start told.entries));
-  ended = last_ended told;
-  failed = is_failure (last_of Attempt told.entries);
-  unrun = has_not_run told;
+-- what a trace says beside the status record of a service, at a clock reading
+abbrev pub facts_of : Content → Status → (now : Tai64n) → Facts
+facts_of content status now = record {
+  leads = leads_to content status;
+  starts = recent_starts now content.entries;
+  reaches = reaches_back content now;
+  sent = byte_in (last_of Signal (behind_last Start content.entries));
+  ended = last_ended content;
+  failed = is_failure (last_of Attempt content.entries);
+  unrun = has_not_run content;
 }
 
--- the process that ended last, where a trace tells of one
+-- the process that ended last, where a trace says of one
 abbrev pub ended_in : Option Facts → Option Ended
 ended_in (Some facts) = facts.ended
 ended_in None = None

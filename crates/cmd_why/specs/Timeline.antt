@@ -11,7 +11,7 @@ use Rattle.sup_core.specs.History.{Opened, state_of}
 use Rattle.sup_core.specs.Rules.{next}
 use Rattle.sup_core.specs.declared.event.Event.{Event}
 use Rattle.sup_core.specs.declared.event.Event.TheVariants.{Byte, Started, StartFailed, Death, Clock}
-use Rattle.sup_trace.specs.Told.{Told}
+use Rattle.sup_trace.specs.Content.{Content}
 use Rattle.cmd_svc.specs.Line.{is_running}
 use Rattle.cmd_why.specs.Facts.{nanos}
 use Rattle.cmd_why.specs.declared.lines.Drawing.{Drawing}
@@ -145,21 +145,21 @@ bar from width drawn = flat_map (column_sign from width drawn) (range_with_len 0
 -- Traces
 
 -- where the picture begins: at the label of the machine before the entries, or at the clock where that is earlier
-abbrev pub left_end : Told → (now : Tai64n) → Tai64n
-left_end told now = if nat_lt (nanos now) (nanos told.base.status.label) then now else told.base.status.label
+abbrev pub left_end : Content → (now : Tai64n) → Tai64n
+left_end content now = if nat_lt (nanos now) (nanos content.base.status.label) then now else content.base.status.label
 
 -- the whole picture as one stretch, as if there were no entries
-abbrev pub before_entries : Told → (from now : ℕ) → Stretch
-before_entries told from now = stretch from (from + width from now) (shown_before told.base.status)
+abbrev pub before_entries : Content → (from now : ℕ) → Stretch
+before_entries content from now = stretch from (from + width from now) (shown_before content.base.status)
 
-abbrev pub stretches_of : Told → (leads : Bool) → (from now : ℕ) → List Stretch
-stretches_of told leads from now = stretches now leads told.base (before_entries told from now) told.entries
+abbrev pub stretches_of : Content → (leads : Bool) → (from now : ℕ) → List Stretch
+stretches_of content leads from now = stretches now leads content.base (before_entries content from now) content.entries
 
 -- the picture of a trace at a clock reading
-abbrev pub bar_of : Told → (leads : Bool) → (now : Tai64n) → List ℕ
-bar_of told leads now =
-    bar (nanos (left_end told now)) (width (nanos (left_end told now)) (nanos now))
-    (stretches_of told leads (nanos (left_end told now)) (nanos now))
+abbrev pub bar_of : Content → (leads : Bool) → (now : Tai64n) → List ℕ
+bar_of content leads now =
+    bar (nanos (left_end content now)) (width (nanos (left_end content now)) (nanos now))
+    (stretches_of content leads (nanos (left_end content now)) (nanos now))
 
 -- Lines
 
@@ -170,5 +170,5 @@ scale from = from ++ replicate (columns - 3 - length from) 32 ++ codes "now"
 -- the lines behind the one on how a service stands
 abbrev pub drawing_lines : Drawing → List ℕ
 drawing_lines drawing.Unasked = []
-drawing_lines drawing.Untold = codes "No timeline: it has no trace that can be read." ++ 10 ∷ []
+drawing_lines drawing.Untraced = codes "No timeline: it has no trace that can be read." ++ 10 ∷ []
 drawing_lines (drawing.Of picture) = picture.bar.bytes ++ (10 ∷ []) ++ scale picture.from.bytes ++ (10 ∷ [])

@@ -5,14 +5,14 @@ use Rattle.std.specs.declared.io.ErrorKind.{ErrorKind}
 use Rattle.std.specs.declared.io.ErrorKind.TheVariants as io
 use Rattle.tai_status.specs.Label.{Tai64n}
 use Rattle.tai_status.specs.Extended.{Extended}
-use Rattle.tai_status.specs.Counted.{Device, Fails, Tells, Works, Wrote, WroteFront}
+use Rattle.tai_status.specs.Counted.{Device, Fails, Reports, Works, Wrote, WroteFront}
 use Rattle.tai_status.specs.Loading.{loaded_from, status_in}
 use Rattle.tai_status.specs.Record.{Status}
 use Rattle.tai_status.specs.declared.loading.Loaded.{Loaded}
 use Rattle.tai_status.specs.declared.record.RecordFault.{RecordFault}
-use Rattle.sup_trace.specs.Told.{Told, IsTold}
+use Rattle.sup_trace.specs.Content.{Content, IsContent}
 use Rattle.sup_trace.specs.Text.{trace_text}
-use Rattle.sup_trace.specs.Reading.{told_from}
+use Rattle.sup_trace.specs.Reading.{content_from}
 use Rattle.sup_trace.specs.declared.fault.TraceFault.{TraceFault}
 use Rattle.cmd_base.specs.Known.{IsKnown}
 use Rattle.cmd_svc.specs.Calls.{Call, Reached, ReadStatus, SoughtDown}
@@ -102,24 +102,24 @@ is_unread other = true
 
 -- A look at a service
 
--- Bytes were read that are no trace, as the fault of a line tells.
+-- Bytes were read that are no trace, as the fault of a line says.
 pub record IsRefused (trace : Option (List ℕ)) : Type 0 where
   pub text : List ℕ
   pub text_is : IsKnown trace text
   pub cause : TraceFault
-  pub refused : told_from text ≡ Err cause
+  pub refused : content_from text ≡ Err cause
 
 -- Bytes were read that are the text of this trace.
-pub record IsTraceText (trace : Option (List ℕ)) (told : Told) : Type 0 where
+pub record IsTraceText (trace : Option (List ℕ)) (content : Content) : Type 0 where
   pub text : List ℕ
   pub text_is : IsKnown trace text
-  pub so : IsTold told
-  pub is : text ≡ trace_text told
+  pub so : IsContent content
+  pub is : text ≡ trace_text content
 
--- what a trace tells, or none where it is not known to be there or is refused
-abbrev pub IsTraceOf : (trace : Option (List ℕ)) → Option Told → Type 0
+-- what a trace says, or none where it is not known to be there or is refused
+abbrev pub IsTraceOf : (trace : Option (List ℕ)) → Option Content → Type 0
 IsTraceOf trace None = (trace ≡ None) ⊎ IsRefused trace
-IsTraceOf trace (Some told) = IsTraceText trace told
+IsTraceOf trace (Some content) = IsTraceText trace content
 
 -- A line was read, and it says of this process that it ended so.
 pub record SaysOf (exit : Option (List ℕ)) (ended : Ended) (ending : Ending) : Type 0 where
@@ -140,21 +140,21 @@ IsEndingOf exit (Some ended) (Some ending) = SaysOf exit ended ending
 IsEndingOf exit (Some ended) None = (exit ≡ None) ⊎ SaysNothingOf exit ended
 
 -- This is the picture of a trace beside a record, at a clock reading, and the local time of its left end.
-pub record IsPicture (times : Tai64n → Option (List ℕ)) (told : Told) (status : Status) (now : Tai64n)
+pub record IsPicture (times : Tai64n → Option (List ℕ)) (content : Content) (status : Status) (now : Tai64n)
     (picture : Picture) : Type 0 where
-  pub bar : picture.bar.bytes ≡ bar_of told (leads_to told status) now
-  pub from : IsKnown (times (left_end told now)) picture.from.bytes
+  pub bar : picture.bar.bytes ≡ bar_of content (leads_to content status) now
+  pub from : IsKnown (times (left_end content now)) picture.from.bytes
 
-abbrev pub IsPictureIn : (times : Tai64n → Option (List ℕ)) → Told → Status → (now : Tai64n) → Drawing → Type 0
-IsPictureIn times told status now (drawing.Of picture) = IsPicture times told status now picture
-IsPictureIn times told status now other = ⊥
+abbrev pub IsPictureIn : (times : Tai64n → Option (List ℕ)) → Content → Status → (now : Tai64n) → Drawing → Type 0
+IsPictureIn times content status now (drawing.Of picture) = IsPicture times content status now picture
+IsPictureIn times content status now other = ⊥
 
 -- what is drawn where a timeline is asked for: the picture of the trace, where there is one
-abbrev pub IsDrawing : (times : Tai64n → Option (List ℕ)) → (asked : Bool) → Option Told → Status → (now : Tai64n)
+abbrev pub IsDrawing : (times : Tai64n → Option (List ℕ)) → (asked : Bool) → Option Content → Status → (now : Tai64n)
     → Drawing → Type 0
-IsDrawing times false told status now drawn = drawn ≡ drawing.Unasked
-IsDrawing times true None status now drawn = drawn ≡ drawing.Untold
-IsDrawing times true (Some told) status now drawn = IsPictureIn times told status now drawn
+IsDrawing times false content status now drawn = drawn ≡ drawing.Unasked
+IsDrawing times true None status now drawn = drawn ≡ drawing.Untraced
+IsDrawing times true (Some content) status now drawn = IsPictureIn times content status now drawn
 
 -- The bytes that were read are a record of this, and the service is normally up where no file `down` was found.
 pub record ReachesStanding (folder : List ℕ) (loaded : Loaded) (normally_up : Bool) (past now : Option (List Call))
@@ -187,27 +187,27 @@ Reaches k folder reach.Unread past now = Extended past now (Reached folder None 
 Reaches k folder (reach.Bad cause) past now = ReachesBad folder cause past now
 Reaches k folder (reach.Standing loaded normally_up) past now = ReachesStanding folder loaded normally_up past now
 
--- The trace of a service was read and then the clock, once; how it stands is told by its record, that trace and this
--- reading; and how the process ended of which the trace tells last, by the line of that. A timeline is drawn where it
+-- The trace of a service was read and then the clock, once; how it stands is reported by its record, that trace and this
+-- reading; and how the process ended of which the trace says last, by the line of that. A timeline is drawn where it
 -- is asked for.
 pub record FindsStanding (k : Knowledge) (timeline : Bool) (folder : List ℕ) (loaded : Loaded) (normally_up : Bool)
     (past now : Option (List Tai64n)) (s : Standing) : Type 0 where
-  pub told : Option Told
-  pub trace : IsTraceOf (k.traces folder) told
+  pub content : Option Content
+  pub trace : IsTraceOf (k.traces folder) content
   pub read : Extended past now (s.now ∷ [])
   pub loaded_is : s.loaded ≡ loaded
   pub normally_is : s.normally_up ≡ normally_up
-  pub facts : s.facts ≡ option_map (λ told. facts_of told (status_in loaded) s.now) told
+  pub facts : s.facts ≡ option_map (λ content. facts_of content (status_in loaded) s.now) content
   pub ending : IsEndingOf (k.exits folder) (ended_in s.facts) s.ending
   pub time : IsKnown (k.times (status_in loaded).label) s.time.bytes
-  pub drawing : IsDrawing k.times timeline told (status_in loaded) s.now s.drawing
+  pub drawing : IsDrawing k.times timeline content (status_in loaded) s.now s.drawing
 
 -- What a look found, by what came of the calls.
 abbrev pub Finds : Knowledge → (timeline : Bool) → (folder : List ℕ) → Reach → Found → (past now : Option (List Tai64n))
     → Type 0
-Finds k timeline folder (reach.Absent absence) (found.Absent told) past now = (told ≡ absence) × (now ≡ past)
+Finds k timeline folder (reach.Absent absence) (found.Absent content) past now = (content ≡ absence) × (now ≡ past)
 Finds k timeline folder reach.Unread found.Unread past now = now ≡ past
-Finds k timeline folder (reach.Bad cause) (found.Bad told) past now = (told ≡ cause) × (now ≡ past)
+Finds k timeline folder (reach.Bad cause) (found.Bad content) past now = (content ≡ cause) × (now ≡ past)
 Finds k timeline folder (reach.Standing loaded normally_up) (found.Standing s) past now =
     FindsStanding k timeline folder loaded normally_up past now s
 Finds k timeline folder other found past now = ⊥
@@ -286,48 +286,48 @@ pub record ShowsUpTo (k : Knowledge) (timeline : Bool) (words : List (List ℕ))
   pub shown : InTurn (Shows k timeline) before (scene sight writer false) middle
   pub fails : FailsToShow k timeline folder cause middle (scene sees writes false)
 
--- what is told of a fault
-abbrev pub why_told : WhyFault → List ℕ
-why_told fault.OutOfMemory = codes "why: OutOfMemory" ++ 10 ∷ []
-why_told fault.Write = codes "why: write fault" ++ 10 ∷ []
+-- what is reported of a fault
+abbrev pub why_report : WhyFault → List ℕ
+why_report fault.OutOfMemory = codes "why: OutOfMemory" ++ 10 ∷ []
+why_report fault.Write = codes "why: write fault" ++ 10 ∷ []
 
 -- Ends
 
--- Each word has its text, and nothing is told. The status is 0 where each service could be read.
+-- Each word has its text, and nothing is reported. The status is 0 where each service could be read.
 pub record ShowsAll (k : Knowledge) (timeline : Bool) (words : List (List ℕ)) (status : ℕ) (sight sees : Sight)
-    (writer writes faults tells : Device) : Type 0 where
+    (writer writes faults reports : Device) : Type 0 where
   pub unread : Bool
   pub shown : ShowsEach k timeline words sight sees writer writes unread
   pub status_is : status ≡ (if unread then 111 else 0)
-  pub untold : tells ≡ faults
+  pub unreported : reports ≡ faults
 
--- A text could not be written, and it is told why.
+-- A text could not be written, and it is reported why.
 pub record Stops (k : Knowledge) (timeline : Bool) (words : List (List ℕ)) (status : ℕ) (sight sees : Sight)
-    (writer writes faults tells : Device) : Type 0 where
+    (writer writes faults reports : Device) : Type 0 where
   pub cause : WhyFault
   pub stops : ShowsUpTo k timeline words sight sees writer writes cause
   pub status_is : status ≡ 111
-  pub told : Tells faults tells (why_told cause)
+  pub reported : Reports faults reports (why_report cause)
 
 -- `why` over services, with timelines or without
 abbrev pub ShowEnds : Knowledge → (timeline : Bool) → (words : List (List ℕ)) → (status : ℕ) → (sight sees : Sight)
-    → (writer writes faults tells : Device) → Type 0
-ShowEnds k timeline words status sight sees writer writes faults tells =
-    ShowsAll k timeline words status sight sees writer writes faults tells
-    ⊎ Stops k timeline words status sight sees writer writes faults tells
+    → (writer writes faults reports : Device) → Type 0
+ShowEnds k timeline words status sight sees writer writes faults reports =
+    ShowsAll k timeline words status sight sees writer writes faults reports
+    ⊎ Stops k timeline words status sight sees writer writes faults reports
 
 -- The first word asks for timelines of the services behind it; or it is a service.
 pub record FormEnds (k : Knowledge) (word : List ℕ) (services : List (List ℕ)) (status : ℕ) (sight sees : Sight)
-    (writer writes faults tells : Device) : Type 0 where
+    (writer writes faults reports : Device) : Type 0 where
   pub timeline : word ≡ codes "--timeline"
-      → ShowEnds k true services status sight sees writer writes faults tells
+      → ShowEnds k true services status sight sees writer writes faults reports
   pub plain : word ≢ codes "--timeline"
-      → ShowEnds k false (word ∷ services) status sight sees writer writes faults tells
+      → ShowEnds k false (word ∷ services) status sight sees writer writes faults reports
 
 -- `why`, by its words
 abbrev pub WhyEnds : Knowledge → (words : List (List ℕ)) → (status : ℕ) → (sight sees : Sight)
-    → (writer writes faults tells : Device) → Type 0
-WhyEnds k [] status sight sees writer writes faults tells =
-    ShowEnds k false [] status sight sees writer writes faults tells
-WhyEnds k (word ∷ services) status sight sees writer writes faults tells =
-    FormEnds k word services status sight sees writer writes faults tells
+    → (writer writes faults reports : Device) → Type 0
+WhyEnds k [] status sight sees writer writes faults reports =
+    ShowEnds k false [] status sight sees writer writes faults reports
+WhyEnds k (word ∷ services) status sight sees writer writes faults reports =
+    FormEnds k word services status sight sees writer writes faults reports

@@ -1,4 +1,4 @@
-//! What a trace tells of the processes of a service.
+//! What a trace says of the processes of a service.
 ghost use Rattle.std.specs.Prelude.{◌≡◌, ◌<◌, ◌^◌, IfSome};
 ghost use Rattle.std.specs.List.{Contains};
 ghost use Rattle.sup_core.specs.declared.event.Event.TheVariants as event;
@@ -21,7 +21,7 @@ const MINUTE: u128 = 60_000_000_000;
 /// How many starts within 60 seconds are flapping.
 pub const FLAPPING: u64 = 5;
 
-/// A process that ended, as a trace tells it.
+/// A process that ended, as a trace says it.
 #[derive(Clone, Copy, Debug, PartialEq, Eq)]
 pub struct Ended {
     pub pid: u32,
@@ -37,13 +37,13 @@ pub struct Ended {
     pub unasked: bool,
 }
 
-/// What a trace tells beside the status record of a service.
+/// What a trace says beside the status record of a service.
 #[derive(Clone, Copy, Debug, PartialEq, Eq)]
 pub struct Facts {
-    /// Whether it leads to the process that the record tells of, or to the same end of one. Else the record is of a
-    /// later moment, or of an earlier one, and only the starts of the trace are told.
+    /// Whether it leads to the process that the record says of, or to the same end of one. Else the record is of a
+    /// later moment, or of an earlier one, and only the starts of the trace are reported.
     pub leads: bool,
-    /// How many starts there were in the last 60 seconds, as far as its entries tell.
+    /// How many starts there were in the last 60 seconds, as far as its entries say.
     pub starts: u64,
     /// Whether its entries reach back 60 seconds.
     pub reaches: bool,
@@ -107,11 +107,11 @@ pub fn recent_starts(now: &Label, entries: &[Event]) -> u64
 }
 
 /// Whether every start of the last 60 seconds is among the entries.
-fn reaches_back<A: Allocator>(told: &TraceText<A>, now: &Label) -> bool
-    ensures { result ≡ reaches_back told.now now.now }
+fn reaches_back<A: Allocator>(content: &TraceText<A>, now: &Label) -> bool
+    ensures { result ≡ reaches_back content.now now.now }
 {
-    let label = told.base().view().label;
-    told.folded() == 0 || nanos(&label) + MINUTE < nanos(now)
+    let label = content.base().view().label;
+    content.folded() == 0 || nanos(&label) + MINUTE < nanos(now)
 }
 
 /// The control byte that an event is.
@@ -198,11 +198,11 @@ fn ended_by(before: &View, entries: &[Event], death: &Option<Event>) -> Option<E
 }
 
 /// The process that ended last.
-fn last_ended<A: Allocator>(told: &TraceText<A>) -> Option<Ended>
-    ensures { result ≡ last_ended told.now }
+fn last_ended<A: Allocator>(content: &TraceText<A>) -> Option<Ended>
+    ensures { result ≡ last_ended content.now }
 {
-    let entries = told.entries();
-    ended_by(&told.base().view(), entries, &last_of(Kind::Death, entries))
+    let entries = content.entries();
+    ended_by(&content.base().view(), entries, &last_of(Kind::Death, entries))
 }
 
 /// Whether the last start failed.
@@ -212,33 +212,33 @@ fn is_failure(attempt: Option<Event>) -> bool
     matches!(attempt, Some(Event::StartFailed { .. }))
 }
 
-/// Whether a trace leads to the process that a record tells of.
-pub(crate) fn leads_to<A: Allocator>(told: &TraceText<A>, status: &View) -> bool
-    ensures { result ≡ leads_to told.now status.now }
+/// Whether a trace leads to the process that a record says of.
+pub(crate) fn leads_to<A: Allocator>(content: &TraceText<A>, status: &View) -> bool
+    ensures { result ≡ leads_to content.now status.now }
 {
-    let view = replay(told).view();
+    let view = replay(content).view();
     same_label(&view.label, &status.label) && view.pid == status.pid
 }
 
-/// Whether no process is told of since supervise began.
-fn has_not_run<A: Allocator>(told: &TraceText<A>) -> bool
-    ensures { result ≡ has_not_run told.now }
+/// Whether no process is reported of since supervise began.
+fn has_not_run<A: Allocator>(content: &TraceText<A>) -> bool
+    ensures { result ≡ has_not_run content.now }
 {
-    told.folded() == 0 && told.base().view().pid == 0 && !has(Kind::Start, told.entries())
+    content.folded() == 0 && content.base().view().pid == 0 && !has(Kind::Start, content.entries())
 }
 
-/// What a trace tells beside the status record of a service, at a clock reading.
-pub fn facts_of<A: Allocator>(told: &TraceText<A>, status: &View, now: &Label) -> Facts
-    ensures { result ≡ facts_of told.now status.now now.now }
+/// What a trace says beside the status record of a service, at a clock reading.
+pub fn facts_of<A: Allocator>(content: &TraceText<A>, status: &View, now: &Label) -> Facts
+    ensures { result ≡ facts_of content.now status.now now.now }
 {
-    let entries = told.entries();
+    let entries = content.entries();
     Facts {
-        leads: leads_to(told, status),
+        leads: leads_to(content, status),
         starts: recent_starts(now, entries),
-        reaches: reaches_back(told, now),
+        reaches: reaches_back(content, now),
         sent: last_signal(entries),
-        ended: last_ended(told),
+        ended: last_ended(content),
         failed: is_failure(last_of(Kind::Attempt, entries)),
-        unrun: has_not_run(told),
+        unrun: has_not_run(content),
     }
 }

@@ -1,6 +1,6 @@
 //! The command `why`: in plain words what stands of a service, and why, by its status record, its trace and the clock.
 //!
-//! [`facts_of`] reads a trace: what it tells of the processes of a service. [`why_line`] says it, beside the record.
+//! [`facts_of`] reads a trace: what it says of the processes of a service. [`why_line`] says it, beside the record.
 //! [`run_why`] is the command.
 #![tactic(auto)]
 

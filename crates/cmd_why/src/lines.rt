@@ -55,7 +55,7 @@ pub enum Drawing {
     /// No timeline is asked for.
     Unasked,
     /// It has no trace that can be read.
-    Untold,
+    Untraced,
     /// This picture.
     Of(Picture),
 }
@@ -67,9 +67,9 @@ pub struct Standing {
     pub loaded: Loaded,
     /// Whether its folder has no file `down`.
     pub normally_up: bool,
-    /// What its trace tells, where there is one that can be read.
+    /// What its trace says, where there is one that can be read.
     pub facts: Option<Facts>,
-    /// How the process ended that ended last, where its trace tells of one, and its file `exit` says it of that one.
+    /// How the process ended that ended last, where its trace says of one, and its file `exit` says it of that one.
     pub ending: Option<Ending>,
     /// The local time of the record's label.
     pub time: LocalTime,
@@ -80,7 +80,7 @@ pub struct Standing {
 }
 
 /// Why nobody answers, by why the service was not reached, and why its folder can't be looked at, where it can't. The
-/// first of these that holds is told: permission lacks at either; there is no such folder; it can't be looked at, or
+/// first of these that holds is reported: permission lacks at either; there is no such folder; it can't be looked at, or
 /// somebody is there who does not answer; nobody is there.
 pub fn absence_of(why: Unreached, fault: Option<ErrorKind>) -> Absence
     ensures { result ≡ absence_of why fault }
@@ -203,7 +203,7 @@ fn push_drawing<A: Allocator>(out: &mut String<A>, drawing: &Drawing) -> Result<
 {
     match drawing {
         Drawing::Unasked => Ok(()),
-        Drawing::Untold => { out.push_str("No timeline: it has no trace that can be read.\n") }
+        Drawing::Untraced => { out.push_str("No timeline: it has no trace that can be read.\n") }
         Drawing::Of(picture) => {
             out.push_str(picture.bar.as_str())?;
             out.push_str("\n")?;

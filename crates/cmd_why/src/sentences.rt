@@ -16,19 +16,19 @@ use std::alloc::{AllocError, Allocator};
 use svc_exit::{Ending, signal_name};
 use tai_status::{Label, Loaded, Phase, View, Want};
 
-/// The line of a service: how it stands, by its record and the clock; and then, where there is a trace, what it tells.
+/// The line of a service: how it stands, by its record and the clock; and then, where there is a trace, what it says.
 ///
 /// How it stands:
 ///
 /// - `DIR is up since TIME (S s), process N` where the record has a process, else `DIR is down since TIME (S s)`: TIME
 ///   is that of its label, and S whole seconds from there to the clock, 0 where it is still to come.
-/// - `, being started`, `, settling after its start`, `, resting after a failed start`: a record of 20 bytes tells
+/// - `, being started`, `, settling after its start`, `, resting after a failed start`: a record of 20 bytes reports
 ///   that.
 /// - `, paused`: it is paused.
 /// - `, wanted up`: it is down, and is to be up. `, wanted down`, `, wanted once`: it is up, and is to be down, or is
 ///   not to be started again.
 /// - `, normally down`: it is up, and has a file `down`. `, normally up`: it is down, and has none.
-/// - `, and supervise is gone`, `, and supervise is to end`: a record of 20 bytes tells that it is exiting, in the
+/// - `, and supervise is gone`, `, and supervise is to end`: a record of 20 bytes says that it is exiting, in the
 ///   phase `gone` or in another.
 ///
 /// What was before, where the trace leads to the record: the machine after its entries has the record's label and
@@ -42,7 +42,7 @@ use tai_status::{Label, Loaded, Phase, View, Want};
 /// - `It was brought down (d).`, `It was to run once (o).`: that is the last of `u`, `d` and `o` between the start of
 ///   the process that the last death ended and that death.
 /// - `Process N ran S s and ended.`: the last death ended that process.
-/// - `Its last start failed.`: no start is told behind the last one that failed.
+/// - `Its last start failed.`: no start is reported behind the last one that failed.
 /// - `It has not run since supervise began.`: nothing was folded, there is no process before the entries, and no start
 ///   among them.
 ///
@@ -193,7 +193,7 @@ fn phase_words(phase: Phase) -> &'static str
     }
 }
 
-/// Where supervise stands with it, where a record tells that.
+/// Where supervise stands with it, where a record says that.
 #[tactic(auto, unfolding(crate::specs::Sentences::phase_text))]
 fn phase_text(loaded: &Loaded) -> &'static str
     ensures { result.now ≡ phase_text loaded.now }
@@ -532,7 +532,7 @@ fn starts_opening(starts: u64, all: bool) -> &'static str
     }
 }
 
-/// Writes what the trace tells, where there is one.
+/// Writes what the trace says, where there is one.
 fn push_trace<A: Allocator>(
     out: &mut String<A>,
     running: bool,

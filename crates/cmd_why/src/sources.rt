@@ -6,7 +6,7 @@ use std::io::ErrorKind;
 use svc_exit::ExitText;
 use tai_status::Label;
 
-/// The files of services, as `why` reads them. Contracts see what they hold, where it tells that.
+/// The files of services, as `why` reads them. Contracts see what they hold, where it says that.
 pub trait ServiceFiles {
     ghost use Rattle.std.specs.Prelude.{◌≡◌, None, IfOk, IfErr, OnErr};
     ghost use Rattle.cmd_base.specs.Known.{IsKnown, IsMissed};
@@ -33,7 +33,7 @@ pub trait ServiceFiles {
 /// A local time, as `2026-11-25 01:33:02`.
 pub type LocalTime = ArrayString<32>;
 
-/// Local times. Contracts see the text of a label, where it tells that.
+/// Local times. Contracts see the text of a label, where it says that.
 pub trait LocalTimes {
     ghost use Rattle.std.specs.Prelude.{ℕ, List, Option, None};
     ghost use Rattle.cmd_base.specs.Known.{IsKnown};

@@ -28,7 +28,7 @@ fn path_in(folder: &str, rest: &str) -> io::Result<ArrayString<PATH_BYTES>>
     Ok(path)
 }
 
-/// The services of this system. They tell contracts nothing.
+/// The services of this system. They say nothing to contracts.
 impl ServiceFiles for HostRuntime {
     fn read_trace<A: Allocator>(&self, alloc: A, folder: &str) -> io::Result<Vec<u8, A>> {
         let path = path_in(folder, "/supervise/trace")?;

@@ -26,7 +26,7 @@ pub type Bar = ArrayString<COLUMNS>;
 pub enum Shown {
     /// There is a process.
     Up,
-    /// There is one, and it was paused for a part of that time: when, a trace does not tell.
+    /// There is one, and it was paused for a part of that time: when, a trace does not report.
     Paused,
     /// It settles after a start, or rests after one that failed.
     Attempt,
@@ -282,10 +282,10 @@ fn bar(from: u128, width: u128, drawn: &[Stretch]) -> Bar
 }
 
 /// Where the picture of a trace begins.
-pub(crate) fn left_end<A: Allocator>(told: &TraceText<A>, now: &Label) -> Label
-    ensures { result ≡ left_end told.now now.now }
+pub(crate) fn left_end<A: Allocator>(content: &TraceText<A>, now: &Label) -> Label
+    ensures { result ≡ left_end content.now now.now }
 {
-    let label = told.base().view().label;
+    let label = content.base().view().label;
     if nanos(now) < nanos(&label) {
         *now
     } else {
@@ -299,7 +299,7 @@ pub(crate) fn left_end<A: Allocator>(told: &TraceText<A>, now: &Label) -> Label
 /// - `#`: there is a process. `.`: there is none.
 /// - `*`: it settles after a start, or rests after one that failed; each lasts a second.
 /// - `=`: the process was paused for a part of the time from one label to the next: a control byte has no label, and so
-///   when it came, a trace does not tell.
+///   when it came, a trace does not report.
 /// - `?`: what stands is not known: the trace does not lead to the record, and this is behind its last label.
 /// - `+`: more than one of these.
 ///
@@ -308,21 +308,21 @@ pub(crate) fn left_end<A: Allocator>(told: &TraceText<A>, now: &Label) -> Label
 /// memory.
 pub fn bar_of<A: Allocator, B: Allocator>(
     alloc: A,
-    told: &TraceText<B>,
+    content: &TraceText<B>,
     leads: bool,
     now: &Label,
 ) -> Result<Bar, AllocError>
-    ensures { IfOk result (λ bar. bar.bytes ≡ bar_of told.now leads now.now) }
+    ensures { IfOk result (λ bar. bar.bytes ≡ bar_of content.now leads now.now) }
 {
-    let from = nanos(&left_end(told, now));
+    let from = nanos(&left_end(content, now));
     let until = nanos(now);
     let width = width(from, until);
-    let base = told.base();
+    let base = content.base();
     let last = Stretch {
         from,
         to: from + width,
         shown: shown_before(&base.view()),
     };
-    let drawn = stretches(alloc, until, leads, base, last, told.entries())?;
+    let drawn = stretches(alloc, until, leads, base, last, content.entries())?;
     Ok(bar(from, width, &drawn))
 }

@@ -3,7 +3,7 @@ use crate::sources::{LocalTime, LocalTimes};
 use cmd_local::{LocalZone, local_time};
 use tai_status::{Label, text};
 
-/// A label outside of the years 1900 to 9999 is told as its own text. It tells contracts nothing.
+/// A label outside of the years 1900 to 9999 is reported as its own text. It says nothing to contracts.
 impl LocalTimes for LocalZone {
     fn local_time(&self, label: &Label) -> LocalTime {
         match local_time(self, label) {

@@ -5,7 +5,7 @@ ghost use Rattle.std.specs.Prelude.{option_map};
 ghost use Rattle.tai_status.specs.Counted.{Wrote, Works};
 ghost use Rattle.cmd_svc.specs.Words.{texts};
 ghost use Rattle.cmd_why.specs.Facts.{ended_in, facts_of};
-ghost use Rattle.cmd_why.specs.Why.{found_text, is_unread, why_told, Finds, FindsStanding, IsDrawing};
+ghost use Rattle.cmd_why.specs.Why.{found_text, is_unread, why_report, Finds, FindsStanding, IsDrawing};
 ghost use Rattle.cmd_why.specs.Why.{IsEndingOf, IsPicture, IsTraceOf, Reaches, ShowEnds, ShowsEach, ShowsNot};
 ghost use Rattle.cmd_why.specs.Why.{ShowsOne, ShowsUpTo, WhyEnds, WritesNot};
 
@@ -60,17 +60,17 @@ fn reach_service<S: Services, K: Evidence>(services: &mut S, sources: &K, folder
     }
 }
 
-/// What the trace of the service in a folder tells, where there is one that can be read.
-fn read_told<A: Allocator + Clone, K: Evidence>(
+/// What the trace of the service in a folder says, where there is one that can be read.
+fn read_content<A: Allocator + Clone, K: Evidence>(
     alloc: &A,
     sources: &K,
     folder: &str,
 ) -> Result<Option<TraceText<A>>, AllocError>
-    ensures { IfOk result (λ told. IsTraceOf ((K.known sources.now).traces folder.now) told) }
+    ensures { IfOk result (λ content. IsTraceOf ((K.known sources.now).traces folder.now) content) }
 {
     match sources.read_trace(alloc.clone()?, folder) {
         Ok(text) => match read_text(alloc.clone()?, &text) {
-            Ok(told) => Ok(Some(told)),
+            Ok(content) => Ok(Some(content)),
             Err(fault) if fault.kind == TraceFaultKind::OutOfMemory => Err(AllocError),
             Err(_) => Ok(None),
         },
@@ -79,17 +79,17 @@ fn read_told<A: Allocator + Clone, K: Evidence>(
     }
 }
 
-/// What a trace tells, where there is one.
-fn facts_in<A: Allocator>(told: Option<&TraceText<A>>, status: &View, now: &Label) -> Option<Facts>
-    ensures { result ≡ option_map (λ told. facts_of told status.now now.now) (option_copied told.entry) }
+/// What a trace says, where there is one.
+fn facts_in<A: Allocator>(content: Option<&TraceText<A>>, status: &View, now: &Label) -> Option<Facts>
+    ensures { result ≡ option_map (λ content. facts_of content status.now now.now) (option_copied content.entry) }
 {
-    match told {
-        Some(told) => Some(facts_of(told, status, now)),
+    match content {
+        Some(content) => Some(facts_of(content, status, now)),
         None => None,
     }
 }
 
-/// How the process that ended last ended, where the trace tells of one, and the line of how the last one ended is of
+/// How the process that ended last ended, where the trace says of one, and the line of how the last one ended is of
 /// it.
 fn read_how<K: Evidence>(sources: &K, folder: &str, facts: Option<&Facts>) -> Option<Ending>
     ensures { IsEndingOf ((K.known sources.now).exits folder.now) (ended_in (option_copied facts.entry)) result }
@@ -105,16 +105,16 @@ fn read_how<K: Evidence>(sources: &K, folder: &str, facts: Option<&Facts>) -> Op
 fn picture<A: Allocator + Clone, K: Evidence>(
     alloc: &A,
     sources: &K,
-    told: &TraceText<A>,
+    content: &TraceText<A>,
     status: &View,
     now: &Label,
 ) -> Result<Picture, AllocError>
-    ensures { IfOk result (λ picture. IsPicture (K.known sources.now).times told.now status.now now.now picture) }
+    ensures { IfOk result (λ picture. IsPicture (K.known sources.now).times content.now status.now now.now picture) }
 {
-    let leads = leads_to(told, status);
+    let leads = leads_to(content, status);
     Ok(Picture {
-        bar: bar_of(alloc.clone()?, told, leads, now)?,
-        from: sources.local_time(&left_end(told, now)),
+        bar: bar_of(alloc.clone()?, content, leads, now)?,
+        from: sources.local_time(&left_end(content, now)),
     })
 }
 
@@ -123,23 +123,23 @@ fn draw<A: Allocator + Clone, K: Evidence>(
     alloc: &A,
     sources: &K,
     timeline: bool,
-    told: Option<&TraceText<A>>,
+    content: Option<&TraceText<A>>,
     status: &View,
     now: &Label,
 ) -> Result<Drawing, AllocError>
     ensures { IfOk result (λ drawing.
-        IsDrawing (K.known sources.now).times timeline (option_copied told.entry) status.now now.now drawing) }
+        IsDrawing (K.known sources.now).times timeline (option_copied content.entry) status.now now.now drawing) }
 {
     if !timeline {
         return Ok(Drawing::Unasked);
     }
-    let Some(told) = told else {
-        return Ok(Drawing::Untold);
+    let Some(content) = content else {
+        return Ok(Drawing::Untraced);
     };
-    Ok(Drawing::Of(picture(alloc, sources, told, status, now)?))
+    Ok(Drawing::Of(picture(alloc, sources, content, status, now)?))
 }
 
-/// How the service in a folder stands, whose record tells this.
+/// How the service in a folder stands, whose record says this.
 fn stand<A: Allocator + Clone, K: Evidence, C: TimeSource>(
     alloc: &A,
     timeline: bool,
@@ -152,12 +152,12 @@ fn stand<A: Allocator + Clone, K: Evidence, C: TimeSource>(
     ensures { IfOk result (FindsStanding (K.known sources.now) timeline folder.now loaded normally_up
         (C.readings clock.old) (C.readings clock.new)) }
 {
-    let told = read_told(alloc, sources, folder)?;
+    let content = read_content(alloc, sources, folder)?;
     let now = clock.now();
     let status = loaded.view();
-    let facts = facts_in(told.as_ref(), &status, &now);
+    let facts = facts_in(content.as_ref(), &status, &now);
     let ending = read_how(sources, folder, facts.as_ref());
-    let drawing = draw(alloc, sources, timeline, told.as_ref(), &status, &now)?;
+    let drawing = draw(alloc, sources, timeline, content.as_ref(), &status, &now)?;
     Ok(Standing {
         loaded,
         normally_up,
@@ -291,9 +291,9 @@ where
     Ok(unread)
 }
 
-/// What is told of a fault.
+/// What is reported of a fault.
 fn fault_text(fault: WhyFault) -> &'static [u8]
-    ensures { result.now ≡ why_told fault }
+    ensures { result.now ≡ why_report fault }
 {
     match fault {
         WhyFault::OutOfMemory => b"why: OutOfMemory\n",
@@ -302,7 +302,7 @@ fn fault_text(fault: WhyFault) -> &'static [u8]
 }
 
 /// `why` over services, with timelines or without.
-fn tell_services<S, K, A, W, E, C>(
+fn report_services<S, K, A, W, E, C>(
     alloc: A,
     timeline: bool,
     observer: &mut Observer<S, C>,
@@ -336,7 +336,7 @@ where
 /// read: the picture of its trace, as [`bar_of`] draws it, and the local time at which that begins, with `now` at its
 /// end; or one line that there is no trace that can be read.
 ///
-/// Answers the status: 0; 111 where a service could not be read, which its line tells; and 111 for a fault of the
+/// Answers the status: 0; 111 where a service could not be read, which its line says; and 111 for a fault of the
 /// writer and for want of memory, and then the services after that one are not looked at.
 pub fn run_why<S, K, A, W, E, C>(
     alloc: A,
@@ -358,8 +358,8 @@ where
 {
     match words {
         ["--timeline", folders @ ..] => {
-            tell_services(alloc, true, observer, sources, folders, writer, faults)
+            report_services(alloc, true, observer, sources, folders, writer, faults)
         }
-        _ => tell_services(alloc, false, observer, sources, words, writer, faults),
+        _ => report_services(alloc, false, observer, sources, words, writer, faults),
     }
 }

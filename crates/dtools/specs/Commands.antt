@@ -2,7 +2,7 @@
 use Rattle.std.specs.Prelude.{◌≡◌, ◌≢◌, ℕ, ℤ, List, [], ◌∷◌, ◌++◌, codes, Option}
 use Rattle.cmd_base.specs.Console.{Console}
 use Rattle.tai_status.specs.Counted.{Device}
-use Rattle.cmd_base.specs.Told.{RefusesWords}
+use Rattle.cmd_base.specs.Usage.{RefusesWords}
 use Rattle.cmd_sim.specs.Ends.{SimEnds}
 use Rattle.cmd_trace.specs.Traced.{TraceEnds}
 use Rattle.cmd_filters.specs.Stamped.{StampsEnd}
@@ -51,7 +51,7 @@ ReadsNoClock name =
 
 -- What a command that only prints is to do.
 abbrev pub End : Type 1
-End = (words : List (List ℕ)) (status : ℕ) (old new faults tells : Device) → Type 0
+End = (words : List (List ℕ)) (status : ℕ) (old new faults reports : Device) → Type 0
 
 -- A command that only prints ended so, and read nothing.
 abbrev pub Prints : End → (words : List (List ℕ)) (status : ℕ) (old new : Console) → Type 0
@@ -145,6 +145,6 @@ pub record ScanEnds (name : List ℕ) (words : List (List ℕ)) (status : ℕ) (
       → (new.console.reader ≡ old.console.reader) × (new.console.writer ≡ old.console.writer)
   pub others : name ≢ codes "svscan" → now ≡ past
 
--- what is told where there is no word
-abbrev pub no_word_told : List ℕ
-no_word_told = codes "dtools: usage" ++ 10 ∷ codes "dtools help lists the commands" ++ 10 ∷ []
+-- what is reported where there is no word
+abbrev pub no_word_report : List ℕ
+no_word_report = codes "dtools: usage" ++ 10 ∷ codes "dtools help lists the commands" ++ 10 ∷ []

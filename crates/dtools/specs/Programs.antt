@@ -1,6 +1,6 @@
 -- How the program ends, by its words. The first names the command, and the words after it are its own.
 use Rattle.std.specs.Prelude.{◌≡◌, ℕ, ℤ, List, [], ◌∷◌, Option, ⊤}
-use Rattle.tai_status.specs.Counted.{Tells}
+use Rattle.tai_status.specs.Counted.{Reports}
 use Rattle.cmd_envdir.specs.System.{Launch, SystemState}
 use Rattle.cmd_multilog.specs.Shelf.{Shelf}
 use Rattle.mlog_core.specs.Feed.{Feed}
@@ -8,7 +8,7 @@ use Rattle.cmd_report.specs.MetricsEnds.{CountFiles}
 use Rattle.cmd_why.specs.Texts.{Knowledge}
 use Rattle.cmd_wait.specs.Steps.{Step}
 use Rattle.cmd_svscan.specs.Calls.{Call}
-use Rattle.dtools.specs.Commands.{Equipment, no_word_told, PlainEnds, ZonedEnds, ChildEnds, LoggerEnds, ServiceEnds}
+use Rattle.dtools.specs.Commands.{Equipment, no_word_report, PlainEnds, ZonedEnds, ChildEnds, LoggerEnds, ServiceEnds}
 use Rattle.dtools.specs.Commands.{ReasonEnds, PacedEnds, ScanEnds}
 
 -- No word names a command.
@@ -16,7 +16,7 @@ pub record NamesNothing (status : ℕ) (old new : Equipment) : Type 0 where
   pub status_is : status ≡ 100
   pub unread : new.console.reader ≡ old.console.reader
   pub unwritten : new.console.writer ≡ old.console.writer
-  pub told : Tells old.console.faults new.console.faults no_word_told
+  pub reported : Reports old.console.faults new.console.faults no_word_report
   pub unasked : new.sight ≡ old.sight
 
 abbrev pub PlainProgram : (words : List (List ℕ)) (status : ℕ) (old new : Equipment) → Type 0

@@ -2,9 +2,9 @@
 ghost use Rattle.std.specs.Prelude.{◌≡◌, []};
 ghost use Rattle.cmd_envdir.specs.System.{texts};
 ghost use Rattle.cmd_why.specs.Texts.{knowledge};
-ghost use Rattle.tai_status.specs.Counted.{Tells};
+ghost use Rattle.tai_status.specs.Counted.{Reports};
 ghost use Rattle.dtools.specs.Commands.{ChildEnds, LoggerEnds, PacedEnds, PlainEnds, ReasonEnds, ScanEnds, ServiceEnds};
-ghost use Rattle.dtools.specs.Commands.{ZonedEnds, no_word_told};
+ghost use Rattle.dtools.specs.Commands.{ZonedEnds, no_word_report};
 ghost use Rattle.dtools.specs.Programs.{ChildProgram, LoggerProgram, PacedProgram, PlainProgram, ReasonProgram};
 ghost use Rattle.dtools.specs.Programs.{ScanProgram, ServiceProgram, ZonedProgram};
 
@@ -113,10 +113,10 @@ where
     }
 }
 
-/// Tells that there is no word, and which command tells more; answers the status of that.
+/// Says that there is no word, and which command reports more; answers the status of that.
 fn refuse_no_word<E: Write>(faults: &mut Output<E>) -> u8
     ensures status { result ≡ 100 }
-    ensures told { Tells faults.old faults.new no_word_told }
+    ensures reported { Reports faults.old faults.new no_word_report }
 {
     report(
         faults,

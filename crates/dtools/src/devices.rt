@@ -4,7 +4,7 @@ use std::io::{Read, Write};
 use std::marker::Model;
 use tai_status::{Input, Output, TimeSource};
 
-/// What a command reads and writes, where it tells its faults, the services that it asks, and its clock. A command is
+/// What a command reads and writes, where it reports its faults, the services that it asks, and its clock. A command is
 /// handed only those that it needs.
 #[derive(Drop)]
 pub struct Devices<D: Read, W: Write, E: Write, S: Services, C: TimeSource> {

@@ -48,7 +48,7 @@ fn main(rt: HostRuntime) -> ExitCode {
     ExitCode::from(run_arguments(&rt, &rt, &mut lines, &mut service_set, &mut devices))
 }
 
-/// The channel by which a logger is told to stop or to rotate, where the command is one and there is a channel.
+/// The channel by which a logger is asked to stop or to rotate, where the command is one and there is a channel.
 fn logger_channel(rt: &HostRuntime) -> Option<i32> {
     match env::args(rt).ok()?.skip(1).next() {
         Some(name) if name.as_str() == "multilog" => stop_channel(rt),
@@ -103,7 +103,7 @@ where
     }
 }
 
-/// The zone of this computer, where the command tells local times, `trace` only with its flag. The others need none.
+/// The zone of this computer, where the command reports local times, `trace` only with its flag. The others need none.
 fn zone_for(rt: &HostRuntime, words: &[&str]) -> LocalZone {
     match words {
         ["tai64nlocal" | "why", ..] => system_zone(rt),
@@ -127,7 +127,7 @@ fn arguments(rt: &HostRuntime) -> Result<Vec<String>, ErrorKind> {
     Ok(words)
 }
 
-/// Tells why the words could not be had: for want of memory, or since they are no text.
+/// Says why the words could not be had: for want of memory, or since they are no text.
 fn refuse_words<E: Write>(why: ErrorKind, faults: &mut Output<E>) -> u8 {
     if why == ErrorKind::OutOfMemory {
         return report(faults, b"dtools: OutOfMemory\n", TROUBLE);

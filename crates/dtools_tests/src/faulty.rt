@@ -18,7 +18,7 @@ pub enum Call {
 }
 
 /// A store in memory that takes few bytes an append, and fails at one call. What it holds is looked at by the tests,
-/// and not told to contracts.
+/// and not reported to contracts.
 #[derive(Drop)]
 pub struct Faulty {
     store: MemoryStore,
@@ -74,9 +74,9 @@ impl Faulty {
 
 impl LogStore for Faulty {
     ghost use Rattle.std.specs.Prelude.{length};
-    ghost use Rattle.mlog_files.specs.Store.{tells_nothing};
+    ghost use Rattle.mlog_files.specs.Store.{shows_nothing};
 
-    ghost state = { λ faulty. tells_nothing (length faulty.store.logs) (length faulty.store.statuses) faulty.failures };
+    ghost state = { λ faulty. shows_nothing (length faulty.store.logs) (length faulty.store.statuses) faulty.failures };
 
     fn append(&mut self, log: usize, piece: &[u8]) -> Result<usize, StoreFault> {
         if self.refuses_append() {

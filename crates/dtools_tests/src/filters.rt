@@ -119,10 +119,10 @@ impl TimeSource for Still {
 }
 
 #[test]
-fn tells_of_devices(rt: HostRuntime) {
+fn reports_of_devices(rt: HostRuntime) {
     let line = b"@7fffffffffffffff3b9ac9ff a\n".as_slice();
     let mut clock = Still { label: Label::MAX };
-    for (room, told) in [(5, "tai64n: Write\n"), (100, "tai64n: Read\n")] {
+    for (room, reported) in [(5, "tai64n: Write\n"), (100, "tai64n: Read\n")] {
         let mut reader = Counted::new(Slow::failing(b"a\n", 1));
         let mut writer = Counted::new(Tight::refusing(rt.alloc(), room));
         let mut faults = Counted::new(Vec::new(rt.alloc()));
@@ -130,7 +130,7 @@ fn tells_of_devices(rt: HostRuntime) {
         assert_eq!(rt; status, 111);
         let written = line.len().min(room);
         assert_eq!(rt; writer.into_device().held(), &line[..written]);
-        assert_eq!(rt; faults.into_device().as_slice(), told.as_bytes());
+        assert_eq!(rt; faults.into_device().as_slice(), reported.as_bytes());
     }
 }
 
@@ -143,14 +143,14 @@ fn titling(memory: &Scarce<Global>, growths: u64) -> Result<bool, Fail> {
     let status = run_readproctitle(memory, &["12345"], &mut reader, &mut writer, &mut faults);
     let refused = memory.lift();
     let out = writer.into_device();
-    let told = faults.into_device();
+    let reported = faults.into_device();
     if !refused {
         let title = out.as_slice() == b"...gh\n".as_slice();
-        check("the title", status == 0 && title && told.is_empty())?;
+        check("the title", status == 0 && title && reported.is_empty())?;
         return Ok(false);
     }
-    let is_told = told.as_slice() == b"readproctitle: OutOfMemory\n".as_slice();
-    check("want of memory", status == 111 && is_told && out.is_empty())?;
+    let is_reported = reported.as_slice() == b"readproctitle: OutOfMemory\n".as_slice();
+    check("want of memory", status == 111 && is_reported && out.is_empty())?;
     let unread = reader.into_device().len() == 8;
     check(
         "the first growth is before the first read",
@@ -160,8 +160,8 @@ fn titling(memory: &Scarce<Global>, growths: u64) -> Result<bool, Fail> {
 }
 
 #[test]
-fn tells_why_there_is_no_title(rt: HostRuntime) -> Result<(), Fail> {
-    for (fails, room, held, told) in [
+fn reports_why_there_is_no_title(rt: HostRuntime) -> Result<(), Fail> {
+    for (fails, room, held, reported) in [
         (false, 100, "...bc\n", ""),
         (false, 4, "...b", "readproctitle: write fault\n"),
         (true, 100, "", "readproctitle: read fault\n"),
@@ -181,9 +181,9 @@ fn tells_why_there_is_no_title(rt: HostRuntime) -> Result<(), Fail> {
             &mut writer,
             &mut faults,
         );
-        assert_eq!(rt; status, if told.is_empty() { 0 } else { 111 });
+        assert_eq!(rt; status, if reported.is_empty() { 0 } else { 111 });
         assert_eq!(rt; writer.into_device().held(), held.as_bytes());
-        assert_eq!(rt; faults.into_device().as_slice(), told.as_bytes());
+        assert_eq!(rt; faults.into_device().as_slice(), reported.as_bytes());
     }
     refuse_in_turn(rt.alloc(), titling)
 }

@@ -59,7 +59,7 @@ fn keeping(memory: &Scarce<Global>, growths: u64) -> Result<bool, Fail> {
     Ok(no_trace || no_text || no_copy)
 }
 
-/// Reads a text, and then writes and explains what it tells.
+/// Reads a text, and then writes and explains what it says.
 fn reading(memory: &Scarce<Global>, growths: u64) -> Result<bool, Fail> {
     memory.give(growths);
     let fault = read_text(memory, TEXT).err();
@@ -69,17 +69,17 @@ fn reading(memory: &Scarce<Global>, growths: u64) -> Result<bool, Fail> {
         check("at an entry", fault.line == 3 || fault.line == 4)?;
         check("nothing else", fault.kind == TraceFaultKind::OutOfMemory)?;
     }
-    let told = read_text(memory, TEXT)?;
+    let reported = read_text(memory, TEXT)?;
     memory.give(growths);
-    let is_refused = told.write_text(memory).is_err();
+    let is_refused = reported.write_text(memory).is_err();
     let no_text = memory.lift();
     check("a text", is_refused == no_text)?;
-    check("the text", told.write_text(memory)?.as_slice() == TEXT)?;
+    check("the text", reported.write_text(memory)?.as_slice() == TEXT)?;
     memory.give(growths);
-    let is_refused = explain(memory, &told).is_err();
+    let is_refused = explain(memory, &reported).is_err();
     let no_lines = memory.lift();
     check("lines", is_refused == no_lines)?;
-    let lines = explain(memory, &told)?;
+    let lines = explain(memory, &reported)?;
     check("two lines", lines.len() == 2)?;
     for (line, wanted) in lines.as_slice().iter().zip(LINES) {
         check("a line", line.as_str() == wanted)?;

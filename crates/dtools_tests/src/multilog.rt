@@ -121,7 +121,7 @@ fn hands_lines_out(rt: HostRuntime) -> Result<(), Fail> {
         }
         for count in [1000, 1001] {
             let line = many(rt.alloc(), count, "\n")?;
-            let told = run_over(
+            let reported = run_over(
                 rt.alloc(),
                 &[b"=st".as_slice()],
                 line.as_bytes(),
@@ -129,12 +129,12 @@ fn hands_lines_out(rt: HostRuntime) -> Result<(), Fail> {
                 false,
             )?;
             let content = many(rt.alloc(), 1000, "\n")?;
-            assert_eq!(rt; told.status.as_slice(), content.as_bytes());
+            assert_eq!(rt; reported.status.as_slice(), content.as_bytes());
         }
         let line = many(rt.alloc(), 201, "")?;
-        let told = run_over(rt.alloc(), &[b"e".as_slice()], line.as_bytes(), most, false)?;
+        let reported = run_over(rt.alloc(), &[b"e".as_slice()], line.as_bytes(), most, false)?;
         assert_eq!(rt;
-            told.alerts.as_slice(),
+            reported.alerts.as_slice(),
             many(rt.alloc(), 200, "\n")?.as_bytes()
         );
     }

@@ -141,7 +141,7 @@ fn scanning(memory: &Scarce<Global>, growths: u64) -> Result<bool, Fail> {
     let first = table.scan(found.as_slice());
     let refused = memory.lift();
     check(
-        "want of memory is told where a growth is refused",
+        "want of memory is reported where a growth is refused",
         first.is_err() == refused,
     )?;
     let out = match first {
@@ -182,7 +182,7 @@ fn refusing(memory: &Scarce<Global>, growths: u64) -> Result<bool, Fail> {
     let first = table.scan(found.as_slice());
     let refused = memory.lift();
     check(
-        "want of memory is told where a growth is refused",
+        "want of memory is reported where a growth is refused",
         first.is_err() == refused,
     )?;
     let out = match first {

@@ -21,9 +21,9 @@ const ROWS: [(&[u8], ScriptFaultKind); 14] = [
     (b"+a**", ScriptFaultKind::Pattern),
 ];
 
-/// Bad words are told by place and kind, with no memory too.
+/// Bad words are reported by place and kind, with no memory too.
 #[test]
-fn tells_the_first_bad_word(rt: HostRuntime) -> Result<(), Fail> {
+fn reports_the_first_bad_word(rt: HostRuntime) -> Result<(), Fail> {
     let none = Scarce::new(rt.alloc());
     none.give(0);
     for (word, kind) in ROWS {
@@ -74,7 +74,7 @@ fn is_as_written(script: &Script<&Scarce<Global>>) -> bool {
         && script.log(2).is_none()
 }
 
-/// Reads a script. The word of which the action got no memory is told.
+/// Reads a script. The word of which the action got no memory is reported.
 fn reading(memory: &Scarce<Global>, growths: u64) -> Result<bool, Fail> {
     memory.give(growths);
     let fault = Script::read(memory, &SCRIPT).err();

@@ -20,7 +20,7 @@ took TERM:4711 CONT:4711 record:400000000000000b000000006712000000640003 -> up
 took record:400000000000000d000000000000000000640004 -> down
 ";
 
-/// Two services, of which the second is not told to stop while it settles.
+/// Two services, of which the second is not asked to stop while it settles.
 const SUITE: &[u8] = b"scan @400000000000000a00000000 d---:a d---:b
 at 0.main.1 started 10 @400000000000000b00000000
 at 2.main.3 started 20 @400000000000000b00000000
@@ -41,11 +41,11 @@ const SUITE_ANSWERS: &[u8] = b"scan: 2 started, 0 restarted, 0 dropped, 0 refuse
 2.main.3 took record:400000000000000b000000001400000000750003 -> up
 ";
 
-/// What a run wrote, what it told, and its status.
+/// What a run wrote, what it reported, and its status.
 #[derive(Drop)]
 struct Ran {
     out: Vec<u8>,
-    told: Vec<u8>,
+    reported: Vec<u8>,
     status: u8,
 }
 
@@ -57,19 +57,19 @@ fn sim<D: Read + Drop>(alloc: Global, reader: D) -> Ran {
     let status = run_sim(alloc, &[], &mut reader, &mut writer, &mut faults);
     Ran {
         out: writer.into_device(),
-        told: faults.into_device(),
+        reported: faults.into_device(),
         status,
     }
 }
 
 #[test]
-fn answers_byte_by_byte_and_tells_of_devices(rt: HostRuntime) {
+fn answers_byte_by_byte_and_reports_of_devices(rt: HostRuntime) {
     let whole = sim(rt.alloc(), Slow::ending(SERVICE, 1));
     assert_eq!(rt; whole.out.as_slice(), ANSWERS);
-    assert_eq!(rt; (whole.told.len(), whole.status), (0, 0));
+    assert_eq!(rt; (whole.reported.len(), whole.status), (0, 0));
     let unread = sim(rt.alloc(), Slow::failing(SERVICE, 1));
     assert_eq!(rt; unread.out.as_slice(), ANSWERS);
-    assert_eq!(rt; unread.told.as_slice(), b"sim: read fault\n".as_slice());
+    assert_eq!(rt; unread.reported.as_slice(), b"sim: read fault\n".as_slice());
     assert_eq!(rt; unread.status, 111);
     for room in 0..ANSWERS.len() {
         let mut reader = Counted::new(SERVICE);
@@ -78,8 +78,8 @@ fn answers_byte_by_byte_and_tells_of_devices(rt: HostRuntime) {
         let status = run_sim(rt.alloc(), &[], &mut reader, &mut writer, &mut faults);
         assert_eq!(rt; status, 111);
         assert_eq!(rt; writer.into_device().held(), &ANSWERS[..room]);
-        let told = faults.into_device();
-        assert_eq!(rt; told.as_slice(), b"sim: write fault\n".as_slice());
+        let reported = faults.into_device();
+        assert_eq!(rt; reported.as_slice(), b"sim: write fault\n".as_slice());
     }
 }
 
@@ -92,16 +92,16 @@ fn answering(memory: &Scarce<Global>, growths: u64) -> Result<bool, Fail> {
     let status = run_sim(memory, &[], &mut reader, &mut writer, &mut faults);
     let refused = memory.lift();
     let out = writer.into_device();
-    let told = faults.into_device();
+    let reported = faults.into_device();
     if !refused {
-        let whole = out.as_slice() == SUITE_ANSWERS && told.is_empty();
+        let whole = out.as_slice() == SUITE_ANSWERS && reported.is_empty();
         check("all answers", status == 0 && whole)?;
         return Ok(false);
     }
     check("the status", status == 111)?;
     check(
         "want of memory",
-        told.as_slice() == b"sim: OutOfMemory\n".as_slice(),
+        reported.as_slice() == b"sim: OutOfMemory\n".as_slice(),
     )?;
     check("a front", SUITE_ANSWERS.starts_with(out.as_slice()))?;
     let unread = reader.into_device().len() == SUITE.len() && out.is_empty();
@@ -157,7 +157,7 @@ scan: 1 started, 0 restarted, 1 dropped, 0 refused
         let again = scan_line(rt.alloc(), "@400000000000000d00000000", from)?;
         input.push_str(again.as_str())?;
         let ran = sim(rt.alloc(), input.as_bytes());
-        assert_eq!(rt; (ran.told.len(), ran.status), (0, 0));
+        assert_eq!(rt; (ran.reported.len(), ran.status), (0, 0));
         assert!(rt; ran.out.as_slice().starts_with(first.as_bytes()));
         assert!(rt; ran.out.as_slice().ends_with(last.as_bytes()));
     }

@@ -25,15 +25,15 @@ fn explaining(memory: &Scarce<Global>, growths: u64) -> Result<bool, Fail> {
     let status = trace_bytes(memory, TRACE, None, &mut writer, &mut faults);
     let refused = memory.lift();
     let out = writer.into_device();
-    let told = faults.into_device();
+    let reported = faults.into_device();
     if !refused {
-        let whole = out.as_slice() == EXPLAINED && told.is_empty();
+        let whole = out.as_slice() == EXPLAINED && reported.is_empty();
         check("the explanation", status == 0 && whole)?;
         return Ok(false);
     }
     // The first growth is for the entry in the third line.
-    let line = told.as_slice() == b"trace: line 3: OutOfMemory\n".as_slice();
-    let plain = told.as_slice() == b"trace: OutOfMemory\n".as_slice();
+    let line = reported.as_slice() == b"trace: line 3: OutOfMemory\n".as_slice();
+    let plain = reported.as_slice() == b"trace: OutOfMemory\n".as_slice();
     check(
         "want of memory",
         line == (growths == 0) && plain == (growths > 0),
@@ -43,8 +43,8 @@ fn explaining(memory: &Scarce<Global>, growths: u64) -> Result<bool, Fail> {
 }
 
 #[test]
-fn tells_trouble_of_a_text(rt: HostRuntime) -> Result<(), Fail> {
-    for (text, held, told) in [
+fn reports_trouble_of_a_text(rt: HostRuntime) -> Result<(), Fail> {
+    for (text, held, reported) in [
         (TRACE, "1 byte d: ", "trace: write fault\n"),
         (b"".as_slice(), "", "trace: line 1: Line\n"),
     ] {
@@ -53,7 +53,7 @@ fn tells_trouble_of_a_text(rt: HostRuntime) -> Result<(), Fail> {
         let status = trace_bytes(rt.alloc(), text, None, &mut writer, &mut faults);
         assert_eq!(rt; status, 111);
         assert_eq!(rt; writer.into_device().held(), held.as_bytes());
-        assert_eq!(rt; faults.into_device().as_slice(), told.as_bytes());
+        assert_eq!(rt; faults.into_device().as_slice(), reported.as_bytes());
     }
     refuse_in_turn(rt.alloc(), explaining)
 }

@@ -11,7 +11,7 @@ fn parting(memory: &Scarce<Global>, growths: u64) -> Result<bool, Fail> {
     let fault = assemble(memory, &words).err();
     let refused = memory.lift();
     check(
-        "want of memory is told where a growth is refused",
+        "want of memory is reported where a growth is refused",
         fault.is_some() == refused,
     )?;
     check(
@@ -24,8 +24,8 @@ fn parting(memory: &Scarce<Global>, growths: u64) -> Result<bool, Fail> {
     Ok(refused)
 }
 
-/// Tells how a service stands.
-fn telling(memory: &Scarce<Global>, growths: u64) -> Result<bool, Fail> {
+/// Says how a service stands.
+fn reporting(memory: &Scarce<Global>, growths: u64) -> Result<bool, Fail> {
     let label = Label::from_unix(1, 0).ok_or("a small second has a label")?;
     let view = View::new(label, 4711, true, Want::Down).ok_or("a process is paused")?;
     let full = Full::new(view, Phase::Up, true).ok_or("it is up, and is to end")?;
@@ -35,19 +35,19 @@ fn telling(memory: &Scarce<Global>, growths: u64) -> Result<bool, Fail> {
     let is_refused = stat_line(memory, "s", &loaded, false, &now).is_err();
     let refused = memory.lift();
     check(
-        "want of memory is told where a growth is refused",
+        "want of memory is reported where a growth is refused",
         is_refused == refused,
     )?;
-    let told = stat_line(memory, "s", &loaded, false, &now)?;
+    let reported = stat_line(memory, "s", &loaded, false, &now)?;
     let wanted = "s: up (pid 4711) 2 seconds, normally down, paused, want down, exiting";
-    check("the line", told.as_str() == wanted)?;
+    check("the line", reported.as_str() == wanted)?;
     Ok(refused)
 }
 
 #[test]
 fn each_growth_of_words_and_lines_is_refused_in_turn(rt: HostRuntime) -> Result<(), Fail> {
     refuse_in_turn(rt.alloc(), parting)?;
-    refuse_in_turn(rt.alloc(), telling)
+    refuse_in_turn(rt.alloc(), reporting)
 }
 
 /// Records of 18 bytes, by hand: the second, the process, whether it is paused, what is wanted; whether it is normally
@@ -83,13 +83,13 @@ const LINES: [(u64, u32, bool, Want, bool, u64, &str); 3] = [
 ];
 
 #[test]
-fn tells_how_a_service_stands(rt: HostRuntime) -> Result<(), Fail> {
+fn reports_how_a_service_stands(rt: HostRuntime) -> Result<(), Fail> {
     for (since, pid, paused, want, is_normally_up, now, wanted) in LINES {
         let label = Label::from_unix(since, 0).ok_or("a small second has a label")?;
         let now = Label::from_unix(now, 0).ok_or("a small second has a label")?;
         let view = View::new(label, pid, paused, want).ok_or("it is lawful")?;
-        let told = stat_line(rt.alloc(), "s", &Loaded::Old(view), is_normally_up, &now)?;
-        assert_eq!(rt; told.as_str(), wanted);
+        let reported = stat_line(rt.alloc(), "s", &Loaded::Old(view), is_normally_up, &now)?;
+        assert_eq!(rt; reported.as_str(), wanted);
     }
     Ok(())
 }

@@ -21,18 +21,18 @@ pub first-bad : (place : ℕ) (file : File) (files : List File) (fault : EnvFaul
     → slice_get (faults_from place (file ∷ files)) 0 ≡ Some fault
 first-bad place file files fault bad = rw bad refl
 
--- a fault that is told is the file's
-pub told : (o : Option EnvFault) (r : Result (Unit {0}) EnvFault) (fault : EnvFault)
+-- a fault that is reported is the file's
+pub reported : (o : Option EnvFault) (r : Result (Unit {0}) EnvFault) (fault : EnvFault)
     → MatchOption o (IsOk r) (λ f. r ≡ Err f) → r ≡ Err fault → o ≡ Some fault
-told None r fault good is = let never = rw is at good in cc
-told (Some f) r fault bad is = cc
+reported None r fault good is = let never = rw is at good in cc
+reported (Some f) r fault bad is = cc
 
--- what is told as an error is what is wrong
-pub told_err : (o : Option EnvFault) (r : Result (Unit {0}) EnvFault) → MatchOption o (IsOk r) (λ f. r ≡ Err f)
+-- what is reported as an error is what is wrong
+pub reported_err : (o : Option EnvFault) (r : Result (Unit {0}) EnvFault) → MatchOption o (IsOk r) (λ f. r ≡ Err f)
     → result_err r ≡ o
-told_err None (Ok x) h = refl
-told_err None (Err f) h = cc h
-told_err (Some f) r h = rw h refl
+reported_err None (Ok x) h = refl
+reported_err None (Err f) h = cc h
+reported_err (Some f) r h = rw h refl
 
 -- No file is at fault for want of memory.
 never_at : (place : ℕ) (file : File) (b c d : Bool) → (if b then None else (if c then Some (NameHasEquals place)

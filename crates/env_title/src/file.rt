@@ -39,7 +39,7 @@ impl EnvFile<'_> {
         self.check(place).err()
     }
 
-    // Tells what is wrong with the file, which stands at this place.
+    // Says what is wrong with the file, which stands at this place.
     pub(crate) fn check(&self, place: usize) -> Result<(), EnvFault>
         ensures { MatchOption (fault_at place self.now) (IsOk result) (λ fault. result ≡ Err fault) }
     {

@@ -18,7 +18,7 @@ use std::alloc::{AllocError, Allocator};
 /// these. A file of 0 bytes removes its variable. Else the value is the first line of the file, without the spaces and
 /// tabs at its end, and with each NUL made a newline.
 ///
-/// The first file that cannot be applied is told, also where there is no memory: a `=` in its name is `NameHasEquals`,
+/// The first file that cannot be applied is reported, also where there is no memory: a `=` in its name is `NameHasEquals`,
 /// also where the file has 0 bytes, and a value that is not UTF-8 is `NotText`, also where a later file of that name
 /// counts. Else `OutOfMemory` comes only where the allocator refuses the memory for the variables. No variable and no
 /// file take none.
@@ -44,7 +44,7 @@ pub fn first_fault(files: &[EnvFile<'_>]) -> Option<EnvFault>
     check(files).err()
 }
 
-/// Tells what is wrong with the first file that cannot be applied.
+/// Says what is wrong with the first file that cannot be applied.
 fn check(files: &[EnvFile<'_>]) -> Result<(), EnvFault>
     ensures { MatchOption (first_fault files.now) (IsOk result) (λ fault. result ≡ Err fault) }
 {

@@ -75,12 +75,12 @@ record Along (A : Type 0) (suite : SuiteState) (part : PartId) (past : History) 
   table : (suite_along suite (at_part {A = A} part events)).table
       ≡ (if is_gone (phase_of (followed_by past events)) then after_end suite.table part else suite.table)
 
-told : (suite : SuiteState) (part : PartId) (past : History) (kept : Kept) (event : Event)
+reported : (suite : SuiteState) (part : PartId) (past : History) (kept : Kept) (event : Event)
     → trace_of suite.parts part ≡ Some kept
     → replay kept ≡ state_of past → takes past event ≡ true
     → (suite_at suite part event).table
     ≡ (if is_gone (phase_of (Then past event)) then after_end suite.table part else suite.table)
-told suite part past kept event there same taken =
+reported suite part past kept event there same taken =
     let state = ap (λ (s : State). s.phase) (replays past kept event same taken) in
     rw there (rw state refl)
 
@@ -94,7 +94,7 @@ along {A = A} suite part past kept (event ∷ events) same here taken there =
     let grown = noted_if_taken kept event in
     let trace : trace_of after.parts part ≡ Some grown = trace_there suite.parts part event kept there in
     let state = replays past kept event same taken.1 in
-    let table = told suite part past kept event there same taken.1 in
+    let table = reported suite part past kept event there same taken.1 in
     let first : outs_at {A = A} part event (trace_of suite.parts part)
     ≡ out.At part (Took (asks_of past event)) (phase_of (Then past event)) ∷ [] =
     ap (outs_at {A = A} part event) there ∙ answered part past kept event same taken.1 in

@@ -80,7 +80,7 @@ pub record GoesAlong (A : Type 0) (suite : SuiteState) (part : PartId) (machine 
   pub replays : replay (trace_after machine capacity events) ≡ state_of (followed_by (Opened machine) events)
   -- Each event is answered as the part's own history says.
   pub answers : outs_along suite (at_part {A = A} part events) ≡ answers_along part (Opened machine) events
-  -- The table is told of the part's end exactly where the part is gone.
+  -- The table is reported of the part's end exactly where the part is gone.
   pub table : (suite_along suite (at_part {A = A} part events)).table
       ≡ (if is_gone (phase_of (followed_by (Opened machine) events)) then after_end suite.table part else suite.table)
 

@@ -12,7 +12,7 @@ pub fn scans_are_alike()
 
 /// A part of a host publishes what it takes of its own events. A suite in which that part begins alike answers the same
 /// to these events, with the same asks and phases, has the same trace of it, which replays to the same machine, and is
-/// told of its end exactly where the part is gone.
+/// reported of its end exactly where the part is gone.
 pub fn parts_publish_alike<A: Allocator>()
     ensures { PartsPublishAlike A }
 {}

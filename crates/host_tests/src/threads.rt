@@ -169,14 +169,14 @@ fn fills<R: Threads + Wait + Clock + Copy + Drop + Send + 'static>(
     at_the_gate: &Flag,
     opens: &Flag,
 ) -> bool {
-    let told = at_the_gate.comes(rt)
+    let reported = at_the_gate.comes(rt)
         && host.post(part, b'd').is_ok()
         && host.post(part, b'x') == Err(PostFault::Full);
     opens.set();
-    told && comes(rt, host, part, Sight::WantsDown)
+    reported && comes(rt, host, part, Sight::WantsDown)
 }
 
-/// How many services ended, of one whose mailbox was filled. None: it was not told so.
+/// How many services ended, of one whose mailbox was filled. None: it was not reported so.
 fn fill_one<R: Threads + Wait + Clock + Copy + Drop + Send + 'static>(
     rt: R,
     alloc: Global,
@@ -187,14 +187,14 @@ fn fill_one<R: Threads + Wait + Clock + Copy + Drop + Send + 'static>(
     let part = main_of(0, 1);
     let rows = rows(alloc, &["a"], false).ok()?;
     let mut host = begin(rt, alloc, cast, 1, &rows, &[part])?;
-    let told = fills(&rt, &mut host, part, at_the_gate, opens);
+    let reported = fills(&rt, &mut host, part, at_the_gate, opens);
     let count = finish(&rt, &mut host)?;
-    if told { Some(count) } else { None }
+    if reported { Some(count) } else { None }
 }
 
 /// A mailbox with room for one letter takes one, while its service is at a closed gate.
 #[test]
-fn a_full_mailbox_is_told(rt: HostRuntime) -> Result<(), Fail> {
+fn a_full_mailbox_is_reported(rt: HostRuntime) -> Result<(), Fail> {
     let in_vain = Flag::new(rt.alloc())?;
     let at_the_gate = Flag::new(rt.alloc())?;
     let opens = Flag::new(rt.alloc())?;
@@ -312,7 +312,7 @@ fn comes_back<R: Threads + Wait + Clock + Copy + Drop + Send + 'static>(
         && comes(rt, host, again, Sight::Process)
 }
 
-/// Ends these parts, and makes rounds over no rows until two slots went: whether they are these, and the maker was told
+/// Ends these parts, and makes rounds over no rows until two slots went: whether they are these, and the maker was reported
 /// to forget just these.
 fn are_dropped<R: Threads + Wait + Clock + Copy + Drop + Send + 'static>(
     rt: &R,

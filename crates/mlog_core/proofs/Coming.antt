@@ -142,19 +142,19 @@ halted_end script a b c r q p m why none k read same end =
           (sym w.cut) started));
     }
 
-pub told_block : (script : List Act) (a b c : Scene) (r q p : Device) (m : ℕ) (xs : List ℕ) (why told : LogFault)
-    → why ≡ told → None ≡ a.line → Came script a b r q m → Gives q p xs
-    → ((line : List ℕ) → IsIn script b line → WentUpTo script b c line xs why) → Halted script a c r p told
-told_block script a b c r q p m xs why told same none k read v =
+pub visible_block : (script : List Act) (a b c : Scene) (r q p : Device) (m : ℕ) (xs : List ℕ) (why visible : LogFault)
+    → why ≡ visible → None ≡ a.line → Came script a b r q m → Gives q p xs
+    → ((line : List ℕ) → IsIn script b line → WentUpTo script b c line xs why) → Halted script a c r p visible
+visible_block script a b c r q p m xs why visible same none k read v =
     subst (λ (w : LogFault). Halted script a c r p w) same (halted_block script a b c r q p m xs why none k read v)
 
-pub told_end : (script : List Act) (a b c : Scene) (r q p : Device) (m : ℕ) (why told : LogFault) → why ≡ told
+pub visible_end : (script : List Act) (a b c : Scene) (r q p : Device) (m : ℕ) (why visible : LogFault) → why ≡ visible
     → None ≡ a.line → Came script a b r q m → Gives q p [] → c.readings ≡ b.readings
     → ((line : List ℕ) → IsInLine script b.place b.line line
     → StopsAt (outputs_of b) (outputs_of c) (given_in script b.line line) (of_text script (labels_of b.line) line)
     why)
-    → Halted script a c r p told
-told_end script a b c r q p m why told is none k read same end =
+    → Halted script a c r p visible
+visible_end script a b c r q p m why visible is none k read same end =
     subst (λ (w : LogFault). Halted script a c r p w) is (halted_end script a b c r q p m why none k read same end)
 
 -- The same fault, of another result.

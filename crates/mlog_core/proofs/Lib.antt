@@ -4,6 +4,6 @@ mod Going
 mod Alike
 mod Coming
 mod Counted
-mod Telling
+mod Showing
 mod Rotating
 mod Partly

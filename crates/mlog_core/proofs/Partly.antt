@@ -26,11 +26,11 @@ run_stopped fault.Store script old new ends fails rose = inl (ends.store refl, r
 run_stopped fault.LabelsSpent script old new ends fails rose = inl (ends.spent refl)
 run_stopped fault.OutOfMemory script old new ends fails rose = ends.memory refl
 
-pub rotation_stopped : (why : LogFault) (told : RunFault) (script : List Act) (old new : Play)
-    → (why ≡ log_fault.Store → told ≡ fault.Store)
-    → (why ≡ log_fault.LabelsSpent → told ≡ fault.LabelsSpent) → RotatesNot script old new why
-    → EndsBy (Some told) script old new
-rotation_stopped log_fault.Store told script old new store spent not =
+pub rotation_stopped : (why : LogFault) (visible : RunFault) (script : List Act) (old new : Play)
+    → (why ≡ log_fault.Store → visible ≡ fault.Store)
+    → (why ≡ log_fault.LabelsSpent → visible ≡ fault.LabelsSpent) → RotatesNot script old new why
+    → EndsBy (Some visible) script old new
+rotation_stopped log_fault.Store visible script old new store spent not =
     subst (λ (f : RunFault). EndsBy (Some f) script old new) (sym (store refl)) (inr not)
-rotation_stopped log_fault.LabelsSpent told script old new store spent not =
+rotation_stopped log_fault.LabelsSpent visible script old new store spent not =
     subst (λ (f : RunFault). EndsBy (Some f) script old new) (sym (spent refl)) (inr not)

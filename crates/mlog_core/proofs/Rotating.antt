@@ -23,7 +23,7 @@ use Rattle.mlog_core.specs.Rotate.{rotation, stands_rotated, Rotates, RotatesUpT
 
 -- One log
 
--- Files that are told reach the same by the same steps; of others nothing is said.
+-- Files that are reported reach the same by the same steps; of others nothing is said.
 reaches_so : (files now : Option Files) (f : List Step → List Step) (a b : List Step) → IfSome files (λ _. a ≡ b)
     → Reaches files now (f a) → Reaches files now (f b)
 reaches_so None None f a b same k = tt
@@ -45,10 +45,10 @@ stands_found (Some f) t plan r is keep none =
     sym (ap (λ (s : Standing). rotated (keep_of t) s r) is ∙ ap (λ (k : ℕ). rotated k (found f) r) keep) ∙ none
 
 does_so : (o q : StoreState) (log : ℕ) (f : List Step → List Step) (a b : List Step)
-    → IfSome (o.told.files log) (λ _. a ≡ b)
+    → IfSome (o.visible.files log) (λ _. a ≡ b)
     → Does o q log (f a) → Does o q log (f b)
 does_so o q log f a b same d = record {
-  here = reaches_so (o.told.files log) (q.told.files log) f a b same d.here;
+  here = reaches_so (o.visible.files log) (q.visible.files log) f a b same d.here;
   others = d.others;
   statuses = d.statuses;
   alerts = d.alerts;
@@ -56,32 +56,32 @@ does_so o q log f a b same d = record {
 }
 
 pub rotated_as_found : (o q : StoreState) (log : ℕ) (t : Tail) (plan : Plan) (r : Tai64n)
-    → IfSome (o.told.files log) (λ f. standing t ≡ found f)
+    → IfSome (o.visible.files log) (λ f. standing t ≡ found f)
     → keep_of t ≡ plan.keep → Does o q log (rotate_steps (keep_of t) (standing t) r)
-    → Does o q log (rotation (Some plan) r (o.told.files log))
+    → Does o q log (rotation (Some plan) r (o.visible.files log))
 rotated_as_found o q log t plan r is keep d =
     does_so o q log (λ (s : List Step). s) (rotate_steps (keep_of t) (standing t) r)
-    (rotation (Some plan) r (o.told.files log))
-    (steps_found (o.told.files log) t plan r is keep) d
+    (rotation (Some plan) r (o.visible.files log))
+    (steps_found (o.visible.files log) t plan r is keep) d
 
 pub stopped_as_found : (o q : StoreState) (log : ℕ) (t : Tail) (plan : Plan) (r : Tai64n) (why : LogFault)
-    → IfSome (o.told.files log) (λ f. standing t ≡ found f)
+    → IfSome (o.visible.files log) (λ f. standing t ≡ found f)
     → keep_of t ≡ plan.keep
     → StopsOn o q log (rotate_steps (keep_of t) (standing t) r) (rotated (keep_of t) (standing t) r) why
-    → StopsOn o q log (rotation (Some plan) r (o.told.files log)) (stands_rotated (Some plan) r (o.told.files log)) why
+    → StopsOn o q log (rotation (Some plan) r (o.visible.files log)) (stands_rotated (Some plan) r (o.visible.files log)) why
 stopped_as_found o q log t plan r why is keep s =
-    let same = steps_found (o.told.files log) t plan r is keep in
+    let same = steps_found (o.visible.files log) t plan r is keep in
     let a = rotate_steps (keep_of t) (standing t) r in
-    let b = rotation (Some plan) r (o.told.files log) in record {
+    let b = rotation (Some plan) r (o.visible.files log) in record {
       front = record { count = s.front.count; front = does_so o q log (take s.front.count) a b same s.front.front };
       store = s.store;
-      nowhere = λ e. stands_found (o.told.files log) t plan r is keep (s.nowhere e);
+      nowhere = λ e. stands_found (o.visible.files log) t plan r is keep (s.nowhere e);
       spent = λ e. does_so o q log (λ (x : List Step). x) a b same (s.spent e);
     }
 
 pub does_nothing : (o : StoreState) (log : ℕ) → Does o o log []
 does_nothing o log = record {
-  here = same_files (o.told.files log);
+  here = same_files (o.visible.files log);
   others = λ other apart. refl;
   statuses = refl;
   alerts = refl;
@@ -92,11 +92,11 @@ does_nothing o log = record {
 
 pub record RotatedBelow (script : List Act) (reading : Tai64n) (old new : StoreState) (count : ℕ) : Type 0 where
   pub below : (log : ℕ) → log < count
-      → Reaches (old.told.files log) (new.told.files log)
-      (rotation (slice_get (log_plans script) log) reading (old.told.files log))
-  pub beyond : (log : ℕ) → count ≤ log → new.told.files log ≡ old.told.files log
-  pub statuses : new.told.statuses ≡ old.told.statuses
-  pub alerts : new.told.alerts ≡ old.told.alerts
+      → Reaches (old.visible.files log) (new.visible.files log)
+      (rotation (slice_get (log_plans script) log) reading (old.visible.files log))
+  pub beyond : (log : ℕ) → count ≤ log → new.visible.files log ≡ old.visible.files log
+  pub statuses : new.visible.statuses ≡ old.visible.statuses
+  pub alerts : new.visible.alerts ≡ old.visible.alerts
   pub stays : Stays old new
 
 pub none_rotated : (script : List Act) (reading : Tai64n) (o : StoreState) → RotatedBelow script reading o o 0
@@ -113,23 +113,23 @@ not_same i j e = λ is. grind (arith, e, is)
 
 below_next : (script : List Act) (r : Tai64n) (o p q : StoreState) (log n : ℕ) (b : Bool) → (n == log) ≡ b
     → RotatedBelow script r o p log
-    → Does p q log (rotation (slice_get (log_plans script) log) r (p.told.files log)) → n < log + 1
-    → Reaches (o.told.files n) (q.told.files n) (rotation (slice_get (log_plans script) n) r (o.told.files n))
+    → Does p q log (rotation (slice_get (log_plans script) log) r (p.visible.files log)) → n < log + 1
+    → Reaches (o.visible.files n) (q.visible.files n) (rotation (slice_get (log_plans script) n) r (o.visible.files n))
 below_next script r o p q log n true e up d low =
     let same : n ≡ log = grind (arith, e) in
-    subst (λ (m : ℕ). Reaches (o.told.files m) (q.told.files m)
-    (rotation (slice_get (log_plans script) m) r (o.told.files m))) (sym same)
-    (subst (λ (f : Option Files). Reaches f (q.told.files log) (rotation (slice_get (log_plans script) log) r f))
+    subst (λ (m : ℕ). Reaches (o.visible.files m) (q.visible.files m)
+    (rotation (slice_get (log_plans script) m) r (o.visible.files m))) (sym same)
+    (subst (λ (f : Option Files). Reaches f (q.visible.files log) (rotation (slice_get (log_plans script) log) r f))
     (up.beyond log (omega arith)) d.here)
 below_next script r o p q log n false e up d low =
     let apart = not_same n log e in
     let less : n < log = grind (arith, e, low) in
     subst (λ (f : Option Files).
-    Reaches (o.told.files n) f (rotation (slice_get (log_plans script) n) r (o.told.files n)))
+    Reaches (o.visible.files n) f (rotation (slice_get (log_plans script) n) r (o.visible.files n)))
     (sym (d.others n apart)) (up.below n less)
 
 pub one_more_rotated : (script : List Act) (r : Tai64n) (o p q : StoreState) (log : ℕ) → RotatedBelow script r o p log
-    → Does p q log (rotation (slice_get (log_plans script) log) r (p.told.files log))
+    → Does p q log (rotation (slice_get (log_plans script) log) r (p.visible.files log))
     → RotatedBelow script r o q (log + 1)
 one_more_rotated script r o p q log up d = record {
   below = λ n low. below_next script r o p q log n (n == log) refl up d low;
@@ -163,15 +163,15 @@ length_plans before (act ∷ acts) =
 
 at_all : (script : List Act) (r : Tai64n) (o q : StoreState) (count n : ℕ) (b : Bool) → nat_lt n count ≡ b
     → count ≡ count_by is_log script → RotatedBelow script r o q count
-    → Reaches (o.told.files n) (q.told.files n) (rotation (slice_get (log_plans script) n) r (o.told.files n))
+    → Reaches (o.visible.files n) (q.visible.files n) (rotation (slice_get (log_plans script) n) r (o.visible.files n))
 at_all script r o q count n true e all up = up.below n (grind (arith, e))
 at_all script r o q count n false e all up =
     let high : count ≤ n = grind (arith, e) in
     let past : slice_get (log_plans script) n ≡ None =
     slice_get_past (log_plans script) n (let l : length (log_plans script) ≡ count_by is_log script =
     length_plans [] script in omega (arith, high, all, l)) in
-    rw past (subst (λ (f : Option Files). Reaches (o.told.files n) f []) (sym (up.beyond n high))
-    (same_files (o.told.files n)))
+    rw past (subst (λ (f : Option Files). Reaches (o.visible.files n) f []) (sym (up.beyond n high))
+    (same_files (o.visible.files n)))
 
 pub all_rotated : (script : List Act) (r : Tai64n) (o q : StoreState) (count : ℕ) (read reads : Option (List Tai64n))
     → count ≡ count_by is_log script
@@ -196,36 +196,36 @@ whole_front a b steps k = record {
 
 front_of_one : (script : List Act) (r : Tai64n) (o p q : StoreState) (log n : ℕ) (b low : Bool) → (n == log) ≡ b
     → nat_lt n log ≡ low → RotatedBelow script r o p log
-    → DoesFront p q log (rotation (slice_get (log_plans script) log) r (p.told.files log))
-    → ReachesFront (o.told.files n) (q.told.files n) 0 (rotation (slice_get (log_plans script) n) r (o.told.files n))
+    → DoesFront p q log (rotation (slice_get (log_plans script) log) r (p.visible.files log))
+    → ReachesFront (o.visible.files n) (q.visible.files n) 0 (rotation (slice_get (log_plans script) n) r (o.visible.files n))
 front_of_one script r o p q log n true low e l up d =
     let same : n ≡ log = grind (arith, e) in
-    subst (λ (m : ℕ). ReachesFront (o.told.files m) (q.told.files m) 0
-    (rotation (slice_get (log_plans script) m) r (o.told.files m))) (sym same)
+    subst (λ (m : ℕ). ReachesFront (o.visible.files m) (q.visible.files m) 0
+    (rotation (slice_get (log_plans script) m) r (o.visible.files m))) (sym same)
     (record {
       count = d.count;
       enough = omega arith;
       reaches = subst (λ (f : Option Files).
-          Reaches f (q.told.files log) (take d.count (rotation (slice_get (log_plans script) log) r f)))
+          Reaches f (q.visible.files log) (take d.count (rotation (slice_get (log_plans script) log) r f)))
           (up.beyond log (omega arith)) d.front.here;
     })
 front_of_one script r o p q log n false true e l up d =
-    whole_front (o.told.files n) (q.told.files n) (rotation (slice_get (log_plans script) n) r (o.told.files n))
+    whole_front (o.visible.files n) (q.visible.files n) (rotation (slice_get (log_plans script) n) r (o.visible.files n))
     (subst (λ (f : Option Files).
-    Reaches (o.told.files n) f (rotation (slice_get (log_plans script) n) r (o.told.files n)))
+    Reaches (o.visible.files n) f (rotation (slice_get (log_plans script) n) r (o.visible.files n)))
     (sym (d.front.others n (not_same n log e))) (up.below n (grind (arith, l))))
 front_of_one script r o p q log n false false e l up d = record {
   count = 0;
   enough = omega arith;
-  reaches = subst (λ (f : Option Files). Reaches (o.told.files n) f [])
-      (sym (d.front.others n (not_same n log e) ∙ up.beyond n (grind (arith, l)))) (same_files (o.told.files n));
+  reaches = subst (λ (f : Option Files). Reaches (o.visible.files n) f [])
+      (sym (d.front.others n (not_same n log e) ∙ up.beyond n (grind (arith, l)))) (same_files (o.visible.files n));
 }
 
 pub not_all_rotated : (script : List Act) (r : Tai64n) (o p q : StoreState) (log : ℕ) (why : LogFault)
     (read reads : Option (List Tai64n))
     → Extended read reads (r ∷ []) → RotatedBelow script r o p log
-    → StopsOn p q log (rotation (slice_get (log_plans script) log) r (p.told.files log))
-    (stands_rotated (slice_get (log_plans script) log) r (p.told.files log)) why
+    → StopsOn p q log (rotation (slice_get (log_plans script) log) r (p.visible.files log))
+    (stands_rotated (slice_get (log_plans script) log) r (p.visible.files log)) why
     → RotatesUpTo script o q read reads why
 not_all_rotated script r o p q log why read reads gave up s =
     let front = s.front.front in

@@ -12,7 +12,7 @@ use Rattle.mlog_files.specs.declared.tail.LogFault.{LogFault}
 use Rattle.mlog_files.specs.declared.tail.LogFault.TheVariants as log_fault
 use Rattle.mlog_core.specs.Run.{ReachesFront}
 
--- The steps of a rotation of the log that a plan asks for, by its files, where they are told: a current file that
+-- The steps of a rotation of the log that a plan asks for, by its files, where they are reported: a current file that
 -- isn't empty is finished under the label that the reading gives, or the next one past the greatest in the names of old
 -- files.
 abbrev pub rotation : Option Plan → Tai64n → Option Files → List Step
@@ -29,22 +29,22 @@ stands_rotated (Some plan) reading (Some files) = rotated plan.keep (found files
 -- The log of this number was rotated under a reading of the clock.
 abbrev pub RotatesLog : (script : List Act) (reading : Tai64n) (log : ℕ) (old new : StoreState) → Type 0
 RotatesLog script reading log old new =
-    Does old new log (rotation (slice_get (log_plans script) log) reading (old.told.files log))
+    Does old new log (rotation (slice_get (log_plans script) log) reading (old.visible.files log))
 
 -- It was not, or not wholly.
 abbrev pub RotatesLogUpTo : (script : List Act) (reading : Tai64n) (log : ℕ) (old new : StoreState) → LogFault → Type 0
 RotatesLogUpTo script reading log old new why =
-    StopsOn old new log (rotation (slice_get (log_plans script) log) reading (old.told.files log))
-    (stands_rotated (slice_get (log_plans script) log) reading (old.told.files log)) why
+    StopsOn old new log (rotation (slice_get (log_plans script) log) reading (old.visible.files log))
+    (stands_rotated (slice_get (log_plans script) log) reading (old.visible.files log)) why
 
 -- All logs of a script were rotated under a reading of the clock, and nothing else was done.
 pub record Rotates (script : List Act) (old new : StoreState) (read reads : Option (List Tai64n)) : Type 0 where
   pub reading : Tai64n
   pub gave : Extended read reads (reading ∷ [])
-  pub logs : (log : ℕ) → Reaches (old.told.files log) (new.told.files log)
-      (rotation (slice_get (log_plans script) log) reading (old.told.files log))
-  pub statuses : new.told.statuses ≡ old.told.statuses
-  pub alerts : new.told.alerts ≡ old.told.alerts
+  pub logs : (log : ℕ) → Reaches (old.visible.files log) (new.visible.files log)
+      (rotation (slice_get (log_plans script) log) reading (old.visible.files log))
+  pub statuses : new.visible.statuses ≡ old.visible.statuses
+  pub alerts : new.visible.alerts ≡ old.visible.alerts
   pub stays : Stays old new
 
 -- Not all were: a front of the steps of each log is done. The store failed, which is counted; or a log has no label
@@ -53,11 +53,11 @@ pub record RotatesUpTo (script : List Act) (old new : StoreState) (read reads : 
     : Type 0 where
   pub reading : Tai64n
   pub gave : Extended read reads (reading ∷ [])
-  pub logs : (log : ℕ) → ReachesFront (old.told.files log) (new.told.files log) 0
-      (rotation (slice_get (log_plans script) log) reading (old.told.files log))
-  pub statuses : new.told.statuses ≡ old.told.statuses
-  pub alerts : new.told.alerts ≡ old.told.alerts
+  pub logs : (log : ℕ) → ReachesFront (old.visible.files log) (new.visible.files log) 0
+      (rotation (slice_get (log_plans script) log) reading (old.visible.files log))
+  pub statuses : new.visible.statuses ≡ old.visible.statuses
+  pub alerts : new.visible.alerts ≡ old.visible.alerts
   pub stays : Stays old new
   pub store : why ≡ log_fault.Store → Rose old.failures new.failures
   pub spent : why ≡ log_fault.LabelsSpent
-      → (log : ℕ) × (stands_rotated (slice_get (log_plans script) log) reading (old.told.files log) ≡ None)
+      → (log : ℕ) × (stands_rotated (slice_get (log_plans script) log) reading (old.visible.files log) ≡ None)

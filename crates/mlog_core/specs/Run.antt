@@ -11,7 +11,7 @@ use Rattle.mlog_script.specs.Script.{Act, Plan, log_plans}
 use Rattle.mlog_script.specs.Selection.{log_text, alert_text, file_contents, is_whole}
 use Rattle.mlog_files.specs.Files.{Files, Step}
 use Rattle.mlog_files.specs.Going.{Standing, steps_on, standing_on}
-use Rattle.mlog_files.specs.Store.{StoreState, Told, Reaches, WasGiven}
+use Rattle.mlog_files.specs.Store.{StoreState, Visible, Reaches, WasGiven}
 use Rattle.mlog_files.specs.Tails.{found}
 use Rattle.mlog_line.specs.Given.{Given, nothing, so_far}
 use Rattle.mlog_line.specs.Outputs.{GivenFront}
@@ -29,9 +29,9 @@ pub record World : Type 0 where
 abbrev pub world : Device → StoreState → Option (List Tai64n) → World
 world reader store readings = record { reader = reader; store = store; readings = readings }
 
--- where each log stood when it was opened: as its files are, where they are told
-abbrev pub AreFound : Told → (ℕ → Standing) → Type 0
-AreFound told stood = (log : ℕ) → IfSome (told.files log) (λ files. stood log ≡ found files)
+-- where each log stood when it was opened: as its files are, where they are reported
+abbrev pub AreFound : Visible → (ℕ → Standing) → Type 0
+AreFound visible stood = (log : ℕ) → IfSome (visible.files log) (λ files. stood log ≡ found files)
 
 -- the steps of a log that a plan asks for, for a text
 abbrev pub planned_steps : Option Plan → Standing → List Sent → List Step
@@ -70,11 +70,11 @@ pub record RunsAll (script : List Act) (old new : World) (counts : Counts) : Typ
   pub read : Gives old.reader new.reader bytes
   pub gave : Extended old.readings new.readings labels
   pub each : length labels ≡ length (texts_of bytes)
-  pub are_found : AreFound old.store.told stood
+  pub are_found : AreFound old.store.visible stood
   pub logs : (log : ℕ)
-      → Reaches (old.store.told.files log) (new.store.told.files log) (log_steps script stood labels bytes log)
-  pub alerts : Appends old.store.told.alerts new.store.told.alerts (alert_text script labels bytes)
-  pub files : (file : ℕ) → WasGiven (old.store.told.statuses file) (new.store.told.statuses file)
+      → Reaches (old.store.visible.files log) (new.store.visible.files log) (log_steps script stood labels bytes log)
+  pub alerts : Appends old.store.visible.alerts new.store.visible.alerts (alert_text script labels bytes)
+  pub files : (file : ℕ) → WasGiven (old.store.visible.statuses file) (new.store.visible.statuses file)
       (file_contents script file labels bytes)
   pub lines : counts.lines ≡ length (texts_of bytes)
   pub are_ends : (log : ℕ)
@@ -118,13 +118,13 @@ pub record RunsLines (script : List Act) (old new : World) : Type 0 where
   pub plain : IsPlain front
   pub is_begun : IsBegun begun front
   pub each : length labels ≡ length (texts_of lines)
-  pub are_found : AreFound old.store.told stood
-  pub logs : (log : ℕ) → Reaches (old.store.told.files log) (new.store.told.files log)
+  pub are_found : AreFound old.store.visible stood
+  pub logs : (log : ℕ) → Reaches (old.store.visible.files log) (new.store.visible.files log)
       (planned_steps (slice_get (log_plans script) log) (stood log)
       (log_text script log labels lines ++ (given_in script begun front).logs log))
-  pub alerts : Appends old.store.told.alerts new.store.told.alerts
+  pub alerts : Appends old.store.visible.alerts new.store.visible.alerts
       (alert_text script labels lines ++ (given_in script begun front).alerts)
-  pub files : (file : ℕ) → WasGiven (old.store.told.statuses file) (new.store.told.statuses file)
+  pub files : (file : ℕ) → WasGiven (old.store.visible.statuses file) (new.store.visible.statuses file)
       (file_contents script file labels lines ++ (given_in script begun front).files file)
 
 -- The store failed, or there was no label for an old file: a front of the steps of each log is done, a front of the
@@ -135,11 +135,11 @@ pub record RunsUpTo (script : List Act) (old new : World) (why : RunFault) : Typ
   pub stood : ℕ → Standing
   pub read : Gives old.reader new.reader bytes
   pub gave : Extended old.readings new.readings labels
-  pub are_found : AreFound old.store.told stood
+  pub are_found : AreFound old.store.visible stood
   pub logs : (log : ℕ)
-      → ReachesFront (old.store.told.files log) (new.store.told.files log) 0 (log_steps script stood labels bytes log)
-  pub alerts : AppendsFront old.store.told.alerts new.store.told.alerts (alert_text script labels bytes)
-  pub files : (file : ℕ) → GivenFront (old.store.told.statuses file) (new.store.told.statuses file)
+      → ReachesFront (old.store.visible.files log) (new.store.visible.files log) 0 (log_steps script stood labels bytes log)
+  pub alerts : AppendsFront old.store.visible.alerts new.store.visible.alerts (alert_text script labels bytes)
+  pub files : (file : ℕ) → GivenFront (old.store.visible.statuses file) (new.store.visible.statuses file)
       (file_contents script file labels bytes)
   pub spent : why ≡ fault.LabelsSpent → (log : ℕ)
       × IsPlanSpent (slice_get (log_plans script) log) (stood log) (log_text script log labels bytes)

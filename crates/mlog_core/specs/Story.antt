@@ -1,4 +1,4 @@
--- What a run has done, as the functions below it tell. No public contract speaks of it.
+-- What a run has done, as the functions below it say. No public contract speaks of it.
 use Rattle.std.specs.Prelude.{◌≡◌, ℕ, List, [], length, Option, None, Result, IfOk, IsErrOf}
 use Rattle.tai_status.specs.Label.{Tai64n}
 use Rattle.tai_status.specs.Lines.{texts_of}

@@ -130,7 +130,7 @@ pub(crate) fn fault_of(why: LogFault) -> RunFault
     }
 }
 
-/// Reads all lines, and hands them out. It tells how many there were.
+/// Reads all lines, and hands them out. It says how many there were.
 fn run_lines<A, B, I, S, C>(
     router: &mut LineRouter<A>,
     script: &Script<B>,

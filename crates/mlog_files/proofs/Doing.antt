@@ -38,7 +38,7 @@ Stays-then {o} {p} {q} a b = record {
 pub Does-then : {o p q : StoreState} {log : ℕ} {a b : List Step} → Does o p log a → Does p q log b
     → Does o q log (a ++ b)
 Does-then {o} {p} {q} {log} {a} {b} d e = record {
-  here = Reaches-then (o.told.files log) (p.told.files log) (q.told.files log) a b d.here e.here;
+  here = Reaches-then (o.visible.files log) (p.visible.files log) (q.visible.files log) a b d.here e.here;
   others = λ other apart. e.others other apart ∙ d.others other apart;
   statuses = e.statuses ∙ d.statuses;
   alerts = e.alerts ∙ d.alerts;

@@ -52,10 +52,10 @@ last_place old olds kept =
     kept ∙ ap (λ (t : List Old). take (length olds) olds ++ with_old old t) none
     ∙ ap (λ (t : List Old). take (length olds) olds ++ old ∷ t) (sym none)
 
-pub told_below : (truth : Bool) (olds : List Old) (at : ℕ) (d old : Old) (here name : List ℕ) → d ≡ get_or olds at d
+pub reported_below : (truth : Bool) (olds : List Old) (at : ℕ) (d old : Old) (here name : List ℕ) → d ≡ get_or olds at d
     → here ≡ d.name → old.name ≡ name
     → is_lt (slice_cmp nat_cmp here name) ≡ truth → is_lt (slice_cmp nat_cmp (get_or olds at d).name old.name) ≡ truth
-told_below truth olds at d old here name is named same below =
+reported_below truth olds at d old here name is named same below =
     ap (λ (o : Old). is_lt (slice_cmp nat_cmp o.name old.name)) (sym is)
     ∙ ap (λ (t : List ℕ). is_lt (slice_cmp nat_cmp t old.name)) (sym named)
     ∙ ap (λ (t : List ℕ). is_lt (slice_cmp nat_cmp here t)) same ∙ below

@@ -304,7 +304,7 @@ pub put_nothing : (o : StoreState) (log : ℕ) (waited : List ℕ) → Goes o o 
 put_nothing o log waited = record {
   done = [];
   does = record {
-    here = same_files (o.told.files log);
+    here = same_files (o.visible.files log);
     others = λ other apart. refl;
     statuses = refl;
     alerts = refl;

@@ -9,14 +9,14 @@ pub record Memory : Type 0 where
   pub alerts : List ℕ
   pub failures : ℕ
 
--- It tells all of it, and asks for no folder.
+-- It reports all of it, and asks for no folder.
 abbrev pub state_of : Memory → StoreState
 state_of memory = record {
   logs = length memory.logs;
   status_files = length memory.statuses;
   asked = Some [];
   failures = memory.failures;
-  told = record {
+  visible = record {
     files = slice_get memory.logs;
     statuses = slice_get memory.statuses;
     alerts = Some memory.alerts;

@@ -4,30 +4,30 @@ use Rattle.std.specs.Io.KnownBytes.{Appends}
 use Rattle.tai_status.specs.Counted.{Rose}
 use Rattle.mlog_files.specs.Files.{Files, Step, files_after, append_steps}
 
--- What a store tells, as far as it tells it: the files of each log, the contents that each status file was given, in
+-- What a store reports, as far as it says it: the files of each log, the contents that each status file was given, in
 -- order, and all alerts.
-pub record Told : Type 0 where
+pub record Visible : Type 0 where
   pub files : ℕ → Option Files
   pub statuses : ℕ → Option (List (List ℕ))
   pub alerts : Option (List ℕ)
 
 -- A store: how many logs and how many status files it has; the folders that it asked the system for, in order, where it
--- tells that; how many of its calls failed; and what it tells.
+-- says that; how many of its calls failed; and what it says.
 pub record StoreState : Type 0 where
   pub logs : ℕ
   pub status_files : ℕ
   pub asked : Option (List (List ℕ))
   pub failures : ℕ
-  pub told : Told
+  pub visible : Visible
 
--- a store that tells nothing, with so many logs and status files and failed calls
-abbrev pub tells_nothing : ℕ → ℕ → ℕ → StoreState
-tells_nothing logs status_files failures = record {
+-- a store that says nothing, with so many logs and status files and failed calls
+abbrev pub shows_nothing : ℕ → ℕ → ℕ → StoreState
+shows_nothing logs status_files failures = record {
   logs = logs;
   status_files = status_files;
   asked = None;
   failures = failures;
-  told = record { files = λ _. None; statuses = λ _. None; alerts = None };
+  visible = record { files = λ _. None; statuses = λ _. None; alerts = None };
 }
 
 -- The logs and status files are as many as before, no folder was asked for, and no failed call is forgotten.
@@ -37,7 +37,7 @@ pub record Stays (old new : StoreState) : Type 0 where
   pub asked : new.asked ≡ old.asked
   pub steady : old.failures ≤ new.failures
 
--- Files that are told went through these steps. A store may stop to tell them, and doesn't begin again.
+-- Files that are reported went through these steps. A store may stop to report them, and doesn't begin again.
 abbrev pub Reaches : Option Files → Option Files → List Step → Type 0
 Reaches None None steps = ⊤
 Reaches None (Some new) steps = ⊥
@@ -46,10 +46,10 @@ Reaches (Some old) (Some new) steps = new ≡ files_after steps old
 
 -- One log went through these steps, and all else is as before.
 pub record Does (old new : StoreState) (log : ℕ) (steps : List Step) : Type 0 where
-  pub here : Reaches (old.told.files log) (new.told.files log) steps
-  pub others : (other : ℕ) → other ≢ log → new.told.files other ≡ old.told.files other
-  pub statuses : new.told.statuses ≡ old.told.statuses
-  pub alerts : new.told.alerts ≡ old.told.alerts
+  pub here : Reaches (old.visible.files log) (new.visible.files log) steps
+  pub others : (other : ℕ) → other ≢ log → new.visible.files other ≡ old.visible.files other
+  pub statuses : new.visible.statuses ≡ old.visible.statuses
+  pub alerts : new.visible.alerts ≡ old.visible.alerts
   pub stays : Stays old new
 
 -- One log went through a front of these steps, and all else is as before.
@@ -79,7 +79,7 @@ pub record FailsAt (old new : StoreState) (log : ℕ) : Type 0 where
   pub nothing : Does old new log []
   pub rose : Rose old.failures new.failures
 
--- A status file that is told was given these contents, one after another. It goes on being told.
+-- A status file that is reported was given these contents, one after another. It goes on being reported.
 abbrev pub WasGiven : Option (List (List ℕ)) → Option (List (List ℕ)) → List (List ℕ) → Type 0
 WasGiven None None contents = ⊤
 WasGiven None (Some new) contents = ⊥
@@ -88,10 +88,10 @@ WasGiven (Some old) (Some new) contents = new ≡ old ++ contents
 
 -- One status file was given these contents, and all else is as before.
 pub record Replaces (old new : StoreState) (file : ℕ) (contents : List (List ℕ)) : Type 0 where
-  pub here : WasGiven (old.told.statuses file) (new.told.statuses file) contents
-  pub others : (other : ℕ) → other ≢ file → new.told.statuses other ≡ old.told.statuses other
-  pub files : new.told.files ≡ old.told.files
-  pub alerts : new.told.alerts ≡ old.told.alerts
+  pub here : WasGiven (old.visible.statuses file) (new.visible.statuses file) contents
+  pub others : (other : ℕ) → other ≢ file → new.visible.statuses other ≡ old.visible.statuses other
+  pub files : new.visible.files ≡ old.visible.files
+  pub alerts : new.visible.alerts ≡ old.visible.alerts
   pub stays : Stays old new
 
 -- A status file was not replaced: it was given nothing, and the failure is counted.
@@ -101,9 +101,9 @@ pub record FailsToReplace (old new : StoreState) (file : ℕ) : Type 0 where
 
 -- This was alerted, and all else is as before.
 pub record Alerts (old new : StoreState) (piece : List ℕ) : Type 0 where
-  pub here : Appends old.told.alerts new.told.alerts piece
-  pub files : new.told.files ≡ old.told.files
-  pub statuses : new.told.statuses ≡ old.told.statuses
+  pub here : Appends old.visible.alerts new.visible.alerts piece
+  pub files : new.visible.files ≡ old.visible.files
+  pub statuses : new.visible.statuses ≡ old.visible.statuses
   pub stays : Stays old new
 
 -- So many bytes of a piece were alerted. Where none of some was, a failure is counted.

@@ -6,7 +6,7 @@ ghost use Rattle.mlog_files.specs.Store.{Does, Fails};
 use tai_status::Label;
 use thiserror::Error;
 
-/// A store failed. Its count of failures tells of it.
+/// A store failed. Its count of failures reports of it.
 #[derive(Clone, Copy, Debug, PartialEq, Eq, Error)]
 #[error("Store")]
 pub struct StoreFault;
@@ -20,10 +20,10 @@ pub trait LogStore {
     ghost use Rattle.mlog_files.specs.Store.{StoreState, Does, AppendsPart, FailsAt, Replaces, FailsToReplace};
     ghost use Rattle.mlog_files.specs.Store.{AlertsPart, FailsToAlert};
 
-    // How many logs and status files there are, which folders were asked for, how many calls failed, and what is told.
+    // How many logs and status files there are, which folders were asked for, how many calls failed, and what is reported.
     ghost state: { Self → StoreState };
 
-    /// Appends a front of the piece to a log's current file, and tells how long it is.
+    /// Appends a front of the piece to a log's current file, and says how long it is.
     fn append(&mut self, log: usize, piece: &[u8]) -> Result<usize, StoreFault>
         requires { log < (state self.old).logs }
         ensures ok { IfOk result (λ count. AppendsPart (state self.old) (state self.new) log piece.now count) }
@@ -47,7 +47,7 @@ pub trait LogStore {
         ensures ok { OnOk result (Replaces (state self.old) (state self.new) file (content.now ∷ [])) }
         ensures err { OnErr result (FailsToReplace (state self.old) (state self.new) file) };
 
-    /// Alerts a front of the piece, and tells how long it is.
+    /// Alerts a front of the piece, and says how long it is.
     fn alert(&mut self, piece: &[u8]) -> Result<usize, StoreFault>
         ensures ok { IfOk result (λ count. AlertsPart (state self.old) (state self.new) piece.now count) }
         ensures err { OnErr result (FailsToAlert (state self.old) (state self.new)) };
@@ -55,17 +55,17 @@ pub trait LogStore {
     /// How many bytes a log's current file has.
     fn length(&self, log: usize) -> u64
         requires { log < (state self.now).logs }
-        ensures { IfSome ((state self.now).told.files log) (λ files. result ≡ length files.current) };
+        ensures { IfSome ((state self.now).visible.files log) (λ files. result ≡ length files.current) };
 
     /// How many old files a log has.
     fn old_count(&self, log: usize) -> u64
         requires { log < (state self.now).logs }
-        ensures { IfSome ((state self.now).told.files log) (λ files. result ≡ length files.olds) };
+        ensures { IfSome ((state self.now).visible.files log) (λ files. result ≡ length files.olds) };
 
     /// The greatest label in the names of a log's old files.
     fn last_label(&self, log: usize) -> Option<Label>
         requires { log < (state self.now).logs }
-        ensures { IfSome ((state self.now).told.files log) (λ files. result ≡ greatest_label files.olds) };
+        ensures { IfSome ((state self.now).visible.files log) (λ files. result ≡ greatest_label files.olds) };
 }
 
 /// Appends the whole piece to a log's current file.

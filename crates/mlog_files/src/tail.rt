@@ -114,7 +114,7 @@ impl Tail {
         requires keep { 2 ≤ keep }
         ensures limits { (size_of result ≡ size) × (keep_of result ≡ keep) }
         ensures waiting { waiting_in result ≡ [] }
-        ensures found { IfSome ((S.state store.now).told.files log) (λ files. standing result ≡ found files) }
+        ensures found { IfSome ((S.state store.now).visible.files log) (λ files. standing result ≡ found files) }
     {
         Tail {
             size,
@@ -226,7 +226,7 @@ impl Tail {
         self.finish(store, log, reading)
     }
 
-    // Puts a front of a line's bytes into a current file that has room, and tells how long it is.
+    // Puts a front of a line's bytes into a current file that has room, and says how long it is.
     fn put_open<S: LogStore>(
         &mut self,
         store: &mut S,

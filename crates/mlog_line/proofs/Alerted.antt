@@ -17,11 +17,11 @@ use Rattle.mlog_line.proofs.Taking.{Stays-same}
 use Rattle.mlog_line.proofs.Ones.{flag_next, later_flags}
 
 pub Alerts-none : (a : StoreState) → Alerts a a []
-Alerts-none a = record { here = Appends-none a.told.alerts; files = refl; statuses = refl; stays = Stays-same a }
+Alerts-none a = record { here = Appends-none a.visible.alerts; files = refl; statuses = refl; stays = Stays-same a }
 
 pub Alerts-then : (a b c : StoreState) (xs ys : List ℕ) → Alerts a b xs → Alerts b c ys → Alerts a c (xs ++ ys)
 Alerts-then a b c xs ys k l = record {
-  here = Appends-then a.told.alerts b.told.alerts c.told.alerts xs ys k.here l.here;
+  here = Appends-then a.visible.alerts b.visible.alerts c.visible.alerts xs ys k.here l.here;
   files = l.files ∙ k.files;
   statuses = l.statuses ∙ k.statuses;
   stays = Stays-then k.stays l.stays;
@@ -30,7 +30,7 @@ Alerts-then a b c xs ys k l = record {
 pub Alerts-front : (a b c : StoreState) (xs ys : List ℕ) → Alerts a b xs → AlertsFront b c ys
     → AlertsFront a c (xs ++ ys)
 Alerts-front a b c xs ys k f = record {
-  here = Appends-front a.told.alerts b.told.alerts c.told.alerts xs ys k.here f.here;
+  here = Appends-front a.visible.alerts b.visible.alerts c.visible.alerts xs ys k.here f.here;
   files = f.files ∙ k.files;
   statuses = f.statuses ∙ k.statuses;
   stays = Stays-then k.stays f.stays;
@@ -68,7 +68,7 @@ pub alerted_further : (a b c : StoreState) (xs : List ℕ) (at n : ℕ) → Aler
     → Alerts b c (take n (take (length xs - at) (drop at xs)))
     → Alerts a c (take (at + n) xs)
 alerted_further a b c xs at n k l = record {
-  here = Appends-further a.told.alerts b.told.alerts c.told.alerts xs at n k.here l.here;
+  here = Appends-further a.visible.alerts b.visible.alerts c.visible.alerts xs at n k.here l.here;
   files = l.files ∙ k.files;
   statuses = l.statuses ∙ k.statuses;
   stays = Stays-then k.stays l.stays;
@@ -115,18 +115,18 @@ alerted_no_further a b c flags k flag front within is k' l =
 -- What one status file was given, each was given.
 given_at : (a b : StoreState) (k n : ℕ) (contents : List (List ℕ)) (t : Bool) → (n == k) ≡ t
     → Replaces a b k contents
-    → WasGiven (a.told.statuses n) (b.told.statuses n) (if n == k then contents else [])
+    → WasGiven (a.visible.statuses n) (b.visible.statuses n) (if n == k then contents else [])
 given_at a b k n contents true e r =
     let same : n ≡ k = grind (arith, e) in
-    rw e (subst (λ (m : ℕ). WasGiven (a.told.statuses m) (b.told.statuses m) contents) (sym same) r.here)
+    rw e (subst (λ (m : ℕ). WasGiven (a.visible.statuses m) (b.visible.statuses m) contents) (sym same) r.here)
 given_at a b k n contents false e r =
     let apart : n ≢ k = λ is. grind (arith, e, is) in
-    rw e (subst (λ (f : Option (List (List ℕ))). WasGiven (a.told.statuses n) f []) (sym (r.others n apart))
-    (WasGiven-none (a.told.statuses n)))
+    rw e (subst (λ (f : Option (List (List ℕ))). WasGiven (a.visible.statuses n) f []) (sym (r.others n apart))
+    (WasGiven-none (a.visible.statuses n)))
 
 pub replaced_none : (a : StoreState) (content : List ℕ) → Replaced a a [] content
 replaced_none a content = record {
-  here = λ file. WasGiven-none (a.told.statuses file);
+  here = λ file. WasGiven-none (a.visible.statuses file);
   files = refl;
   alerts = refl;
   stays = Stays-same a;
@@ -136,11 +136,11 @@ pub replaced_next : (a b c : StoreState) (flags : List Bool) (k : ℕ) (flag : B
     → flag ≡ get_or flags k flag → flag ≡ true
     → Replaced a b (take k flags) content → Replaces b c k (content ∷ []) → Replaced a c (take (k + 1) flags) content
 replaced_next a b c flags k flag content within is set r s = record {
-  here = λ n. subst (λ (t : List (List ℕ)). WasGiven (a.told.statuses n) (c.told.statuses n) t)
+  here = λ n. subst (λ (t : List (List ℕ)). WasGiven (a.visible.statuses n) (c.visible.statuses n) t)
       (ap (λ (t : Bool). (if flag_at (take k flags) n then content ∷ [] else [])
       ++ (if n == k then (if t then content ∷ [] else []) else [])) (sym set)
       ∙ flag_next flags k flag n (content ∷ []) within is)
-      (WasGiven-then (a.told.statuses n) (b.told.statuses n) (c.told.statuses n) _ _ (r.here n)
+      (WasGiven-then (a.visible.statuses n) (b.visible.statuses n) (c.visible.statuses n) _ _ (r.here n)
       (given_at b c k n (content ∷ []) (n == k) refl s));
   files = s.files ∙ r.files;
   alerts = s.alerts ∙ r.alerts;
@@ -157,14 +157,14 @@ pub replaced_some : (a b c : StoreState) (flags : List Bool) (k : ℕ) (content 
 replaced_some a b c flags k content r f = record {
   here = λ n.
       let later = later_flags flags k n (content ∷ []) in
-      let none : WasGiven (b.told.statuses n) (c.told.statuses n) [] =
-      subst (λ (t : List (List ℕ)). WasGiven (b.told.statuses n) (c.told.statuses n) t) (if_nothing (n == k))
+      let none : WasGiven (b.visible.statuses n) (c.visible.statuses n) [] =
+      subst (λ (t : List (List ℕ)). WasGiven (b.visible.statuses n) (c.visible.statuses n) t) (if_nothing (n == k))
       (given_at b c k n [] (n == k) refl f.nothing) in
-      GivenFront-of (a.told.statuses n) (c.told.statuses n) (given_to n (take k flags) content) later.0
+      GivenFront-of (a.visible.statuses n) (c.visible.statuses n) (given_to n (take k flags) content) later.0
       (given_to n flags content)
-      (subst (λ (t : List (List ℕ)). WasGiven (a.told.statuses n) (c.told.statuses n) t)
+      (subst (λ (t : List (List ℕ)). WasGiven (a.visible.statuses n) (c.visible.statuses n) t)
       (append-nil (given_to n (take k flags) content))
-      (WasGiven-then (a.told.statuses n) (b.told.statuses n) (c.told.statuses n) _ _ (r.here n) none)) later.1;
+      (WasGiven-then (a.visible.statuses n) (b.visible.statuses n) (c.visible.statuses n) _ _ (r.here n) none)) later.1;
   files = f.nothing.files ∙ r.files;
   alerts = f.nothing.alerts ∙ r.alerts;
   stays = Stays-then r.stays f.nothing.stays;
@@ -189,7 +189,7 @@ pub replaced_not : (a b : StoreState) (flags : List Bool) (k : ℕ) (flag : Bool
     → flag ≡ get_or flags k flag → flag ≡ false
     → Replaced a b (take k flags) content → Replaced a b (take (k + 1) flags) content
 replaced_not a b flags k flag content within is unset r = record {
-  here = λ n. subst (λ (t : List (List ℕ)). WasGiven (a.told.statuses n) (b.told.statuses n) t)
+  here = λ n. subst (λ (t : List (List ℕ)). WasGiven (a.visible.statuses n) (b.visible.statuses n) t)
       (sym (no_more flags k flag content n unset) ∙ flag_next flags k flag n (content ∷ []) within is) (r.here n);
   files = r.files;
   alerts = r.alerts;

@@ -28,12 +28,12 @@ to_files : List Bool → List ℕ → Given
 to_files flags content =
     record { logs = λ log. []; alerts = []; files = λ file. if flag_at flags file then content ∷ [] else [] }
 
-same_logs : (tails : List Tail) (a b : StoreState) → b.told.files ≡ a.told.files → (log : ℕ)
-    → TakesInAt (slice_get tails log) (slice_get tails log) (a.told.files log) (b.told.files log) []
+same_logs : (tails : List Tail) (a b : StoreState) → b.visible.files ≡ a.visible.files → (log : ℕ)
+    → TakesInAt (slice_get tails log) (slice_get tails log) (a.visible.files log) (b.visible.files log) []
 same_logs tails a b same log =
-    subst (λ (files : ℕ → Option Files). TakesInAt (slice_get tails log) (slice_get tails log) (a.told.files log)
+    subst (λ (files : ℕ → Option Files). TakesInAt (slice_get tails log) (slice_get tails log) (a.visible.files log)
     (files log) []) (sym same)
-    (TakesInAt-none (slice_get tails log) (a.told.files log))
+    (TakesInAt-none (slice_get tails log) (a.visible.files log))
 
 alerts_given : (tails : List Tail) (a b : StoreState) (text : List ℕ) → Alerts a b text
     → Takes (outputs tails a) (outputs tails b) (to_alert text)
@@ -41,8 +41,8 @@ unfolding to_alert
 alerts_given tails a b text k = record {
   logs = same_logs tails a b k.files;
   alerts = k.here;
-  files = λ file. subst (λ (files : ℕ → Option (List (List ℕ))). WasGiven (a.told.statuses file) (files file) [])
-      (sym k.statuses) (WasGiven-none (a.told.statuses file));
+  files = λ file. subst (λ (files : ℕ → Option (List (List ℕ))). WasGiven (a.visible.statuses file) (files file) [])
+      (sym k.statuses) (WasGiven-none (a.visible.statuses file));
   steady = k.stays.steady;
 }
 
@@ -51,8 +51,8 @@ files_given : (tails : List Tail) (a b : StoreState) (flags : List Bool) (conten
 unfolding to_files
 files_given tails a b flags content k = record {
   logs = same_logs tails a b k.files;
-  alerts = subst (λ (alerts : Option (List ℕ)). Appends a.told.alerts alerts []) (sym k.alerts)
-      (Appends-none a.told.alerts);
+  alerts = subst (λ (alerts : Option (List ℕ)). Appends a.visible.alerts alerts []) (sym k.alerts)
+      (Appends-none a.visible.alerts);
   files = k.here;
   steady = k.stays.steady;
 }
@@ -64,21 +64,21 @@ pub decided_half : (tails now : List Tail) (a b c : StoreState) (script : List A
     → Alerts a b (alerts_for flags kept) → ReplacedSome b c files (padded kept)
     → Stops (outputs tails a) (outputs now c) (of_put script label front text) fault.Store
 decided_half tails now a b c script label front kept text flags files is sf same k o = record {
-  logs = λ log. subst (λ (files : ℕ → Option Files). TakesFrontAt (slice_get tails log) (a.told.files log) (files log)
+  logs = λ log. subst (λ (files : ℕ → Option Files). TakesFrontAt (slice_get tails log) (a.visible.files log) (files log)
       (if flag_at (chosen script front).logs log then sent label text else []))
       (sym (o.files ∙ k.files))
-      (TakesFrontAt-none (slice_get tails log) (a.told.files log)
+      (TakesFrontAt-none (slice_get tails log) (a.visible.files log)
       (if flag_at (chosen script front).logs log then sent label text else []));
   alerts = subst (λ (alerts : Option (List ℕ)).
-      AppendsFront a.told.alerts alerts (alerts_for (chosen script front).alerts front)) (sym o.alerts)
-      (AppendsFront-whole a.told.alerts b.told.alerts (alerts_for (chosen script front).alerts front)
-      (subst (λ (t : List Bool). Appends a.told.alerts b.told.alerts (alerts_for t front)) is
-      (subst (λ (t : List ℕ). Appends a.told.alerts b.told.alerts (alerts_for flags t)) same k.here)));
-  files = λ file. subst (λ (was : ℕ → Option (List (List ℕ))). GivenFront (was file) (c.told.statuses file)
+      AppendsFront a.visible.alerts alerts (alerts_for (chosen script front).alerts front)) (sym o.alerts)
+      (AppendsFront-whole a.visible.alerts b.visible.alerts (alerts_for (chosen script front).alerts front)
+      (subst (λ (t : List Bool). Appends a.visible.alerts b.visible.alerts (alerts_for t front)) is
+      (subst (λ (t : List ℕ). Appends a.visible.alerts b.visible.alerts (alerts_for flags t)) same k.here)));
+  files = λ file. subst (λ (was : ℕ → Option (List (List ℕ))). GivenFront (was file) (c.visible.statuses file)
       (given_to file (chosen script front).files (padded front))) k.statuses
-      (subst (λ (t : List Bool). GivenFront (b.told.statuses file) (c.told.statuses file)
+      (subst (λ (t : List Bool). GivenFront (b.visible.statuses file) (c.visible.statuses file)
       (given_to file t (padded front))) sf
-      (subst (λ (t : List ℕ). GivenFront (b.told.statuses file) (c.told.statuses file)
+      (subst (λ (t : List ℕ). GivenFront (b.visible.statuses file) (c.visible.statuses file)
       (given_to file files (padded t))) same (o.here file)));
   store = λ e. rose_since a.failures b.failures c.failures k.stays.steady o.rose;
   spent = λ e. absurd cc;

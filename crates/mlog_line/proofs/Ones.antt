@@ -46,36 +46,36 @@ if_none false = refl
 -- The log of a number took a text, and the others are as before.
 one_at : (tails now : List Tail) (old new : StoreState) (log other : ℕ) (text : List Sent) (b : Bool)
     → (other == log) ≡ b
-    → TakesInAt (slice_get tails log) (slice_get now log) (old.told.files log) (new.told.files log) text
+    → TakesInAt (slice_get tails log) (slice_get now log) (old.visible.files log) (new.visible.files log) text
     → ((n : ℕ) → n ≢ log → slice_get now n ≡ slice_get tails n)
-    → ((n : ℕ) → n ≢ log → new.told.files n ≡ old.told.files n)
-    → TakesInAt (slice_get tails other) (slice_get now other) (old.told.files other) (new.told.files other)
+    → ((n : ℕ) → n ≢ log → new.visible.files n ≡ old.visible.files n)
+    → TakesInAt (slice_get tails other) (slice_get now other) (old.visible.files other) (new.visible.files other)
     (if other == log then text else [])
 one_at tails now old new log other text true e here rest files =
     let same : other ≡ log = grind (arith, e) in
-    rw e (subst (λ (n : ℕ). TakesInAt (slice_get tails n) (slice_get now n) (old.told.files n) (new.told.files n) text)
+    rw e (subst (λ (n : ℕ). TakesInAt (slice_get tails n) (slice_get now n) (old.visible.files n) (new.visible.files n) text)
     (sym same) here)
 one_at tails now old new log other text false e here rest files =
     let apart = not_same other log e in
-    rw e (subst (λ (t : Option Tail). TakesInAt (slice_get tails other) t (old.told.files other) (new.told.files other)
+    rw e (subst (λ (t : Option Tail). TakesInAt (slice_get tails other) t (old.visible.files other) (new.visible.files other)
     []) (sym (rest other apart))
-    (subst (λ (f : Option Files). TakesInAt (slice_get tails other) (slice_get tails other) (old.told.files other) f [])
+    (subst (λ (f : Option Files). TakesInAt (slice_get tails other) (slice_get tails other) (old.visible.files other) f [])
     (sym (files other apart))
-    (TakesInAt-none (slice_get tails other) (old.told.files other))))
+    (TakesInAt-none (slice_get tails other) (old.visible.files other))))
 
 front_at : (tails : List Tail) (old new : StoreState) (log other : ℕ) (text : List Sent) (b : Bool) → (other == log) ≡ b
-    → TakesFrontAt (slice_get tails log) (old.told.files log) (new.told.files log) text
-    → ((n : ℕ) → n ≢ log → new.told.files n ≡ old.told.files n)
-    → TakesFrontAt (slice_get tails other) (old.told.files other) (new.told.files other)
+    → TakesFrontAt (slice_get tails log) (old.visible.files log) (new.visible.files log) text
+    → ((n : ℕ) → n ≢ log → new.visible.files n ≡ old.visible.files n)
+    → TakesFrontAt (slice_get tails other) (old.visible.files other) (new.visible.files other)
     (if other == log then text else [])
 front_at tails old new log other text true e here files =
     let same : other ≡ log = grind (arith, e) in
-    rw e (subst (λ (n : ℕ). TakesFrontAt (slice_get tails n) (old.told.files n) (new.told.files n) text) (sym same)
+    rw e (subst (λ (n : ℕ). TakesFrontAt (slice_get tails n) (old.visible.files n) (new.visible.files n) text) (sym same)
     here)
 front_at tails old new log other text false e here files =
-    rw e (subst (λ (f : Option Files). TakesFrontAt (slice_get tails other) (old.told.files other) f [])
+    rw e (subst (λ (f : Option Files). TakesFrontAt (slice_get tails other) (old.visible.files other) f [])
     (sym (files other (not_same other log e)))
-    (TakesFrontAt-none (slice_get tails other) (old.told.files other) []))
+    (TakesFrontAt-none (slice_get tails other) (old.visible.files other) []))
 
 at_here : (tails now : List Tail) (log : ℕ) (t u : Tail) (a b : Option Files) (text : List Sent)
     → slice_get tails log ≡ Some t → slice_get now log ≡ Some u
@@ -91,15 +91,15 @@ front_here tails log t a b text was k = rw was k
 pub one_takes : (tails now : List Tail) (old new : StoreState) (log : ℕ) (t u : Tail) (text : List Sent)
     → slice_get tails log ≡ Some t → slice_get now log ≡ Some u
     → ((n : ℕ) → n ≢ log → slice_get now n ≡ slice_get tails n)
-    → ((n : ℕ) → n ≢ log → new.told.files n ≡ old.told.files n)
-    → new.told.statuses ≡ old.told.statuses → new.told.alerts ≡ old.told.alerts → old.failures ≤ new.failures
-    → TakesIn t u (old.told.files log) (new.told.files log) text
+    → ((n : ℕ) → n ≢ log → new.visible.files n ≡ old.visible.files n)
+    → new.visible.statuses ≡ old.visible.statuses → new.visible.alerts ≡ old.visible.alerts → old.failures ≤ new.failures
+    → TakesIn t u (old.visible.files log) (new.visible.files log) text
     → Takes (outputs tails old) (outputs now new) (to_one log text)
 one_takes tails now old new log t u text was is rest files statuses alerts steady k = record {
   logs = λ other. one_at tails now old new log other text (other == log) refl
-      (at_here tails now log t u (old.told.files log) (new.told.files log) text was is k) rest files;
-  alerts = rw alerts (Appends-none old.told.alerts);
-  files = λ file. rw statuses (WasGiven-none (old.told.statuses file));
+      (at_here tails now log t u (old.visible.files log) (new.visible.files log) text was is k) rest files;
+  alerts = rw alerts (Appends-none old.visible.alerts);
+  files = λ file. rw statuses (WasGiven-none (old.visible.statuses file));
   steady = steady;
 }
 
@@ -111,16 +111,16 @@ spent_here tails log t text was none =
 
 pub one_stops : (tails now : List Tail) (old new : StoreState) (log : ℕ) (t : Tail) (text : List Sent) (why : LogFault)
     → slice_get tails log ≡ Some t
-    → ((n : ℕ) → n ≢ log → new.told.files n ≡ old.told.files n)
-    → new.told.statuses ≡ old.told.statuses → new.told.alerts ≡ old.told.alerts
-    → TakesFront t (old.told.files log) (new.told.files log) text
+    → ((n : ℕ) → n ≢ log → new.visible.files n ≡ old.visible.files n)
+    → new.visible.statuses ≡ old.visible.statuses → new.visible.alerts ≡ old.visible.alerts
+    → TakesFront t (old.visible.files log) (new.visible.files log) text
     → (why ≡ fault.Store → Rose old.failures new.failures) → (why ≡ fault.LabelsSpent → after t text ≡ None)
     → Stops (outputs tails old) (outputs now new) (to_one log text) why
 one_stops tails now old new log t text why was files statuses alerts k store spent = record {
   logs = λ other. front_at tails old new log other text (other == log) refl
-      (front_here tails log t (old.told.files log) (new.told.files log) text was k) files;
-  alerts = rw alerts (AppendsFront-none old.told.alerts []);
-  files = λ file. rw statuses (GivenFront-none (old.told.statuses file) []);
+      (front_here tails log t (old.visible.files log) (new.visible.files log) text was k) files;
+  alerts = rw alerts (AppendsFront-none old.visible.alerts []);
+  files = λ file. rw statuses (GivenFront-none (old.visible.statuses file) []);
   store = store;
   spent = λ is. record { log = log; spent = spent_here tails log t text was (spent is) };
 }
@@ -203,7 +203,7 @@ flush_stops tails now old new log t why was f is_store =
     (one_stops tails now old new log t [] why was k.front.others k.front.statuses k.front.alerts
     (record {
       count = k.count;
-      reaches = subst (λ (s : List Step). Reaches (old.told.files log) (new.told.files log) (take k.count s))
+      reaches = subst (λ (s : List Step). Reaches (old.visible.files log) (new.visible.files log) (take k.count s))
           (sym (no_steps t (append_steps (waiting_in t)))) k.front.here;
     })
     (λ is. f.rose) (λ is. cc)) (nothing_one log)

@@ -212,28 +212,28 @@ AppendsFront-none a xs = record { count = 0; front = Appends-none a }
 pub Takes-then : (a b c : Outputs) (x y : Given) → Takes a b x → Takes b c y → Takes a c (joined x y)
 Takes-then a b c x y k l = record {
   logs = λ log. TakesInAt-then (slice_get a.tails log) (slice_get b.tails log) (slice_get c.tails log)
-      (a.store.told.files log) (b.store.told.files log) (c.store.told.files log)
+      (a.store.visible.files log) (b.store.visible.files log) (c.store.visible.files log)
       (x.logs log) (y.logs log) (k.logs log) (l.logs log);
-  alerts = Appends-then a.store.told.alerts b.store.told.alerts c.store.told.alerts x.alerts y.alerts k.alerts l.alerts;
-  files = λ file. WasGiven-then (a.store.told.statuses file) (b.store.told.statuses file) (c.store.told.statuses file)
+  alerts = Appends-then a.store.visible.alerts b.store.visible.alerts c.store.visible.alerts x.alerts y.alerts k.alerts l.alerts;
+  files = λ file. WasGiven-then (a.store.visible.statuses file) (b.store.visible.statuses file) (c.store.visible.statuses file)
       (x.files file) (y.files file) (k.files file) (l.files file);
   steady = let s = k.steady in let t = l.steady in omega (arith, s, t);
 }
 
 pub Takes-none : (a : Outputs) → Takes a a nothing
 Takes-none a = record {
-  logs = λ log. TakesInAt-none (slice_get a.tails log) (a.store.told.files log);
-  alerts = Appends-none a.store.told.alerts;
-  files = λ file. WasGiven-none (a.store.told.statuses file);
+  logs = λ log. TakesInAt-none (slice_get a.tails log) (a.store.visible.files log);
+  alerts = Appends-none a.store.visible.alerts;
+  files = λ file. WasGiven-none (a.store.visible.statuses file);
   steady = omega arith;
 }
 
 pub Takes-same : (a b : Outputs) (x y : Given) → Takes a b x → SameGiven x y → Takes a b y
 Takes-same a b x y k s = record {
   logs = λ log. subst (λ (text : List Sent). TakesInAt (slice_get a.tails log) (slice_get b.tails log)
-      (a.store.told.files log) (b.store.told.files log) text) (s.logs log) (k.logs log);
-  alerts = subst (λ (text : List ℕ). Appends a.store.told.alerts b.store.told.alerts text) s.alerts k.alerts;
-  files = λ file. subst (λ (contents : List (List ℕ)). WasGiven (a.store.told.statuses file) (b.store.told.statuses file)
+      (a.store.visible.files log) (b.store.visible.files log) text) (s.logs log) (k.logs log);
+  alerts = subst (λ (text : List ℕ). Appends a.store.visible.alerts b.store.visible.alerts text) s.alerts k.alerts;
+  files = λ file. subst (λ (contents : List (List ℕ)). WasGiven (a.store.visible.statuses file) (b.store.visible.statuses file)
       contents) (s.files file) (k.files file);
   steady = k.steady;
 }
@@ -241,28 +241,28 @@ Takes-same a b x y k s = record {
 pub Stops-then : (a b c : Outputs) (x y : Given) (why : LogFault) → Takes a b x → Stops b c y why
     → Stops a c (joined x y) why
 Stops-then a b c x y why k f = record {
-  logs = λ log. TakesInAt-front (slice_get a.tails log) (slice_get b.tails log) (a.store.told.files log)
-      (b.store.told.files log) (c.store.told.files log)
+  logs = λ log. TakesInAt-front (slice_get a.tails log) (slice_get b.tails log) (a.store.visible.files log)
+      (b.store.visible.files log) (c.store.visible.files log)
       (x.logs log) (y.logs log) (k.logs log) (f.logs log);
-  alerts = Appends-front a.store.told.alerts b.store.told.alerts c.store.told.alerts x.alerts y.alerts k.alerts
+  alerts = Appends-front a.store.visible.alerts b.store.visible.alerts c.store.visible.alerts x.alerts y.alerts k.alerts
       f.alerts;
-  files = λ file. WasGiven-front (a.store.told.statuses file) (b.store.told.statuses file) (c.store.told.statuses file)
+  files = λ file. WasGiven-front (a.store.visible.statuses file) (b.store.visible.statuses file) (c.store.visible.statuses file)
       (x.files file) (y.files file) (k.files file) (f.files file);
   store = λ is. rose_since a.store.failures b.store.failures c.store.failures k.steady (f.store is);
   spent = λ is. let s = f.spent is in record {
     log = s.log;
-    spent = IsSpent-then (slice_get a.tails s.log) (slice_get b.tails s.log) (a.store.told.files s.log)
-        (b.store.told.files s.log) (x.logs s.log) (y.logs s.log)
+    spent = IsSpent-then (slice_get a.tails s.log) (slice_get b.tails s.log) (a.store.visible.files s.log)
+        (b.store.visible.files s.log) (x.logs s.log) (y.logs s.log)
         (k.logs s.log) s.spent;
   };
 }
 
 pub Stops-more : (a b : Outputs) (x y : Given) (why : LogFault) → Stops a b x why → Stops a b (joined x y) why
 Stops-more a b x y why f = record {
-  logs = λ log. TakesFrontAt-more (slice_get a.tails log) (a.store.told.files log) (b.store.told.files log) (x.logs log)
+  logs = λ log. TakesFrontAt-more (slice_get a.tails log) (a.store.visible.files log) (b.store.visible.files log) (x.logs log)
       (y.logs log) (f.logs log);
   alerts = AppendsFront-more y.alerts f.alerts;
-  files = λ file. GivenFront-more (a.store.told.statuses file) (b.store.told.statuses file) (x.files file)
+  files = λ file. GivenFront-more (a.store.visible.statuses file) (b.store.visible.statuses file) (x.files file)
       (y.files file) (f.files file);
   store = f.store;
   spent = λ is. let s = f.spent is in record {
@@ -273,11 +273,11 @@ Stops-more a b x y why f = record {
 
 pub Stops-same : (a b : Outputs) (x y : Given) (why : LogFault) → Stops a b x why → SameGiven x y → Stops a b y why
 Stops-same a b x y why f s = record {
-  logs = λ log. subst (λ (text : List Sent). TakesFrontAt (slice_get a.tails log) (a.store.told.files log)
-      (b.store.told.files log) text) (s.logs log) (f.logs log);
-  alerts = subst (λ (text : List ℕ). AppendsFront a.store.told.alerts b.store.told.alerts text) s.alerts f.alerts;
-  files = λ file. subst (λ (contents : List (List ℕ)). GivenFront (a.store.told.statuses file)
-      (b.store.told.statuses file) contents) (s.files file) (f.files file);
+  logs = λ log. subst (λ (text : List Sent). TakesFrontAt (slice_get a.tails log) (a.store.visible.files log)
+      (b.store.visible.files log) text) (s.logs log) (f.logs log);
+  alerts = subst (λ (text : List ℕ). AppendsFront a.store.visible.alerts b.store.visible.alerts text) s.alerts f.alerts;
+  files = λ file. subst (λ (contents : List (List ℕ)). GivenFront (a.store.visible.statuses file)
+      (b.store.visible.statuses file) contents) (s.files file) (f.files file);
   store = f.store;
   spent = λ is. let p = f.spent is in record {
     log = p.log;

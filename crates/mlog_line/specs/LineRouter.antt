@@ -5,7 +5,7 @@ use Rattle.tai_status.specs.Label.{Tai64n}
 use Rattle.mlog_script.specs.Script.{Act, Plan, is_alert, is_log, is_file, log_plans}
 use Rattle.mlog_script.specs.Selection.{Chosen, Fits, stamps, shown, chosen_line}
 use Rattle.mlog_files.specs.Files.{Files}
-use Rattle.mlog_files.specs.Store.{StoreState, Stays, Told}
+use Rattle.mlog_files.specs.Store.{StoreState, Stays, Visible}
 use Rattle.mlog_files.specs.Tails.{size_of, keep_of, waiting_in, marks_at, standing, found, room_in}
 use Rattle.mlog_files.specs.declared.tail.Tail.{Tail}
 use Rattle.mlog_files.specs.declared.tail.LogFault.{LogFault}
@@ -50,9 +50,9 @@ IsOpenedAt (Some plan) files None = ⊥
 IsOpenedAt (Some plan) files (Some tail) = IsOpened plan files tail
 
 -- All logs of a script were opened.
-abbrev pub AreOpened : List Act → Told → List Tail → Type 0
-AreOpened script told tails =
-    (log : ℕ) → IsOpenedAt (slice_get (log_plans script) log) (told.files log) (slice_get tails log)
+abbrev pub AreOpened : List Act → Visible → List Tail → Type 0
+AreOpened script visible tails =
+    (log : ℕ) → IsOpenedAt (slice_get (log_plans script) log) (visible.files log) (slice_get tails log)
 
 -- Nothing waits.
 abbrev pub IsWrittenAt : Option Tail → Type 0

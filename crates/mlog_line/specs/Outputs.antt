@@ -62,9 +62,9 @@ pub record GivenFront (old new : Option (List (List ℕ))) (contents : List (Lis
 -- This was given to the outputs.
 pub record Takes (old new : Outputs) (given : Given) : Type 0 where
   pub logs : (log : ℕ) → TakesInAt (slice_get old.tails log) (slice_get new.tails log)
-      (old.store.told.files log) (new.store.told.files log) (given.logs log)
-  pub alerts : Appends old.store.told.alerts new.store.told.alerts given.alerts
-  pub files : (file : ℕ) → WasGiven (old.store.told.statuses file) (new.store.told.statuses file) (given.files file)
+      (old.store.visible.files log) (new.store.visible.files log) (given.logs log)
+  pub alerts : Appends old.store.visible.alerts new.store.visible.alerts given.alerts
+  pub files : (file : ℕ) → WasGiven (old.store.visible.statuses file) (new.store.visible.statuses file) (given.files file)
   pub steady : old.store.failures ≤ new.store.failures
 
 -- There is no label for an old file that a text fills.
@@ -81,9 +81,9 @@ pub record Spends (old : Outputs) (given : Given) : Type 0 where
 -- front of its contents; and why.
 pub record Stops (old new : Outputs) (given : Given) (why : LogFault) : Type 0 where
   pub logs : (log : ℕ)
-      → TakesFrontAt (slice_get old.tails log) (old.store.told.files log) (new.store.told.files log) (given.logs log)
-  pub alerts : AppendsFront old.store.told.alerts new.store.told.alerts given.alerts
-  pub files : (file : ℕ) → GivenFront (old.store.told.statuses file) (new.store.told.statuses file) (given.files file)
+      → TakesFrontAt (slice_get old.tails log) (old.store.visible.files log) (new.store.visible.files log) (given.logs log)
+  pub alerts : AppendsFront old.store.visible.alerts new.store.visible.alerts given.alerts
+  pub files : (file : ℕ) → GivenFront (old.store.visible.statuses file) (new.store.visible.statuses file) (given.files file)
   pub store : why ≡ fault.Store → Rose old.store.failures new.store.failures
   pub spent : why ≡ fault.LabelsSpent → Spends old given
 

@@ -8,9 +8,9 @@ use Rattle.mlog_line.specs.Outputs.{GivenFront}
 -- The store failed on the way of an alert: a front of this was alerted, all else is as before, and the failure is
 -- counted.
 pub record AlertsFront (old new : StoreState) (text : List ℕ) : Type 0 where
-  pub here : AppendsFront old.told.alerts new.told.alerts text
-  pub files : new.told.files ≡ old.told.files
-  pub statuses : new.told.statuses ≡ old.told.statuses
+  pub here : AppendsFront old.visible.alerts new.visible.alerts text
+  pub files : new.visible.files ≡ old.visible.files
+  pub statuses : new.visible.statuses ≡ old.visible.statuses
   pub stays : Stays old new
   pub rose : Rose old.failures new.failures
 
@@ -20,16 +20,16 @@ given_to file chosen content = if flag_at chosen file then content ∷ [] else [
 
 -- Each status file whose flag is set was given this content, once, and all else is as before.
 pub record Replaced (old new : StoreState) (chosen : List Bool) (content : List ℕ) : Type 0 where
-  pub here : (file : ℕ) → WasGiven (old.told.statuses file) (new.told.statuses file) (given_to file chosen content)
-  pub files : new.told.files ≡ old.told.files
-  pub alerts : new.told.alerts ≡ old.told.alerts
+  pub here : (file : ℕ) → WasGiven (old.visible.statuses file) (new.visible.statuses file) (given_to file chosen content)
+  pub files : new.visible.files ≡ old.visible.files
+  pub alerts : new.visible.alerts ≡ old.visible.alerts
   pub stays : Stays old new
 
 -- The store failed on the way of status files: some of those whose flag is set were given this content, once, all else
 -- is as before, and the failure is counted.
 pub record ReplacedSome (old new : StoreState) (chosen : List Bool) (content : List ℕ) : Type 0 where
-  pub here : (file : ℕ) → GivenFront (old.told.statuses file) (new.told.statuses file) (given_to file chosen content)
-  pub files : new.told.files ≡ old.told.files
-  pub alerts : new.told.alerts ≡ old.told.alerts
+  pub here : (file : ℕ) → GivenFront (old.visible.statuses file) (new.visible.statuses file) (given_to file chosen content)
+  pub files : new.visible.files ≡ old.visible.files
+  pub alerts : new.visible.alerts ≡ old.visible.alerts
   pub stays : Stays old new
   pub rose : Rose old.failures new.failures

@@ -96,7 +96,7 @@ impl<A: Allocator + Clone> LineRouter<A> {
     ) -> Result<LineRouter<A>, AllocError>
         requires logs { count_by is_log script.now ≤ (S.state store.now).logs }
         requires files { count_by is_file script.now ≤ (S.state store.now).status_files }
-        ensures opened { IfOk result (λ router. AreOpened script.now (S.state store.now).told router.tails) }
+        ensures opened { IfOk result (λ router. AreOpened script.now (S.state store.now).visible router.tails) }
         ensures serves { IfOk result (λ router. Serves script.now router (S.state store.now)) }
     {
         let tails = open_all(alloc.clone()?, script, store)?;

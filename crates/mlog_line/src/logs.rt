@@ -17,7 +17,7 @@ pub fn open_all<A: Allocator + Clone, B: Allocator + Clone, S: LogStore>(
     store: &S,
 ) -> Result<Vec<Tail, A>, AllocError>
     requires logs { count_by is_log script.now ≤ (S.state store.now).logs }
-    ensures opened { IfOk result (λ tails. AreOpened script.now (S.state store.now).told tails.items) }
+    ensures opened { IfOk result (λ tails. AreOpened script.now (S.state store.now).visible tails.items) }
     ensures count { IfOk result (λ tails. length tails.items ≡ count_by is_log script.now) }
 {
     let mut tails = Vec::new(alloc);

@@ -30,10 +30,10 @@ faults_here before rest word lawful =
     ∙ filter_map-append fault_at (placed_behind [] before) (placed_behind before (word ∷ rest))
     ∙ ap (λ (fs : List ScriptFault). fs ++ filter_map fault_at (placed_behind before (word ∷ rest))) lawful
 
-told : (before rest : List (List ℕ)) (word : List ℕ) (kind : ScriptFaultKind) → faults before ≡ []
+reported : (before rest : List (List ℕ)) (word : List ℕ) (kind : ScriptFaultKind) → faults before ≡ []
     → Some kind ≡ fault_of before word
     → first_fault (before ++ word ∷ rest) ≡ Some (record { word = length before + 1; kind = kind })
-told before rest word kind lawful bad = let here = faults_here before rest word lawful in cc (here, bad)
+reported before rest word kind lawful bad = let here = faults_here before rest word lawful in cc (here, bad)
 
 passed : (before : List (List ℕ)) (word : List ℕ) → faults before ≡ [] → None ≡ fault_of before word
     → faults (before ++ word ∷ []) ≡ []
@@ -47,14 +47,14 @@ words_at f words k d within =
     ∙ ap (λ rest. map f (take k words) ++ map f rest) (drop-cons words k d within)
 
 -- The first bad word stands behind words that are not bad.
-pub told_at : {R : Type 0} (f : R → List ℕ) (words : List R) (k : ℕ) (d : R) (kind : ScriptFaultKind) → k < length words
+pub reported_at : {R : Type 0} (f : R → List ℕ) (words : List R) (k : ℕ) (d : R) (kind : ScriptFaultKind) → k < length words
     → faults (map f (take k words)) ≡ [] → Some kind ≡ fault_of (map f (take k words)) (f (get_or words k d))
     → first_fault (map f words) ≡ Some (record { word = k + 1; kind = kind })
-told_at f words k d kind within lawful bad =
+reported_at f words k d kind within lawful bad =
     let n : length (map f (take k words)) ≡ k = length-map (take k words) f
     ∙ length-take-le k words (omega (arith, within)) in
     ap first_fault (words_at f words k d within)
-    ∙ told (map f (take k words)) (map f (drop (suc k) words)) (f (get_or words k d)) kind lawful bad
+    ∙ reported (map f (take k words)) (map f (drop (suc k) words)) (f (get_or words k d)) kind lawful bad
     ∙ ap (λ (m : ℕ). Some (record { word = m + 1; kind = kind })) n
 
 pub passed_at : {R : Type 0} (f : R → List ℕ) (words : List R) (k : ℕ) (d : R) → k < length words

@@ -126,7 +126,7 @@ fault_at word =
 abbrev pub faults : List (List ℕ) → List ScriptFault
 faults words = filter_map fault_at (placed words)
 
--- the first bad word of a script, which is told
+-- the first bad word of a script, which is reported
 abbrev pub first_fault : List (List ℕ) → Option ScriptFault
 first_fault words = slice_get (faults words) 0
 

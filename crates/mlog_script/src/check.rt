@@ -6,9 +6,9 @@ ghost use Rattle.mlog_script.specs.Script.{texts, is_among, fault_of, faults, fi
 use crate::fault::{ScriptFault, ScriptFaultKind};
 use crate::word::{Said, read_word};
 
-/// Tells the first bad word of a script.
+/// Reports the first bad word of a script.
 pub(crate) fn check(words: &[&[u8]]) -> Result<(), ScriptFault>
-    ensures told { MatchOption (first_fault (texts words.now)) (IsOk result) (λ fault. result ≡ Err fault) }
+    ensures reported { MatchOption (first_fault (texts words.now)) (IsOk result) (λ fault. result ≡ Err fault) }
     ensures lawful { OnOk result (faults (texts words.now) ≡ []) }
     ensures word { IfErr result (λ fault. (0 < fault.word) × (fault.word ≤ length words.now)) }
 {

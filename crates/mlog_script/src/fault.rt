@@ -65,7 +65,7 @@ impl fmt::Display for ScriptFaultKind {
 
 impl Error for ScriptFaultKind {}
 
-/// Why words are no script. It is shown as multilog tells it: `word 2: SameLogTwice`.
+/// Why words are no script. It is shown as multilog reports it: `word 2: SameLogTwice`.
 #[derive(Clone, Copy, Debug, PartialEq, Eq)]
 pub struct ScriptFault {
     /// The place of the word, counted from 1.

@@ -13,7 +13,7 @@
 //! | `nN` | sets how many old files the logs after it keep, from 2 to 4294967295; that is 10 at first |
 //! | `./folder`, `/folder` | puts the selected lines into a log |
 //!
-//! Logs and status files have numbers from 0, in the order of the script. [`Choices::choose`] tells where a line is
+//! Logs and status files have numbers from 0, in the order of the script. [`Choices::choose`] says where a line is
 //! selected: at each action by the last pattern before it that matches the line.
 #![tactic(auto)]
 

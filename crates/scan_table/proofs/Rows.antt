@@ -18,12 +18,12 @@ use Rattle.scan_table.proofs.Rising.{rising-pairs}
 use Rattle.scan_table.proofs.Orders.{above-below, equal-same, same-named, differs-named, below-differs}
 use Rattle.scan_table.proofs.Placed.{any-one}
 
--- how the name of the row at a place stands to another, as a comparison tells
-pub row-read : (rows : List Row) (place : ℕ) (row : Row) (word name other : List ℕ) (told order : Ordering)
+-- how the name of the row at a place stands to another, as a comparison reports
+pub row-read : (rows : List Row) (place : ℕ) (row : Row) (word name other : List ℕ) (reported order : Ordering)
     → place < length rows →
-    row ≡ get_or rows place row → word ≡ row.name → other ≡ name → told ≡ name_order word other → told ≡ order →
+    row ≡ get_or rows place row → word ≡ row.name → other ≡ name → reported ≡ name_order word other → reported ≡ order →
     (d : Row) → name_order (get_or rows place d).name name ≡ order
-row-read rows place row word name other told order within read is named cmp so d =
+row-read rows place row word name other reported order within read is named cmp so d =
     ap (λ (r : Row). name_order r.name name) (get_or_default rows place d row within ∙ sym read) ∙
     ap (λ x. name_order x name) (sym is) ∙ ap (λ x. name_order word x) (sym named) ∙ sym cmp ∙ so
 
@@ -73,7 +73,7 @@ other-serves slot row other =
     let no : is_name row.name slot.name ≡ false = differs-named row.name slot.name other in
     elim (is_eligible row) as (λ b. (b && is_name row.name slot.name) ≡ false) [ true ↦ no | false ↦ refl ]
 
--- The row of a slot's name tells whether the slot has an eligible row.
+-- The row of a slot's name says whether the slot has an eligible row.
 pub row-found : (rows : List Row) (middle : ℕ) (row : Row) (slot : SlotState) (result : Bool) → AreRising rows
     → middle < length rows → row ≡ get_or rows middle row →
     ((d : Row) → name_order (get_or rows middle d).name slot.name ≡ Equal) → result ≡ is_eligible row
@@ -155,15 +155,15 @@ pub order-last : (rows : List Row) (place : ℕ) (name : List ℕ) → length ro
     → order_fault_after place name (drop place rows) ≡ None
 order-last rows place name end = ap (order_fault_after place name) (drop_of_length-le rows end)
 
--- The faults from a place on are those that the order of the names there tells, and those after it.
-pub order-told : (rows : List Row) (place : ℕ) (before here : Row) (one two : List ℕ) (told order : Ordering)
+-- The faults from a place on are those that the order of the names there reports, and those after it.
+pub order-reported : (rows : List Row) (place : ℕ) (before here : Row) (one two : List ℕ) (reported order : Ordering)
     → 0 < place → place < length rows →
     before ≡ get_or rows (place - 1) before → here ≡ get_or rows place here → one ≡ before.name → two ≡ here.name
-    → told ≡ name_order one two → told ≡ order →
+    → reported ≡ name_order one two → reported ≡ order →
     ((d : Row) → 0 < length rows
     → order_fault rows ≡ order_fault_after place (get_or rows (place - 1) d).name (drop place rows)) →
     order_fault rows ≡ fault_at place order (order_fault_after (place + 1) here.name (drop (place + 1) rows))
-order-told rows place before here one two told order after within is-before is-here is-one is-two cmp so left =
+order-reported rows place before here one two reported order after within is-before is-here is-one is-two cmp so left =
     left before (omega (arith, within)) ∙
     ap (λ (r : Row). order_fault_after place r.name (drop place rows)) (sym is-before) ∙
     order-next rows place here before here within is-here ∙
@@ -197,12 +197,12 @@ order-begins [] d some = absurd (omega arith)
 order-begins (row ∷ rows) d some = refl
 
 -- one place more where the names rise
-pub rising-more : (rows : List Row) (place : ℕ) (before here : Row) (one two : List ℕ) (told : Ordering) → 0 < place
+pub rising-more : (rows : List Row) (place : ℕ) (before here : Row) (one two : List ℕ) (reported : Ordering) → 0 < place
     → place < length rows →
     before ≡ get_or rows (place - 1) before → here ≡ get_or rows place here → one ≡ before.name → two ≡ here.name
-    → told ≡ name_order one two → told ≡ Less →
+    → reported ≡ name_order one two → reported ≡ Less →
     AllAdjacentBelow IsBelow rows place → AllAdjacentBelow IsBelow rows (place + 1)
-rising-more rows place before here one two told after within is-before is-here is-one is-two cmp so rising k d b =
+rising-more rows place before here one two reported after within is-before is-here is-one is-two cmp so rising k d b =
     elim (cases_lt (k + 1) place) [
       | (inl earlier) ↦ rising k d earlier
       | (inr last) ↦

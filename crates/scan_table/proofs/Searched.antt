@@ -52,13 +52,13 @@ name-read slots index k slot read within =
     get_or-map (λ (s : SlotState). s.name) slots (get_or index k 0) slot [] within
     ∙ sym (ap (λ (s : SlotState). s.name) read)
 
--- how the name at a place stands to another, as a comparison tells
+-- how the name at a place stands to another, as a comparison reports
 pub order-read : (slots : List SlotState) (index : List ℕ) (k : ℕ) (slot : SlotState) (word name : List ℕ)
-    (told order : Ordering) →
+    (reported order : Ordering) →
     slot ≡ get_or slots (get_or index k 0) slot → get_or index k 0 < length slots → word ≡ slot.name
-    → told ≡ name_order word name → told ≡ order →
+    → reported ≡ name_order word name → reported ≡ order →
     name_order (name_at (names_of slots) index k) name ≡ order
-order-read slots index k slot word name told order read within is cmp so =
+order-read slots index k slot word name reported order read within is cmp so =
     ap (λ x. name_order x name) (name-read slots index k slot read within ∙ sym is) ∙ sym cmp ∙ so
 
 -- where no two slots have one name, the slot of a name at a place

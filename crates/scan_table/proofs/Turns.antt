@@ -60,7 +60,7 @@ refused-at slots rows before row after whole rising is new =
     (λ d. ap (λ xs. slice_index_or xs (length (new_rows slots before)) d) ns
     ∙ get_or-append_seam (new_rows slots before) row (new_rows slots after) d)
 
--- what a row needs, told by the count of new names before it
+-- what a row needs, reported by the count of new names before it
 pub need-at : (slots : List SlotState) (rows : List Row) (before : List Row) (row : Row) (after : List Row) →
     before ++ row ∷ after ≡ rows → AreRising rows → is_eligible row ≡ true →
     need slots rows row ≡ need_where (nat_le (room slots rows) (length (new_rows slots before))) row (slot_of slots row)
@@ -158,7 +158,7 @@ pub within-need : (left need rest whole : ℕ) → whole ≡ need + rest → nee
     → nat_lt (left - need) rest ≡ nat_lt left whole
 within-need left need rest whole e h = grind (arith, nat_tests)
 
--- the starts of a row, told by the count of new names before it
+-- the starts of a row, reported by the count of new names before it
 turn-slots : (slots : List SlotState) (rows : List Row) (n : ℕ) (before : List Row) (row : Row) (after : List Row) →
     before ++ row ∷ after ≡ rows → AreRising rows →
     (if is_eligible row then new_slots_at slots rows n row else [])

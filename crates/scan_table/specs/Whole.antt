@@ -1,4 +1,4 @@
--- Services of which no part has ended. A scan changes nothing of them, whatever their rows tell.
+-- Services of which no part has ended. A scan changes nothing of them, whatever their rows say.
 use Rattle.std.specs.Prelude.{◌≡◌, ℕ, Bool, false, not, List, [], ◌∷◌, if◌then◌else◌, Option, Some, None}
 use Rattle.std.specs.List.{filter, list_all}
 use Rattle.scan_table.specs.Slots.{Row, is_name, SlotState, SlotPart, parts_of}

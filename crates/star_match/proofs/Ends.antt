@@ -72,11 +72,11 @@ pub ends_alike : (pattern text : List ℕ) (p t : Option (Bor ℕ)) (byte : Bor 
     → p ≡ Some byte → (byte.now ≡ star → ⊥)
     → option_copied t ≡ last_byte text → star_matches pattern text ≡ true
     → option_eq (λ x y. x.now == y.now) t (Some byte) ≡ true
-ends_alike pattern text p None byte told is plain end m =
-    let last : last_byte pattern ≡ Some byte.now = sym told ∙ ap option_copied is in
+ends_alike pattern text p None byte reported is plain end m =
+    let last : last_byte pattern ≡ Some byte.now = sym reported ∙ ap option_copied is in
     let same = ends_so pattern text byte.now (ne_eqb byte.now star plain) last m in absurd cc
-ends_alike pattern text p (Some own) byte told is plain end m =
-    let last : last_byte pattern ≡ Some byte.now = sym told ∙ ap option_copied is in
+ends_alike pattern text p (Some own) byte reported is plain end m =
+    let last : last_byte pattern ≡ Some byte.now = sym reported ∙ ap option_copied is in
     let same = ends_so pattern text byte.now (ne_eqb byte.now star plain) last m in
     let both : own.now ≡ byte.now = cc in
     eq-eqb own.now byte.now both

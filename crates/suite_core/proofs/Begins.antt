@@ -28,7 +28,7 @@ use Rattle.scan_table.proofs.Orders.{below-differs, named-same}
 use Rattle.suite_lines.specs.declared.event.SuiteEvent.{SuiteEvent}
 use Rattle.suite_lines.specs.declared.event.SuiteEvent.TheVariants.{Scan}
 use Rattle.suite_core.specs.Parts.{PartState, is_part, is_place, trace_of, restarted_in, is_of}
-use Rattle.suite_core.specs.Suite.{SuiteState, IsSuiteEvent, told_of_scan, refusal_of_scan, Beginning, beginning}
+use Rattle.suite_core.specs.Suite.{SuiteState, IsSuiteEvent, fault_of_scan, refusal_of_scan, Beginning, beginning}
 use Rattle.suite_core.specs.Suite.{begun_part, opening, parts_scanned, scan_starts, scan_restarts, suite_scanned}
 use Rattle.suite_core.specs.Run.{suite_along, AreAccepted, BeginAsRowsSay}
 use Rattle.suite_core.specs.Places.{rank, AreRising, Seen, seen, seen_life, seen_in, IsSuite}
@@ -65,10 +65,10 @@ rows-rise [] none = λ i j d b w. absurd (omega (arith, b, w))
 rows-rise (row ∷ rows) none = let later = rise-after 1 row.name rows none in
     AllPairs-cons IsBelow row rows later.1 later.0
 
-accepted-rise : (table : TableState) (rows : List Row) → told_of_scan (scan_refusal table rows) ≡ None
+accepted-rise : (table : TableState) (rows : List Row) → fault_of_scan (scan_refusal table rows) ≡ None
     → AllPairs IsBelow rows
 accepted-rise table rows none =
-    elim (order_fault rows) as (λ o. order_fault rows ≡ o → told_of_scan (numbers_fault table rows o) ≡ None
+    elim (order_fault rows) as (λ o. order_fault rows ≡ o → fault_of_scan (numbers_fault table rows o) ≡ None
     → AllPairs IsBelow rows) [
       | None ↦ λ order none. rows-rise rows order
       | (Some why) ↦ λ order none. absurd (cc)

@@ -15,7 +15,7 @@ use Rattle.suite_core.specs.Parts.{PartState, is_part, is_place, trace_of, has_e
 use Rattle.suite_core.specs.Parts.{restarted_in}
 use Rattle.scan_table.specs.Table.{TableState, after_end}
 use Rattle.suite_core.specs.declared.fault.StepFault.TheVariants as fault
-use Rattle.suite_core.specs.Suite.{SuiteState, outs_at, table_told, suite_at, refusal_at}
+use Rattle.suite_core.specs.Suite.{SuiteState, outs_at, table_noted, suite_at, refusal_at}
 use Rattle.suite_core.specs.Places.{rank, AreRising, IsEdge, IsPlaceOf, IsPartAt, HasNone}
 use Rattle.suite_core.proofs.Names.{is_part-same, is_place-rank}
 
@@ -180,12 +180,12 @@ pub part-stands : (parts : List PartState) (id : PartId) (place : ℕ) → AreRi
 part-stands [] id place rising at = absurd (omega (arith, at.within))
 part-stands (part ∷ parts) id place rising at = ap is_none (trace-read (part ∷ parts) id place part rising at)
 
--- The table is told what the trace tells.
-pub told-as : (table : TableState) (id : PartId) (event : Event) (t : Option Kept) (ended : Bool) → is_none t ≡ false →
+-- The table is reported what the trace says.
+pub reported-as : (table : TableState) (id : PartId) (event : Event) (t : Option Kept) (ended : Bool) → is_none t ≡ false →
     IfSome t (λ kept. ended ≡ has_ended (noted_if_taken kept event)) → (if ended then after_end table id else table)
-    ≡ table_told table id event t
-told-as table id event None ended there told = absurd (cc)
-told-as table id event (Some kept) ended there told = ap (λ b. if b then after_end table id else table) told
+    ≡ table_noted table id event t
+reported-as table id event None ended there reported = absurd (cc)
+reported-as table id event (Some kept) ended there reported = ap (λ b. if b then after_end table id else table) reported
 
 -- the suite after an event at a part that stands somewhere
 pub suite-at : (suite : SuiteState) (id : PartId) (event : Event) (place : ℕ) (seen parts : List PartState)
@@ -194,10 +194,10 @@ pub suite-at : (suite : SuiteState) (id : PartId) (event : Event) (place : ℕ) 
     → IfSome (trace_of suite.parts id) (λ kept. ended ≡ has_ended (noted_if_taken kept event)) →
     table ≡ (if ended then after_end suite.table id else suite.table)
     → record { table = table; parts = parts; capacity = suite.capacity } ≡ suite_at suite id event
-suite-at suite id event place seen parts table ended rising same at is told after =
+suite-at suite id event place seen parts table ended rising same at is reported after =
     let there = part-stands suite.parts id place rising (subst (λ ps. IsPartAt ps id place) same at) in
-    let tables : table ≡ table_told suite.table id event (trace_of suite.parts id) = after
-    ∙ told-as suite.table id event (trace_of suite.parts id) ended there told in
+    let tables : table ≡ table_noted suite.table id event (trace_of suite.parts id) = after
+    ∙ reported-as suite.table id event (trace_of suite.parts id) ended there reported in
     rw (tables, is) refl
 
 -- No event is refused at a part that stands somewhere.
@@ -282,49 +282,49 @@ pub restarted-end : (items parts whole : List PartState) → length items ≡ 0 
 restarted-end [] parts whole none so = sym (map-none (restarted_in []) parts (λ k d b. refl)) ∙ so
 restarted-end (item ∷ items) parts whole none so = absurd (omega (arith, none))
 
--- How a part that was read stands to another, as a comparison tells
+-- How a part that was read stands to another, as a comparison reports
 
-pub read-before : (parts : List PartState) (place : ℕ) (part : PartState) (id told : PartId) (result : Bool)
-    → place < length parts → part ≡ get_or parts place part → told ≡ part.id →
-    result ≡ nat_lt (rank told) (rank id) → result ≡ true → (d : PartState) → rank (get_or parts place d).id < rank id
-read-before parts place part id told result within read is compared so d =
-    let same : rank (get_or parts place d).id ≡ rank told =
+pub read-before : (parts : List PartState) (place : ℕ) (part : PartState) (id reported : PartId) (result : Bool)
+    → place < length parts → part ≡ get_or parts place part → reported ≡ part.id →
+    result ≡ nat_lt (rank reported) (rank id) → result ≡ true → (d : PartState) → rank (get_or parts place d).id < rank id
+read-before parts place part id reported result within read is compared so d =
+    let same : rank (get_or parts place d).id ≡ rank reported =
     ap (λ (p : PartState). rank p.id) (rank-read parts place part within read d) ∙ ap rank (sym is) in
-    let less : rank told < rank id = grind (arith, nat_tests) in
+    let less : rank reported < rank id = grind (arith, nat_tests) in
     omega (arith, same, less)
 
-pub read-after : (parts : List PartState) (place : ℕ) (part : PartState) (id told : PartId) (result : Bool)
-    → place < length parts → part ≡ get_or parts place part → told ≡ part.id →
-    result ≡ nat_lt (rank told) (rank id) → result ≡ false → (d : PartState) → rank id ≤ rank (get_or parts place d).id
-read-after parts place part id told result within read is compared so d =
-    let same : rank (get_or parts place d).id ≡ rank told =
+pub read-after : (parts : List PartState) (place : ℕ) (part : PartState) (id reported : PartId) (result : Bool)
+    → place < length parts → part ≡ get_or parts place part → reported ≡ part.id →
+    result ≡ nat_lt (rank reported) (rank id) → result ≡ false → (d : PartState) → rank id ≤ rank (get_or parts place d).id
+read-after parts place part id reported result within read is compared so d =
+    let same : rank (get_or parts place d).id ≡ rank reported =
     ap (λ (p : PartState). rank p.id) (rank-read parts place part within read d) ∙ ap rank (sym is) in
-    let more : rank id ≤ rank told = grind (arith, nat_tests) in
+    let more : rank id ≤ rank reported = grind (arith, nat_tests) in
     omega (arith, same, more)
 
-pub read-place : (parts : List PartState) (place : ℕ) (part : PartState) (id told : PartId) (result : Bool)
-    → place < length parts → part ≡ get_or parts place part → told ≡ part.id →
-    result ≡ (rank told == rank id) → result ≡ true → IsPlaceOf parts id place
-read-place parts place part id told result within read is compared so = record {
+pub read-place : (parts : List PartState) (place : ℕ) (part : PartState) (id reported : PartId) (result : Bool)
+    → place < length parts → part ≡ get_or parts place part → reported ≡ part.id →
+    result ≡ (rank reported == rank id) → result ≡ true → IsPlaceOf parts id place
+read-place parts place part id reported result within read is compared so = record {
   within = within;
   here = λ d.
-      let same : rank (get_or parts place d).id ≡ rank told =
+      let same : rank (get_or parts place d).id ≡ rank reported =
       ap (λ (p : PartState). rank p.id) (rank-read parts place part within read d) ∙ ap rank (sym is) in
-      let equal : rank told ≡ rank id = grind (arith, nat_tests) in
+      let equal : rank reported ≡ rank id = grind (arith, nat_tests) in
       same ∙ equal;
 }
 
-pub read-other : (parts : List PartState) (place : ℕ) (part : PartState) (id told : PartId) (result : Bool)
-    → place < length parts → part ≡ get_or parts place part → told ≡ part.id →
-    result ≡ (rank told == rank id) → result ≡ false → (d : PartState) → rank (get_or parts place d).id ≢ rank id
-read-other parts place part id told result within read is compared so d =
-    let same : rank (get_or parts place d).id ≡ rank told =
+pub read-other : (parts : List PartState) (place : ℕ) (part : PartState) (id reported : PartId) (result : Bool)
+    → place < length parts → part ≡ get_or parts place part → reported ≡ part.id →
+    result ≡ (rank reported == rank id) → result ≡ false → (d : PartState) → rank (get_or parts place d).id ≢ rank id
+read-other parts place part id reported result within read is compared so d =
+    let same : rank (get_or parts place d).id ≡ rank reported =
     ap (λ (p : PartState). rank p.id) (rank-read parts place part within read d) ∙ ap rank (sym is) in
-    let apart : rank told ≢ rank id = grind (arith, nat_tests) in
+    let apart : rank reported ≢ rank id = grind (arith, nat_tests) in
     λ e. apart (sym same ∙ e)
 
-pub read-other-life : (parts : List PartState) (place : ℕ) (part : PartState) (id told : PartId) (result : Bool)
-    → AreRising parts → IsPlaceOf parts id place → part ≡ get_or parts place part → told ≡ part.id →
-    result ≡ is_part told id → result ≡ false → trace_of parts id ≡ None
-read-other-life parts place part id told result rising at read is compared so =
+pub read-other-life : (parts : List PartState) (place : ℕ) (part : PartState) (id reported : PartId) (result : Bool)
+    → AreRising parts → IsPlaceOf parts id place → part ≡ get_or parts place part → reported ≡ part.id →
+    result ≡ is_part reported id → result ≡ false → trace_of parts id ≡ None
+read-other-life parts place part id reported result rising at read is compared so =
     trace-other parts id place part rising at read (ap (λ (a : PartId). is_part a id) (sym is) ∙ sym compared ∙ so)

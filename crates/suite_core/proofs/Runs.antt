@@ -33,7 +33,7 @@ use Rattle.suite_core.specs.declared.fault.StepFault.TheVariants as fault
 use Rattle.suite_core.specs.Parts.{PartState, is_part, is_place, trace_of, has_ended, part_after, parts_after}
 use Rattle.suite_core.specs.Parts.{restarted_in, is_of}
 use Rattle.suite_core.specs.Suite.{SuiteState, IsSuiteEvent, refusal, Beginning, beginning, begun_part, opening}
-use Rattle.suite_core.specs.Suite.{outs_at, outs_of, suite_at, suite_scanned, table_told, changed, parts_scanned}
+use Rattle.suite_core.specs.Suite.{outs_at, outs_of, suite_at, suite_scanned, table_noted, changed, parts_scanned}
 use Rattle.suite_core.specs.Suite.{scan_starts, scan_restarts, suite_after}
 use Rattle.suite_core.specs.Run.{suite_along, outs_along, AreAccepted, Ran, own_events, own_between, Follows}
 use Rattle.suite_core.specs.Run.{FollowsIfThere, GoByOwnEvents, ReplyByOwnHistory, is_taken_away, is_named, LeaveOthers}
@@ -85,21 +85,21 @@ traces-after id event parts condition traces =
       | false ↦ is
     ]) traces
 
-told-rising : (table : TableState) (id : PartId) (event : Event) (t : Option Kept) → AllPairs IsBefore table.slots
-    → AllPairs IsBefore (table_told table id event t).slots
-told-rising table id event None rising = rising
-told-rising table id event (Some kept) rising =
+reported-rising : (table : TableState) (id : PartId) (event : Event) (t : Option Kept) → AllPairs IsBefore table.slots
+    → AllPairs IsBefore (table_noted table id event t).slots
+reported-rising table id event None rising = rising
+reported-rising table id event (Some kept) rising =
     elim (has_ended (noted_if_taken kept event)) as (λ b.
     AllPairs IsBefore (if b then after_end table id else table).slots) [
       | true ↦ ended-rising id table.slots rising
       | false ↦ rising
     ]
 
-told-numbered : (table : TableState) (id : PartId) (event : Event) (t : Option Kept)
+reported-numbered : (table : TableState) (id : PartId) (event : Event) (t : Option Kept)
     → All (IsNumbered table.next) table.slots →
-    All (IsNumbered (table_told table id event t).next) (table_told table id event t).slots
-told-numbered table id event None numbered = numbered
-told-numbered table id event (Some kept) numbered =
+    All (IsNumbered (table_noted table id event t).next) (table_noted table id event t).slots
+reported-numbered table id event None numbered = numbered
+reported-numbered table id event (Some kept) numbered =
     elim (has_ended (noted_if_taken kept event)) as (λ b.
     All (IsNumbered (if b then after_end table id else table).next) (if b then after_end table id else table).slots) [
       | true ↦ ended-below table.next id table.slots numbered
@@ -111,8 +111,8 @@ pub IsSuite-at : (suite : SuiteState) (id : PartId) (event : Event) → IsEvent 
 IsSuite-at suite id event condition is = record {
   room = is.room;
   limit = is.limit;
-  rising = told-rising suite.table id event (trace_of suite.parts id) is.rising;
-  numbered = told-numbered suite.table id event (trace_of suite.parts id) is.numbered;
+  rising = reported-rising suite.table id event (trace_of suite.parts id) is.rising;
+  numbered = reported-numbered suite.table id event (trace_of suite.parts id) is.numbered;
   tied = tied-at suite.table suite.parts id event (parts-rise suite.table suite.parts is.rising is.tied) is.tied;
   traces = traces-after id event suite.parts condition is.traces;
 }
@@ -214,7 +214,7 @@ gone-along : {A : Type 0} → (suite : SuiteState) (events : List (SuiteEvent A)
 gone-along suite [] id below none = none
 gone-along suite (At other event ∷ events) id below none =
     let next_same : (suite_at suite other event).table.next ≡ suite.table.next =
-    elim (trace_of suite.parts other) as (λ t. (table_told suite.table other event t).next ≡ suite.table.next) [
+    elim (trace_of suite.parts other) as (λ t. (table_noted suite.table other event t).next ≡ suite.table.next) [
       | None ↦ refl
       | (Some kept) ↦ elim (has_ended (noted_if_taken kept event)) as (λ b.
           (if b then after_end suite.table other else suite.table).next ≡ suite.table.next)
@@ -373,8 +373,8 @@ at-place suite events place is conditions =
 
 follows : (t : Option Kept) (kept : Kept) (own : List Event) → Follows kept own (noted_along kept own)
     → IsSameOrNone t (noted_along kept own) → FollowsIfThere kept own t
-follows None kept own told same = tt
-follows (Some later) kept own told same = subst (Follows kept own) (sym same) told
+follows None kept own reported same = tt
+follows (Some later) kept own reported same = subst (Follows kept own) (sym same) reported
 
 -- Each part goes on by its own events.
 pub by-own-events : {A : Type 0} → (suite : SuiteState) (events : List (SuiteEvent A)) (n : ℕ) → IsSuite suite
@@ -391,12 +391,12 @@ by-own-events suite events n is conditions id from to kept ordered within at =
     let here_is = at-place suite events from is all in
     let rest_all = conditions-drop (take to events) from (conditions-take events to all) in
     let later = own-along here rest id kept here_is rest_all at in
-    let told : Follows kept own (noted_along kept own) = record {
+    let reported : Follows kept own (noted_along kept own) = record {
       machine = replay-noted_along kept own;
       trace = noted_along-taken kept own (trace-there here id kept here_is at) (own-conditions rest id rest_all);
     } in
     subst (λ (t : Option Kept). FollowsIfThere kept own t) (sym (ap (λ (s : SuiteState). trace_of s.parts id) reached))
-    (follows (trace_of (suite_along here rest).parts id) kept own told later)
+    (follows (trace_of (suite_along here rest).parts id) kept own reported later)
 
 -- one event more
 pub next-place : {A : Type 0} → (suite : SuiteState) (events : List (SuiteEvent A)) (place : ℕ) (event : SuiteEvent A)
@@ -439,10 +439,10 @@ out-by : {A : Type 0} → (id : PartId) (event : Event) (t : Option Kept) (kept 
     → (if is_none t then Some fault.NoSuchPart else None) ≡ None → FollowsIfThere kept own t →
     let past = after (history_of kept) own in
     outs_at {A = A} id event t ≡ out.At id (reply_to past event) (phase_of (next past event)) ∷ []
-out-by {A = A} id event None kept own there told = absurd (cc)
-out-by {A = A} id event (Some later) kept own there told =
+out-by {A = A} id event None kept own there reported = absurd (cc)
+out-by {A = A} id event (Some later) kept own there reported =
     let past = after (history_of kept) own in
-    let one : state_of (history_of later) ≡ state_of past = told.machine in
+    let one : state_of (history_of later) ≡ state_of past = reported.machine in
     let reply : reply_to (history_of later) event ≡ reply_to past event =
     reply_to-state (history_of later) past event one in
     let phase : (replay (noted_if_taken later event)).phase ≡ phase_of (next past event) =

@@ -29,7 +29,7 @@ use Rattle.scan_table.specs.Index.{IsBefore, IsNumbered}
 use Rattle.scan_table.proofs.Given.{AllPairs-append, pairs-head, pairs-tail, all-flat, all-slots}
 use Rattle.suite_core.specs.Parts.{PartState, is_part, is_place, trace_of, has_ended, part_after, parts_after}
 use Rattle.suite_core.specs.Parts.{restarted_in, is_of}
-use Rattle.suite_core.specs.Suite.{SuiteState, Beginning, begun_part, beginning, table_told, parts_scanned}
+use Rattle.suite_core.specs.Suite.{SuiteState, Beginning, begun_part, beginning, table_noted, parts_scanned}
 use Rattle.suite_core.specs.Places.{rank, rank_in, AreRising, Seen, seen, seen_life, seen_in, AreTied}
 use Rattle.suite_core.proofs.Names.{is_part-same, is_at-same}
 use Rattle.suite_core.proofs.Traces.{is_among}
@@ -246,10 +246,10 @@ nothing-after (part ∷ parts) id event none =
 -- An event at a part keeps parts and table tied.
 pub tied-at : (table : TableState) (parts : List PartState) (id : PartId) (event : Event) → AreRising parts
     → AreTied table parts →
-    AreTied (table_told table id event (trace_of parts id)) (parts_after id event parts)
+    AreTied (table_noted table id event (trace_of parts id)) (parts_after id event parts)
 tied-at table parts id event rising tied =
     elim (trace_of parts id) as (λ t. trace_of parts id ≡ t
-    → AreTied (table_told table id event t) (parts_after id event parts)) [
+    → AreTied (table_noted table id event t) (parts_after id event parts)) [
       | None ↦ λ none. ap (map seen) (nothing-after parts id event none) ∙ tied
       | (Some trace) ↦ λ at.
           let each = only-one parts id trace rising at in
@@ -279,19 +279,19 @@ dropped-here (other ∷ slots) rows slot before =
       | false ↦ later
     ]
 
-abbrev Tells : List SlotState → List Row → SlotState → Type 0
-Tells slots rows slot = list_any (λ n. slot.number == n) (drops slots rows) ≡ is_dropped rows slot
+abbrev Reports : List SlotState → List Row → SlotState → Type 0
+Reports slots rows slot = list_any (λ n. slot.number == n) (drops slots rows) ≡ is_dropped rows slot
 
-dropped-told : (slots : List SlotState) (rows : List Row) → AllPairs IsBefore slots → All (Tells slots rows) slots
-dropped-told [] rows rising = All-nil (Tells [] rows)
-dropped-told (slot ∷ slots) rows rising =
+dropped-reported : (slots : List SlotState) (rows : List Row) → AllPairs IsBefore slots → All (Reports slots rows) slots
+dropped-reported [] rows rising = All-nil (Reports [] rows)
+dropped-reported (slot ∷ slots) rows rising =
     let above = pairs-head IsBefore slot slots rising in
-    let later = dropped-told slots rows (pairs-tail IsBefore slot slots rising) in
-    elim (is_dropped rows slot) as (λ b. is_dropped rows slot ≡ b → All (Tells (slot ∷ slots) rows) (slot ∷ slots)) [
+    let later = dropped-reported slots rows (pairs-tail IsBefore slot slots rising) in
+    elim (is_dropped rows slot) as (λ b. is_dropped rows slot ≡ b → All (Reports (slot ∷ slots) rows) (slot ∷ slots)) [
       | true ↦ λ gone.
           let yes : (slot.number == slot.number) ≡ true = grind (arith, nat_tests) in
           let more : drops (slot ∷ slots) rows ≡ slot.number ∷ drops slots rows = rw gone refl in
-          All-cons (Tells (slot ∷ slots) rows) slot slots
+          All-cons (Reports (slot ∷ slots) rows) slot slots
           (ap (list_any (λ n. slot.number == n)) more ∙ rw yes (sym gone))
           (λ k d w.
           let less : slot.number < (get_or slots k d).number = above k d w in
@@ -299,7 +299,7 @@ dropped-told (slot ∷ slots) rows rising =
           ap (list_any (λ n. (get_or slots k d).number == n)) more ∙ rw no (later k d w))
       | false ↦ λ stays.
           let same : drops (slot ∷ slots) rows ≡ drops slots rows = rw stays refl in
-          All-cons (Tells (slot ∷ slots) rows) slot slots
+          All-cons (Reports (slot ∷ slots) rows) slot slots
           (ap (list_any (λ n. slot.number == n)) same ∙ dropped-here slots rows slot above ∙ sym stays)
           (λ k d w. ap (list_any (λ n. (get_or slots k d).number == n)) same ∙ later k d w)
     ] refl
@@ -332,12 +332,12 @@ slot-filter dropped slot =
 kept-flat : (dropped : List ℕ) (rows : List Row) (slots : List SlotState) →
     All (λ (slot : SlotState). list_any (λ n. slot.number == n) dropped ≡ is_dropped rows slot) slots →
     filter (stays_seen dropped) (flat_map seen_in slots) ≡ flat_map seen_in (kept slots rows)
-kept-flat dropped rows [] told = refl
-kept-flat dropped rows (slot ∷ slots) told =
+kept-flat dropped rows [] reported = refl
+kept-flat dropped rows (slot ∷ slots) reported =
     let here : list_any (λ n. slot.number == n) dropped ≡ is_dropped rows slot =
-    All-head (λ (s : SlotState). list_any (λ n. s.number == n) dropped ≡ is_dropped rows s) slot slots told in
+    All-head (λ (s : SlotState). list_any (λ n. s.number == n) dropped ≡ is_dropped rows s) slot slots reported in
     let later = kept-flat dropped rows slots
-    (All-tail (λ (s : SlotState). list_any (λ n. s.number == n) dropped ≡ is_dropped rows s) slot slots told) in
+    (All-tail (λ (s : SlotState). list_any (λ n. s.number == n) dropped ≡ is_dropped rows s) slot slots reported) in
     filter-append (stays_seen dropped) (seen_in slot) (flat_map seen_in slots)
     ∙ ap (λ l. l ++ filter (stays_seen dropped) (flat_map seen_in slots)) (slot-filter dropped slot
     ∙ ap (λ b. if b then [] else seen_in slot) here)
@@ -493,7 +493,7 @@ pub parts-stay : (table : TableState) (parts : List PartState) (rows : List Row)
     ≡ flat_map seen_in (kept table.slots rows)
 parts-stay table parts rows rising tied =
     seen-filter (drops table.slots rows) parts ∙ ap (filter (stays_seen (drops table.slots rows))) tied
-    ∙ kept-flat (drops table.slots rows) rows table.slots (dropped-told table.slots rows rising)
+    ∙ kept-flat (drops table.slots rows) rows table.slots (dropped-reported table.slots rows rising)
 
 -- A scan keeps parts and table tied.
 pub tied-scan : (suite : SuiteState) (rows : List Row) (label : Tai64n) → AllPairs IsBefore suite.table.slots

@@ -41,7 +41,7 @@ pub record IsPlaceOf (parts : List PartState) (id : PartId) (place : ℕ) : Type
 abbrev pub HasNone : List PartState → PartId → Type 0
 HasNone parts id = All (λ (part : PartState). rank part.id ≢ rank id) parts
 
--- a part's name and whether it has ended, as the table has it and as its trace tells it
+-- a part's name and whether it has ended, as the table has it and as its trace says it
 pub record Seen : Type 0 where
   pub id : PartId
   pub ended : Bool

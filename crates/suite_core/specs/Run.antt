@@ -65,7 +65,7 @@ abbrev pub trace_at : {A : Type 0} → SuiteState → List (SuiteEvent A) → �
 trace_at suite events place id = trace_of (suite_along suite (take place events)).parts id
 
 -- What has become of a part with this trace after events of its own: its machine is the state of the history that the
--- trace told, followed by those of these events that are taken, and its trace is the one after those.
+-- trace reported, followed by those of these events that are taken, and its trace is the one after those.
 pub record Follows (kept : Kept) (events : List Event) (later : Kept) : Type 0 where
   pub machine : replay later ≡ state_of (after (history_of kept) events)
   pub trace : later ≡ noted kept (taken_of (history_of kept) events)

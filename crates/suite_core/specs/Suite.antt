@@ -43,9 +43,9 @@ IsSuiteEvent (Scan rows label) = ⊤
 
 -- Why an event is refused, want of memory aside
 
-abbrev pub told_of_scan : Option ScanFault → Option StepFault
-told_of_scan None = None
-told_of_scan (Some why) = Some (fault.Scan why)
+abbrev pub fault_of_scan : Option ScanFault → Option StepFault
+fault_of_scan None = None
+fault_of_scan (Some why) = Some (fault.Scan why)
 
 -- No event is taken at a part that is not there.
 abbrev pub refusal_at : SuiteState → PartId → Option StepFault
@@ -53,7 +53,7 @@ refusal_at suite id = if is_none (trace_of suite.parts id) then Some fault.NoSuc
 
 -- No scan is taken that the table refuses.
 abbrev pub refusal_of_scan : SuiteState → List Row → Option StepFault
-refusal_of_scan suite rows = told_of_scan (scan_refusal suite.table rows)
+refusal_of_scan suite rows = fault_of_scan (scan_refusal suite.table rows)
 
 abbrev pub refusal : {A : Type 0} → SuiteState → SuiteEvent A → Option StepFault
 refusal suite (At id event) = refusal_at suite id
@@ -66,10 +66,10 @@ IsCause refused why = refused ≡ Some why
 
 -- An event at a part
 
--- the table, told that the part has ended where the event ends it
-abbrev pub table_told : TableState → PartId → Event → Option Kept → TableState
-table_told table id event None = table
-table_told table id event (Some kept) = if has_ended (noted_if_taken kept event) then after_end table id else table
+-- the table, reported that the part has ended where the event ends it
+abbrev pub table_noted : TableState → PartId → Event → Option Kept → TableState
+table_noted table id event None = table
+table_noted table id event (Some kept) = if has_ended (noted_if_taken kept event) then after_end table id else table
 
 -- what is answered at a part whose trace is this
 abbrev pub outs_at : {A : Type 0} → PartId → Event → Option Kept → List (StepOut A)
@@ -167,7 +167,7 @@ outs_of suite (Scan rows label) = outs_of_scan suite rows label
 abbrev pub suite_at : SuiteState → PartId → Event → SuiteState
 suite_at suite id event =
     record {
-      table = table_told suite.table id event (trace_of suite.parts id);
+      table = table_noted suite.table id event (trace_of suite.parts id);
       parts = parts_after id event suite.parts;
       capacity = suite.capacity;
     }

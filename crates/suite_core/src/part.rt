@@ -62,7 +62,7 @@ pub(crate) fn is_place(a: PartId, b: PartId) -> bool
 }
 
 impl<A: Allocator> Part<A> {
-    /// Begins a part, and tells what that asks for. The trace takes all its memory now.
+    /// Begins a part, and says what that asks for. The trace takes all its memory now.
     pub(crate) fn begin(
         alloc: A,
         capacity: usize,

@@ -105,8 +105,8 @@ fn put<A: Allocator>(out: &mut Vec<StepOut<A>, A>, answer: StepOut<A>)
     let _ = out.push(answer);
 }
 
-/// Tells a table of a part's end, where it has ended.
-fn tell_end<A: Allocator + Clone>(table: &mut ScanTable<A>, id: PartId, ended: bool)
+/// Reports a table of a part's end, where it has ended.
+fn note_end<A: Allocator + Clone>(table: &mut ScanTable<A>, id: PartId, ended: bool)
     ensures { table.new ≡ (if ended then after_end table.old id else table.old) }
 {
     if ended {
@@ -182,7 +182,7 @@ impl<A: Allocator + Clone> Suite<A> {
             return Err(StepFault::OutOfMemory);
         }
         let (answer, ended) = take_event_in(&mut self.parts, id, place, event);
-        tell_end(&mut self.table, id, ended);
+        note_end(&mut self.table, id, ended);
         put(out, answer);
         Ok(())
     }

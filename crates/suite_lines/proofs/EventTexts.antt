@@ -1,4 +1,4 @@
--- Suite events and their lines: what is told is read, and what is read is told so.
+-- Suite events and their lines: what is reported is read, and what is read is reported so.
 use Rattle.std.proofs.Common.{◌≡◌, ℕ, ◌==◌, true, false, List, [], ◌∷◌, ◌++◌, map, Option, Some, None, Result, Ok, Err}
 use Rattle.std.proofs.Common.{refl, sym, ap, ◌∙◌, arith, decimal, codes, subst}
 use Rattle.std.specs.Prelude.{IfSome, IfOk, MatchResult, is_some, if◌then◌else◌, bytes_eq}
@@ -19,9 +19,9 @@ use Rattle.sup_core.specs.declared.reading.EventFault.TheVariants as why
 use Rattle.sup_core.specs.Text.{event_fields, event_text}
 use Rattle.sup_core.specs.Reading.{fields, IsInRange, label_of_text, event_from}
 use Rattle.sup_core.proofs.Fields.{split_some_part}
-use Rattle.sup_core.proofs.Spelling.{TellsLabel, label_of_text-found, label_of_text-only}
+use Rattle.sup_core.proofs.Spelling.{SpellsLabel, label_of_text-found, label_of_text-only}
 use Rattle.sup_core.proofs.Lines.{is_solid, avoids-solid, split-first, fields-join, decimal-solid, label_text-solid}
-use Rattle.sup_core.proofs.Lines.{event_fields-event_text, event_read, Told, told_of}
+use Rattle.sup_core.proofs.Lines.{event_fields-event_text, event_read, Reported, report_of}
 use Rattle.suite_lines.specs.declared.event.SuiteEvent.{SuiteEvent}
 use Rattle.suite_lines.specs.declared.event.SuiteEvent.TheVariants.{Scan, At}
 use Rattle.suite_lines.specs.declared.fault.SuiteLineFault.{SuiteLineFault}
@@ -33,9 +33,9 @@ use Rattle.suite_lines.specs.Reading.{suite_event_from}
 use Rattle.suite_lines.specs.Answers.{line_fault, IsRead}
 use Rattle.suite_lines.specs.Fields.{are_rows}
 use Rattle.suite_lines.proofs.PartTexts.{part_from-part_text, part_text-part_from}
-use Rattle.suite_lines.proofs.RowTexts.{rows-solid, rows-read, TellsRows, rows-told}
+use Rattle.suite_lines.proofs.RowTexts.{rows-solid, rows-read, SpellsRows, rows-reported}
 
--- What is told is read.
+-- What is reported is read.
 
 role-solid : (role : Role) → is_solid (role_name role) ≡ true
 role-solid Main = refl
@@ -93,54 +93,54 @@ pub suite_event_from-suite_event_text : {A : Type 0} (event : SuiteEvent A) → 
     → suite_event_from (fields (suite_event_text event)) ≡ Ok event
 suite_event_from-suite_event_text event h = ap suite_event_from (line_fields event h) ∙ fields_read event h
 
--- What is read is told so.
+-- What is read is reported so.
 
-record TellsEvent {A : Type 0} (parts : List (List ℕ)) (event : SuiteEvent A) : Type 0 where
+record SpellsEvent {A : Type 0} (parts : List (List ℕ)) (event : SuiteEvent A) : Type 0 where
   so : IsSpellable event
   is : parts ≡ suite_event_fields event
 
-scan_told : {A : Type 0} (word text : List ℕ) (texts : List (List ℕ)) (label : Option Tai64n) (rows : Option (List Row))
-    (event : SuiteEvent A) → IfSome label (TellsLabel text) → ((r : List Row) → rows ≡ Some r → TellsRows texts r)
-    → word ≡ codes "scan" → scan_of label rows ≡ Ok event → TellsEvent (word ∷ text ∷ texts) event
-scan_told word text texts None rows event l r is h = cc h
-scan_told word text texts (Some label) None event l r is h = cc h
-scan_told word text texts (Some label) (Some rows) event l r is h =
+scan_spelt : {A : Type 0} (word text : List ℕ) (texts : List (List ℕ)) (label : Option Tai64n) (rows : Option (List Row))
+    (event : SuiteEvent A) → IfSome label (SpellsLabel text) → ((r : List Row) → rows ≡ Some r → SpellsRows texts r)
+    → word ≡ codes "scan" → scan_of label rows ≡ Ok event → SpellsEvent (word ∷ text ∷ texts) event
+scan_spelt word text texts None rows event l r is h = cc h
+scan_spelt word text texts (Some label) None event l r is h = cc h
+scan_spelt word text texts (Some label) (Some rows) event l r is h =
     let same : Scan rows label ≡ event = cc h in
-    let told = r rows refl in
-    let parts : word ∷ text ∷ texts ≡ codes "scan" ∷ label_text label ∷ map row_text rows = cc (is, l.is, told.is) in
-    subst (TellsEvent (word ∷ text ∷ texts)) same (record { so = (l.range, told.names); is = parts })
+    let reported = r rows refl in
+    let parts : word ∷ text ∷ texts ≡ codes "scan" ∷ label_text label ∷ map row_text rows = cc (is, l.is, reported.is) in
+    subst (SpellsEvent (word ∷ text ∷ texts)) same (record { so = (l.range, reported.names); is = parts })
 
 scan_line : {A : Type 0} (word : List ℕ) (rest : List (List ℕ)) (event : SuiteEvent A) → word ≡ codes "scan"
-    → scan_from rest ≡ Ok event → TellsEvent (word ∷ rest) event
+    → scan_from rest ≡ Ok event → SpellsEvent (word ∷ rest) event
 scan_line word [] event is h = cc h
 scan_line word (text ∷ texts) event is h =
-    scan_told word text texts (label_of_text text) (rows_of_texts texts) event (label_of_text-found text)
-    (rows-told texts) is h
+    scan_spelt word text texts (label_of_text text) (rows_of_texts texts) event (label_of_text-found text)
+    (rows-reported texts) is h
 
-at_told : {A : Type 0} (word text first : List ℕ) (rest : List (List ℕ)) (part : Result PartId EventFault)
-    (told : Result Event EventFault) (event : SuiteEvent A)
+at_spelt : {A : Type 0} (word text first : List ℕ) (rest : List (List ℕ)) (part : Result PartId EventFault)
+    (reported : Result Event EventFault) (event : SuiteEvent A)
     → ((p : PartId) → part ≡ Ok p → IsPart p × (text ≡ part_text p))
-    → ((e : Event) → told ≡ Ok e → Told (first ∷ rest) e)
-    → word ≡ codes "at" → at_of part told ≡ Ok event → TellsEvent (word ∷ text ∷ first ∷ rest) event
-at_told word text first rest (Err why) told event p e is h = cc h
-at_told word text first rest (Ok part) (Err why) event p e is h = cc h
-at_told word text first rest (Ok part) (Ok told) event p e is h =
-    let same : At part told ≡ event = cc h in
+    → ((e : Event) → reported ≡ Ok e → Reported (first ∷ rest) e)
+    → word ≡ codes "at" → at_of part reported ≡ Ok event → SpellsEvent (word ∷ text ∷ first ∷ rest) event
+at_spelt word text first rest (Err why) reported event p e is h = cc h
+at_spelt word text first rest (Ok part) (Err why) event p e is h = cc h
+at_spelt word text first rest (Ok part) (Ok reported) event p e is h =
+    let same : At part reported ≡ event = cc h in
     let here = p part refl in
-    let line = e told refl in
+    let line = e reported refl in
     let here_is = here.1 in
     let line_is = line.is in
-    let parts : word ∷ text ∷ first ∷ rest ≡ codes "at" ∷ part_text part ∷ event_fields told =
+    let parts : word ∷ text ∷ first ∷ rest ≡ codes "at" ∷ part_text part ∷ event_fields reported =
     cc (is, here_is, line_is) in
-    subst (TellsEvent (word ∷ text ∷ first ∷ rest)) same (record { so = (here.0, line.range); is = parts })
+    subst (SpellsEvent (word ∷ text ∷ first ∷ rest)) same (record { so = (here.0, line.range); is = parts })
 
 at_parts : {A : Type 0} (word : List ℕ) (rest : List (List ℕ)) (event : SuiteEvent A) → word ≡ codes "at"
-    → at_from rest ≡ Ok event → TellsEvent (word ∷ rest) event
+    → at_from rest ≡ Ok event → SpellsEvent (word ∷ rest) event
 at_parts word [] event is h = cc h
 at_parts word (text ∷ []) event is h = cc h
 at_parts word (text ∷ first ∷ rest) event is h =
-    at_told word text first rest (part_from (dotted text)) (event_from (first ∷ rest)) event (part_text-part_from text)
-    (told_of (first ∷ rest)) is h
+    at_spelt word text first rest (part_from (dotted text)) (event_from (first ∷ rest)) event (part_text-part_from text)
+    (report_of (first ∷ rest)) is h
 
 -- a choice by a word
 choose : {R E T : Type 0} (word name : List ℕ) (a b : Result R E) (x : R) → (word ≡ name → a ≡ Ok x → T)
@@ -152,10 +152,10 @@ choose {R} {E} {T} word name a b x here otherwise h =
       | false ↦ λ is. otherwise
     ] refl h
 
-fields_told : {A : Type 0} (parts : List (List ℕ)) (event : SuiteEvent A) → suite_event_from parts ≡ Ok event
-    → TellsEvent parts event
-fields_told [] event h = cc h
-fields_told (word ∷ rest) event h =
+fields_spelt : {A : Type 0} (parts : List (List ℕ)) (event : SuiteEvent A) → suite_event_from parts ≡ Ok event
+    → SpellsEvent parts event
+fields_spelt [] event h = cc h
+fields_spelt (word ∷ rest) event h =
     choose word (codes "scan") _ _ event (scan_line word rest event)
     (choose word (codes "at") _ _ event (at_parts word rest event)
     (λ (none : Err why.UnknownEvent ≡ Ok event). cc none)) h
@@ -165,8 +165,8 @@ pub suite_event_text-suite_event_from : {A : Type 0} (line : List ℕ) (event : 
     → suite_event_from (fields line) ≡ Ok event
     → IsSpellable event × (line ≡ suite_event_text event)
 suite_event_text-suite_event_from line event h =
-    let told = fields_told (fields line) event h in
-    (told.so, sym (join_with_byte-slice_split 32 line) ∙ ap (join_with_byte 32) told.is)
+    let reported = fields_spelt (fields line) event h in
+    (reported.so, sym (join_with_byte-slice_split 32 line) ∙ ap (join_with_byte 32) reported.is)
 
 -- the fields of an event at a part, where its line is left
 pub at_from_line : {A : Type 0} (text line : List ℕ)
@@ -181,10 +181,10 @@ at_from_line {A} text line = more (fields line) (split_some_part (λ byte. byte 
 -- What is answered
 
 -- a fault, and want of memory at a scan, as they are answered
-pub IsRead-refused : {A : Type 0} (told : Result (SuiteEvent A) EventFault)
+pub IsRead-refused : {A : Type 0} (reported : Result (SuiteEvent A) EventFault)
     (answer : Result (SuiteEvent A) SuiteLineFault) (why : EventFault)
-    → told ≡ Err why → answer ≡ Err (line_fault why) → IsRead told answer
-IsRead-refused {A} told answer why is answered =
+    → reported ≡ Err why → answer ≡ Err (line_fault why) → IsRead reported answer
+IsRead-refused {A} reported answer why is answered =
     subst (λ (r : Result (SuiteEvent A) EventFault). IsRead r answer) (sym is) answered
 
 -- the first fault of an event at a part: the part's, then the event's
@@ -216,19 +216,19 @@ pub IsRead-unread : {A : Type 0} (parts texts : List (List ℕ)) (text : List �
 IsRead-unread {A} parts texts text label answer is read right missed =
     rw (is, read) (scan_unread label (rows_of_texts texts) answer right missed)
 
-pub read_told : {A : Type 0} (told : Result (SuiteEvent A) EventFault) (answer : Result (SuiteEvent A) SuiteLineFault)
+pub read_subject : {A : Type 0} (reported : Result (SuiteEvent A) EventFault) (answer : Result (SuiteEvent A) SuiteLineFault)
     (event : SuiteEvent A)
-    → IsRead told answer → answer ≡ Ok event → told ≡ Ok event
-read_told (Ok (Scan rows label)) (Ok read) event h is = let same : read ≡ event = cc is in cc (h, same)
-read_told (Ok (Scan rows label)) (Err why) event h is = cc is
-read_told (Ok (At part at)) answer event h is = let same : Ok (At part at) ≡ Ok event = sym h ∙ is in cc same
-read_told (Err why) answer event h is = let none : Err (line_fault why) ≡ Ok event = sym h ∙ is in cc none
+    → IsRead reported answer → answer ≡ Ok event → reported ≡ Ok event
+read_subject (Ok (Scan rows label)) (Ok read) event h is = let same : read ≡ event = cc is in cc (h, same)
+read_subject (Ok (Scan rows label)) (Err why) event h is = cc is
+read_subject (Ok (At part at)) answer event h is = let same : Ok (At part at) ≡ Ok event = sym h ∙ is in cc same
+read_subject (Err why) answer event h is = let none : Err (line_fault why) ≡ Ok event = sym h ∙ is in cc none
 
 pub read-found : {A : Type 0} (line : List ℕ) (answer : Result (SuiteEvent A) SuiteLineFault)
     → IsRead (suite_event_from (fields line)) answer
     → IfOk answer (λ event. IsSpellable event × (line ≡ suite_event_text event))
 read-found line (Ok event) h =
-    suite_event_text-suite_event_from line event (read_told (suite_event_from (fields line)) (Ok event) event h refl)
+    suite_event_text-suite_event_from line event (read_subject (suite_event_from (fields line)) (Ok event) event h refl)
 read-found line (Err why) h = tt
 
 read_only : {A : Type 0} (event : SuiteEvent A) (answer : Result (SuiteEvent A) SuiteLineFault)
@@ -244,6 +244,6 @@ pub read-only : {A : Type 0} (line : List ℕ) (answer : Result (SuiteEvent A) S
     → line ≡ suite_event_text event → IsRead (suite_event_from (fields line)) answer
     → MatchResult answer (λ read. read ≡ event) (λ why. why ≡ fault.OutOfMemory)
 read-only {A} line answer event so is h =
-    let told = ap (λ (text : List ℕ). suite_event_from {A = A} (fields text)) is
+    let reported = ap (λ (text : List ℕ). suite_event_from {A = A} (fields text)) is
     ∙ suite_event_from-suite_event_text event so in
-    read_only event answer (subst (λ (r : Result (SuiteEvent A) EventFault). IsRead r answer) told h)
+    read_only event answer (subst (λ (r : Result (SuiteEvent A) EventFault). IsRead r answer) reported h)

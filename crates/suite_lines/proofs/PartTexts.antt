@@ -1,4 +1,4 @@
--- A part's text: what is told is read, and what is read is told so.
+-- A part's text: what is reported is read, and what is read is reported so.
 use Rattle.std.proofs.Common.{◌≡◌, ℕ, zero, suc, ◌^◌, ◌<◌, ◌==◌, ◌&&◌, ◌/◌, ◌%◌, nat_lt, Bool, true, false, not, List}
 use Rattle.std.proofs.Common.{[], ◌∷◌, Option, Some, None, Ok, Err, refl, sym, ap, ◌∙◌, arith, decimal, codes, subst}
 use Rattle.std.specs.Prelude.{IfSome, if◌then◌else◌, bytes_eq}
@@ -15,7 +15,7 @@ use Rattle.scan_table.specs.declared.part.Role.{Role}
 use Rattle.scan_table.specs.declared.part.Role.TheVariants.{Main, Log}
 use Rattle.scan_table.specs.declared.part.PartId.{PartId}
 use Rattle.sup_core.proofs.Fields.{split_some_part}
-use Rattle.sup_core.proofs.Spelling.{same_told}
+use Rattle.sup_core.proofs.Spelling.{same_spelt}
 use Rattle.sup_core.proofs.Lines.{avoids, split-first, split-last}
 use Rattle.sup_core.specs.declared.reading.EventFault.TheVariants as fault
 use Rattle.suite_lines.specs.Text.{role_name, part_fields, part_text, IsPart}
@@ -29,7 +29,7 @@ lt-from_test m n h = grind (arith)
 lt-test : (m n : ℕ) → m < n → nat_lt m n ≡ true
 lt-test m n h = grind (arith)
 
-pub record TellsNumber (text : List ℕ) (number : ℕ) : Type 0 where
+pub record SpellsNumber (text : List ℕ) (number : ℕ) : Type 0 where
   pub below : number < 2 ^ 64
   pub is : text ≡ decimal number
 
@@ -40,17 +40,17 @@ tested R test x h =
     elim test as (λ t. test ≡ t → IfSome (if t then Some x else None) R) [ true ↦ λ is. h is | false ↦ λ is. tt ] refl
 
 number_tested : (text : List ℕ) (number : ℕ) → (nat_lt number (2 ^ 64) && bytes_eq (decimal number) text) ≡ true
-    → TellsNumber text number
+    → SpellsNumber text number
 number_tested text number h =
     let parts = and_parts (nat_lt number (2 ^ 64)) (bytes_eq (decimal number) text) h in
     record { below = lt-from_test _ _ parts.0; is = sym ((bytes_eq-Decides (decimal number) text).0 parts.1) }
 
-pub number_of_text-found : (text : List ℕ) → IfSome (number_of_text text) (TellsNumber text)
+pub number_of_text-found : (text : List ℕ) → IfSome (number_of_text text) (SpellsNumber text)
 unfolding number_of_text
 number_of_text-found text =
-    tested (TellsNumber text) _ (digits_value 10 text) (number_tested text (digits_value 10 text))
+    tested (SpellsNumber text) _ (digits_value 10 text) (number_tested text (digits_value 10 text))
 
-pub number_of_text-only : (text : List ℕ) (number : ℕ) → TellsNumber text number → number_of_text text ≡ Some number
+pub number_of_text-only : (text : List ℕ) (number : ℕ) → SpellsNumber text number → number_of_text text ≡ Some number
 unfolding number_of_text
 number_of_text-only text number h =
     let value : digits_value 10 text ≡ number = ap (digits_value 10) h.is ∙ (decimal_is_IsNumeral number h.below).1 in
@@ -62,10 +62,10 @@ pub number_of_text-exact : (text : List ℕ) (r : Option ℕ) → IfSome r (λ n
     → IfSome r (λ n. text ≡ decimal n)
     → ((n : ℕ) → n < 2 ^ 64 → text ≡ decimal n → r ≡ Some n) → r ≡ number_of_text text
 number_of_text-exact text r range found only =
-    same_told (TellsNumber text) r (number_of_text text) (both r range found) (number_of_text-found text)
+    same_spelt (SpellsNumber text) r (number_of_text text) (both r range found) (number_of_text-found text)
     (λ n h. only n h.below h.is) (λ n h. number_of_text-only text n h)
   where
-    both : (r : Option ℕ) → IfSome r (λ n. n < 2 ^ 64) → IfSome r (λ n. text ≡ decimal n) → IfSome r (TellsNumber text)
+    both : (r : Option ℕ) → IfSome r (λ n. n < 2 ^ 64) → IfSome r (λ n. text ≡ decimal n) → IfSome r (SpellsNumber text)
     both (Some n) range found = record { below = range; is = found }
     both None range found = tt
 
@@ -135,37 +135,37 @@ part_read part range =
 pub part_from-part_text : (part : PartId) → IsPart part → part_from (dotted (part_text part)) ≡ Ok part
 part_from-part_text part range = ap part_from (dotted-part_text part) ∙ part_read part range
 
-pub record TellsPart (fields : List (List ℕ)) (part : PartId) : Type 0 where
+pub record SpellsPart (fields : List (List ℕ)) (part : PartId) : Type 0 where
   pub range : IsPart part
   pub is : fields ≡ part_fields part
 
-part_told : (a b c : List ℕ) (slot : Option ℕ) (role : Option Role) (life : Option ℕ) (part : PartId)
-    → IfSome slot (TellsNumber a)
-    → IfSome role (λ role. b ≡ role_name role) → IfSome life (TellsNumber c) → part_of slot role life ≡ Ok part
-    → TellsPart (a ∷ b ∷ c ∷ []) part
-part_told a b c slot None life part s r l h = cc h
-part_told a b c None (Some role) life part s r l h = cc h
-part_told a b c (Some slot) (Some role) None part s r l h = cc h
-part_told a b c (Some slot) (Some role) (Some life) part s r l h =
+part_spelt : (a b c : List ℕ) (slot : Option ℕ) (role : Option Role) (life : Option ℕ) (part : PartId)
+    → IfSome slot (SpellsNumber a)
+    → IfSome role (λ role. b ≡ role_name role) → IfSome life (SpellsNumber c) → part_of slot role life ≡ Ok part
+    → SpellsPart (a ∷ b ∷ c ∷ []) part
+part_spelt a b c slot None life part s r l h = cc h
+part_spelt a b c None (Some role) life part s r l h = cc h
+part_spelt a b c (Some slot) (Some role) None part s r l h = cc h
+part_spelt a b c (Some slot) (Some role) (Some life) part s r l h =
     let same : record { slot = slot; role = role; life = life } ≡ part = cc h in
-    subst (TellsPart (a ∷ b ∷ c ∷ [])) same
+    subst (SpellsPart (a ∷ b ∷ c ∷ [])) same
     (record { range = record { slot = s.below; life = l.below }; is = cc (s.is, r, l.is) })
 
-fields_told : (fields : List (List ℕ)) (part : PartId) → part_from fields ≡ Ok part → TellsPart fields part
-fields_told [] part h = cc h
-fields_told (a ∷ []) part h = cc h
-fields_told (a ∷ b ∷ []) part h = cc h
-fields_told (a ∷ b ∷ c ∷ []) part h =
-    part_told a b c (number_of_text a) (role_of_text b) (number_of_text c) part (number_of_text-found a) (role_found b)
+fields_spelt : (fields : List (List ℕ)) (part : PartId) → part_from fields ≡ Ok part → SpellsPart fields part
+fields_spelt [] part h = cc h
+fields_spelt (a ∷ []) part h = cc h
+fields_spelt (a ∷ b ∷ []) part h = cc h
+fields_spelt (a ∷ b ∷ c ∷ []) part h =
+    part_spelt a b c (number_of_text a) (role_of_text b) (number_of_text c) part (number_of_text-found a) (role_found b)
     (number_of_text-found c) h
-fields_told (a ∷ b ∷ c ∷ d ∷ rest) part h = cc h
+fields_spelt (a ∷ b ∷ c ∷ d ∷ rest) part h = cc h
 
 -- What a text is read as has that text.
 pub part_text-part_from : (text : List ℕ) (part : PartId) → part_from (dotted text) ≡ Ok part
     → IsPart part × (text ≡ part_text part)
 part_text-part_from text part h =
-    let told = fields_told (dotted text) part h in
-    (told.range, sym (join_with_byte-slice_split 46 text) ∙ ap (join_with_byte 46) told.is)
+    let reported = fields_spelt (dotted text) part h in
+    (reported.range, sym (join_with_byte-slice_split 46 text) ∙ ap (join_with_byte 46) reported.is)
 
 -- More than three fields
 

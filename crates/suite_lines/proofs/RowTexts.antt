@@ -1,4 +1,4 @@
--- Rows and their texts: what is told is read, and what is read is told so.
+-- Rows and their texts: what is reported is read, and what is read is reported so.
 use Rattle.std.proofs.Common.{◌≡◌, ℕ, ◌<◌, ◌==◌, length, ◌&&◌, nat_lt, Bool, true, false, List, [], ◌∷◌, ◌++◌, map}
 use Rattle.std.proofs.Common.{Option, Some, None, Result, Ok, Err, refl, sym, ap, ◌∙◌, arith, append_assoc, subst}
 use Rattle.std.specs.Prelude.{if◌then◌else◌, is_some, option_map, MatchOption, MatchResult}
@@ -58,19 +58,19 @@ row_bytes : (row : Row)
 row_bytes row = rw (flag_is row.is_dir 100, flag_is row.has_log 108, flag_is row.down 110, flag_is row.log_down 109)
     refl
 
-flag_told : (letter byte : ℕ) → is_flag letter byte ≡ true → byte ≡ flag_byte (byte == letter) letter
-flag_told letter byte h = grind (arith, nat_tests)
+flag_spelt : (letter byte : ℕ) → is_flag letter byte ≡ true → byte ≡ flag_byte (byte == letter) letter
+flag_spelt letter byte h = grind (arith, nat_tests)
 
-colon_told : (byte : ℕ) → (byte == 58) ≡ true → byte ≡ 58
-colon_told byte h = eqb-true byte 58 h
+colon_spelt : (byte : ℕ) → (byte == 58) ≡ true → byte ≡ 58
+colon_spelt byte h = eqb-true byte 58 h
 
-pub record TellsRow (text : List ℕ) (row : Row) : Type 0 where
+pub record SpellsRow (text : List ℕ) (row : Row) : Type 0 where
   pub name : is_row_name row.name ≡ true
   pub is : text ≡ row_text row
 
 row_tested : (dir log down log_down colon : ℕ) (name : List ℕ)
     → (are_flags dir log down log_down && colon == 58 && is_row_name name) ≡ true
-    → TellsRow (dir ∷ log ∷ down ∷ log_down ∷ colon ∷ name)
+    → SpellsRow (dir ∷ log ∷ down ∷ log_down ∷ colon ∷ name)
     (record { name = name; is_dir = dir == 100; has_log = log == 108; down = down == 110; log_down = log_down == 109 })
 row_tested dir log down log_down colon name h =
     let front = and_parts (are_flags dir log down log_down && colon == 58) (is_row_name name) h in
@@ -85,21 +85,21 @@ row_tested dir log down log_down colon name h =
       down = down == 110;
       log_down = log_down == 109;
     }) in
-    let d = flag_told 100 dir one.0 in
-    let l = flag_told 108 log one.1 in
-    let n = flag_told 110 down two.1 in
-    let m = flag_told 109 log_down three.1 in
-    let at = colon_told colon flags.1 in
+    let d = flag_spelt 100 dir one.0 in
+    let l = flag_spelt 108 log one.1 in
+    let n = flag_spelt 110 down two.1 in
+    let m = flag_spelt 109 log_down three.1 in
+    let at = colon_spelt colon flags.1 in
     record { name = front.1; is = cc (bytes, d, l, n, m, at) }
 
 -- What a text is read as has that text.
-pub row_of_text-told : (text : List ℕ) (row : Row) → row_of_text text ≡ Some row → TellsRow text row
-row_of_text-told [] row h = cc h
-row_of_text-told (a ∷ []) row h = cc h
-row_of_text-told (a ∷ b ∷ []) row h = cc h
-row_of_text-told (a ∷ b ∷ c ∷ []) row h = cc h
-row_of_text-told (a ∷ b ∷ c ∷ d ∷ []) row h = cc h
-row_of_text-told (dir ∷ log ∷ down ∷ log_down ∷ colon ∷ name) row h =
+pub row_of_text-reported : (text : List ℕ) (row : Row) → row_of_text text ≡ Some row → SpellsRow text row
+row_of_text-reported [] row h = cc h
+row_of_text-reported (a ∷ []) row h = cc h
+row_of_text-reported (a ∷ b ∷ []) row h = cc h
+row_of_text-reported (a ∷ b ∷ c ∷ []) row h = cc h
+row_of_text-reported (a ∷ b ∷ c ∷ d ∷ []) row h = cc h
+row_of_text-reported (dir ∷ log ∷ down ∷ log_down ∷ colon ∷ name) row h =
     let read : Row = record {
       name = name;
       is_dir = dir == 100;
@@ -110,10 +110,10 @@ row_of_text-told (dir ∷ log ∷ down ∷ log_down ∷ colon ∷ name) row h =
     } in
     let test : Bool = are_flags dir log down log_down && colon == 58 && is_row_name name in
     elim test as (λ t. test ≡ t → (if t then Some read else None) ≡ Some row
-    → TellsRow (dir ∷ log ∷ down ∷ log_down ∷ colon ∷ name) row) [
+    → SpellsRow (dir ∷ log ∷ down ∷ log_down ∷ colon ∷ name) row) [
       | true ↦ λ is h.
           let same : read ≡ row = cc h in
-          subst (TellsRow (dir ∷ log ∷ down ∷ log_down ∷ colon ∷ name)) same
+          subst (SpellsRow (dir ∷ log ∷ down ∷ log_down ∷ colon ∷ name)) same
           (row_tested dir log down log_down colon name is)
       | false ↦ λ is h. cc h
     ] refl h
@@ -158,25 +158,25 @@ pub rows-read : (rows : List Row) → AllByRecursion (λ (row : Row). is_row_nam
 rows-read [] h = refl
 rows-read (row ∷ rows) h = rw (row_of_text-row_text row h.0, rows-read rows h.1) refl
 
-pub record TellsRows (texts : List (List ℕ)) (rows : List Row) : Type 0 where
+pub record SpellsRows (texts : List (List ℕ)) (rows : List Row) : Type 0 where
   pub names : AreNamed rows
   pub is : texts ≡ map row_text rows
 
-onto_told : (text : List ℕ) (texts : List (List ℕ)) (o : Option Row) (os : Option (List Row)) (rows : List Row)
-    → ((row : Row) → o ≡ Some row → TellsRow text row) → ((later : List Row) → os ≡ Some later → TellsRows texts later)
-    → onto_rows o os ≡ Some rows → TellsRows (text ∷ texts) rows
-onto_told text texts None os rows one more h = cc h
-onto_told text texts (Some row) None rows one more h = cc h
-onto_told text texts (Some row) (Some later) rows one more h =
+onto_spelt : (text : List ℕ) (texts : List (List ℕ)) (o : Option Row) (os : Option (List Row)) (rows : List Row)
+    → ((row : Row) → o ≡ Some row → SpellsRow text row) → ((later : List Row) → os ≡ Some later → SpellsRows texts later)
+    → onto_rows o os ≡ Some rows → SpellsRows (text ∷ texts) rows
+onto_spelt text texts None os rows one more h = cc h
+onto_spelt text texts (Some row) None rows one more h = cc h
+onto_spelt text texts (Some row) (Some later) rows one more h =
     let same : row ∷ later ≡ rows = cc h in
     let first = one row refl in
     let rest = more later refl in
-    subst (TellsRows (text ∷ texts)) same (record { names = (first.name, rest.names); is = cc (first.is, rest.is) })
+    subst (SpellsRows (text ∷ texts)) same (record { names = (first.name, rest.names); is = cc (first.is, rest.is) })
 
-pub rows-told : (texts : List (List ℕ)) (rows : List Row) → rows_of_texts texts ≡ Some rows → TellsRows texts rows
-rows-told [] rows h = let same : [] ≡ rows = cc h in subst (TellsRows []) same (record { names = tt; is = refl })
-rows-told (text ∷ texts) rows h =
-    onto_told text texts (row_of_text text) (rows_of_texts texts) rows (row_of_text-told text) (rows-told texts) h
+pub rows-reported : (texts : List (List ℕ)) (rows : List Row) → rows_of_texts texts ≡ Some rows → SpellsRows texts rows
+rows-reported [] rows h = let same : [] ≡ rows = cc h in subst (SpellsRows []) same (record { names = tt; is = refl })
+rows-reported (text ∷ texts) rows h =
+    onto_spelt text texts (row_of_text text) (rows_of_texts texts) rows (row_of_text-reported text) (rows-reported texts) h
 
 -- One field more
 

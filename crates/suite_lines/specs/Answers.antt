@@ -18,8 +18,8 @@ line_fault why.Label = fault.Label
 abbrev pub ReadsIfMemory : {A : Type 0} → SuiteEvent A → Result (SuiteEvent A) SuiteLineFault → Type 0
 ReadsIfMemory event answer = MatchResult answer (λ read. read ≡ event) (λ why. why ≡ fault.OutOfMemory)
 
--- A line is answered with the event that it tells, or with its first fault. Memory is missed only at a scan that is
--- told.
+-- A line is answered with the event that it says, or with its first fault. Memory is missed only at a scan that is
+-- reported.
 abbrev pub IsRead : {A : Type 0} → Result (SuiteEvent A) EventFault → Result (SuiteEvent A) SuiteLineFault → Type 0
 IsRead (Ok (Scan rows label)) answer = ReadsIfMemory (Scan rows label) answer
 IsRead (Ok (At part event)) answer = answer ≡ Ok (At part event)

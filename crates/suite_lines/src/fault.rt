@@ -7,7 +7,7 @@ use std::error::Error;
 use std::fmt;
 use sup_core::EventFault;
 
-/// Why a line is the text of no event of a suite. The first of these that applies is told.
+/// Why a line is the text of no event of a suite. The first of these that applies is reported.
 #[derive(Clone, Copy, Debug, PartialEq, Eq)]
 pub enum SuiteLineFault {
     /// A first word that is not known: the line's, or that of its event at a part.
@@ -46,7 +46,7 @@ impl fmt::Display for SuiteLineFault {
 impl Error for SuiteLineFault {}
 
 impl From<EventFault> for SuiteLineFault {
-    ghost from_gives = { λ fault told. told ≡ line_fault fault };
+    ghost from_gives = { λ fault reported. reported ≡ line_fault fault };
 
     fn from(fault: EventFault) -> SuiteLineFault {
         match fault {
@@ -61,7 +61,7 @@ impl From<EventFault> for SuiteLineFault {
 impl From<AllocError> for SuiteLineFault {
     ghost use Rattle.suite_lines.specs.declared.fault.SuiteLineFault.TheVariants.{OutOfMemory};
 
-    ghost from_gives = { λ _ told. told ≡ OutOfMemory };
+    ghost from_gives = { λ _ reported. reported ≡ OutOfMemory };
 
     fn from(_error: AllocError) -> SuiteLineFault {
         SuiteLineFault::OutOfMemory

@@ -75,7 +75,7 @@ fn read_at<A: Allocator>(rest: Option<&[u8]>) -> Result<SuiteEvent<A>, SuiteLine
 }
 
 /// The event of a line, by its fields.
-fn tell_suite_event<A: Allocator + Clone>(
+fn parse_suite_event<A: Allocator + Clone>(
     alloc: A,
     line: &[u8],
 ) -> Result<SuiteEvent<A>, SuiteLineFault>
@@ -89,18 +89,18 @@ fn tell_suite_event<A: Allocator + Clone>(
     }
 }
 
-/// The event of a suite that a line tells, without its newline. Fields are parted by one space:
+/// The event of a suite that a line says, without its newline. Fields are parted by one space:
 ///
 /// | line | event |
 /// |---|---|
 /// | `scan LABEL ROW ..` | the folder was scanned, and held these rows, of which there may be none |
-/// | `at PART EVENT` | at this part happened what the line EVENT tells, as `sup_core::read_event` reads it |
+/// | `at PART EVENT` | at this part happened what the line EVENT reports, as `sup_core::read_event` reads it |
 ///
 /// PART is a slot's number, `main` or `log`, and a life's number, parted by dots. ROW is the four flags `d` (a
 /// directory), `l` (has a log), `n` (has a file `down`) and `m` (its log has one), each its letter or `-`, then a
 /// colon, and a name of at least one byte, all from `!` to `~`.
 ///
-/// The first fault is told: another first word; for a scan no field of a label, a wrong label, a field that is no row's
+/// The first fault is reported: another first word; for a scan no field of a label, a wrong label, a field that is no row's
 /// text; at a part fewer than three fields or no part, then a slot or a life that is no number of 64 bits, then the
 /// faults of the event's line. Memory is asked for once a scan's line is known to be right.
 pub fn read_suite_event<A: Allocator + Clone>(
@@ -113,5 +113,5 @@ pub fn read_suite_event<A: Allocator + Clone>(
     // Which fault it is. Memory is asked for once the line is known to be a scan's.
     ensures exact { IsRead (suite_event_from (fields line.now)) result }
 {
-    tell_suite_event(alloc, line)
+    parse_suite_event(alloc, line)
 }

@@ -1,4 +1,4 @@
-//! A row as a line tells it.
+//! A row as a line says it.
 ghost use Rattle.std.specs.Prelude.{◌≡◌, false, true, IfOk, MatchOption};
 ghost use Rattle.std.specs.List.{list_all};
 ghost use Rattle.suite_lines.specs.Text.{is_graphic, is_row_name};
@@ -10,7 +10,7 @@ use std::marker::Model;
 use std::str;
 use tai_status::Name;
 
-/// A row that a line tells, by its name there. Contracts see it as `Row`.
+/// A row that a line says, by its name there. Contracts see it as `Row`.
 #[derive(Drop)]
 pub(crate) struct RowText<'a> {
     name: &'a str,

@@ -58,7 +58,7 @@ pub followed_by-append : (past : History) (xs ys : List Event)
 followed_by-append past [] ys = refl
 followed_by-append past (x ∷ xs) ys = followed_by-append (Then past x) xs ys
 
--- A history may be cut anywhere: what came before the cut is told by the state there.
+-- A history may be cut anywhere: what came before the cut is reported by the state there.
 pub state_of-cut : (past : History) (xs ys : List Event)
     → state_of (followed_by past (xs ++ ys)) ≡ state_of (followed_by (Opened (state_of (followed_by past xs))) ys)
 state_of-cut past xs ys =

@@ -1,4 +1,4 @@
--- Event lines and begin lines: what is told is read, and what is read is told so.
+-- Event lines and begin lines: what is reported is read, and what is read is reported so.
 use Rattle.std.proofs.Common.{◌≡◌, ℕ, ◌^◌, ◌<◌, ◌≤◌, ◌==◌, nat_lt, Bool, true, false, not, List, [], ◌∷◌, ◌++◌, drop}
 use Rattle.std.proofs.Common.{Option, Some, None, Result, Ok, Err, zero, suc, ◌/◌, ◌%◌, refl, sym, ap, ◌∙◌, arith}
 use Rattle.std.proofs.Common.{decimal, subst, codes}
@@ -29,7 +29,7 @@ use Rattle.sup_core.specs.Fields.{word_name}
 use Rattle.sup_core.specs.Reading.{fields, IsInRange, byte_of_text, pid_of_text, label_of_text, byte_event, started}
 use Rattle.sup_core.specs.Reading.{start_event, label_event, event_of, event_from, side_of, begun, side_event}
 use Rattle.sup_core.specs.Reading.{begin_from}
-use Rattle.sup_core.proofs.Spelling.{all_below, all_below-at, TellsByte, TellsPid, TellsLabel, byte_of_text-found}
+use Rattle.sup_core.proofs.Spelling.{all_below, all_below-at, SpellsByte, SpellsPid, SpellsLabel, byte_of_text-found}
 use Rattle.sup_core.proofs.Spelling.{byte_of_text-only, pid_of_text-found, pid_of_text-only, label_of_text-found}
 use Rattle.sup_core.proofs.Spelling.{label_of_text-only}
 
@@ -136,7 +136,7 @@ phase_name-solid phase.Up = refl
 phase_name-solid phase.Down = refl
 phase_name-solid phase.Gone = refl
 
--- What is told is read.
+-- What is reported is read.
 
 -- solid fields are the fields of their line
 pub fields-join : (field : List ℕ) (rest : List (List ℕ))
@@ -183,14 +183,14 @@ begin_read : (down : Bool) (label : Tai64n) → IsLabel label → begin_from (be
 begin_read true label range = rw (label_read label range) refl
 begin_read false label range = rw (label_read label range) refl
 
--- A begin line is read as what it tells.
+-- A begin line is read as what it says.
 pub begin_from-begin_text : (down : Bool) (label : Tai64n) → IsLabel label → begin_from (fields (begin_text down label))
     ≡ Ok (down, label)
 begin_from-begin_text down label range = ap begin_from (side_fields down label range) ∙ begin_read down label range
 
--- What is read is told so.
+-- What is read is reported so.
 
-pub record Told (parts : List (List ℕ)) (event : Event) : Type 0 where
+pub record Reported (parts : List (List ℕ)) (event : Event) : Type 0 where
   pub range : IsInRange event
   pub is : parts ≡ event_fields event
 
@@ -208,74 +208,74 @@ choose {A} {T} word name a b x here otherwise h =
       | false ↦ λ is. otherwise
     ] refl h
 
-byte_told : (word text : List ℕ) (o : Option ℕ) (event : Event) → IfSome o (TellsByte text) → word ≡ codes "byte"
-    → option_map (λ byte. Byte byte) o ≡ Some event → Told (word ∷ text ∷ []) event
-byte_told word text (Some byte) event tells is h =
+byte_spelt : (word text : List ℕ) (o : Option ℕ) (event : Event) → IfSome o (SpellsByte text) → word ≡ codes "byte"
+    → option_map (λ byte. Byte byte) o ≡ Some event → Reported (word ∷ text ∷ []) event
+byte_spelt word text (Some byte) event reports is h =
     let same : Byte byte ≡ event = cc h in
-    let fields : word ∷ text ∷ [] ≡ codes "byte" ∷ byte_text byte ∷ [] = cc (is, tells.is) in
-    subst (Told (word ∷ text ∷ [])) same (record { range = tells.below; is = fields })
-byte_told word text None event tells is h = cc h
+    let fields : word ∷ text ∷ [] ≡ codes "byte" ∷ byte_text byte ∷ [] = cc (is, reports.is) in
+    subst (Reported (word ∷ text ∷ [])) same (record { range = reports.below; is = fields })
+byte_spelt word text None event reports is h = cc h
 
 byte_line : (word : List ℕ) (rest : List (List ℕ)) (event : Event) → word ≡ codes "byte" → byte_event rest ≡ Some event
-    → Told (word ∷ rest) event
-byte_line word (text ∷ []) event is h = byte_told word text (byte_of_text text) event (byte_of_text-found text) is h
+    → Reported (word ∷ rest) event
+byte_line word (text ∷ []) event is h = byte_spelt word text (byte_of_text text) event (byte_of_text-found text) is h
 byte_line word [] event is h = cc h
 byte_line word (a ∷ b ∷ rest) event is h = cc h
 
-start_told : (word first second : List ℕ) (pid : Option ℕ) (label : Option Tai64n) (event : Event)
-    → IfSome pid (TellsPid first)
-    → IfSome label (TellsLabel second) → word ≡ codes "started" → started pid label ≡ Some event
-    → Told (word ∷ first ∷ second ∷ []) event
-start_told word first second (Some pid) (Some label) event p l is h =
+start_spelt : (word first second : List ℕ) (pid : Option ℕ) (label : Option Tai64n) (event : Event)
+    → IfSome pid (SpellsPid first)
+    → IfSome label (SpellsLabel second) → word ≡ codes "started" → started pid label ≡ Some event
+    → Reported (word ∷ first ∷ second ∷ []) event
+start_spelt word first second (Some pid) (Some label) event p l is h =
     let same : Started pid label ≡ event = cc h in
     let fields : word ∷ first ∷ second ∷ [] ≡ codes "started" ∷ decimal pid ∷ label_text label ∷ [] =
     cc (is, p.is, l.is) in
-    subst (Told (word ∷ first ∷ second ∷ [])) same (record { range = (p.some, p.below, l.range); is = fields })
-start_told word first second (Some pid) None event p l is h = cc h
-start_told word first second None label event p l is h = cc h
+    subst (Reported (word ∷ first ∷ second ∷ [])) same (record { range = (p.some, p.below, l.range); is = fields })
+start_spelt word first second (Some pid) None event p l is h = cc h
+start_spelt word first second None label event p l is h = cc h
 
 start_line : (word : List ℕ) (rest : List (List ℕ)) (event : Event) → word ≡ codes "started"
-    → start_event rest ≡ Some event → Told (word ∷ rest) event
+    → start_event rest ≡ Some event → Reported (word ∷ rest) event
 start_line word [] event is h = cc h
 start_line word (a ∷ []) event is h = cc h
 start_line word (a ∷ b ∷ []) event is h =
-    start_told word a b (pid_of_text a) (label_of_text b) event (pid_of_text-found a) (label_of_text-found b) is h
+    start_spelt word a b (pid_of_text a) (label_of_text b) event (pid_of_text-found a) (label_of_text-found b) is h
 start_line word (a ∷ b ∷ c ∷ rest) event is h = cc h
 
 -- an event with a label alone
-record TellsAlone (name : List ℕ) (make : Tai64n → Event) : Type 0 where
+record SpellsAlone (name : List ℕ) (make : Tai64n → Event) : Type 0 where
   range : (label : Tai64n) → IsLabel label → IsInRange (make label)
   is : (label : Tai64n) → name ∷ label_text label ∷ [] ≡ event_fields (make label)
 
-label_told : (name word text : List ℕ) (make : Tai64n → Event) (o : Option Tai64n) (event : Event)
-    → TellsAlone name make
-    → IfSome o (TellsLabel text) → word ≡ name → option_map make o ≡ Some event → Told (word ∷ text ∷ []) event
-label_told name word text make (Some label) event alone tells is h =
+label_spelt : (name word text : List ℕ) (make : Tai64n → Event) (o : Option Tai64n) (event : Event)
+    → SpellsAlone name make
+    → IfSome o (SpellsLabel text) → word ≡ name → option_map make o ≡ Some event → Reported (word ∷ text ∷ []) event
+label_spelt name word text make (Some label) event alone reports is h =
     let same : make label ≡ event = cc h in
-    let fields : word ∷ text ∷ [] ≡ name ∷ label_text label ∷ [] = cc (is, tells.is) in
-    subst (Told (word ∷ text ∷ [])) same
-    (record { range = alone.range label tells.range; is = fields ∙ alone.is label })
-label_told name word text make None event alone tells is h = cc h
+    let fields : word ∷ text ∷ [] ≡ name ∷ label_text label ∷ [] = cc (is, reports.is) in
+    subst (Reported (word ∷ text ∷ [])) same
+    (record { range = alone.range label reports.range; is = fields ∙ alone.is label })
+label_spelt name word text make None event alone reports is h = cc h
 
-label_line : (name word : List ℕ) (make : Tai64n → Event) (rest : List (List ℕ)) (event : Event) → TellsAlone name make
-    → word ≡ name → label_event make rest ≡ Some event → Told (word ∷ rest) event
+label_line : (name word : List ℕ) (make : Tai64n → Event) (rest : List (List ℕ)) (event : Event) → SpellsAlone name make
+    → word ≡ name → label_event make rest ≡ Some event → Reported (word ∷ rest) event
 label_line name word make [] event alone is h = cc h
 label_line name word make (text ∷ []) event alone is h =
-    label_told name word text make (label_of_text text) event alone (label_of_text-found text) is h
+    label_spelt name word text make (label_of_text text) event alone (label_of_text-found text) is h
 label_line name word make (a ∷ b ∷ rest) event alone is h = cc h
 
-failed_alone : TellsAlone (codes "failed") (λ label. StartFailed label)
+failed_alone : SpellsAlone (codes "failed") (λ label. StartFailed label)
 failed_alone = record { range = λ label h. h; is = λ label. refl }
 
-death_alone : TellsAlone (codes "death") (λ label. Death label)
+death_alone : SpellsAlone (codes "death") (λ label. Death label)
 death_alone = record { range = λ label h. h; is = λ label. refl }
 
-clock_alone : TellsAlone (codes "clock") (λ label. Clock label)
+clock_alone : SpellsAlone (codes "clock") (λ label. Clock label)
 clock_alone = record { range = λ label h. h; is = λ label. refl }
 
-event_told : (word : List ℕ) (rest : List (List ℕ)) (event : Event) → event_of word rest ≡ Some event
-    → Told (word ∷ rest) event
-event_told word rest event h =
+event_spelt : (word : List ℕ) (rest : List (List ℕ)) (event : Event) → event_of word rest ≡ Some event
+    → Reported (word ∷ rest) event
+event_spelt word rest event h =
     choose word (codes "byte") _ _ event (byte_line word rest event)
     (choose word (codes "started") _ _ event (start_line word rest event)
     (choose word (codes "failed") _ _ event
@@ -286,44 +286,44 @@ event_told word rest event h =
     (label_line (codes "clock") word (λ label. Clock label) rest event clock_alone)
     (λ (none : None ≡ Some event). cc none))))) h
 
-pub told_of : (parts : List (List ℕ)) (event : Event) → event_from parts ≡ Ok event → Told parts event
-told_of [] event h = cc h
-told_of (word ∷ rest) event h = event_told word rest event (ok_parts _ _ event h)
+pub report_of : (parts : List (List ℕ)) (event : Event) → event_from parts ≡ Ok event → Reported parts event
+report_of [] event h = cc h
+report_of (word ∷ rest) event h = event_spelt word rest event (ok_parts _ _ event h)
 
 -- What a line is read as has that line.
 pub event_text-event_from : (line : List ℕ) (r : Result Event EventFault) → r ≡ event_from (fields line)
     → IfOk r (λ event. IsInRange event × (line ≡ event_text event))
 event_text-event_from line (Ok event) h =
-    let told = told_of (fields line) event (sym h) in
-    (told.range, sym (join_with_byte-slice_split 32 line) ∙ ap (join_with_byte 32) told.is)
+    let reported = report_of (fields line) event (sym h) in
+    (reported.range, sym (join_with_byte-slice_split 32 line) ∙ ap (join_with_byte 32) reported.is)
 event_text-event_from line (Err e) h = tt
 
-pub record BeginTold (parts : List (List ℕ)) (begin : Bool × Tai64n) : Type 0 where
+pub record BeginSpelt (parts : List (List ℕ)) (begin : Bool × Tai64n) : Type 0 where
   pub range : IsLabel begin.1
   pub is : parts ≡ begin_fields begin.0 begin.1
 
-side_told : (word side text : List ℕ) (down : Bool) (label : Option Tai64n) (begin : Bool × Tai64n)
-    → side ≡ (if down then codes "down" else codes "up") → IfSome label (TellsLabel text) → word ≡ codes "begin"
-    → begun (Some down) label ≡ Some begin → BeginTold (word ∷ side ∷ text ∷ []) begin
-side_told word side text down (Some label) begin s l is h =
+side_spelt : (word side text : List ℕ) (down : Bool) (label : Option Tai64n) (begin : Bool × Tai64n)
+    → side ≡ (if down then codes "down" else codes "up") → IfSome label (SpellsLabel text) → word ≡ codes "begin"
+    → begun (Some down) label ≡ Some begin → BeginSpelt (word ∷ side ∷ text ∷ []) begin
+side_spelt word side text down (Some label) begin s l is h =
     let same : (down, label) ≡ begin = cc h in
     let fields : word ∷ side ∷ text ∷ [] ≡ begin_fields down label = cc (is, s, l.is) in
-    subst (BeginTold (word ∷ side ∷ text ∷ [])) same (record { range = l.range; is = fields })
-side_told word side text down None begin s l is h = cc h
+    subst (BeginSpelt (word ∷ side ∷ text ∷ [])) same (record { range = l.range; is = fields })
+side_spelt word side text down None begin s l is h = cc h
 
 sided : (word side text : List ℕ) (label : Option Tai64n) (begin : Bool × Tai64n)
-    → IfSome label (TellsLabel text) → word ≡ codes "begin"
-    → begun (side_of side) label ≡ Some begin → BeginTold (word ∷ side ∷ text ∷ []) begin
+    → IfSome label (SpellsLabel text) → word ≡ codes "begin"
+    → begun (side_of side) label ≡ Some begin → BeginSpelt (word ∷ side ∷ text ∷ []) begin
 sided word side text label begin l is h =
     elim (bytes_eq side (codes "up")) as (λ t. bytes_eq side (codes "up") ≡ t
     → begun (if t then Some false else if bytes_eq side (codes "down") then Some true else None) label ≡ Some begin
-    → BeginTold (word ∷ side ∷ text ∷ []) begin) [
-      | true ↦ λ at h. side_told word side text false label begin ((bytes_eq-Decides side (codes "up")).0 at) l is h
+    → BeginSpelt (word ∷ side ∷ text ∷ []) begin) [
+      | true ↦ λ at h. side_spelt word side text false label begin ((bytes_eq-Decides side (codes "up")).0 at) l is h
       | false ↦ λ not_up h.
           elim (bytes_eq side (codes "down")) as (λ t. bytes_eq side (codes "down") ≡ t
           → begun (if t then Some true else None) label ≡ Some begin
-          → BeginTold (word ∷ side ∷ text ∷ []) begin) [
-            | true ↦ λ at h. side_told word side text true label begin ((bytes_eq-Decides side (codes "down")).0 at) l
+          → BeginSpelt (word ∷ side ∷ text ∷ []) begin) [
+            | true ↦ λ at h. side_spelt word side text true label begin ((bytes_eq-Decides side (codes "down")).0 at) l
                 is h
             | false ↦ λ not_down h. cc h
           ] refl h
@@ -331,15 +331,15 @@ sided word side text label begin l is h =
 
 side_line : (word : List ℕ) (rest : List (List ℕ)) (begin : Bool × Tai64n) → word ≡ codes "begin"
     → side_event rest ≡ Some begin
-    → BeginTold (word ∷ rest) begin
+    → BeginSpelt (word ∷ rest) begin
 side_line word [] begin is h = cc h
 side_line word (a ∷ []) begin is h = cc h
 side_line word (a ∷ b ∷ []) begin is h = sided word a b (label_of_text b) begin (label_of_text-found b) is h
 side_line word (a ∷ b ∷ c ∷ rest) begin is h = cc h
 
-begin_told : (parts : List (List ℕ)) (begin : Bool × Tai64n) → begin_from parts ≡ Ok begin → BeginTold parts begin
-begin_told [] begin h = cc h
-begin_told (word ∷ rest) begin h =
+begin_spelt : (parts : List (List ℕ)) (begin : Bool × Tai64n) → begin_from parts ≡ Ok begin → BeginSpelt parts begin
+begin_spelt [] begin h = cc h
+begin_spelt (word ∷ rest) begin h =
     choose word (codes "begin") _ _ begin (side_line word rest begin) (λ (none : None ≡ Some begin). cc none)
     (ok_parts _ _ begin h)
 
@@ -347,8 +347,8 @@ begin_told (word ∷ rest) begin h =
 pub begin_text-begin_from : (line : List ℕ) (r : Result (Bool × Tai64n) EventFault) → r ≡ begin_from (fields line)
     → IfOk r (λ begin. IsLabel begin.1 × (line ≡ begin_text begin.0 begin.1))
 begin_text-begin_from line (Ok begin) h =
-    let told = begin_told (fields line) begin (sym h) in
-    (told.range, sym (join_with_byte-slice_split 32 line) ∙ ap (join_with_byte 32) told.is)
+    let reported = begin_spelt (fields line) begin (sym h) in
+    (reported.range, sym (join_with_byte-slice_split 32 line) ∙ ap (join_with_byte 32) reported.is)
 begin_text-begin_from line (Err e) h = tt
 
 other_word : (word name : List ℕ) → (word ≡ name → ⊥) → bytes_eq word name ≡ false
@@ -379,5 +379,5 @@ IsEvent-in_range (Clock label) h = tt
 
 -- A process number of what is read is at least 1.
 pub IsEvent-event_from : (line : List ℕ) (r : Result Event EventFault) → r ≡ event_from (fields line) → IfOk r IsEvent
-IsEvent-event_from line (Ok event) h = IsEvent-in_range event (told_of (fields line) event (sym h)).range
+IsEvent-event_from line (Ok event) h = IsEvent-in_range event (report_of (fields line) event (sym h)).range
 IsEvent-event_from line (Err e) h = tt

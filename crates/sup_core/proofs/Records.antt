@@ -1,4 +1,4 @@
--- A step writes the record of the state after it, or leaves what the record tells.
+-- A step writes the record of the state after it, or leaves what the record says.
 use Rattle.std.proofs.Common.{◌≡◌, ◌≢◌, ℕ, Bool, true, false, List, [], ◌∷◌, ◌++◌, map, refl, sym, ap, ◌∙◌, arith}
 use Rattle.std.proofs.Common.{append-nil, codes}
 use Rattle.std.specs.Prelude.{if◌then◌else◌}
@@ -74,7 +74,7 @@ records_of-asks_of_begin history =
 
 -- what is not written stays
 
--- The letters of the bytes that are written are among those of the bytes that change what is told.
+-- The letters of the bytes that are written are among those of the bytes that change what is reported.
 status_of-unwritten : (past : History) (byte : ℕ) → is_among (codes "udopcx") byte ≡ false
     → status_of (Then past (Byte byte)) ≡ status_of past
 status_of-unwritten past byte h = grind (arith)
@@ -121,7 +121,7 @@ is_written : (past : History) (event : Event) (b : Bool) → (record_at b (Then 
 is_written past event true some = refl
 is_written past event false some = absurd (some refl)
 
--- A step that asks for no record leaves what the record tells.
+-- A step that asks for no record leaves what the record says.
 pub step_unwritten : (past : History) (event : Event) → StandsIn (phase_of past) (status_of past) (exiting_of past)
     → records_in (reply_to past event) ≡ []
     → full_of (next past event) ≡ full_of past

@@ -89,17 +89,17 @@ tested : {A : Type 0} (R : A → Type 0) (test : Bool) (x : A) → (test ≡ tru
 tested R test x h =
     elim test as (λ t. test ≡ t → IfSome (if t then Some x else None) R) [ true ↦ λ is. h is | false ↦ λ is. tt ] refl
 
--- two answers that both tell the same are one
-pub same_told : {A : Type 0} (R : A → Type 0) (a b : Option A) → IfSome a R → IfSome b R
+-- two answers that both report the same are one
+pub same_spelt : {A : Type 0} (R : A → Type 0) (a b : Option A) → IfSome a R → IfSome b R
     → ((x : A) → R x → a ≡ Some x) → ((x : A) → R x → b ≡ Some x) → a ≡ b
-same_told R (Some x) b ra rb oa ob = sym (ob x ra)
-same_told R None (Some y) ra rb oa ob = oa y rb
-same_told R None None ra rb oa ob = refl
+same_spelt R (Some x) b ra rb oa ob = sym (ob x ra)
+same_spelt R None (Some y) ra rb oa ob = oa y rb
+same_spelt R None None ra rb oa ob = refl
 
 -- there is no answer where none would be true
-pub none_told : {A : Type 0} (R : A → Type 0) (b : Option A) → IfSome b R → ((x : A) → R x → ⊥) → None ≡ b
-none_told R None rb never = refl
-none_told R (Some x) rb never = absurd (never x rb)
+pub none_spelt : {A : Type 0} (R : A → Type 0) (b : Option A) → IfSome b R → ((x : A) → R x → ⊥) → None ≡ b
+none_spelt R None rb never = refl
+none_spelt R (Some x) rb never = absurd (never x rb)
 
 lt-from_test : (m n : ℕ) → nat_lt m n ≡ true → m < n
 lt-from_test m n h = grind (arith)
@@ -107,21 +107,21 @@ lt-from_test m n h = grind (arith)
 lt-test : (m n : ℕ) → m < n → nat_lt m n ≡ true
 lt-test m n h = grind (arith)
 
-pub record TellsByte (text : List ℕ) (byte : ℕ) : Type 0 where
+pub record SpellsByte (text : List ℕ) (byte : ℕ) : Type 0 where
   pub below : byte < 2 ^ 8
   pub is : text ≡ byte_text byte
 
 byte_tested : (text : List ℕ) (byte : ℕ) → (nat_lt byte (2 ^ 8) && bytes_eq (byte_text byte) text) ≡ true
-    → TellsByte text byte
+    → SpellsByte text byte
 byte_tested text byte h =
     let parts = and_parts (nat_lt byte (2 ^ 8)) (bytes_eq (byte_text byte) text) h in
     record { below = lt-from_test _ _ parts.0; is = sym ((bytes_eq-Decides (byte_text byte) text).0 parts.1) }
 
-pub byte_of_text-found : (text : List ℕ) → IfSome (byte_of_text text) (TellsByte text)
+pub byte_of_text-found : (text : List ℕ) → IfSome (byte_of_text text) (SpellsByte text)
 unfolding byte_of_text
-byte_of_text-found text = tested (TellsByte text) _ (byte_meant text) (byte_tested text (byte_meant text))
+byte_of_text-found text = tested (SpellsByte text) _ (byte_meant text) (byte_tested text (byte_meant text))
 
-pub byte_of_text-only : (text : List ℕ) (byte : ℕ) → TellsByte text byte → byte_of_text text ≡ Some byte
+pub byte_of_text-only : (text : List ℕ) (byte : ℕ) → SpellsByte text byte → byte_of_text text ≡ Some byte
 unfolding byte_of_text
 byte_of_text-only text byte h =
     let meant : byte_meant text ≡ byte = ap byte_meant h.is ∙ byte_meant-byte_text byte h.below in
@@ -130,13 +130,13 @@ byte_of_text-only text byte h =
 
 -- Process numbers
 
-pub record TellsPid (text : List ℕ) (pid : ℕ) : Type 0 where
+pub record SpellsPid (text : List ℕ) (pid : ℕ) : Type 0 where
   pub some : 0 < pid
   pub below : pid < 2 ^ 32
   pub is : text ≡ decimal pid
 
 pid_tested : (text : List ℕ) (pid : ℕ) → (nat_lt 0 pid && nat_lt pid (2 ^ 32) && bytes_eq (decimal pid) text) ≡ true
-    → TellsPid text pid
+    → SpellsPid text pid
 pid_tested text pid h =
     let parts = and_parts (nat_lt 0 pid && nat_lt pid (2 ^ 32)) (bytes_eq (decimal pid) text) h in
     let range = and_parts (nat_lt 0 pid) (nat_lt pid (2 ^ 32)) parts.0 in
@@ -146,11 +146,11 @@ pid_tested text pid h =
       is = sym ((bytes_eq-Decides (decimal pid) text).0 parts.1);
     }
 
-pub pid_of_text-found : (text : List ℕ) → IfSome (pid_of_text text) (TellsPid text)
+pub pid_of_text-found : (text : List ℕ) → IfSome (pid_of_text text) (SpellsPid text)
 unfolding pid_of_text
-pid_of_text-found text = tested (TellsPid text) _ (digits_value 10 text) (pid_tested text (digits_value 10 text))
+pid_of_text-found text = tested (SpellsPid text) _ (digits_value 10 text) (pid_tested text (digits_value 10 text))
 
-pub pid_of_text-only : (text : List ℕ) (pid : ℕ) → TellsPid text pid → pid_of_text text ≡ Some pid
+pub pid_of_text-only : (text : List ℕ) (pid : ℕ) → SpellsPid text pid → pid_of_text text ≡ Some pid
 unfolding pid_of_text
 pid_of_text-only text pid h =
     let below = h.below in
@@ -161,18 +161,18 @@ pid_of_text-only text pid h =
 
 -- Labels
 
-pub record TellsLabel (text : List ℕ) (label : Tai64n) : Type 0 where
+pub record SpellsLabel (text : List ℕ) (label : Tai64n) : Type 0 where
   pub range : IsLabel label
   pub is : text ≡ label_text label
 
-label_ok : (text : List ℕ) (r : Result Tai64n LabelFault) → from_text text ≡ r → IfSome (result_ok r) (TellsLabel text)
+label_ok : (text : List ℕ) (r : Result Tai64n LabelFault) → from_text text ≡ r → IfSome (result_ok r) (SpellsLabel text)
 label_ok text (Ok label) h = let read = label_text-from_text text label h in record { range = read.0; is = read.1 }
 label_ok text (Err e) h = tt
 
-pub label_of_text-found : (text : List ℕ) → IfSome (label_of_text text) (TellsLabel text)
+pub label_of_text-found : (text : List ℕ) → IfSome (label_of_text text) (SpellsLabel text)
 unfolding label_of_text
 label_of_text-found text = label_ok text (from_text text) refl
 
-pub label_of_text-only : (text : List ℕ) (label : Tai64n) → TellsLabel text label → label_of_text text ≡ Some label
+pub label_of_text-only : (text : List ℕ) (label : Tai64n) → SpellsLabel text label → label_of_text text ≡ Some label
 unfolding label_of_text
 label_of_text-only text label h = ap result_ok (ap from_text h.is ∙ from_text-label_text label h.range)

@@ -140,6 +140,6 @@ state_of history = record {
   until = until_of history;
 }
 
--- what the full record tells
+-- what the full record says
 abbrev pub full_of : History → FullStatus
 full_of history = full_in (state_of history)

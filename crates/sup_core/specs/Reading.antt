@@ -20,7 +20,7 @@ IsInRange (StartFailed label) = IsLabel label
 IsInRange (Death label) = IsLabel label
 IsInRange (Clock label) = IsLabel label
 
--- What the fields tell
+-- What the fields say
 
 -- the fields of a line, parted by one space
 abbrev pub fields : List ℕ → List (List ℕ)
@@ -86,8 +86,8 @@ label_fault (text ∷ []) = fault.Label
 label_fault other = fault.Line
 
 -- whether a word is that of an event with a label alone
-abbrev pub tells_label : List ℕ → Bool
-tells_label word =
+abbrev pub spells_label : List ℕ → Bool
+spells_label word =
     bytes_eq word (codes "failed") || bytes_eq word (codes "death") || bytes_eq word (codes "clock")
 
 -- The first fault of a line that is no event's, by its first word and the fields after it: an unknown
@@ -96,7 +96,7 @@ abbrev pub first_fault : List ℕ → List (List ℕ) → EventFault
 first_fault word rest =
     if bytes_eq word (codes "byte") then fault.Line
     else if bytes_eq word (codes "started") then start_fault rest
-    else if tells_label word then label_fault rest
+    else if spells_label word then label_fault rest
     else fault.UnknownEvent
 
 -- what reading the line of these fields answers

@@ -67,7 +67,7 @@ signals_after past (Byte byte) =
     if runs past then map (λ sig. Signal sig (pid_of past)) (signals_of byte) else []
 signals_after past event = []
 
--- whether an event has a status record written: a control byte that can change what it tells, and any other event
+-- whether an event has a status record written: a control byte that can change what it says, and any other event
 abbrev pub writes : Event → Bool
 writes (Byte byte) = is_among (codes "udopcx") byte
 writes event = true

@@ -1,4 +1,4 @@
--- How a machine stands: its phase, what its status record tells, whether it is to end, and until when it
+-- How a machine stands: its phase, what its status record says, whether it is to end, and until when it
 -- settles or rests.
 use Rattle.std.specs.Prelude.{◌≡◌, ◌<◌, ◌==◌, ◌&&◌, nat_lt, Bool, true, false, if◌then◌else◌, Option, Some, None}
 use Rattle.std.specs.Prelude.{is_none, IsSomeAnd}
@@ -25,7 +25,7 @@ abbrev pub is_up : Want → Bool
 is_up want.Up = true
 is_up other = false
 
--- what the full record of a machine tells
+-- what the full record of a machine reports
 abbrev pub full_in : State → FullStatus
 full_in s = full_with s.status s.phase s.exiting
 

@@ -40,7 +40,7 @@ abbrev pub begin_fields : Bool → Tai64n → List (List ℕ)
 begin_fields down label =
     codes "begin" ∷ (if down then codes "down" else codes "up") ∷ label_text label ∷ []
 
--- the line that tells where supervise begins
+-- the line that says where supervise begins
 abbrev pub begin_text : Bool → Tai64n → List ℕ
 begin_text down label = join_with_byte 32 (begin_fields down label)
 

@@ -1,6 +1,6 @@
 use tai_status::Label;
 
-/// What happens to a service. A label tells when.
+/// What happens to a service. A label says when.
 #[derive(Clone, Copy, Debug, PartialEq, Eq)]
 pub enum Event {
     /// A control byte came.

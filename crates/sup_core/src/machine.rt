@@ -90,7 +90,7 @@ macro_rules! is_time {
     (at_its_end, $machine:ident, $event:ident) => { $machine.is_reached($event) };
 }
 
-/// Supervise's state for one service: where it stands, what its status record tells, whether it is to end, and until
+/// Supervise's state for one service: where it stands, what its status record says, whether it is to end, and until
 /// when it settles or rests. Only the states in which supervise can stand have a machine.
 #[derive(Clone, Copy, Debug, PartialEq, Eq)]
 pub struct Machine {
@@ -126,7 +126,7 @@ impl Machine {
         self.phase
     }
 
-    /// What its status record tells.
+    /// What its status record says.
     pub fn view(&self) -> View
         ensures view { result ≡ self.now.status }
         ensures range { IsStatus result }
@@ -135,7 +135,7 @@ impl Machine {
         view_in_range(&self.view)
     }
 
-    /// What its full status record tells.
+    /// What its full status record says.
     pub fn full(&self) -> Full
         ensures full { result ≡ full_in self.now }
         ensures range { IsFull result }
@@ -340,12 +340,12 @@ impl Machine {
         ensures reply { (past : History) → state_of past ≡ self.old → result ≡ reply_to past event }
         ensures state { (past : History) → state_of past ≡ self.old → self.new ≡ state_of (next past event) }
 
-        // The record is written where what it tells may have changed, and then once, as it stands after the step.
+        // The record is written where what it says may have changed, and then once, as it stands after the step.
         ensures unwritten { records_in result ≡ [] → full_in self.new ≡ full_in self.old }
         ensures written { records_in result ≢ [] → records_in result ≡ full_record (full_in self.new) ∷ [] }
         ensures range { IsFull (full_in self.new) }
     {
-        // What it tells is lawful, before and after: `unwritten` stands on the first, and `range` is the second.
+        // What it says is lawful, before and after: `unwritten` stands on the first, and `range` is the second.
         let _ = self.full();
         let reply = self.advance(event);
         let _ = self.full();

@@ -23,7 +23,7 @@ use itoa::Buffer;
 use std::str;
 use tai_status::{Label, Phase, read_text};
 
-/// Why a line is the text of nothing. The first of these that applies is told.
+/// Why a line is the text of nothing. The first of these that applies is reported.
 #[derive(Clone, Copy, Debug, PartialEq, Eq)]
 pub enum EventFault {
     /// The first word is not known.
@@ -246,11 +246,11 @@ pub fn read_event(line: &[u8]) -> Result<Event, EventFault>
     ensures exact { result ≡ event_from (fields line.now) }
     ensures event { IfOk result IsEvent }
 {
-    tell_event(line)
+    parse_event(line)
 }
 
 /// The event of a line, by its fields.
-fn tell_event(line: &[u8]) -> Result<Event, EventFault>
+fn parse_event(line: &[u8]) -> Result<Event, EventFault>
     ensures { result ≡ event_from (fields line.now) }
 {
     let (word, rest) = split_field(line);
@@ -303,11 +303,11 @@ pub fn read_begin(line: &[u8]) -> Result<(bool, Label), EventFault>
     // Which fault it is.
     ensures exact { result ≡ begin_from (fields line.now) }
 {
-    tell_begin(line)
+    parse_begin(line)
 }
 
 /// The beginning of a line, by its fields.
-fn tell_begin(line: &[u8]) -> Result<(bool, Label), EventFault>
+fn parse_begin(line: &[u8]) -> Result<(bool, Label), EventFault>
     ensures { result ≡ begin_from (fields line.now) }
 {
     let (word, rest) = split_field(line);

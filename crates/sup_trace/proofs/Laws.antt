@@ -21,8 +21,8 @@ use Rattle.sup_core.specs.Reading.{IsInRange}
 use Rattle.sup_core.proofs.Laws.{AreTaken-concat, AreTaken-drop, AreTaken-state, after-state, followed_by-append}
 use Rattle.sup_core.proofs.Laws.{followed_by-state, next-taken, reply_to-state, reply_to-took, state_of-cut}
 use Rattle.sup_core.proofs.Laws.{taken_of-state, takes-state}
-use Rattle.sup_trace.specs.Told.{IsTold}
-use Rattle.sup_trace.specs.Trace.{Kept, IsTrace, IsKeptUp, history_of, told_by, replay, folded_into, cut, noted}
+use Rattle.sup_trace.specs.Content.{IsContent}
+use Rattle.sup_trace.specs.Trace.{Kept, IsTrace, IsKeptUp, history_of, content_by, replay, folded_into, cut, noted}
 use Rattle.sup_trace.specs.Trace.{noted_if_taken, noted_along, new_trace}
 
 -- A base with the first events folded in, and the others, replay to what the whole replays to.
@@ -268,11 +268,11 @@ reply_to-noted kept events event =
     reply_to-state (history_of (noted kept events)) (followed_by (history_of kept) events) event
     (replay-noted kept events)
 
--- The text of a trace tells so: what the types of machines and events hold by themselves are the premises.
-pub IsTold-told_by : (kept : Kept) → IsTrace kept → IsState kept.base → IsStatus kept.base.status
+-- The text of a trace says so: what the types of machines and events hold by themselves are the premises.
+pub IsContent-content_by : (kept : Kept) → IsTrace kept → IsState kept.base → IsStatus kept.base.status
     → IfSome kept.base.until IsLabel
-    → AllByRecursion IsInRange kept.entries → IsTold (told_by kept)
-IsTold-told_by kept trace state status until ranges = record {
+    → AllByRecursion IsInRange kept.entries → IsContent (content_by kept)
+IsContent-content_by kept trace state status until ranges = record {
   state = state;
   status = status;
   until = until;

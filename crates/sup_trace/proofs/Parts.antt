@@ -1,4 +1,4 @@
--- The fields of the base's line: what is told is read, and what is read is told so.
+-- The fields of the base's line: what is reported is read, and what is read is reported so.
 use Rattle.std.proofs.Common.{◌≡◌, ℕ, ◌^◌, ◌≤◌, ◌&&◌, ◌==◌, nat_le, Bool, true, false, List, [], ◌∷◌, Option, Some}
 use Rattle.std.proofs.Common.{None, Result, Ok, Err, refl, sym, ap, ◌∙◌, arith, decimal, codes, subst}
 use Rattle.std.specs.Prelude.{IfSome, IfOk, if◌then◌else◌, bytes_eq, option_map}
@@ -22,7 +22,7 @@ use Rattle.tai_status.specs.declared.phase.Phase.{Phase}
 use Rattle.tai_status.specs.declared.phase.Phase.TheVariants as phase
 use Rattle.sup_core.specs.Reading.{fields, label_of_text}
 use Rattle.sup_core.proofs.Fields.{split_some_part}
-use Rattle.sup_core.proofs.Spelling.{TellsLabel, label_of_text-found, label_of_text-only}
+use Rattle.sup_core.proofs.Spelling.{SpellsLabel, label_of_text-found, label_of_text-only}
 use Rattle.sup_trace.specs.Text.{stay_text, until_text}
 use Rattle.sup_trace.specs.Reading.{folded_of_text, phase_of_text, if_spelled, status_of_bytes, status_of_text}
 use Rattle.sup_trace.specs.Reading.{exiting_of_text, until_of_text, base_result}
@@ -43,22 +43,22 @@ le-from_test m n h = grind (arith)
 le-test : (m n : ℕ) → m ≤ n → nat_le m n ≡ true
 le-test m n h = grind (arith)
 
-pub record TellsFolded (text : List ℕ) (folded : ℕ) : Type 0 where
+pub record SpellsFolded (text : List ℕ) (folded : ℕ) : Type 0 where
   pub limit : folded ≤ 2 ^ 63
   pub is : text ≡ decimal folded
 
 folded_tested : (text : List ℕ) (folded : ℕ) → (nat_le folded (2 ^ 63) && bytes_eq (decimal folded) text) ≡ true
-    → TellsFolded text folded
+    → SpellsFolded text folded
 folded_tested text folded h =
     let parts = and_parts (nat_le folded (2 ^ 63)) (bytes_eq (decimal folded) text) h in
     record { limit = le-from_test _ _ parts.0; is = sym ((bytes_eq-Decides (decimal folded) text).0 parts.1) }
 
-pub folded_of_text-found : (text : List ℕ) → IfSome (folded_of_text text) (TellsFolded text)
+pub folded_of_text-found : (text : List ℕ) → IfSome (folded_of_text text) (SpellsFolded text)
 unfolding folded_of_text
 folded_of_text-found text =
-    tested (TellsFolded text) _ (digits_value 10 text) (folded_tested text (digits_value 10 text))
+    tested (SpellsFolded text) _ (digits_value 10 text) (folded_tested text (digits_value 10 text))
 
-pub folded_of_text-only : (text : List ℕ) (folded : ℕ) → TellsFolded text folded → folded_of_text text ≡ Some folded
+pub folded_of_text-only : (text : List ℕ) (folded : ℕ) → SpellsFolded text folded → folded_of_text text ≡ Some folded
 unfolding folded_of_text
 folded_of_text-only text folded h =
     let limit = h.limit in
@@ -110,7 +110,7 @@ phase_of_text-exact text None found only =
 
 -- The record
 
-pub record TellsStatus (text : List ℕ) (status : Status) : Type 0 where
+pub record SpellsStatus (text : List ℕ) (status : Status) : Type 0 where
   pub range : IsStatus status
   pub is : text ≡ encode_lower (status_record status)
 
@@ -126,23 +126,23 @@ bytes_decoded text bytes h =
     (decode_pairs-ok 0 text bytes pairs).2
 
 spelled_status : (text : List ℕ) (r : Result Status RecordFault) → IfOk r IsStatus
-    → IfSome (if_spelled text (result_ok r)) (TellsStatus text)
+    → IfSome (if_spelled text (result_ok r)) (SpellsStatus text)
 spelled_status text (Err fault) range = tt
-spelled_status text (Ok status) range = tested (TellsStatus text) _ status λ same.
+spelled_status text (Ok status) range = tested (SpellsStatus text) _ status λ same.
     record { range = range; is = sym ((bytes_eq-Decides (encode_lower (status_record status)) text).0 same) }
 
 spelled_so : (text : List ℕ) (r : Result (List ℕ) FromHexError) → decode_sized text 18 ≡ r
-    → IfSome (if_spelled text (status_of_bytes r)) (TellsStatus text)
+    → IfSome (if_spelled text (status_of_bytes r)) (SpellsStatus text)
 spelled_so text (Err e) h = tt
 spelled_so text (Ok bytes) h =
     let range = only_status _ bytes (found_recorded bytes (status_from bytes) (bytes_decoded text bytes h) refl) in
     spelled_status text (status_from bytes) range
 
-pub status_of_text-found : (text : List ℕ) → IfSome (status_of_text text) (TellsStatus text)
+pub status_of_text-found : (text : List ℕ) → IfSome (status_of_text text) (SpellsStatus text)
 unfolding status_of_text
 status_of_text-found text = spelled_so text (decode_sized text 18) refl
 
-pub status_of_text-only : (text : List ℕ) (status : Status) → TellsStatus text status
+pub status_of_text-only : (text : List ℕ) (status : Status) → SpellsStatus text status
     → status_of_text text ≡ Some status
 unfolding status_of_text
 status_of_text-only text status h =
@@ -175,24 +175,24 @@ exiting_of_text-only false = refl
 
 -- Until when it settles or rests
 
-pub record TellsUntil (text : List ℕ) (until : Option Tai64n) : Type 0 where
+pub record SpellsUntil (text : List ℕ) (until : Option Tai64n) : Type 0 where
   pub range : IfSome until IsLabel
   pub is : text ≡ until_text until
 
-until_label : (text : List ℕ) (label : Option Tai64n) (until : Option Tai64n) → IfSome label (TellsLabel text)
-    → option_map (λ label. Some label) label ≡ Some until → TellsUntil text until
-until_label text (Some label) until tells h =
+until_label : (text : List ℕ) (label : Option Tai64n) (until : Option Tai64n) → IfSome label (SpellsLabel text)
+    → option_map (λ label. Some label) label ≡ Some until → SpellsUntil text until
+until_label text (Some label) until reports h =
     let e : Some label ≡ until = cc h in
-    subst (TellsUntil text) e (record { range = tells.range; is = tells.is })
-until_label text None until tells h = cc h
+    subst (SpellsUntil text) e (record { range = reports.range; is = reports.is })
+until_label text None until reports h = cc h
 
-until_none : (text : List ℕ) (until : Option Tai64n) → text ≡ codes "-" → Some None ≡ Some until → TellsUntil text until
+until_none : (text : List ℕ) (until : Option Tai64n) → text ≡ codes "-" → Some None ≡ Some until → SpellsUntil text until
 until_none text until is h =
     let e : None ≡ until = cc h in
-    subst (TellsUntil text) e (record { range = tt; is = is })
+    subst (SpellsUntil text) e (record { range = tt; is = is })
 
 pub until_of_text-found : (text : List ℕ) (until : Option Tai64n) → until_of_text text ≡ Some until
-    → TellsUntil text until
+    → SpellsUntil text until
 until_of_text-found text until h =
     choose text (codes "-") _ _ until (until_none text until)
     (until_label text (label_of_text text) until (label_of_text-found text)) h

@@ -16,50 +16,50 @@ use Rattle.sup_core.specs.Rules.{IsEvent, next, reply_to}
 use Rattle.sup_core.specs.Text.{answer_text}
 use Rattle.sup_core.proofs.Laws.{AreTaken-at, next-taken}
 use Rattle.sup_trace.specs.declared.breaks.Break.{Break}
-use Rattle.sup_trace.specs.Told.{Told, IsTraceText}
+use Rattle.sup_trace.specs.Content.{Content, IsTraceText}
 use Rattle.sup_trace.specs.Explained.{before, answer_at, explained, explained_line}
 use Rattle.sup_trace.specs.Breaks.{Breaks, BreaksAt, IsFirstBreak}
 
 -- What is known of the entry at a place.
-pub record IsEntry (told : Told) (place : ℕ) (event : Event) : Type 0 where
+pub record IsEntry (content : Content) (place : ℕ) (event : Event) : Type 0 where
   pub condition : IsEvent event
-  pub next_is : before told (place + 1) ≡ next (before told place) event
-  pub here : slice_get told.entries place ≡ Some event
-  pub within : place < length told.entries
-  pub at : event ≡ get_or told.entries place event
+  pub next_is : before content (place + 1) ≡ next (before content place) event
+  pub here : slice_get content.entries place ≡ Some event
+  pub within : place < length content.entries
+  pub at : event ≡ get_or content.entries place event
 
-pub entry_at : (told : Told) (entries : List Event) (place : ℕ) (event : Event) → IsTraceText told
-    → entries ≡ told.entries
-    → place < length entries → event ≡ get_or entries place event → IsEntry told place event
-entry_at told entries place event text same below at =
-    let within : place < length told.entries = omega (arith, ap length same) in
-    let here : event ≡ get_or told.entries place event = at ∙ ap (λ events. get_or events place event) same in
-    let taken = AreTaken-at (Opened told.base) told.entries place event text.taken within here in
+pub entry_at : (content : Content) (entries : List Event) (place : ℕ) (event : Event) → IsTraceText content
+    → entries ≡ content.entries
+    → place < length entries → event ≡ get_or entries place event → IsEntry content place event
+entry_at content entries place event text same below at =
+    let within : place < length content.entries = omega (arith, ap length same) in
+    let here : event ≡ get_or content.entries place event = at ∙ ap (λ events. get_or events place event) same in
+    let taken = AreTaken-at (Opened content.base) content.entries place event text.taken within here in
     record {
       condition = taken.condition;
-      next_is = taken.next ∙ sym (next-taken (before told place) event taken.taken);
-      here = slice_get_read told.entries (length told.entries) place event refl within here;
+      next_is = taken.next ∙ sym (next-taken (before content place) event taken.taken);
+      here = slice_get_read content.entries (length content.entries) place event refl within here;
       within = within;
       at = here;
     }
 
 -- The line of the entry is the next one.
-explained-more : (told : Told) (place : ℕ) (event : Event) → place < length told.entries
-    → event ≡ get_or told.entries place event
-    → take (place + 1) (explained told) ≡ take place (explained told) ++ explained_line told place event ∷ []
-explained-more told place event below at =
-    let placed = enumerate_from 0 told.entries in
-    let line : ℕ × Event → List ℕ = λ p. explained_line told p.0 p.1 in
-    let within : place < length placed = omega (arith, length-enumerate_from 0 told.entries) in
+explained-more : (content : Content) (place : ℕ) (event : Event) → place < length content.entries
+    → event ≡ get_or content.entries place event
+    → take (place + 1) (explained content) ≡ take place (explained content) ++ explained_line content place event ∷ []
+explained-more content place event below at =
+    let placed = enumerate_from 0 content.entries in
+    let line : ℕ × Event → List ℕ = λ p. explained_line content p.0 p.1 in
+    let within : place < length placed = omega (arith, length-enumerate_from 0 content.entries) in
     let here : get_or placed place (place, event) ≡ (place, event) =
-    get_or-enumerate_from 0 told.entries place (place, event) below
-    ∙ ap {B = ℕ × Event} (λ k. (k, get_or told.entries place event)) (zero-add place)
+    get_or-enumerate_from 0 content.entries place (place, event) below
+    ∙ ap {B = ℕ × Event} (λ k. (k, get_or content.entries place event)) (zero-add place)
     ∙ ap {B = ℕ × Event} (λ e. (place, e)) (sym at) in
     take-map line (place + 1) placed
     ∙ ap (map line) (take_more placed place (place, event) within)
     ∙ map_push line (take place placed) (get_or placed place (place, event))
     ∙ ap (λ p. map line (take place placed) ++ line p ∷ []) here
-    ∙ ap (λ lines. lines ++ explained_line told place event ∷ []) (sym (take-map line place placed))
+    ∙ ap (λ lines. lines ++ explained_line content place event ∷ []) (sym (take-map line place placed))
 
 -- the answer as it is made
 pub answer-made : (past : History) (event : Event) (reply : Reply) (phase : Phase) → reply ≡ reply_to past event
@@ -68,61 +68,61 @@ answer-made past event reply phase answered led =
     ap (λ (r : Reply). answer_text r phase) answered ∙ ap (λ (p : Phase). answer_text (reply_to past event) p) led
 
 -- the line as it is made, of texts that are shown
-pub line-made : {L E : Type 0} (bytes : L → List ℕ) (r : Result L E) (number shown told event answer : List ℕ)
-    → shown ≡ event → told ≡ answer
-    → IfOk r (λ line. bytes line ≡ number ++ (codes " " ++ (shown ++ (codes ": " ++ told))))
+pub line-made : {L E : Type 0} (bytes : L → List ℕ) (r : Result L E) (number shown content event answer : List ℕ)
+    → shown ≡ event → content ≡ answer
+    → IfOk r (λ line. bytes line ≡ number ++ (codes " " ++ (shown ++ (codes ": " ++ content))))
     → IfOk r (λ line. bytes line ≡ number ++ codes " " ++ event ++ codes ": " ++ answer)
-line-made bytes (Err e) number shown told event answer is so made = tt
-line-made bytes (Ok line) number shown told event answer is so made =
+line-made bytes (Err e) number shown content event answer is so made = tt
+line-made bytes (Ok line) number shown content event answer is so made =
     made ∙ ap (λ (text : List ℕ). number ++ (codes " " ++ (shown ++ (codes ": " ++ text)))) so
     ∙ ap (λ (text : List ℕ). number ++ (codes " " ++ (text ++ (codes ": " ++ answer)))) is
     ∙ simp append_assoc
 
-pub lines-more : (told : Told) (place : ℕ) (event : Event) (lines : List (List ℕ)) (line : List ℕ)
-    → place < length told.entries
-    → event ≡ get_or told.entries place event → lines ≡ take place (explained told)
-    → line ≡ explained_line told place event
-    → lines ++ line ∷ [] ≡ take (place + 1) (explained told)
-lines-more told place event lines line below at so_far here =
+pub lines-more : (content : Content) (place : ℕ) (event : Event) (lines : List (List ℕ)) (line : List ℕ)
+    → place < length content.entries
+    → event ≡ get_or content.entries place event → lines ≡ take place (explained content)
+    → line ≡ explained_line content place event
+    → lines ++ line ∷ [] ≡ take (place + 1) (explained content)
+lines-more content place event lines line below at so_far here =
     ap (λ (l : List (List ℕ)). l ++ line ∷ []) so_far
-    ∙ ap (λ (x : List ℕ). take place (explained told) ++ x ∷ []) here
-    ∙ sym (explained-more told place event below at)
+    ∙ ap (λ (x : List ℕ). take place (explained content) ++ x ∷ []) here
+    ∙ sym (explained-more content place event below at)
 
-pub length-explained : (told : Told) → length (explained told) ≡ length told.entries
-length-explained told = length-map (enumerate_from 0 told.entries) (λ p. explained_line told p.0 p.1)
-    ∙ length-enumerate_from 0 told.entries
+pub length-explained : (content : Content) → length (explained content) ≡ length content.entries
+length-explained content = length-map (enumerate_from 0 content.entries) (λ p. explained_line content p.0 p.1)
+    ∙ length-enumerate_from 0 content.entries
 
 -- Breaks
 
-breaks_here : (told : Told) (at : Break) (place : ℕ) (event : Event) → IsEntry told place event
-    → Breaks at (before told place) event → BreaksAt told at place
-breaks_here told at place event entry breaks =
-    subst (λ found. IsSomeAnd found (Breaks at (before told place))) (sym entry.here) breaks
+breaks_here : (content : Content) (at : Break) (place : ℕ) (event : Event) → IsEntry content place event
+    → Breaks at (before content place) event → BreaksAt content at place
+breaks_here content at place event entry breaks =
+    subst (λ found. IsSomeAnd found (Breaks at (before content place))) (sym entry.here) breaks
 
 -- an entry that is not what is looked for
-pub no_break : (told : Told) (at : Break) (place : ℕ) (event : Event) → IsEntry told place event
-    → ¬ Breaks at (before told place) event → ¬ BreaksAt told at place
-no_break told at place event entry none breaks =
-    none (subst (λ found. IsSomeAnd found (Breaks at (before told place))) entry.here breaks)
+pub no_break : (content : Content) (at : Break) (place : ℕ) (event : Event) → IsEntry content place event
+    → ¬ Breaks at (before content place) event → ¬ BreaksAt content at place
+no_break content at place event entry none breaks =
+    none (subst (λ found. IsSomeAnd found (Breaks at (before content place))) entry.here breaks)
 
 -- none up to a place, and the entry there
-pub first_found : (told : Told) (at : Break) (place : ℕ) (event : Event) → IsEntry told place event
-    → ((earlier : ℕ) → earlier < place → ¬ BreaksAt told at earlier) → Breaks at (before told place) event
-    → IsFirstBreak told at (place + 1)
-first_found told at place event entry none breaks =
+pub first_found : (content : Content) (at : Break) (place : ℕ) (event : Event) → IsEntry content place event
+    → ((earlier : ℕ) → earlier < place → ¬ BreaksAt content at earlier) → Breaks at (before content place) event
+    → IsFirstBreak content at (place + 1)
+first_found content at place event entry none breaks =
     let same : place ≡ place + 1 - 1 = omega arith in
     record {
       above = omega arith;
-      here = subst (BreaksAt told at) same (breaks_here told at place event entry breaks);
+      here = subst (BreaksAt content at) same (breaks_here content at place event entry breaks);
       first = λ earlier below. none earlier (omega arith);
     }
 
 -- none up to the end
-pub no_break_at_all : (told : Told) (at : Break) (n : ℕ) → length told.entries ≤ n
-    → ((earlier : ℕ) → earlier < n → ¬ BreaksAt told at earlier) → (place : ℕ) → ¬ BreaksAt told at place
-no_break_at_all told at n end none place breaks =
+pub no_break_at_all : (content : Content) (at : Break) (n : ℕ) → length content.entries ≤ n
+    → ((earlier : ℕ) → earlier < n → ¬ BreaksAt content at earlier) → (place : ℕ) → ¬ BreaksAt content at place
+no_break_at_all content at n end none place breaks =
     elim (cases_lt place n) [
       | inl below ↦ none place below breaks
-      | inr past ↦ subst (λ found. IsSomeAnd found (Breaks at (before told place)))
-          (slice_get_past told.entries place (omega arith)) breaks
+      | inr past ↦ subst (λ found. IsSomeAnd found (Breaks at (before content place)))
+          (slice_get_past content.entries place (omega arith)) breaks
     ]

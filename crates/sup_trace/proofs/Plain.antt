@@ -12,28 +12,28 @@ use Rattle.sup_core.specs.Rules.{next, reply_to}
 use Rattle.sup_core.specs.Text.{event_text}
 use Rattle.sup_core.proofs.Plain.{plain-append, plain-join, plain-decimal, plain-encode_lower, plain-label_text}
 use Rattle.sup_core.proofs.Plain.{plain-event_text, plain-phase_name, plain-answer_text}
-use Rattle.sup_trace.specs.Told.{Told}
+use Rattle.sup_trace.specs.Content.{Content}
 use Rattle.sup_trace.specs.Text.{header, stay_text, until_text, base_fields, end_text, trace_lines}
 use Rattle.sup_trace.specs.Explained.{before, answer_at, explained, explained_line}
 
 -- The lines that explain
 
-plain-explained_line : (told : Told) (place : ℕ) (event : Event) → IsPlain (explained_line told place event)
-plain-explained_line told place event =
+plain-explained_line : (content : Content) (place : ℕ) (event : Event) → IsPlain (explained_line content place event)
+plain-explained_line content place event =
     let number = plain-append (decimal (place + 1)) (codes " ") (plain-decimal (place + 1)) refl in
     let happened = plain-append (decimal (place + 1) ++ codes " ") (event_text event) number (plain-event_text event) in
     let front = plain-append (decimal (place + 1) ++ codes " " ++ event_text event) (codes ": ") happened refl in
     plain-append (decimal (place + 1) ++ codes " " ++ event_text event ++ codes ": ")
-    (answer_at (before told place) event) front
-    (plain-answer_text (reply_to (before told place) event) (phase_of (next (before told place) event)))
+    (answer_at (before content place) event) front
+    (plain-answer_text (reply_to (before content place) event) (phase_of (next (before content place) event)))
 
-plain-lines : (told : Told) (place : ℕ) (events : List Event)
-    → AllByRecursion IsPlain (map (λ placed. explained_line told placed.0 placed.1) (enumerate_from place events))
-plain-lines told place [] = tt
-plain-lines told place (event ∷ events) = (plain-explained_line told place event, plain-lines told (place + 1) events)
+plain-lines : (content : Content) (place : ℕ) (events : List Event)
+    → AllByRecursion IsPlain (map (λ placed. explained_line content placed.0 placed.1) (enumerate_from place events))
+plain-lines content place [] = tt
+plain-lines content place (event ∷ events) = (plain-explained_line content place event, plain-lines content (place + 1) events)
 
-pub plain-explained : (told : Told) → AllByRecursion IsPlain (explained told)
-plain-explained told = plain-lines told 0 told.entries
+pub plain-explained : (content : Content) → AllByRecursion IsPlain (explained content)
+plain-explained content = plain-lines content 0 content.entries
 
 -- The lines of a trace's text
 
@@ -63,12 +63,12 @@ plain-entries : (events : List Event) (count : ℕ)
 plain-entries [] count = (plain-end_text count, tt)
 plain-entries (event ∷ events) count = (plain-event_text event, plain-entries events count)
 
-pub plain-trace_lines : (told : Told) → AllByRecursion IsPlain (trace_lines told)
-plain-trace_lines told =
-    let base = base_fields told.folded told.base in (
+pub plain-trace_lines : (content : Content) → AllByRecursion IsPlain (trace_lines content)
+plain-trace_lines content =
+    let base = base_fields content.folded content.base in (
       plain-header,
       (
-        plain-join base (plain-base_fields told.folded told.base),
-        plain-entries told.entries (length told.entries),
+        plain-join base (plain-base_fields content.folded content.base),
+        plain-entries content.entries (length content.entries),
       ),
     )

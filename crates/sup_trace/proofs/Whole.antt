@@ -1,4 +1,4 @@
--- What is told is read, so a text is read as what it tells, and only that.
+-- What is reported is read, so a text is read as what it says, and only that.
 use Rattle.std.proofs.Common.{◌≡◌, ℕ, ◌+◌, ◌<◌, ◌≤◌, ◌==◌, Bool, true, false, List, [], ◌∷◌, ◌++◌, map, flat_map}
 use Rattle.std.proofs.Common.{append_assoc, length, Option, Some, None, Result, Ok, Err, refl, sym, ap, ◌∙◌, arith}
 use Rattle.std.proofs.Common.{codes, decimal, subst}
@@ -24,17 +24,17 @@ use Rattle.sup_core.proofs.Lines.{phase_name-solid, event_fields-event_text, eve
 use Rattle.sup_trace.specs.declared.fault.TraceFault.{TraceFault}
 use Rattle.sup_trace.specs.declared.fault.TraceFaultKind.{TraceFaultKind}
 use Rattle.sup_trace.specs.declared.fault.TraceFaultKind.TheVariants as kind
-use Rattle.sup_trace.specs.Told.{Told, told_of, told_history, IsTold, IsTraceText}
+use Rattle.sup_trace.specs.Content.{Content, content_of, content_history, IsContent, IsTraceText}
 use Rattle.sup_trace.specs.Text.{header, stay_text, until_text, base_fields, base_text, end_text, trace_lines}
 use Rattle.sup_trace.specs.Text.{trace_text}
 use Rattle.sup_trace.specs.Reading.{Nothing, Header, Entries, Whole, base_result, with_entry, entry_result}
-use Rattle.sup_trace.specs.Reading.{later_result, line_result, told_by_parts, parts_of, told_from}
+use Rattle.sup_trace.specs.Reading.{later_result, line_result, content_by_parts, parts_of, content_from}
 use Rattle.std.proofs.lemmas.List.{length-append, append-nil}
 use Rattle.sup_trace.proofs.Steps.{goes_on, over_none, room-test}
 use Rattle.sup_trace.proofs.Parts.{folded_of_text-only, phase_of_text-only, status_of_text-only, exiting_of_text-only}
 use Rattle.sup_trace.proofs.Parts.{until_of_text-only}
 use Rattle.sup_trace.proofs.Plain.{plain-trace_lines}
-use Rattle.sup_trace.proofs.Heard.{told_from-found}
+use Rattle.sup_trace.proofs.Heard.{content_from-found}
 
 -- lines without newlines are the parts of their text
 split_lines : (lines : List (List ℕ)) → AllByRecursion IsPlain lines
@@ -60,167 +60,167 @@ until_text-solid : (until : Option Tai64n) → IfSome until IsLabel → is_solid
 until_text-solid None h = refl
 until_text-solid (Some label) h = label_text-solid label h
 
-base_fields-solid : (told : Told) → IsTold told
-    → AllByRecursion (λ field. is_solid field ≡ true) (base_fields told.folded told.base)
-base_fields-solid told h =
-    let digits = encode_lower (status_record told.base.status) in
-    let lower = lower-encode (status_record told.base.status) (IsBytes-status_record told.base.status) in (
+base_fields-solid : (content : Content) → IsContent content
+    → AllByRecursion (λ field. is_solid field ≡ true) (base_fields content.folded content.base)
+base_fields-solid content h =
+    let digits = encode_lower (status_record content.base.status) in
+    let lower = lower-encode (status_record content.base.status) (IsBytes-status_record content.base.status) in (
       refl,
       (
-        decimal-solid told.folded,
+        decimal-solid content.folded,
         (
-          phase_name-solid told.base.phase,
+          phase_name-solid content.base.phase,
           (
             lower-solid digits lower,
-            (stay_text-solid told.base.exiting, (until_text-solid told.base.until h.until, tt)),
+            (stay_text-solid content.base.exiting, (until_text-solid content.base.until h.until, tt)),
           ),
         ),
       ),
     )
 
-base_read : (told : Told) → IsTold told → base_result (base_fields told.folded told.base)
-    ≡ Ok (Entries (told_of told.base told.folded []))
-base_read told h =
-    let status = told.base.status in
-    let folded = folded_of_text-only (decimal told.folded) told.folded (record { limit = h.count; is = refl }) in
-    let phase = phase_of_text-only told.base.phase in
+base_read : (content : Content) → IsContent content → base_result (base_fields content.folded content.base)
+    ≡ Ok (Entries (content_of content.base content.folded []))
+base_read content h =
+    let status = content.base.status in
+    let folded = folded_of_text-only (decimal content.folded) content.folded (record { limit = h.count; is = refl }) in
+    let phase = phase_of_text-only content.base.phase in
     let read = status_of_text-only (encode_lower (status_record status)) status
     (record { range = h.status; is = refl }) in
-    let exiting = exiting_of_text-only told.base.exiting in
-    let until = until_of_text-only told.base.until h.until in
-    let stands = (is_state-decides told.base).0 h.state in
+    let exiting = exiting_of_text-only content.base.exiting in
+    let until = until_of_text-only content.base.until h.until in
+    let stands = (is_state-decides content.base).0 h.state in
     rw (folded, phase, read, exiting, until) (rw stands refl)
 
-base_line : (told : Told) → IsTold told → line_result Header (base_text told.folded told.base)
-    ≡ Ok (Entries (told_of told.base told.folded []))
-base_line told h =
-    let same : fields (base_text told.folded told.base) ≡ base_fields told.folded told.base =
-    fields-join _ _ (base_fields-solid told h) in
-    ap base_result same ∙ base_read told h
+base_line : (content : Content) → IsContent content → line_result Header (base_text content.folded content.base)
+    ≡ Ok (Entries (content_of content.base content.folded []))
+base_line content h =
+    let same : fields (base_text content.folded content.base) ≡ base_fields content.folded content.base =
+    fields-join _ _ (base_fields-solid content h) in
+    ap base_result same ∙ base_read content h
 
 -- The lines of entries
 
-event_later : (told : Told) (event : Event) → later_result told (event_fields event)
-    ≡ entry_result told (event_from (event_fields event))
-event_later told (Byte byte) = refl
-event_later told (Started pid label) = refl
-event_later told (StartFailed label) = refl
-event_later told (Death label) = refl
-event_later told (Clock label) = refl
+event_later : (content : Content) (event : Event) → later_result content (event_fields event)
+    ≡ entry_result content (event_from (event_fields event))
+event_later content (Byte byte) = refl
+event_later content (Started pid label) = refl
+event_later content (StartFailed label) = refl
+event_later content (Death label) = refl
+event_later content (Clock label) = refl
 
-entry_line : (told : Told) (event : Event) → IsInRange event → length told.entries < 65536
-    → takes (told_history told) event ≡ true
-    → line_result (Entries told) (event_text event) ≡ Ok (Entries (with_entry told event))
-entry_line told event range room taken =
-    ap (later_result told) (event_fields-event_text event range) ∙ event_later told event
-    ∙ ap (entry_result told) (event_read event range)
-    ∙ rw (room-test (length told.entries) 65536 room, taken) refl
+entry_line : (content : Content) (event : Event) → IsInRange event → length content.entries < 65536
+    → takes (content_history content) event ≡ true
+    → line_result (Entries content) (event_text event) ≡ Ok (Entries (with_entry content event))
+entry_line content event range room taken =
+    ap (later_result content) (event_fields-event_text event range) ∙ event_later content event
+    ∙ ap (entry_result content) (event_read event range)
+    ∙ rw (room-test (length content.entries) 65536 room, taken) refl
 
 -- The end line
 
-end_line : (told : Told) → line_result (Entries told) (end_text (length told.entries)) ≡ Ok (Whole told)
-end_line told =
-    let same = (bytes_eq-Decides (decimal (length told.entries)) (decimal (length told.entries))).1 refl in
-    ap (later_result told) (fields-join (codes "end") (decimal (length told.entries) ∷ []) (
+end_line : (content : Content) → line_result (Entries content) (end_text (length content.entries)) ≡ Ok (Whole content)
+end_line content =
+    let same = (bytes_eq-Decides (decimal (length content.entries)) (decimal (length content.entries))).1 refl in
+    ap (later_result content) (fields-join (codes "end") (decimal (length content.entries) ∷ []) (
       refl,
-      (decimal-solid (length told.entries), tt),
+      (decimal-solid (length content.entries), tt),
     ))
     ∙ rw same refl
 
 -- All lines after the base's
 
-end_parts : (number : ℕ) (told : Told)
-    → told_by_parts number (Entries told) (end_text (length told.entries) ∷ [] ∷ []) ≡ Ok told
-end_parts number told =
-    goes_on number (Entries told) (Whole told) (end_text (length told.entries)) ([] ∷ []) (λ e. cc e) (end_line told)
+end_parts : (number : ℕ) (content : Content)
+    → content_by_parts number (Entries content) (end_text (length content.entries) ∷ [] ∷ []) ≡ Ok content
+end_parts number content =
+    goes_on number (Entries content) (Whole content) (end_text (length content.entries)) ([] ∷ []) (λ e. cc e) (end_line content)
 
-history_after : (told : Told) (event : Event) → told_history (with_entry told event) ≡ Then (told_history told) event
-history_after told event = followed_by-append (Opened told.base) told.entries (event ∷ [])
+history_after : (content : Content) (event : Event) → content_history (with_entry content event) ≡ Then (content_history content) event
+history_after content event = followed_by-append (Opened content.base) content.entries (event ∷ [])
 
-longer : (told : Told) (event : Event) → length (with_entry told event).entries ≡ length told.entries + 1
-longer told event = length-append told.entries (event ∷ [])
+longer : (content : Content) (event : Event) → length (with_entry content event).entries ≡ length content.entries + 1
+longer content event = length-append content.entries (event ∷ [])
 
 some_parts : (lines : List (List ℕ)) (line : List ℕ) → lines ++ line ∷ [] ∷ [] ≡ [] → ⊥
 some_parts [] line h = cc h
 some_parts (first ∷ lines) line h = cc h
 
-entries_read : (number total : ℕ) (told : Told) (events : List Event) → AllByRecursion IsInRange events
-    → AreTaken (told_history told) events
-    → total ≡ length told.entries + length events → total ≤ 65536
-    → told_by_parts number (Entries told) (map event_text events ++ end_text total ∷ [] ∷ [])
-    ≡ Ok (told_of told.base told.folded (told.entries ++ events))
-entries_read number total told [] ranges taken is limit =
-    let same : total ≡ length told.entries = omega (arith, is) in
-    ap (λ (n : ℕ). told_by_parts number (Entries told) (end_text n ∷ [] ∷ [])) same
-    ∙ end_parts number told
-    ∙ ap (λ (es : List Event). Ok (told_of told.base told.folded es)) (sym (append-nil told.entries))
-entries_read number total told (event ∷ events) ranges taken is limit =
-    let room : length told.entries < 65536 = omega (arith, is, limit) in
-    let more = longer told event in
-    goes_on number (Entries told) (Entries (with_entry told event)) (event_text event)
+entries_read : (number total : ℕ) (content : Content) (events : List Event) → AllByRecursion IsInRange events
+    → AreTaken (content_history content) events
+    → total ≡ length content.entries + length events → total ≤ 65536
+    → content_by_parts number (Entries content) (map event_text events ++ end_text total ∷ [] ∷ [])
+    ≡ Ok (content_of content.base content.folded (content.entries ++ events))
+entries_read number total content [] ranges taken is limit =
+    let same : total ≡ length content.entries = omega (arith, is) in
+    ap (λ (n : ℕ). content_by_parts number (Entries content) (end_text n ∷ [] ∷ [])) same
+    ∙ end_parts number content
+    ∙ ap (λ (es : List Event). Ok (content_of content.base content.folded es)) (sym (append-nil content.entries))
+entries_read number total content (event ∷ events) ranges taken is limit =
+    let room : length content.entries < 65536 = omega (arith, is, limit) in
+    let more = longer content event in
+    goes_on number (Entries content) (Entries (with_entry content event)) (event_text event)
     (map event_text events ++ end_text total ∷ [] ∷ [])
-    (some_parts (map event_text events) (end_text total)) (entry_line told event ranges.0 room taken.1)
-    ∙ entries_read (number + 1) total (with_entry told event) events ranges.1
-    (subst (λ (past : History). AreTaken past events) (sym (history_after told event)) taken.2)
+    (some_parts (map event_text events) (end_text total)) (entry_line content event ranges.0 room taken.1)
+    ∙ entries_read (number + 1) total (with_entry content event) events ranges.1
+    (subst (λ (past : History). AreTaken past events) (sym (history_after content event)) taken.2)
     (omega (arith, is, more)) limit
-    ∙ ap (λ (es : List Event). Ok (told_of told.base told.folded es)) (append_assoc told.entries (event ∷ []) events)
+    ∙ ap (λ (es : List Event). Ok (content_of content.base content.folded es)) (append_assoc content.entries (event ∷ []) events)
 
-lines_and_end : (told : Told) → trace_lines told ++ [] ∷ []
-    ≡ header ∷ base_text told.folded told.base
-    ∷ (map event_text told.entries ++ end_text (length told.entries) ∷ [] ∷ [])
-lines_and_end told =
-    ap (λ (ls : List (List ℕ)). header ∷ base_text told.folded told.base ∷ ls)
-    (append_assoc (map event_text told.entries) (end_text (length told.entries) ∷ []) ([] ∷ []))
+lines_and_end : (content : Content) → trace_lines content ++ [] ∷ []
+    ≡ header ∷ base_text content.folded content.base
+    ∷ (map event_text content.entries ++ end_text (length content.entries) ∷ [] ∷ [])
+lines_and_end content =
+    ap (λ (ls : List (List ℕ)). header ∷ base_text content.folded content.base ∷ ls)
+    (append_assoc (map event_text content.entries) (end_text (length content.entries) ∷ []) ([] ∷ []))
 
-abbrev refusal : TraceFault → Result Told TraceFault
+abbrev refusal : TraceFault → Result Content TraceFault
 refusal fault = Err fault
 
-abbrev pub answer : Told → Result Told TraceFault
-answer told = Ok told
+abbrev pub answer : Content → Result Content TraceFault
+answer content = Ok content
 
--- All was told, and nothing stands after the end line.
-pub told_whole : (text rest : List ℕ) (number : ℕ) (told : Told)
-    → told_from text ≡ told_by_parts number (Whole told) (parts_of rest)
-    → true ≡ (length rest == 0) → told_from text ≡ Ok told
-told_whole text rest number told is none = is ∙ over_none number told rest (grind (arith, none))
+-- All was reported, and nothing stands after the end line.
+pub reported_whole : (text rest : List ℕ) (number : ℕ) (content : Content)
+    → content_from text ≡ content_by_parts number (Whole content) (parts_of rest)
+    → true ≡ (length rest == 0) → content_from text ≡ Ok content
+reported_whole text rest number content is none = is ∙ over_none number content rest (grind (arith, none))
 
--- The text of a trace is read as what it tells.
-pub told_from-only : (told : Told) → IsTold told → told_from (trace_text told) ≡ Ok told
-told_from-only told h =
-    let base = told_of told.base told.folded [] in
-    let rest = map event_text told.entries ++ end_text (length told.entries) ∷ [] ∷ [] in
-    ap (told_by_parts 1 Nothing) (split_lines (trace_lines told) (plain-trace_lines told) ∙ lines_and_end told)
-    ∙ goes_on 1 Nothing Header header (base_text told.folded told.base ∷ rest) (λ e. cc e) header_said
-    ∙ goes_on 2 Header (Entries base) (base_text told.folded told.base) rest
-    (some_parts (map event_text told.entries) _) (base_line told h)
-    ∙ entries_read 3 (length told.entries) base told.entries h.ranges h.taken (omega arith) h.limit
+-- The text of a trace is read as what it says.
+pub content_from-only : (content : Content) → IsContent content → content_from (trace_text content) ≡ Ok content
+content_from-only content h =
+    let base = content_of content.base content.folded [] in
+    let rest = map event_text content.entries ++ end_text (length content.entries) ∷ [] ∷ [] in
+    ap (content_by_parts 1 Nothing) (split_lines (trace_lines content) (plain-trace_lines content) ∙ lines_and_end content)
+    ∙ goes_on 1 Nothing Header header (base_text content.folded content.base ∷ rest) (λ e. cc e) header_said
+    ∙ goes_on 2 Header (Entries base) (base_text content.folded content.base) rest
+    (some_parts (map event_text content.entries) _) (base_line content h)
+    ∙ entries_read 3 (length content.entries) base content.entries h.ranges h.taken (omega arith) h.limit
 
--- What is told is so, without what types tell by themselves.
-pub IsTraceText-told : (text : List ℕ) (told : Told) → told_from text ≡ Ok told → IsTraceText told
-IsTraceText-told text told is =
-    let found = told_from-found text told is in
+-- What is reported is so, without what types say by themselves.
+pub IsTraceText-content : (text : List ℕ) (content : Content) → content_from text ≡ Ok content → IsTraceText content
+IsTraceText-content text content is =
+    let found = content_from-found text content is in
     let so = found.0 in
     record { count = so.count; limit = so.limit; taken = so.taken }
 
-pub found-ok : {E : Type 0} (text : List ℕ) (r : Result Told E) → IfOk r (λ told. told_from text ≡ Ok told)
-    → IfOk r (λ told. IsTold told × (text ≡ trace_text told))
-found-ok text (Ok told) h = told_from-found text told h
+pub found-ok : {E : Type 0} (text : List ℕ) (r : Result Content E) → IfOk r (λ content. content_from text ≡ Ok content)
+    → IfOk r (λ content. IsContent content × (text ≡ trace_text content))
+found-ok text (Ok content) h = content_from-found text content h
 found-ok text (Err e) h = tt
 
-memory_told : (why : TraceFaultKind) → ((why ≢ kind.OutOfMemory) → ⊥) → why ≡ kind.OutOfMemory
-memory_told kind.OutOfMemory h = refl
-memory_told kind.Line h = absurd (h (λ e. cc e))
-memory_told kind.Label h = absurd (h (λ e. cc e))
-memory_told kind.Number h = absurd (h (λ e. cc e))
-memory_told kind.UnknownEvent h = absurd (h (λ e. cc e))
-memory_told kind.NotTaken h = absurd (h (λ e. cc e))
+memory_spelt : (why : TraceFaultKind) → ((why ≢ kind.OutOfMemory) → ⊥) → why ≡ kind.OutOfMemory
+memory_spelt kind.OutOfMemory h = refl
+memory_spelt kind.Line h = absurd (h (λ e. cc e))
+memory_spelt kind.Label h = absurd (h (λ e. cc e))
+memory_spelt kind.Number h = absurd (h (λ e. cc e))
+memory_spelt kind.UnknownEvent h = absurd (h (λ e. cc e))
+memory_spelt kind.NotTaken h = absurd (h (λ e. cc e))
 
--- A text that tells a trace is refused for want of memory alone.
-pub only-ok : (text : List ℕ) (told : Told) (r : Result Told TraceFault) → IsTold told → text ≡ trace_text told
-    → IfOk r (λ read. told_from text ≡ Ok read)
-    → IfErr r (λ fault. (fault.kind ≢ kind.OutOfMemory) → told_from text ≡ Err fault)
-    → MatchResult r (λ read. read ≡ told) (λ fault. fault.kind ≡ kind.OutOfMemory)
-only-ok text told (Ok read) so is ok err = let e : answer read ≡ Ok told = sym ok ∙ ap told_from is
-    ∙ told_from-only told so in cc e
-only-ok text told (Err fault) so is ok err = memory_told fault.kind λ other.
-    let e : refusal fault ≡ Ok told = sym (err other) ∙ ap told_from is ∙ told_from-only told so in cc e
+-- A text that says a trace is refused for want of memory alone.
+pub only-ok : (text : List ℕ) (content : Content) (r : Result Content TraceFault) → IsContent content → text ≡ trace_text content
+    → IfOk r (λ read. content_from text ≡ Ok read)
+    → IfErr r (λ fault. (fault.kind ≢ kind.OutOfMemory) → content_from text ≡ Err fault)
+    → MatchResult r (λ read. read ≡ content) (λ fault. fault.kind ≡ kind.OutOfMemory)
+only-ok text content (Ok read) so is ok err = let e : answer read ≡ Ok content = sym ok ∙ ap content_from is
+    ∙ content_from-only content so in cc e
+only-ok text content (Err fault) so is ok err = memory_spelt fault.kind λ other.
+    let e : refusal fault ≡ Ok content = sym (err other) ∙ ap content_from is ∙ content_from-only content so in cc e

@@ -13,7 +13,7 @@ use Rattle.sup_core.specs.History.{History, phase_of}
 use Rattle.sup_core.specs.Rules.{next, reply_to}
 use Rattle.sup_trace.specs.declared.breaks.Break.{Break}
 use Rattle.sup_trace.specs.declared.breaks.Break.TheVariants as break
-use Rattle.sup_trace.specs.Told.{Told}
+use Rattle.sup_trace.specs.Content.{Content}
 use Rattle.sup_trace.specs.Explained.{before}
 
 -- An ask is this signal, to whatever process.
@@ -39,15 +39,15 @@ AnswersBreak met at happened reply phase =
     → IsTrue met ↔ Breaks at past happened
 
 -- The entry at a place, from 0, is such an event where it stands.
-abbrev pub BreaksAt : Told → Break → ℕ → Type 0
-BreaksAt told at place = IsSomeAnd (slice_get told.entries place) (Breaks at (before told place))
+abbrev pub BreaksAt : Content → Break → ℕ → Type 0
+BreaksAt content at place = IsSomeAnd (slice_get content.entries place) (Breaks at (before content place))
 
 -- This number, counted from 1, is that of the first such entry.
-pub record IsFirstBreak (told : Told) (at : Break) (number : ℕ) : Type 0 where
+pub record IsFirstBreak (content : Content) (at : Break) (number : ℕ) : Type 0 where
   pub above : 0 < number
-  pub here : BreaksAt told at (number - 1)
-  pub first : (place : ℕ) → place + 1 < number → ¬ BreaksAt told at place
+  pub here : BreaksAt content at (number - 1)
+  pub first : (place : ℕ) → place + 1 < number → ¬ BreaksAt content at place
 
 -- There is no such entry.
-abbrev pub HasNoBreak : Told → Break → Type 0
-HasNoBreak told at = (place : ℕ) → ¬ BreaksAt told at place
+abbrev pub HasNoBreak : Content → Break → Type 0
+HasNoBreak content at = (place : ℕ) → ¬ BreaksAt content at place

@@ -6,11 +6,11 @@ use Rattle.sup_core.specs.History.{History, Opened, phase_of}
 use Rattle.sup_core.specs.Rules.{next, reply_to}
 use Rattle.sup_core.specs.Runs.{followed_by}
 use Rattle.sup_core.specs.Text.{event_text, answer_text}
-use Rattle.sup_trace.specs.Told.{Told}
+use Rattle.sup_trace.specs.Content.{Content}
 
 -- the history before the entry at a place, from 0: the base and the entries that come first
-abbrev pub before : Told → ℕ → History
-before told place = followed_by (Opened told.base) (take place told.entries)
+abbrev pub before : Content → ℕ → History
+before content place = followed_by (Opened content.base) (take place content.entries)
 
 -- what is answered to an event, and the phase after it
 abbrev pub answer_at : History → Event → List ℕ
@@ -22,9 +22,9 @@ numbered_line number past event =
     decimal number ++ codes " " ++ event_text event ++ codes ": " ++ answer_at past event
 
 -- the line of the entry at a place, whose number is from 1
-abbrev pub explained_line : Told → ℕ → Event → List ℕ
-explained_line told place event = numbered_line (place + 1) (before told place) event
+abbrev pub explained_line : Content → ℕ → Event → List ℕ
+explained_line content place event = numbered_line (place + 1) (before content place) event
 
 -- a line for each entry
-abbrev pub explained : Told → List (List ℕ)
-explained told = map (λ placed. explained_line told placed.0 placed.1) (enumerate_from 0 told.entries)
+abbrev pub explained : Content → List (List ℕ)
+explained content = map (λ placed. explained_line content placed.0 placed.1) (enumerate_from 0 content.entries)

@@ -1,4 +1,4 @@
-pub mod Told
+pub mod Content
 pub mod Text
 pub mod Trace
 pub mod Explained

@@ -1,4 +1,4 @@
--- Reading the text of a trace: what it tells, or else its first faulty line and why that is refused.
+-- Reading the text of a trace: what it says, or else its first faulty line and why that is refused.
 use Rattle.std.specs.Prelude.{◌≡◌, ◌≢◌, ℕ, ◌+◌, ◌^◌, ◌<◌, ◌==◌, ◌&&◌, nat_lt, nat_le, bytes_eq, Bool, true, false}
 use Rattle.std.specs.Prelude.{not, if◌then◌else◌, List, [], ◌∷◌, ◌++◌, length, codes, decimal, Option, Some, None}
 use Rattle.std.specs.Prelude.{option_map, Result, Ok, Err, MatchResult}
@@ -21,10 +21,10 @@ use Rattle.sup_core.specs.Reading.{fields, label_of_text, event_from}
 use Rattle.sup_trace.specs.declared.fault.TraceFault.{TraceFault}
 use Rattle.sup_trace.specs.declared.fault.TraceFaultKind.{TraceFaultKind}
 use Rattle.sup_trace.specs.declared.fault.TraceFaultKind.TheVariants as kind
-use Rattle.sup_trace.specs.Told.{Told, IsTold, told_of, told_history}
+use Rattle.sup_trace.specs.Content.{Content, IsContent, content_of, content_history}
 use Rattle.sup_trace.specs.Text.{header, front_lines, lines_text}
 
--- What the fields of the base's line tell
+-- What the fields of the base's line say
 
 -- the count of folded events that this is the text of
 unfoldable pub folded_of_text : List ℕ → Option ℕ
@@ -73,20 +73,20 @@ until_of_text text =
 
 -- The lines
 
--- what the lines so far told: nothing, the header, the base and some entries, or all
+-- what the lines so far reported: nothing, the header, the base and some entries, or all
 pub data Heard : Type 0 where
   Nothing : Heard
   Header : Heard
-  Entries : Told → Heard
-  Whole : Told → Heard
+  Entries : Content → Heard
+  Whole : Content → Heard
 
 -- the base of so many folded events, and no entries yet
 abbrev pub at_base : ℕ → State → Heard
-at_base folded base = Entries (told_of base folded [])
+at_base folded base = Entries (content_of base folded [])
 
 -- with one more entry
-abbrev pub with_entry : Told → Event → Told
-with_entry told event = told_of told.base told.folded (told.entries ++ event ∷ [])
+abbrev pub with_entry : Content → Event → Content
+with_entry content event = content_of content.base content.folded (content.entries ++ event ∷ [])
 
 -- a phase, a status, and whether the machine is to end
 abbrev pub standing : Option Phase → Option Status → Option Bool → Option (Phase × Status × Bool)
@@ -102,7 +102,7 @@ abbrev pub base_at : ℕ → State → Result Heard TraceFaultKind
 base_at folded state =
     if is_state state then Ok (at_base folded state) else Err kind.Line
 
--- The base of what its fields tell, or the first fault: no number; no phase, record or word of staying; no label;
+-- The base of what its fields say, or the first fault: no number; no phase, record or word of staying; no label;
 -- no state in which a machine stands.
 abbrev pub base_from : Option ℕ → Option (Phase × Status × Bool) → Option (Option Tai64n) → Result Heard TraceFaultKind
 base_from None standing until = Err kind.Number
@@ -127,52 +127,52 @@ kind_of why.Number = kind.Number
 kind_of why.Label = kind.Label
 
 -- an event's line: its own faults come first, then one entry more than 65,536, then one that is not taken
-abbrev pub entry_result : Told → Result Event EventFault → Result Heard TraceFaultKind
-entry_result told (Err fault) = Err (kind_of fault)
-entry_result told (Ok event) =
-    if not (nat_lt (length told.entries) 65536) then Err kind.Line
-    else if takes (told_history told) event then Ok (Entries (with_entry told event))
+abbrev pub entry_result : Content → Result Event EventFault → Result Heard TraceFaultKind
+entry_result content (Err fault) = Err (kind_of fault)
+entry_result content (Ok event) =
+    if not (nat_lt (length content.entries) 65536) then Err kind.Line
+    else if takes (content_history content) event then Ok (Entries (with_entry content event))
     else Err kind.NotTaken
 
 -- the end line: the number of the entries
-abbrev pub end_result : Told → List (List ℕ) → Result Heard TraceFaultKind
-end_result told (count ∷ []) =
-    if bytes_eq count (decimal (length told.entries)) then Ok (Whole told) else Err kind.Number
-end_result told other = Err kind.Line
+abbrev pub end_result : Content → List (List ℕ) → Result Heard TraceFaultKind
+end_result content (count ∷ []) =
+    if bytes_eq count (decimal (length content.entries)) then Ok (Whole content) else Err kind.Number
+end_result content other = Err kind.Line
 
 -- a line after the base's, by its fields: a first word `end` makes it the end line
-abbrev pub later_result : Told → List (List ℕ) → Result Heard TraceFaultKind
-later_result told [] = Err kind.UnknownEvent
-later_result told (word ∷ rest) =
-    if bytes_eq word (codes "end") then end_result told rest else entry_result told (event_from (word ∷ rest))
+abbrev pub later_result : Content → List (List ℕ) → Result Heard TraceFaultKind
+later_result content [] = Err kind.UnknownEvent
+later_result content (word ∷ rest) =
+    if bytes_eq word (codes "end") then end_result content rest else entry_result content (event_from (word ∷ rest))
 
--- what a line tells after those so far
+-- what a line says after those so far
 abbrev pub line_result : Heard → List ℕ → Result Heard TraceFaultKind
 line_result Nothing line = if bytes_eq line header then Ok Header else Err kind.Line
 line_result Header line = base_result (fields line)
-line_result (Entries told) line = later_result told (fields line)
-line_result (Whole told) line = Err kind.Line
+line_result (Entries content) line = later_result content (fields line)
+line_result (Whole content) line = Err kind.Line
 
--- all that was told, or what was told so far
-abbrev pub heard_of : Bool → Told → Heard
-heard_of true told = Whole told
-heard_of false told = Entries told
+-- all that was reported, or what was reported so far
+abbrev pub heard_of : Bool → Content → Heard
+heard_of true content = Whole content
+heard_of false content = Entries content
 
 -- a line that is refused
-abbrev pub refusal : ℕ → TraceFaultKind → Result Told TraceFault
+abbrev pub refusal : ℕ → TraceFaultKind → Result Content TraceFault
 refusal number why = Err (record { line = number; kind = why })
 
--- what the bytes after the last newline tell: there are none, and all was told
-abbrev pub at_end : ℕ → Heard → List ℕ → Result Told TraceFault
-at_end number (Whole told) [] = Ok told
+-- what the bytes after the last newline report: there are none, and all was reported
+abbrev pub at_end : ℕ → Heard → List ℕ → Result Content TraceFault
+at_end number (Whole content) [] = Ok content
 at_end number heard rest = refusal number kind.Line
 
--- Reading goes line by line, each up to its newline, and the first that is refused is told with its number.
-abbrev pub told_by_parts : ℕ → Heard → List (List ℕ) → Result Told TraceFault
-told_by_parts number heard [] = at_end number heard []
-told_by_parts number heard (rest ∷ []) = at_end number heard rest
-told_by_parts number heard (line ∷ part ∷ parts) = elim (line_result heard line) [
-  | Ok more ↦ told_by_parts (number + 1) more (part ∷ parts)
+-- Reading goes line by line, each up to its newline, and the first that is refused is reported with its number.
+abbrev pub content_by_parts : ℕ → Heard → List (List ℕ) → Result Content TraceFault
+content_by_parts number heard [] = at_end number heard []
+content_by_parts number heard (rest ∷ []) = at_end number heard rest
+content_by_parts number heard (line ∷ part ∷ parts) = elim (line_result heard line) [
+  | Ok more ↦ content_by_parts (number + 1) more (part ∷ parts)
   | Err why ↦ refusal number why
 ]
 
@@ -180,9 +180,9 @@ told_by_parts number heard (line ∷ part ∷ parts) = elim (line_result heard l
 abbrev pub parts_of : List ℕ → List (List ℕ)
 parts_of text = slice_split (λ byte. byte == 10) text
 
--- what a text tells, or its first fault
-abbrev pub told_from : List ℕ → Result Told TraceFault
-told_from text = told_by_parts 1 Nothing (parts_of text)
+-- what a text says, or its first fault
+abbrev pub content_from : List ℕ → Result Content TraceFault
+content_from text = content_by_parts 1 Nothing (parts_of text)
 
 -- Where reading can want memory
 
@@ -190,27 +190,27 @@ told_from text = told_by_parts 1 Nothing (parts_of text)
 -- it stands, and the last of these is the line of that number. So the lines before it are read, it is read, and its
 -- event is taken there.
 pub record HasEntryAt (text : List ℕ) (line : ℕ) : Type 0 where
-  pub told : Told
-  pub so : IsTold told
-  pub some : 0 < length told.entries
-  pub number : line ≡ length (front_lines told)
+  pub content : Content
+  pub so : IsContent content
+  pub some : 0 < length content.entries
+  pub number : line ≡ length (front_lines content)
   pub rest : List ℕ
-  pub begins : text ≡ lines_text (front_lines told) ++ rest
+  pub begins : text ≡ lines_text (front_lines content) ++ rest
 
 -- No line up to this one is faulty.
 abbrev pub IsBeforeFaults : (text : List ℕ) (line : ℕ) → Type 0
-IsBeforeFaults text line = (first : TraceFault) → told_from text ≡ Err first → line < first.line
+IsBeforeFaults text line = (first : TraceFault) → content_from text ≡ Err first → line < first.line
 
 -- This was read; or there was no memory for it.
-abbrev pub ReadsOrStarves : Result Told TraceFault → Told → Type 0
-ReadsOrStarves result told = MatchResult result (λ read. read ≡ told) (λ fault. fault.kind ≡ kind.OutOfMemory)
+abbrev pub ReadsOrStarves : Result Content TraceFault → Content → Type 0
+ReadsOrStarves result content = MatchResult result (λ read. read ≡ content) (λ fault. fault.kind ≡ kind.OutOfMemory)
 
 -- Words of the steps of reading, for private functions alone.
 
 -- One more entry is read.
-pub record AddsEntry (told : Told) (r : Result Heard TraceFaultKind) : Type 0 where
+pub record AddsEntry (content : Content) (r : Result Heard TraceFaultKind) : Type 0 where
   pub event : Event
-  pub is : r ≡ Ok (Entries (with_entry told event))
+  pub is : r ≡ Ok (Entries (with_entry content event))
 
 -- A line is cut off a text and read.
 pub record ReadsLine (number later : ℕ) (text rest : List ℕ) (heard more : Heard) : Type 0 where
@@ -219,7 +219,7 @@ pub record ReadsLine (number later : ℕ) (text rest : List ℕ) (heard more : H
   pub next : later ≡ number + 1
   pub is : line_result heard line ≡ Ok more
 
--- what these lines tell, one after another
+-- what these lines say, one after another
 abbrev pub heard_along : Heard → List (List ℕ) → Result Heard TraceFaultKind
 heard_along heard [] = Ok heard
 heard_along heard (line ∷ lines) = elim (line_result heard line) [
@@ -233,16 +233,16 @@ pub record ReadsEntry (at number : ℕ) (heard : Heard) (parts : List (List ℕ)
   pub rest : List (List ℕ)
   pub cut : parts ≡ lines ++ rest
   pub ended : rest ≢ []
-  pub told : Told
-  pub some : 0 < length told.entries
-  pub is : heard_along heard lines ≡ Ok (Entries told)
+  pub content : Content
+  pub some : 0 < length content.entries
+  pub is : heard_along heard lines ≡ Ok (Entries content)
   pub place : at + 1 ≡ number + length lines
 
--- What is told from here is told from there: by the number of a line, what the lines before it told, and the text
+-- What is reported from here is reported from there: by the number of a line, what the lines before it reported, and the text
 -- that begins with it.
-abbrev pub TellsAlike : (number : ℕ) (heard : Heard) (text : List ℕ) (later : ℕ) (more : Heard) (rest : List ℕ) → Type 0
-TellsAlike number heard text later more rest =
-    told_by_parts number heard (parts_of text) ≡ told_by_parts later more (parts_of rest)
+abbrev pub SpellsAlike : (number : ℕ) (heard : Heard) (text : List ℕ) (later : ℕ) (more : Heard) (rest : List ℕ) → Type 0
+SpellsAlike number heard text later more rest =
+    content_by_parts number heard (parts_of text) ≡ content_by_parts later more (parts_of rest)
 
 -- An entry that is read from there is read from here.
 abbrev pub ReadsItsEntries :
@@ -250,7 +250,7 @@ abbrev pub ReadsItsEntries :
 ReadsItsEntries number heard text later more rest =
     (at : ℕ) → ReadsEntry at later more (parts_of rest) → ReadsEntry at number heard (parts_of text)
 
--- What is told of faults
+-- What is reported of faults
 
 -- why a line is refused
 abbrev pub kind_name : TraceFaultKind → List ℕ

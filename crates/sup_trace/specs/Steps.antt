@@ -3,7 +3,7 @@ use Rattle.std.specs.Prelude.{◌≡◌, ◌≢◌, Err}
 use Rattle.sup_trace.specs.declared.fault.TraceFault.{TraceFault}
 use Rattle.sup_trace.specs.declared.fault.TraceFaultKind.TheVariants as kind
 use Rattle.sup_trace.specs.declared.lines.Lines.{Lines}
-use Rattle.sup_trace.specs.Reading.{Heard, parts_of, told_by_parts, ReadsEntry, ReadsItsEntries, ReadsLine, TellsAlike}
+use Rattle.sup_trace.specs.Reading.{Heard, parts_of, content_by_parts, ReadsEntry, ReadsItsEntries, ReadsLine, SpellsAlike}
 
 -- The next line is read.
 abbrev pub ReadsNext : (old new : Lines) (heard more : Heard) → Type 0
@@ -12,7 +12,7 @@ ReadsNext old new heard more = ReadsLine old.number new.number old.rest.now new.
 -- Reading from here ends in this fault, unless memory is wanted.
 abbrev pub EndsInFault : Lines → Heard → TraceFault → Type 0
 EndsInFault lines heard fault =
-    fault.kind ≢ kind.OutOfMemory → told_by_parts lines.number heard (parts_of lines.rest.now) ≡ Err fault
+    fault.kind ≢ kind.OutOfMemory → content_by_parts lines.number heard (parts_of lines.rest.now) ≡ Err fault
 
 -- Where memory is wanted, the line is an entry's.
 abbrev pub WantsMemory : Lines → Heard → TraceFault → Type 0
@@ -21,7 +21,7 @@ WantsMemory lines heard fault =
 
 -- What is read from here is read from there.
 abbrev pub ReadsAlike : (here : Lines) (heard : Heard) (there : Lines) (more : Heard) → Type 0
-ReadsAlike here heard there more = TellsAlike here.number heard here.rest.now there.number more there.rest.now
+ReadsAlike here heard there more = SpellsAlike here.number heard here.rest.now there.number more there.rest.now
 
 -- An entry that is read from there is read from here.
 abbrev pub KeepsEntries : (here : Lines) (heard : Heard) (there : Lines) (more : Heard) → Type 0

@@ -9,7 +9,7 @@ use Rattle.tai_status.specs.Phase.{phase_name}
 use Rattle.tai_status.specs.Record.{Status, status_record}
 use Rattle.sup_core.specs.State.{State}
 use Rattle.sup_core.specs.Text.{event_text}
-use Rattle.sup_trace.specs.Told.{Told}
+use Rattle.sup_trace.specs.Content.{Content}
 
 -- the first line
 unfoldable pub header : List ℕ
@@ -44,17 +44,17 @@ abbrev pub end_text : ℕ → List ℕ
 end_text count = codes "end " ++ decimal count
 
 -- the lines up to the last entry's
-abbrev pub front_lines : Told → List (List ℕ)
-front_lines told = header ∷ base_text told.folded told.base ∷ map event_text told.entries
+abbrev pub front_lines : Content → List (List ℕ)
+front_lines content = header ∷ base_text content.folded content.base ∷ map event_text content.entries
 
 -- the lines of a trace's text
-abbrev pub trace_lines : Told → List (List ℕ)
-trace_lines told = front_lines told ++ end_text (length told.entries) ∷ []
+abbrev pub trace_lines : Content → List (List ℕ)
+trace_lines content = front_lines content ++ end_text (length content.entries) ∷ []
 
 -- lines as a text, each with a newline
 abbrev pub lines_text : List (List ℕ) → List ℕ
 lines_text lines = flat_map (λ line. line ++ 10 ∷ []) lines
 
 -- the text of a trace
-abbrev pub trace_text : Told → List ℕ
-trace_text told = lines_text (trace_lines told)
+abbrev pub trace_text : Content → List ℕ
+trace_text content = lines_text (trace_lines content)

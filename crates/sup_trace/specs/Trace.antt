@@ -8,7 +8,7 @@ use Rattle.sup_core.specs.State.{State}
 use Rattle.sup_core.specs.History.{History, Opened, Then, state_of}
 use Rattle.sup_core.specs.Rules.{takes}
 use Rattle.sup_core.specs.Runs.{followed_by, AreTaken}
-use Rattle.sup_trace.specs.Told.{Told, told_of, told_history, replay_of}
+use Rattle.sup_trace.specs.Content.{Content, content_of, content_history, replay_of}
 
 -- The machine before the entries, the events taken since, oldest first, how many of them are kept at
 -- most, and how many older ones the base stands for, as far as they are counted.
@@ -22,17 +22,17 @@ abbrev pub kept_of : State → Buffer Event → ℕ → Kept
 kept_of base entries folded =
     record { base = base; entries = entries.items; capacity = entries.capacity; folded = folded }
 
--- what the text of a trace tells
-abbrev pub told_by : Kept → Told
-told_by kept = told_of kept.base kept.folded kept.entries
+-- what the text of a trace says
+abbrev pub content_by : Kept → Content
+content_by kept = content_of kept.base kept.folded kept.entries
 
 -- the history of the entries after the base
 abbrev pub history_of : Kept → History
-history_of kept = told_history (told_by kept)
+history_of kept = content_history (content_by kept)
 
 -- the state that the base and the entries replay to
 abbrev pub replay : Kept → State
-replay kept = replay_of (told_by kept)
+replay kept = replay_of (content_by kept)
 
 -- What holds of every trace.
 pub record IsTrace (kept : Kept) : Type 0 where

@@ -7,7 +7,7 @@ ghost use Rattle.hex.specs.Hex.{encode_lower, decode_sized};
 ghost use Rattle.tai_status.specs.Record.{Status, IsStatus, status_record};
 ghost use Rattle.sup_core.specs.Reading.{fields};
 ghost use Rattle.sup_trace.specs.declared.fault.TraceFaultKind.TheVariants as kind;
-ghost use Rattle.sup_trace.specs.Told.{Told, told_of};
+ghost use Rattle.sup_trace.specs.Content.{Content, content_of};
 ghost use Rattle.sup_trace.specs.Reading.{folded_of_text, phase_of_text, status_of_bytes, status_of_text};
 ghost use Rattle.sup_trace.specs.Reading.{exiting_of_text, until_of_text, standing, state_of_parts, Entries};
 ghost use Rattle.sup_trace.specs.Reading.{at_base, base_result};

@@ -1,7 +1,7 @@
 ghost use Rattle.std.specs.Prelude.{◌≡◌, ◌↔◌, IsTrue, MatchOption};
 ghost use Rattle.sup_trace.specs.Breaks.{AsksFor, HasNoBreak, IsFirstBreak, IsSignal};
 
-use crate::told::TraceText;
+use crate::content::TraceText;
 use std::alloc::Allocator;
 use sup_core::{Ask, Event, Phase, Reply, Sig};
 
@@ -33,11 +33,11 @@ impl Break {
 
 /// The number, from 1, of the first entry that is what is looked for: that byte, or one after which the phase is that
 /// phase, or one at which that signal is asked for. The base by itself is not looked at.
-pub fn first_break<A: Allocator>(told: &TraceText<A>, at: Break) -> Option<u64>
-    ensures { MatchOption result (HasNoBreak told.now at) (IsFirstBreak told.now at) }
+pub fn first_break<A: Allocator>(content: &TraceText<A>, at: Break) -> Option<u64>
+    ensures { MatchOption result (HasNoBreak content.now at) (IsFirstBreak content.now at) }
 {
-    let mut machine = told.base();
-    for (place, event) in told.entries().iter().enumerate() {
+    let mut machine = content.base();
+    for (place, event) in content.entries().iter().enumerate() {
         let reply = machine.step(*event);
         if at.is_met(event, &reply, machine.phase()) {
             return Some(place as u64 + 1);

@@ -5,7 +5,7 @@ ghost use Rattle.sup_core.specs.History.{History, state_of};
 ghost use Rattle.sup_core.specs.Rules.{IsEvent, next};
 ghost use Rattle.sup_trace.specs.Explained.{explained, numbered_line};
 
-use crate::told::TraceText;
+use crate::content::TraceText;
 use std::alloc::{AllocError, Allocator};
 use sup_core::{Event, Machine, answer_text, event_text};
 use tai_status::Lines;
@@ -14,14 +14,14 @@ use tai_status::Lines;
 /// CONT:4711 record:.. -> up`. The lines have no newlines.
 pub fn explain<A: Allocator + Clone, B: Allocator>(
     alloc: A,
-    told: &TraceText<B>,
+    content: &TraceText<B>,
 ) -> Result<Lines<A>, AllocError>
-    ensures lines { IfOk result (λ lines. lines ≡ explained told.now) }
+    ensures lines { IfOk result (λ lines. lines ≡ explained content.now) }
     ensures plain { IfOk result (λ lines. AllByRecursion IsPlain lines) }
 {
-    let mut machine = told.base();
-    let mut lines = Vec::with_capacity(alloc.clone()?, told.entries().len())?;
-    for (place, event) in told.entries().iter().enumerate() {
+    let mut machine = content.base();
+    let mut lines = Vec::with_capacity(alloc.clone()?, content.entries().len())?;
+    for (place, event) in content.entries().iter().enumerate() {
         lines.push(explained_line(&alloc, place + 1, &mut machine, event)?)?;
     }
     Ok(Lines::from_vec(lines))

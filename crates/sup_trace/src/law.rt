@@ -2,10 +2,10 @@ ghost use Rattle.std.specs.Prelude.{◌≡◌, ◌++◌, ℕ, List, Ok};
 ghost use Rattle.sup_core.specs.declared.event.Event.{Event};
 ghost use Rattle.sup_core.specs.History.{state_of};
 ghost use Rattle.sup_core.specs.Runs.{after};
-ghost use Rattle.sup_trace.specs.Told.{Told, IsTold, replay_of};
+ghost use Rattle.sup_trace.specs.Content.{Content, IsContent, replay_of};
 ghost use Rattle.sup_trace.specs.Text.{trace_text};
-ghost use Rattle.sup_trace.specs.Reading.{told_from};
-ghost use Rattle.sup_trace.specs.Trace.{Kept, history_of, noted, noted_along, replay, told_by};
+ghost use Rattle.sup_trace.specs.Reading.{content_from};
+ghost use Rattle.sup_trace.specs.Trace.{Kept, history_of, noted, noted_along, replay, content_by};
 ghost use Rattle.sup_trace.specs.Laws.{EachComesAsAll, NewTraceKeepsTheTaken, TracesReplayTheTaken};
 
 /// A law of traces. After any events, one at a time, the last of those that were taken are the entries, as many as
@@ -20,11 +20,11 @@ pub fn traces_after_events()
     ensures replays_taken { TracesReplayTheTaken }
 {}
 
-/// A law of texts. What a text tells is read from it, and a text that is read is the one text of what it tells. A
-/// trace's text tells its base, its entries and its count of folded events, which replay to the machine after all
+/// A law of texts. What a text says is read from it, and a text that is read is the one text of what it says. A
+/// trace's text says its base, its entries and its count of folded events, which replay to the machine after all
 /// events.
 pub fn texts_of_traces()
-    ensures read { (told : Told) → IsTold told → told_from (trace_text told) ≡ Ok told }
-    ensures told { (text : List ℕ) (told : Told) → told_from text ≡ Ok told → IsTold told × (text ≡ trace_text told) }
-    ensures replayed { (kept : Kept) → replay_of (told_by kept) ≡ replay kept }
+    ensures read { (content : Content) → IsContent content → content_from (trace_text content) ≡ Ok content }
+    ensures content { (text : List ℕ) (content : Content) → content_from text ≡ Ok content → IsContent content × (text ≡ trace_text content) }
+    ensures replayed { (kept : Kept) → replay_of (content_by kept) ≡ replay kept }
 {}

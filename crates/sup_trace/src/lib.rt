@@ -1,7 +1,7 @@
 //! The last events of a service, and the machine before them: what is left of a history when the rest is forgotten.
 //!
 //! A [`Trace`] takes events as a machine does and keeps the last ones; the older ones are folded into its base. What it
-//! keeps is told by a text ([`TraceText`]), which [`read_text`] reads again, and from which [`replay`] gives the
+//! keeps is reported by a text ([`TraceText`]), which [`read_text`] reads again, and from which [`replay`] gives the
 //! machine, [`explain`] says what each entry did, and [`first_break`] finds the first entry of a kind. `specs/Trace`
 //! says what is kept after any events, in one piece.
 #![tactic(auto)]
@@ -14,7 +14,7 @@ mod law;
 mod lines;
 mod reading;
 mod text;
-mod told;
+mod content;
 mod trace;
 
 pub use breaks::{Break, first_break};
@@ -23,5 +23,5 @@ pub use fault::{TraceFault, TraceFaultKind, kind_name};
 pub use law::{texts_of_traces, traces_after_events};
 pub use reading::read_text;
 pub use text::record_digits;
-pub use told::{TraceText, replay};
+pub use content::{TraceText, replay};
 pub use trace::{MAX_CAPACITY, Trace};

@@ -5,23 +5,23 @@ ghost use Rattle.sup_core.specs.Reading.{fields, event_from};
 ghost use Rattle.sup_core.specs.Fields.{fields_after};
 ghost use Rattle.sup_trace.specs.declared.fault.TraceFault.{TraceFault};
 ghost use Rattle.sup_trace.specs.declared.fault.TraceFaultKind.TheVariants as kind;
-ghost use Rattle.sup_trace.specs.Told.{Told, IsTold, IsTraceText, told_of};
+ghost use Rattle.sup_trace.specs.Content.{Content, IsContent, IsTraceText, content_of};
 ghost use Rattle.sup_trace.specs.Text.{header, trace_text};
 ghost use Rattle.sup_trace.specs.Reading.{Nothing, Header, Entries, Whole, line_result, heard_of, entry_result};
-ghost use Rattle.sup_trace.specs.Reading.{end_result, kind_of, told_by_parts, parts_of, told_from, HasEntryAt};
+ghost use Rattle.sup_trace.specs.Reading.{end_result, kind_of, content_by_parts, parts_of, content_from, HasEntryAt};
 ghost use Rattle.sup_trace.specs.Reading.{AddsEntry, at_base, IsBeforeFaults, ReadsEntry, ReadsOrStarves};
 ghost use Rattle.sup_trace.specs.Steps.{KeepsEntries, ReadsNext, EndsInFault, ReadsAlike, WantsMemory};
 
 use crate::base::read_base;
 use crate::fault::{TraceFault, TraceFaultKind};
 use crate::lines::Lines;
-use crate::told::TraceText;
+use crate::content::TraceText;
 use crate::trace::MAX_CAPACITY;
 use std::alloc::{Allocator, Global};
 use std::marker::Model;
 use sup_core::{Event, EventFault, Machine, read_event, read_number, split_field};
 
-/// The base and the entries so far, and the machine after them. Contracts see it as `Told`.
+/// The base and the entries so far, and the machine after them. Contracts see it as `Content`.
 #[derive(Drop)]
 struct Reading<A: Allocator> {
     base: Machine,
@@ -32,18 +32,18 @@ struct Reading<A: Allocator> {
 
 impl<A: Allocator> Model for Reading<A> {
     ghost use Rattle.std.specs.Prelude.{◌≡◌};
-    ghost use Rattle.sup_trace.specs.Told.{Told, told_of, replay_of};
+    ghost use Rattle.sup_trace.specs.Content.{Content, content_of, replay_of};
 
-    ghost Value = { Told };
+    ghost Value = { Content };
 
-    // The machine is told by the others.
-    ghost view = { λ reading. told_of reading.base reading.folded reading.entries.items };
+    // The machine is reported by the others.
+    ghost view = { λ reading. content_of reading.base reading.folded reading.entries.items };
 
     ghost invariant = { λ reading.
-        reading.machine ≡ replay_of (told_of reading.base reading.folded reading.entries.items) };
+        reading.machine ≡ replay_of (content_of reading.base reading.folded reading.entries.items) };
 }
 
-/// What is told of the fault of an event's line.
+/// What is reported of the fault of an event's line.
 fn kind_of(fault: EventFault) -> TraceFaultKind
     ensures { result ≡ kind_of fault }
 {
@@ -78,7 +78,7 @@ fn read_header(line: &[u8]) -> Result<(), TraceFaultKind>
 impl<A: Allocator> Reading<A> {
     /// The base, with no entries yet.
     fn new(alloc: A, base: Machine, folded: u64) -> Reading<A>
-        ensures { result ≡ told_of base folded [] }
+        ensures { result ≡ content_of base folded [] }
     {
         Reading {
             base,
@@ -88,7 +88,7 @@ impl<A: Allocator> Reading<A> {
         }
     }
 
-    /// What was told, where it is what a text can tell.
+    /// What was reported, where it is what a text can report.
     fn into_text(self) -> TraceText<A>
         requires { IsTraceText self }
         ensures { result ≡ self }
@@ -192,7 +192,7 @@ fn take_header(lines: &mut Lines<'_>) -> Result<(), TraceFault>
     ensures ok { OnOk result (ReadsNext lines.old lines.new Nothing Header) }
     ensures room { OnOk result (lines.new.number + length lines.new.rest.now < 2 ^ 64) }
     ensures fault { IfErr result (λ fault.
-        told_by_parts lines.old.number Nothing (parts_of lines.old.rest.now) ≡ Err fault) }
+        content_by_parts lines.old.number Nothing (parts_of lines.old.rest.now) ≡ Err fault) }
     ensures memory { IfErr result (λ fault. fault.kind ≢ kind.OutOfMemory) }
 {
     let number = lines.number;
@@ -209,7 +209,7 @@ fn take_base(lines: &mut Lines<'_>) -> Result<(u64, Machine), TraceFault>
     ensures ok { IfOk result (λ (folded, base). ReadsNext lines.old lines.new Header (at_base folded base)) }
     ensures room { OnOk result (lines.new.number + length lines.new.rest.now < 2 ^ 64) }
     ensures fault { IfErr result (λ fault.
-        told_by_parts lines.old.number Header (parts_of lines.old.rest.now) ≡ Err fault) }
+        content_by_parts lines.old.number Header (parts_of lines.old.rest.now) ≡ Err fault) }
     ensures memory { IfErr result (λ fault. fault.kind ≢ kind.OutOfMemory) }
 {
     let number = lines.number;
@@ -229,7 +229,7 @@ fn take_opening(lines: &mut Lines<'_>) -> Result<(u64, Machine), TraceFault>
         KeepsEntries lines.old Nothing lines.new (at_base folded base)) }
     ensures room { OnOk result (lines.new.number + length lines.new.rest.now < 2 ^ 64) }
     ensures fault { IfErr result (λ fault.
-        told_by_parts lines.old.number Nothing (parts_of lines.old.rest.now) ≡ Err fault) }
+        content_by_parts lines.old.number Nothing (parts_of lines.old.rest.now) ≡ Err fault) }
     ensures memory { IfErr result (λ fault. fault.kind ≢ kind.OutOfMemory) }
 {
     take_header(lines)?;
@@ -255,8 +255,8 @@ impl<A: Allocator> Reading<A> {
 
 /// Reads the lines of a text, one after another.
 fn read_lines<A: Allocator>(alloc: A, text: &[u8]) -> Result<TraceText<A>, TraceFault>
-    ensures told { IfOk result (λ told. told_from text.now ≡ Ok told) }
-    ensures fault { IfErr result (λ fault. fault.kind ≢ kind.OutOfMemory → told_from text.now ≡ Err fault) }
+    ensures content { IfOk result (λ content. content_from text.now ≡ Ok content) }
+    ensures fault { IfErr result (λ fault. fault.kind ≢ kind.OutOfMemory → content_from text.now ≡ Err fault) }
     ensures memory { IfErr result (λ fault. fault.kind ≡ kind.OutOfMemory
         → ReadsEntry fault.line 1 Nothing (parts_of text.now)) }
 {
@@ -273,19 +273,19 @@ fn read_lines<A: Allocator>(alloc: A, text: &[u8]) -> Result<TraceText<A>, Trace
     Ok(reading.into_text())
 }
 
-/// What this text tells. It has a line `dtools-trace 1`, one for the base, one event line for each entry, oldest first,
+/// What this text says. It has a line `dtools-trace 1`, one for the base, one event line for each entry, oldest first,
 /// and a line `end` with the number of the entries; every line ends in a newline.
 ///
 /// The base's line is `base FOLDED PHASE RECORD STAY UNTIL`: the count of events before the entries, at most `2 ^ 63`;
 /// the phase; the 36 lower-case digits of the status record; `exit` where the machine is to end, else `stay`; and the
 /// label until which it settles or rests, or `-`. An event line is one that `read_event` reads.
 ///
-/// The first faulty line is told. Want of memory for an entry is told as a fault of its line.
+/// The first faulty line is reported. Want of memory for an entry is reported as a fault of its line.
 pub fn read_text<A: Allocator>(alloc: A, text: &[u8]) -> Result<TraceText<A>, TraceFault>
-    ensures found { IfOk result (λ told. IsTold told × (text.now ≡ trace_text told)) }
-    ensures only { (told : Told) → IsTold told → text.now ≡ trace_text told → ReadsOrStarves result told }
+    ensures found { IfOk result (λ content. IsContent content × (text.now ≡ trace_text content)) }
+    ensures only { (content : Content) → IsContent content → text.now ≡ trace_text content → ReadsOrStarves result content }
     // Which fault it is.
-    ensures fault { IfErr result (λ fault. fault.kind ≢ kind.OutOfMemory → told_from text.now ≡ Err fault) }
+    ensures fault { IfErr result (λ fault. fault.kind ≢ kind.OutOfMemory → content_from text.now ≡ Err fault) }
     // Memory is wanted at an entry alone: the lines before it are read, its line is, and its event is taken there.
     ensures memory { IfErr result (λ fault. fault.kind ≡ kind.OutOfMemory → HasEntryAt text.now fault.line) }
     // So a faulty line comes after it.

@@ -8,7 +8,7 @@ ghost use Rattle.sup_core.specs.Rules.{IsEvent};
 ghost use Rattle.sup_core.specs.Reading.{IsInRange};
 ghost use Rattle.tai_status.specs.Phase.{phase_name};
 ghost use Rattle.sup_core.specs.Text.{event_text};
-ghost use Rattle.sup_trace.specs.Told.{told_of};
+ghost use Rattle.sup_trace.specs.Content.{content_of};
 ghost use Rattle.sup_trace.specs.Text.{record_digits, base_text, end_text, stay_text, until_text, trace_text};
 
 use itoa::Buffer;
@@ -32,7 +32,7 @@ pub(crate) fn trace_text<A: Allocator>(
 ) -> Result<Vec<u8, A>, AllocError>
     requires few { length first.now + length second.now ≤ 65536 }
     requires events { AllByRecursion IsEvent (first.now ++ second.now) }
-    ensures text { IfOk result (λ bytes. bytes.items ≡ trace_text (told_of base.now folded (first.now ++ second.now))) }
+    ensures text { IfOk result (λ bytes. bytes.items ≡ trace_text (content_of base.now folded (first.now ++ second.now))) }
     ensures state { OnOk result (IsState base.now) }
     ensures status { OnOk result (IsStatus base.now.status) }
     ensures until { OnOk result (IfSome base.now.until IsLabel) }

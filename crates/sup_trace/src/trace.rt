@@ -1,12 +1,12 @@
 ghost use Rattle.std.specs.Prelude.{◌≡◌, true, ◌+◌, ◌^◌, ◌<◌, ◌≤◌, length, slice_get, IfOk, OnOk, [], ◌∷◌};
 ghost use Rattle.sup_core.specs.History.{state_of};
 ghost use Rattle.sup_core.specs.Rules.{IsEvent, takes, reply_to};
-ghost use Rattle.sup_trace.specs.Told.{IsTold};
+ghost use Rattle.sup_trace.specs.Content.{IsContent};
 ghost use Rattle.sup_trace.specs.Text.{trace_text};
 ghost use Rattle.sup_trace.specs.Trace.{IsTrace, kept_of, history_of, noted};
 
 use crate::text::trace_text;
-use crate::told::TraceText;
+use crate::content::TraceText;
 use circular_buffer::HeapCircularBuffer;
 use std::alloc::{AllocError, Allocator, Global};
 use std::marker::Model;
@@ -32,14 +32,14 @@ impl<A: Allocator> Model for Trace<A> {
 
     ghost Value = { Kept };
 
-    // The machine is told by the others.
+    // The machine is reported by the others.
     ghost view = { λ trace. kept_of trace.base trace.entries trace.folded };
 
     ghost invariant = { λ trace. IsKeptUp (kept_of trace.base trace.entries trace.folded) trace.machine };
 }
 
 impl<A: Allocator> Trace<A> {
-    ghost use Rattle.sup_trace.specs.Trace.{Kept, history_of, noted, noted_if_taken, new_trace, replay, told_by};
+    ghost use Rattle.sup_trace.specs.Trace.{Kept, history_of, noted, noted_if_taken, new_trace, replay, content_by};
 
     /// A trace of a machine that has taken nothing yet. It keeps as many events as the capacity says, 1 to
     /// `MAX_CAPACITY`, and takes all its memory now.
@@ -126,18 +126,18 @@ impl<A: Allocator> Trace<A> {
     /// The text of the trace, as `TraceText` writes it. `AllocError` comes only where the allocator refuses the memory
     /// for it, which is asked for at once.
     pub fn write_text<B: Allocator>(&self, alloc: B) -> Result<Vec<u8, B>, AllocError>
-        ensures text { IfOk result (λ bytes. bytes.items ≡ trace_text (told_by self.now)) }
-        // Such a text is read as what it tells.
-        ensures range { OnOk result (IsTold (told_by self.now)) }
+        ensures text { IfOk result (λ bytes. bytes.items ≡ trace_text (content_by self.now)) }
+        // Such a text is read as what it says.
+        ensures range { OnOk result (IsContent (content_by self.now)) }
     {
         let (first, second) = self.entries.as_slices();
         trace_text(alloc, &self.base, self.folded, first, second)
     }
 
-    /// What the text of the trace tells. `AllocError` comes only where the allocator refuses the memory for the
+    /// What the text of the trace says. `AllocError` comes only where the allocator refuses the memory for the
     /// entries.
     pub fn copy_text<B: Allocator>(&self, alloc: B) -> Result<TraceText<B>, AllocError>
-        ensures { IfOk result (λ text. text ≡ told_by self.now) }
+        ensures { IfOk result (λ text. text ≡ content_by self.now) }
     {
         let entries = self.entries.to_vec(alloc)?;
         Ok(TraceText::from_parts(self.base, self.folded, entries))

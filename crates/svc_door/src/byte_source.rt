@@ -37,7 +37,7 @@ pub trait ByteSource {
 }
 
 /// What an answer of a read comes to. None: it was interrupted, and is tried again.
-fn told(answer: io::Result<usize>) -> Option<Heard>
+fn heard_of(answer: io::Result<usize>) -> Option<Heard>
     ensures { result ≡ heard_of answer }
 {
     match answer {
@@ -57,7 +57,7 @@ impl<S: Read> ByteSource for S {
 
     fn hear(&mut self, into: &mut [u8]) -> Heard {
         for _ in 0..u64::MAX {
-            if let Some(heard) = told(self.read(into)) {
+            if let Some(heard) = heard_of(self.read(into)) {
                 return heard;
             }
         }

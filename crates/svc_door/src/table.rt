@@ -75,7 +75,7 @@ impl<P: ByteSink + Drop> Table<P> {
         None
     }
 
-    /// An event tells of a token: its part is due now, where there is one, and room.
+    /// An event reports of a token: its part is due now, where there is one, and room.
     pub fn wake(&mut self, token: Token, now: u64)
         ensures open { AreOpen self.old.parts self.old.open.items → AreOpen self.new.parts self.new.open.items }
     {
@@ -88,7 +88,7 @@ impl<P: ByteSink + Drop> Table<P> {
         part.due = Some(now);
     }
 
-    /// Each part that is due has one turn. Then those stay that are due again, and this tells when the soonest is.
+    /// Each part that is due has one turn. Then those stay that are due again, and this says when the soonest is.
     pub fn turns<R: Wait>(&mut self, rt: &R, registry: &Registry, now: u64) -> Option<u64>
         ensures open { self.new.open.items ≡ due_slots self.new.parts self.old.open.items }
         ensures soonest { result ≡ soonest_due self.new.parts self.new.open.items }

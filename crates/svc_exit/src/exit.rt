@@ -75,7 +75,7 @@ fn push_ending(out: &mut ExitText, ending: Ending)
 }
 
 /// The line of a process that ended, with its newline: `PID status CODE LABEL`, `PID signal NAME LABEL` or
-/// `PID unknown LABEL`. A signal that has no name is told by its number.
+/// `PID unknown LABEL`. A signal that has no name is reported by its number.
 pub fn exit_text(exit: &Exit) -> ExitText
     ensures { result.items ≡ exit_text exit.now }
 {

@@ -195,7 +195,7 @@ fn begin_all<M: Maker + Drop, R: Threads + Wait + Clock + Copy + Drop + Send + '
     }
 }
 
-/// Tells the table that the parts have ended which could not be made.
+/// Reports the table that the parts have ended which could not be made.
 fn end_all(table: &mut ScanTable, failed: &[Unmade])
     ensures { table.new ≡ after_ends (unmade_ids failed.now) table.old }
 {
@@ -325,7 +325,7 @@ fn run_scan<M: Maker + Drop, R: Threads + Wait + Clock + Copy + Drop + Send + 's
     Ok(HostOut { scan, failed })
 }
 
-/// Posts to the part at a place what is next for it in the end of all services. Once a logger was told to end with its
+/// Posts to the part at a place what is next for it in the end of all services. Once a logger was asked to end with its
 /// process, its input ends behind all that its service wrote.
 fn end_part<M: Maker + Drop, R: Threads + Wait + Clock + Copy + Drop + Send + 'static>(
     factory: &mut PartFactory<M, R>,
@@ -344,7 +344,7 @@ fn end_part<M: Maker + Drop, R: Threads + Wait + Clock + Copy + Drop + Send + 's
     } else {
         factory.wait_on(id.slot)
     };
-    if parts[place].is_told() && id.role == Role::Log {
+    if parts[place].is_reported() && id.role == Role::Log {
         factory.maker.end_output(id.slot, false);
     }
     parts[place].end_next(&factory.rt, service_runs, waited);
@@ -449,7 +449,7 @@ impl<M: Maker + Drop, R: Threads + Wait + Clock + Copy + Drop + Send + 'static> 
         post_to(&self.factory.rt, &mut self.parts, id, byte)
     }
 
-    /// What the status record of a part tells: none exactly where the part is not there, else after what was read of
+    /// What the status record of a part reports: none exactly where the part is not there, else after what was read of
     /// its events, which begin with all that was read of them before.
     pub fn status(&mut self, id: PartId) -> Option<View>
         ensures table { self.new.table ≡ self.old.table }
@@ -593,7 +593,7 @@ impl<M: Maker + Drop, R: Threads + Wait + Clock + Copy + Drop + Send + 'static> 
     }
 
     /// Of one pair its slot, and how many bytes of its output were read and don't reach its logger. Its threads are to
-    /// end. None: all pairs are told.
+    /// end. None: all pairs are reported.
     pub fn take_lost(&mut self) -> Option<(u64, u64)>
         ensures counts { MatchOption result (self.new ≡ self.old) (λ lost. CountsLost lost.0 lost.1 self.old self.new) }
         ensures table { self.new.table ≡ self.old.table }

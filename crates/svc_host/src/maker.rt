@@ -98,7 +98,7 @@ pub trait Maker {
     ) -> Result<(Self::Output, Self::Outlets), PartFault>
         ensures calls { ExtendedWhileKept (calls self.old) (calls self.new) (MadePair slot (result_err result) ∷ []) };
 
-    /// Keeps the trace of a part, and tells whether it could.
+    /// Keeps the trace of a part, and says whether it could.
     fn keep_trace(&mut self, id: PartId, text: &[u8]) -> bool
         ensures calls { ExtendedWhileKept (calls self.old) (calls self.new) (KeptTrace id text.now result ∷ []) };
 
@@ -110,7 +110,7 @@ pub trait Maker {
     fn forget(&mut self, slot: u64)
         ensures calls { ExtendedWhileKept (calls self.old) (calls self.new) (ForgotSlot slot ∷ []) };
 
-    /// All outputs of pairs can be told to end from now on (`end_output`).
+    /// All outputs of pairs can be asked to end from now on (`end_output`).
     fn watch_outputs(&mut self)
         ensures calls { ExtendedWhileKept (calls self.old) (calls self.new) (WatchedOutputs ∷ []) };
 

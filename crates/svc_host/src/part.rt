@@ -99,7 +99,7 @@ impl<R: Threads + Wait + Clock + Copy + Drop + Send + 'static> Part<R> {
     ghost use Rattle.tai_status.specs.declared.phase.Phase.{Phase};
     ghost use Rattle.svc_house.specs.Mail.{sender_in};
     ghost use Rattle.svc_host.specs.Ending.{EndsNext, PostsDown, PostsExit, PostsStep, has_adopted, part_sight};
-    ghost use Rattle.svc_host.specs.Growth.{Tells};
+    ghost use Rattle.svc_host.specs.Growth.{Shows};
     ghost use Rattle.svc_host.specs.Parts.{HasPosted, IsRead, IsRefused, PartGoesOn, history_of, new_part};
     ghost use Rattle.svc_host.specs.Parts.{without_loss};
 
@@ -247,8 +247,8 @@ impl<R: Threads + Wait + Clock + Copy + Drop + Send + 'static> Part<R> {
         sight_of(&machine, reads_another)
     }
 
-    /// Whether it was told to end with its process.
-    pub(crate) fn is_told(&self) -> bool
+    /// Whether it was asked to end with its process.
+    pub(crate) fn is_reported(&self) -> bool
         ensures { result ≡ self.now.end_bytes.exit }
     {
         self.posted_exit
@@ -270,7 +270,7 @@ impl<R: Threads + Wait + Clock + Copy + Drop + Send + 'static> Part<R> {
     /// The text of its trace, where that has grown since it was kept last.
     pub(crate) fn growth(&mut self, alloc: Global) -> Growth
         ensures read { IsRead self.old self.new }
-        ensures tells { Tells self.new.station self.new.known self.new.kept result }
+        ensures shows { Shows self.new.station self.new.known self.new.kept result }
     {
         self.thread.growth(alloc, self.kept)
     }

@@ -40,7 +40,7 @@ pub(crate) struct Last {
     ghost reads: { machine ≡ state_of (history_at reader.value) },
     ghost gone: { phase_of (history_at reader.value) ≡ Phase.Gone },
     ghost all: { count ≡ length (known_to reader.value) },
-    ghost told: { option_map (λ _. trace_at reader.value) trace ≡ trace },
+    ghost requested: { option_map (λ _. trace_at reader.value) trace ≡ trace },
     // The service took one letter for each control byte of its whole history. What was taken since then is counted.
     ghost counted: { length (taken_by receiver) ≡ length (bytes_in (known_to reader.value)) + untaken },
 }
@@ -54,7 +54,7 @@ impl Last {
     ghost use Rattle.svc_host.specs.Served.{IsServed};
     ghost use Rattle.svc_host.specs.Growth.{IsText};
 
-    /// What a reader reads once it has learnt what the writer of its station tells, whose service is gone. Where there
+    /// What a reader reads once it has learnt what the writer of its station reports, whose service is gone. Where there
     /// is no memory for it, there is no trace.
     pub(crate) fn of(
         alloc: Global,
@@ -134,9 +134,9 @@ fn read_last(
     ensures kept { writer.new ≡ writer.old }
     ensures trace { option_map (λ _. trace_at reader.new) result.1 ≡ result.1 }
 {
-    match last_reading(alloc, reader, writer.tell()) {
+    match last_reading(alloc, reader, writer.report()) {
         Ok((machine, trace)) => (machine, Some(trace)),
-        Err(_refused) => (last_machine(reader, writer.tell()), None),
+        Err(_refused) => (last_machine(reader, writer.report()), None),
     }
 }
 
@@ -175,7 +175,7 @@ impl<R: Threads + Wait + Clock + Copy + Drop + Send + 'static> PartThread<R> {
     ghost use Rattle.sup_core.specs.History.{phase_of, state_of};
     ghost use Rattle.tai_status.specs.declared.phase.Phase.{Phase};
     ghost use Rattle.svc_station.specs.Ends.{history_at, known_to, reader_station, trace_at};
-    ghost use Rattle.svc_host.specs.Growth.{IsText, Tells};
+    ghost use Rattle.svc_host.specs.Growth.{IsText, Shows};
     ghost use Rattle.svc_host.specs.Threads.{IsSameThread, is_ended, reader_at, untaken_at};
 
     /// Whether the thread was joined.
@@ -255,7 +255,7 @@ impl<R: Threads + Wait + Clock + Copy + Drop + Send + 'static> PartThread<R> {
     pub(crate) fn growth(&mut self, alloc: Global, last: Option<u64>) -> Growth
         ensures same { IsSameThread self.old self.new }
         ensures ended { is_ended self.new ≡ is_ended self.old }
-        ensures tells { Tells (reader_station (reader_at self.new)) (known_to (reader_at self.new)) last result }
+        ensures shows { Shows (reader_station (reader_at self.new)) (known_to (reader_at self.new)) last result }
     {
         if last == Some(self.count()) {
             return Growth::None;

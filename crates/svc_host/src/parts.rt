@@ -69,7 +69,7 @@ fn machine_at<R: Threads + Wait + Clock + Copy + Drop + Send + 'static>(
     parts[place].machine()
 }
 
-/// What the status record of a part tells.
+/// What the status record of a part reports.
 pub(crate) fn status_of<R: Threads + Wait + Clock + Copy + Drop + Send + 'static>(
     parts: &mut Vec<Part<R>>,
     id: PartId,

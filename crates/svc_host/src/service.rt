@@ -4,7 +4,7 @@ ghost use mathlib.Core.List.{IsPrefix};
 ghost use Rattle.tai_status.specs.declared.phase.Phase.{Phase};
 ghost use Rattle.sup_core.specs.History.{state_of};
 ghost use Rattle.svc_left.specs.Opening.{beginning};
-ghost use Rattle.svc_house.specs.Calls.{ExtendedWhileKept, told};
+ghost use Rattle.svc_house.specs.Calls.{ExtendedWhileKept, requested};
 ghost use Rattle.sup_core.specs.Rules.{asks_of_begin};
 ghost use Rattle.svc_station.specs.Ends.{opening_of, published, station};
 ghost use Rattle.svc_station.specs.Parking.{writer_in};
@@ -141,7 +141,7 @@ fn run<W: World, I: Inbox, G: Gate + Drop, R: Wait + Clock + Copy + Drop>(
     }
 }
 
-/// Opens the house of a service whose station was opened as the service begins. The world is told what is asked then.
+/// Opens the house of a service whose station was opened as the service begins. The world is reported what is asked then.
 fn open<W: World + Drop, G: Gate + Drop>(
     world: W,
     receiver: Receiver<u8>,
@@ -154,7 +154,7 @@ fn open<W: World + Drop, G: Gate + Drop>(
     requires untaken { taken_by receiver ≡ [] }
     requires unanswered { answered (W.calls world) ≡ [] }
     ensures asks { ExtendedWhileKept (W.calls world) result.calls
-        (told (asks_of_begin (beginning begins.opening begins.down begins.label))) }
+        (requested (asks_of_begin (beginning begins.opening begins.down begins.label))) }
     ensures station { (result.station ≡ station writer) × (result.events ≡ []) }
 {
     let first = begins.opening.asks(begins.down, begins.label);

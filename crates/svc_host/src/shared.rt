@@ -73,7 +73,7 @@ impl PartShared {
         self.activity.note();
     }
 
-    /// The service has ended: the host is told.
+    /// The service has ended: the host is reported.
     pub(crate) fn end(&self) {
         let news = News::raise(&self.has_ended);
         self.activity.note();

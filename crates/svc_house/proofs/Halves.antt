@@ -11,7 +11,7 @@ use Rattle.svc_house.specs.declared.pending.Pending.TheVariants.{Empty, One, Byt
 use Rattle.svc_house.specs.declared.turned.Turned.{Turned}
 use Rattle.svc_house.specs.declared.turned.Turned.TheVariants.{Took}
 use Rattle.svc_house.specs.declared.turned.HouseFault.{HouseFault}
-use Rattle.svc_house.specs.Calls.{ExtendedWhileKept, told, IsLastReading}
+use Rattle.svc_house.specs.Calls.{ExtendedWhileKept, requested, IsLastReading}
 use Rattle.svc_house.specs.Pending.{events_in, rest_of}
 use Rattle.svc_house.specs.Standing.{Standing, past_of}
 use Rattle.svc_house.specs.Turn.{phase_in, polls_of, IsAbout, IsRefused, IsSameHouse, IsTurn, Listens, PassesGate}
@@ -23,7 +23,7 @@ pub record Published {I : Type 0} (mid : Standing I) (event : Event) (result : R
     (new : Standing I) : Type 0 where
   pub took : IfOk result (λ turned. turned ≡ Took event)
   pub events : OnOk result (new.events ≡ mid.events ++ event ∷ [])
-  pub told : OnOk result (ExtendedWhileKept mid.calls new.calls (told (asks_of (past_of mid) event)))
+  pub requested : OnOk result (ExtendedWhileKept mid.calls new.calls (requested (asks_of (past_of mid) event)))
   pub reading : OnOk result (IfSome new.calls (IsLastReading event))
   pub pending : OnOk result (new.pending ≡ rest_of mid.pending)
   pub nones : OnOk result (new.nones ≡ mid.nones)
@@ -58,9 +58,9 @@ module _ {I : Type 0} where
       → Published mid event (Ok (Took event)) new
       → Takes old event new
   takes-found old mid new event found done =
-      let asks : ExtendedWhileKept mid.calls new.calls (told (asks_of (past_of old) event)) =
-      subst (λ (past : History). ExtendedWhileKept mid.calls new.calls (told (asks_of past event)))
-      (same_past old mid found.same found.events) done.told in record {
+      let asks : ExtendedWhileKept mid.calls new.calls (requested (asks_of (past_of old) event)) =
+      subst (λ (past : History). ExtendedWhileKept mid.calls new.calls (requested (asks_of past event)))
+      (same_past old mid found.same found.events) done.requested in record {
         pending = mid.pending;
         about = about-empty old.pending mid.pending found.none;
         next = found.next ∙ ap (λ h. event ∷ events_in h) (sym done.pending);
@@ -70,7 +70,7 @@ module _ {I : Type 0} where
             (λ i. (sym found.none i, sym done.gate i)) found.gate;
         events = done.events ∙ ap (λ l. l ++ event ∷ []) found.events;
         calls = extended-append old.calls mid.calls new.calls (polls_of old mid.pending)
-            (told (asks_of (past_of old) event))
+            (requested (asks_of (past_of old) event))
             (found.polls (some-pending mid.pending event found.next)) asks;
         reading = done.reading;
       }
@@ -84,7 +84,7 @@ module _ {I : Type 0} where
       (takes-found old mid new event found (record {
         took = refl;
         events = done.events;
-        told = done.told;
+        requested = done.requested;
         reading = done.reading;
         pending = done.pending;
         nones = done.nones;

@@ -5,7 +5,7 @@ use Rattle.sup_core.specs.declared.event.Event.{Event}
 use Rattle.sup_core.specs.declared.event.Event.TheVariants.{Byte, Started, StartFailed, Death, Clock}
 use Rattle.svc_house.specs.declared.call.Call.{Call}
 use Rattle.svc_house.specs.declared.call.Call.TheVariants.{Requested, Answered, NoStart, NoDeath, Read}
-use Rattle.svc_house.specs.Calls.{ExtendedWhileKept, told, answers_in, bytes_in, outcomes_in, readings_in}
+use Rattle.svc_house.specs.Calls.{ExtendedWhileKept, requested, answers_in, bytes_in, outcomes_in, readings_in}
 
 pub bytes_in-append : (xs ys : List Event) → bytes_in (xs ++ ys) ≡ bytes_in xs ++ bytes_in ys
 bytes_in-append [] ys = refl
@@ -31,9 +31,9 @@ answers_in-append (NoStart ∷ xs) ys = answers_in-append xs ys
 answers_in-append (NoDeath ∷ xs) ys = answers_in-append xs ys
 answers_in-append (Read label ∷ xs) ys = answers_in-append xs ys
 
-pub answers_in-told : (asks : List Ask) → answers_in (told asks) ≡ []
-answers_in-told [] = refl
-answers_in-told (ask ∷ asks) = answers_in-told asks
+pub answers_in-requested : (asks : List Ask) → answers_in (requested asks) ≡ []
+answers_in-requested [] = refl
+answers_in-requested (ask ∷ asks) = answers_in-requested asks
 
 pub readings_in-append : (xs ys : List Call) → readings_in (xs ++ ys) ≡ readings_in xs ++ readings_in ys
 readings_in-append [] ys = refl
@@ -43,9 +43,9 @@ readings_in-append (NoStart ∷ xs) ys = readings_in-append xs ys
 readings_in-append (NoDeath ∷ xs) ys = readings_in-append xs ys
 readings_in-append (Read label ∷ xs) ys = ap (λ l. label ∷ l) (readings_in-append xs ys)
 
-pub readings_in-told : (asks : List Ask) → readings_in (told asks) ≡ []
-readings_in-told [] = refl
-readings_in-told (ask ∷ asks) = readings_in-told asks
+pub readings_in-requested : (asks : List Ask) → readings_in (requested asks) ≡ []
+readings_in-requested [] = refl
+readings_in-requested (ask ∷ asks) = readings_in-requested asks
 
 -- What is known of the world's answers goes on with its calls.
 pub answers-extended : (old new : Option (List Call)) (more : List Call) (events others : List Event)

@@ -12,10 +12,10 @@ use Rattle.sup_core.proofs.Laws.{followed_by-append}
 use Rattle.svc_house.specs.declared.call.Call.{Call}
 use Rattle.svc_house.specs.declared.pending.Pending.{Pending}
 use Rattle.svc_house.specs.declared.pending.Pending.TheVariants.{Empty, One, ByteThenDeath}
-use Rattle.svc_house.specs.Calls.{ExtendedWhileKept, told, answers_in, outcomes_in, readings_in, IsLastReading}
+use Rattle.svc_house.specs.Calls.{ExtendedWhileKept, requested, answers_in, outcomes_in, readings_in, IsLastReading}
 use Rattle.svc_house.specs.Pending.{events_in, rest_of}
 use Rattle.svc_house.specs.Standing.{HoldsLastReading}
-use Rattle.svc_house.proofs.Lists.{answers-extended, answers_in-told, readings_in-append, readings_in-told}
+use Rattle.svc_house.proofs.Lists.{answers-extended, answers_in-requested, readings_in-append, readings_in-requested}
 
 -- What was published, and then what is pending, stays.
 pub found-same : (events : List Event) (event : Event) (pending : Pending)
@@ -25,12 +25,12 @@ found-same events event pending next =
     append_assoc events (event ∷ []) (events_in (rest_of pending)) ∙ ap (λ l. events ++ l) (sym next)
 
 pub publish_outcomes : (events after : List Event) (asks : List Ask) (old new : Option (List Call)) → after ≡ events
-    → ExtendedWhileKept old new (told asks) → IfSome old (λ calls. outcomes_in events ≡ answers_in calls)
+    → ExtendedWhileKept old new (requested asks) → IfSome old (λ calls. outcomes_in events ≡ answers_in calls)
     → IfSome new (λ calls. outcomes_in after ≡ answers_in calls)
 publish_outcomes events after asks old new same extended known =
-    answers-extended old new (told asks) (outcomes_in events) (outcomes_in after) extended known
+    answers-extended old new (requested asks) (outcomes_in events) (outcomes_in after) extended known
     (ap outcomes_in same ∙ sym (append-nil (outcomes_in events))
-    ∙ ap (λ l. outcomes_in events ++ l) (sym (answers_in-told asks)))
+    ∙ ap (λ l. outcomes_in events ++ l) (sym (answers_in-requested asks)))
 
 -- What is left pending is taken after the event.
 left_taken : (opening : State) (events : List Event) (event : Event) (pending : Pending)
@@ -69,14 +69,14 @@ same_readings (StartFailed label) old new same last = tt
 same_readings (Death label) old new same last = tt
 
 published_reading : (event : Event) (asks : List Ask) (old new : Option (List Call))
-    → ExtendedWhileKept old new (told asks)
+    → ExtendedWhileKept old new (requested asks)
     → IfSome old (IsLastReading event) → IfSome new (IsLastReading event)
 published_reading event asks old None extended known = tt
 published_reading event asks None (Some new) extended known = absurd extended
 published_reading event asks (Some old) (Some new) extended known =
     same_readings event old new
-    (ap readings_in extended ∙ readings_in-append old (told asks)
-    ∙ ap (λ l. readings_in old ++ l) (readings_in-told asks) ∙ append-nil (readings_in old)) known
+    (ap readings_in extended ∙ readings_in-append old (requested asks)
+    ∙ ap (λ l. readings_in old ++ l) (readings_in-requested asks) ∙ append-nil (readings_in old)) known
 
 -- the first of two lists that are the same
 first-same : (a b : Event) (xs ys : List Event) → ◌≡◌ {A = List Event} (a ∷ xs) (b ∷ ys) → a ≡ b
@@ -90,7 +90,7 @@ byte_reading byte None = tt
 byte_reading byte (Some calls) = tt
 
 pub publish_reading : (pending : Pending) (event : Event) (asks : List Ask) (old new : Option (List Call))
-    → events_in pending ≡ event ∷ events_in (rest_of pending) → ExtendedWhileKept old new (told asks)
+    → events_in pending ≡ event ∷ events_in (rest_of pending) → ExtendedWhileKept old new (requested asks)
     → HoldsLastReading pending old
     → IfSome new (IsLastReading event)
 publish_reading Empty event asks old new next extended known = absurd (none-first event [] next)

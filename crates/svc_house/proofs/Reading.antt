@@ -15,7 +15,7 @@ opening-same : (note : Note) (reader : Reader) → note_station note ≡ reader_
     → note.opening ≡ reader_opening reader
 opening-same note reader same = ap (λ v. v.opening) same
 
--- It knows just what the note told.
+-- It knows just what the note reported.
 pub whole-known : (note : Note) (reader : Reader) → note_station note ≡ reader_station reader
     → phase_of (history_in note) ≡ phase.Gone → IsPrefix (told_by note) (known_to reader)
     → are_taken (Opened (reader_opening reader)) (known_to reader) ≡ true → known_to reader ≡ told_by note

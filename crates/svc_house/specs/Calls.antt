@@ -1,4 +1,4 @@
--- What a world was told and what it answered, as one list of calls, and what happened, as one list of events.
+-- What a world was reported and what it answered, as one list of calls, and what happened, as one list of events.
 use Rattle.std.specs.Prelude.{◌≡◌, ℕ, ◌+◌, ◌<◌, Bool, true, false, List, [], ◌∷◌, ◌++◌, map, Option, Some, None, ⊤}
 use Rattle.tai_status.specs.Label.{Tai64n}
 use Rattle.sup_core.specs.declared.asks.Ask.{Ask}
@@ -64,9 +64,9 @@ abbrev pub death_poll : Option Tai64n → List Call
 death_poll None = NoDeath ∷ []
 death_poll (Some label) = Answered (Death label) ∷ []
 
--- the calls that tell these asks
-abbrev pub told : List Ask → List Call
-told asks = map Requested asks
+-- the calls that say these asks
+abbrev pub requested : List Ask → List Call
+requested asks = map Requested asks
 
 -- the starts, failed starts and deaths that were answered in these calls
 abbrev pub answers_in : List Call → List Event

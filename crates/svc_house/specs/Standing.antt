@@ -21,7 +21,7 @@ pub record Standing (I : Type 0) : Type 0 where
   pub events : List Event
   -- what was found and is not published yet
   pub pending : Pending
-  -- what the world was told and what it answered, where it keeps that
+  -- what the world was reported and what it answered, where it keeps that
   pub calls : Option (List Call)
   -- where its control bytes come from: which mailbox, if any, what it gave, and how often it had none
   pub inbox : I
@@ -32,7 +32,7 @@ pub record Standing (I : Type 0) : Type 0 where
   pub passes : Option ℕ
 
 module _ {I : Type 0} where
-  -- a service with this writer and this pending, and what its world, inbox and gate tell
+  -- a service with this writer and this pending, and what its world, inbox and gate report
   abbrev pub standing : Writer → Pending → Option (List Call)
       → I → Option (TableId × ℕ) → List ℕ → ℕ → Option ℕ → Standing I
   standing writer pending calls inbox source given nones passes = record {

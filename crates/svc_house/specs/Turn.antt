@@ -12,7 +12,7 @@ use Rattle.svc_house.specs.declared.pending.Pending.{Pending}
 use Rattle.svc_house.specs.declared.pending.Pending.TheVariants.{Empty}
 use Rattle.svc_house.specs.declared.turned.Turned.{Turned}
 use Rattle.svc_house.specs.declared.turned.Turned.TheVariants.{Idle, Took, Ended}
-use Rattle.svc_house.specs.Calls.{CountsOne, ExtendedWhileKept, told, polls_before, IsLastReading}
+use Rattle.svc_house.specs.Calls.{CountsOne, ExtendedWhileKept, requested, polls_before, IsLastReading}
 use Rattle.svc_house.specs.Pending.{events_in, has_byte}
 use Rattle.svc_house.specs.Standing.{Standing, past_of, state_in}
 
@@ -70,7 +70,7 @@ pub record IsSameHouse {I : Type 0} (old new : Standing I) : Type 0 where
   pub opening : new.opening ≡ old.opening
   pub source : new.source ≡ old.source
 
--- An event was published, and then its asks were told, in order. It was pending, or was found in this turn; a death
+-- An event was published, and then its asks were reported, in order. It was pending, or was found in this turn; a death
 -- that was found with a control byte is pending now. A clock reading is the last one that the world gave.
 pub record Takes {I : Type 0} (old : Standing I) (event : Event) (new : Standing I) : Type 0 where
   pub pending : Pending
@@ -79,10 +79,10 @@ pub record Takes {I : Type 0} (old : Standing I) (event : Event) (new : Standing
   pub listens : Listens old pending new
   pub gate : PassesGate old.pending (phase_in old) old.passes new.passes
   pub events : new.events ≡ old.events ++ event ∷ []
-  pub calls : ExtendedWhileKept old.calls new.calls (polls_of old pending ++ told (asks_of (past_of old) event))
+  pub calls : ExtendedWhileKept old.calls new.calls (polls_of old pending ++ requested (asks_of (past_of old) event))
   pub reading : IfSome new.calls (IsLastReading event)
 
--- Nothing was pending and nothing was found, so nothing was published or told.
+-- Nothing was pending and nothing was found, so nothing was published or reported.
 pub record IsIdle {I : Type 0} (old new : Standing I) : Type 0 where
   pub none : old.pending ≡ Empty
   pub polls : PolledInVain (phase_in old) (state_in old).until old.calls new.calls
@@ -97,7 +97,7 @@ IsTurn old Idle new = IsIdle old new
 IsTurn old (Took event) new = Takes old event new
 IsTurn old Ended new = new ≡ old
 
--- There was no memory to publish an event. What was found is pending, and nothing was published or told.
+-- There was no memory to publish an event. What was found is pending, and nothing was published or reported.
 pub record IsRefused {I : Type 0} (old new : Standing I) : Type 0 where
   pub about : IsAbout old.pending new.pending
   pub some : new.pending ≢ Empty

@@ -3,7 +3,7 @@ ghost use Rattle.std.specs.Prelude.{◌≡◌, IfOk};
 ghost use mathlib.Core.List.{IsPrefix};
 ghost use Rattle.sup_core.specs.History.{phase_of, state_of};
 ghost use Rattle.tai_status.specs.declared.phase.Phase.TheVariants as phase;
-ghost use Rattle.sup_trace.specs.Told.{replay_of};
+ghost use Rattle.sup_trace.specs.Content.{replay_of};
 ghost use Rattle.svc_station.specs.Ends.{IsSameReader, history_at, history_in, known_to, note_station};
 ghost use Rattle.svc_station.specs.Ends.{reader_station, told_by, trace_at};
 
@@ -14,7 +14,7 @@ use svc_station::audit::last_machine;
 use svc_station::note::Note;
 use svc_station::reader::Reader;
 
-/// What a reader reads once it has learnt a note that the writer told when the service was gone: the machine after the
+/// What a reader reads once it has learnt a note that the writer reported when the service was gone: the machine after the
 /// whole history, and the trace of that, which replays to that machine. `AllocError` where there is no memory for the trace.
 pub fn last_reading<A: Allocator>(
     alloc: A,

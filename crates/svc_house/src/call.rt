@@ -2,10 +2,10 @@
 use sup_core::{Ask, Event};
 use tai_status::Label;
 
-/// One call of a world, with its answer. Contracts tell by lists of these what a world was told and what it answered.
+/// One call of a world, with its answer. Contracts report by lists of these what a world was reported and what it answered.
 #[derive(Clone, Copy, Debug, PartialEq, Eq)]
 pub enum Call {
-    /// It was told this ask.
+    /// It was reported this ask.
     Requested(Ask),
     /// It answered this start, failed start or death.
     Answered(Event),

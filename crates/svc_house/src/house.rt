@@ -2,13 +2,13 @@
 ghost use Rattle.std.specs.Prelude.{◌≡◌, ◌++◌, ◌∷◌, [], true, OnErr, OnOk};
 ghost use Rattle.sup_core.specs.Rules.{IsEvent, takes, asks_of};
 ghost use Rattle.svc_station.specs.Ends.{history_of, published, station};
-ghost use Rattle.svc_house.specs.Calls.{ExtendedWhileKept, told};
+ghost use Rattle.svc_house.specs.Calls.{ExtendedWhileKept, requested};
 
 use crate::find::find;
 use crate::gate::Gate;
 use crate::inbox::Inbox;
 use crate::pending::Pending;
-use crate::tell::tell;
+use crate::request::request;
 use crate::turned::{HouseFault, Turned};
 use crate::world::World;
 use std::alloc::AllocError;
@@ -40,8 +40,8 @@ impl<W: World, I: Inbox, G: Gate + Drop> Model for House<W, I, G> {
         h.inbox (I.source h.inbox) (I.given h.inbox) (I.nones h.inbox) (G.passes h.gate)) };
 }
 
-/// Publishes an event that is taken, and then tells what it asks.
-fn publish_and_tell<W: World, R: Wait>(
+/// Publishes an event that is taken, and then says what it asks.
+fn publish_and_request<W: World, R: Wait>(
     rt: &R,
     event: Event,
     world: &mut W,
@@ -52,14 +52,14 @@ fn publish_and_tell<W: World, R: Wait>(
     ensures same { station writer.new ≡ station writer.old }
     ensures published { OnOk result (published writer.new ≡ published writer.old ++ event ∷ []) }
     ensures unpublished { OnErr result (published writer.new ≡ published writer.old) }
-    ensures told { OnOk result
-        (ExtendedWhileKept (W.calls world.old) (W.calls world.new) (told (asks_of (history_of writer.old) event))) }
-    ensures untold { OnErr result (W.calls world.new ≡ W.calls world.old) }
+    ensures requested { OnOk result
+        (ExtendedWhileKept (W.calls world.old) (W.calls world.new) (requested (asks_of (history_of writer.old) event))) }
+    ensures unrequested { OnErr result (W.calls world.new ≡ W.calls world.old) }
 {
     match writer.publish(rt, event)? {
         Reply::Held => unreachable!(),
         Reply::Took(asks) => {
-            tell(world, asks.as_slice());
+            request(world, asks.as_slice());
             Ok(())
         }
     }
@@ -78,21 +78,21 @@ impl<W: World, I: Inbox, G: Gate + Drop> House<W, I, G> {
     ghost use Rattle.svc_house.specs.Turn.{polls_of};
     ghost use Rattle.svc_house.specs.declared.pending.Pending.TheVariants as pending;
 
-    /// A service whose station is new. The world is told `first`, in order, and nothing else: the asks of the machine's
+    /// A service whose station is new. The world is reported `first`, in order, and nothing else: the asks of the machine's
     /// begin, for a service that begins.
     pub fn open(world: W, inbox: I, gate: G, writer: Writer, first: Asks) -> House<W, I, G>
         requires published { published writer ≡ [] }
         requires given { I.given inbox ≡ [] }
         requires answered { IfSome (W.calls world) (λ calls. answers_in calls ≡ []) }
         requires asks { All IsAsk first }
-        ensures calls { ExtendedWhileKept (W.calls world) result.calls (told first) }
+        ensures calls { ExtendedWhileKept (W.calls world) result.calls (requested first) }
         ensures inbox { (result.inbox ≡ inbox) × (result.source ≡ I.source inbox) }
         ensures station { (result.station ≡ station writer) × (result.opening ≡ opening_of writer) }
         ensures events { (result.events ≡ []) × (result.pending ≡ pending.Empty) }
         ensures passes { result.passes ≡ G.passes gate }
     {
         let mut world = world;
-        tell(&mut world, first.as_slice());
+        request(&mut world, first.as_slice());
         House {
             world,
             inbox,
@@ -105,13 +105,13 @@ impl<W: World, I: Inbox, G: Gate + Drop> House<W, I, G> {
     /// One turn. What is pending comes first. Else what the phase can take is looked for: while the service starts how
     /// that ended, while it settles or rests the clock, while it is down a control byte, and while it is up its death
     /// and then a control byte, so that one that dies at once still hears its letters. What was found is published, and
-    /// then its asks are told, in order; where both were found the byte is published, and the death stays pending.
+    /// then its asks are reported, in order; where both were found the byte is published, and the death stays pending.
     ///
     /// It never waits for something to happen: a turn that finds nothing is `Idle`. What can end that is a letter while
     /// the service is up or down, the world's answer while it starts or is up, and the time `until` while it settles or
     /// rests.
     ///
-    /// `OutOfMemory` where the publication finds no room: what was found stays pending, and nothing was told.
+    /// `OutOfMemory` where the publication finds no room: what was found stays pending, and nothing was reported.
     pub fn turn<R: Wait>(&mut self, rt: &R) -> Result<Turned, HouseFault>
         ensures same { IsSameHouse self.old self.new }
         ensures turned { IfOk result (λ turned. IsTurn self.old turned self.new) }
@@ -130,7 +130,7 @@ impl<W: World, I: Inbox, G: Gate + Drop> House<W, I, G> {
         }
     }
 
-    // Looks for what the phase can take, and keeps it as pending. It tells the event that is next now.
+    // Looks for what the phase can take, and keeps it as pending. It reports the event that is next now.
     fn look<R: Wait>(&mut self, rt: &R) -> Option<Event>
         requires pending { self.old.pending ≡ pending.Empty }
         requires phase { is_gone (phase_in self.old) ≡ false }
@@ -155,14 +155,14 @@ impl<W: World, I: Inbox, G: Gate + Drop> House<W, I, G> {
         self.pending.next()
     }
 
-    // Publishes the next event pending, and then tells what it asks.
+    // Publishes the next event pending, and then says what it asks.
     fn publish<R: Wait>(&mut self, rt: &R, event: Event) -> Result<Turned, HouseFault>
         requires { IsNext event self.old.pending }
         ensures same { IsSameHouse self.old self.new }
         ensures took { IfOk result (λ turned. turned ≡ Turned.Took event) }
         ensures published { OnOk result (self.new.events ≡ self.old.events ++ event ∷ []) }
-        ensures told { OnOk result
-            (ExtendedWhileKept self.old.calls self.new.calls (told (asks_of (past_of self.old) event))) }
+        ensures requested { OnOk result
+            (ExtendedWhileKept self.old.calls self.new.calls (requested (asks_of (past_of self.old) event))) }
         ensures reading { OnOk result (IfSome self.new.calls (IsLastReading event)) }
         ensures pending { OnOk result (self.new.pending ≡ rest_of self.old.pending) }
         ensures nones { OnOk result (self.new.nones ≡ self.old.nones) }
@@ -170,7 +170,7 @@ impl<W: World, I: Inbox, G: Gate + Drop> House<W, I, G> {
         ensures refused { OnErr result (self.new ≡ self.old) }
     {
         let taken = event;
-        match publish_and_tell(rt, event, &mut self.world, &mut self.writer) {
+        match publish_and_request(rt, event, &mut self.world, &mut self.writer) {
             Ok(()) => {
                 self.pending = self.pending.rest();
                 Ok(Turned::Took(taken))
@@ -186,7 +186,7 @@ impl<W: World, I: Inbox, G: Gate + Drop> House<W, I, G> {
         self.writer.machine().until()
     }
 
-    /// Its parts, with what is pending. `facts` tells what holds of them.
+    /// Its parts, with what is pending. `facts` says what holds of them.
     pub fn take_apart(self) -> (W, I, Writer, Pending)
         ensures world { W.calls result.0 ≡ self.calls }
         ensures inbox { result.1 ≡ self.inbox }

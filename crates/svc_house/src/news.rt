@@ -1,4 +1,4 @@
-//! What a notification tells.
+//! What a notification reports.
 use std::alloc::{AllocError, Allocator};
 use std::sync::atomic::{AtomicBool, Ordering};
 use std::sync::{Mutex, OnceLock, Wait};

@@ -22,7 +22,7 @@ impl Notifier {
         }
     }
 
-    /// Tells the news: ends the wait that is under way, or else the next. It returns at once.
+    /// Reports the news: ends the wait that is under way, or else the next. It returns at once.
     pub fn notify(&self, news: News) {
         news.end();
         self.parker.unpark()

@@ -7,7 +7,7 @@ use thiserror::Error;
 pub enum Turned {
     /// Nothing had happened.
     Idle,
-    /// This event was published, and its asks were told.
+    /// This event was published, and its asks were reported.
     Took(Event),
     /// The service is gone.
     Ended,

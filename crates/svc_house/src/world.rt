@@ -3,7 +3,7 @@ use crate::call::StartAnswer;
 use sup_core::Sig;
 use tai_status::Label;
 
-/// What a service's loop tells and polls. Contracts see the calls with their answers, in order (`calls`), where the
+/// What a service's loop reports and polls. Contracts see the calls with their answers, in order (`calls`), where the
 /// world keeps them. It may stop to keep them, as where it has no memory for more, and does not begin again. A status
 /// record that can't be written is the world's own matter: the service goes on.
 pub trait World {

@@ -26,12 +26,12 @@ beginning (AsLeft state) down label = Opened state
 
 -- Machines
 
--- until when a machine waits that stands as a record tells: a record does not say until when a service rests
+-- until when a machine waits that stands as a record says: a record does not say until when a service rests
 abbrev pub until_of : Phase → Status → Option Tai64n
 until_of phase.Settling status = Some (plus_second status.label)
 until_of other status = None
 
--- the machine that a full record tells
+-- the machine that a full record says
 abbrev pub as_recorded : FullStatus → State
 as_recorded full = record {
   phase = full.phase;
@@ -53,12 +53,12 @@ abbrev pub exiting_in : Loaded → Bool
 exiting_in (Old status) = false
 exiting_in (New full) = full.exiting
 
--- the machine that a record tells which names a process
+-- the machine that a record says which names a process
 abbrev pub running : Loaded → State
 running (Old status) = up_since status.label status.pid status.paused status.want false
 running (New full) = as_recorded full
 
--- The machine of a process that lives on: the one that the record tells, where it names that process. A record that
+-- The machine of a process that lives on: the one that the record says, where it names that process. A record that
 -- names another, or none, was to be replaced after the start: the service is up since it was found, and what is wanted
 -- stands. Without a record it is wanted up.
 abbrev pub adopted : Option Loaded → (pid : ℕ) → (found : Tai64n) → State

@@ -2,7 +2,7 @@
 //!
 //! At each start the process is recorded in a line (`process_line`). The next svscan reads it (`read_process`), finds
 //! what became of it (`find`), and with the status record says how the service begins (`Left::opening`): by its row, as
-//! it is wanted, or as it was left. A process that lives on is adopted, with the machine that the record tells.
+//! it is wanted, or as it was left. A process that lives on is adopted, with the machine that the record says.
 #![tactic(auto)]
 
 mod opening;

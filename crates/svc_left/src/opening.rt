@@ -54,7 +54,7 @@ impl Opening {
     }
 }
 
-/// The machine that a full record tells, of a service that has a process or is down.
+/// The machine that a full record says, of a service that has a process or is down.
 fn as_recorded(full: &Full) -> Machine
     requires { (0 < full.now.status.pid) ⊎ (full.now.phase ≡ Phase.Down) }
     ensures { result ≡ as_recorded full.now }
@@ -74,7 +74,7 @@ fn up(view: View, exiting: bool) -> Machine
     Machine::of_parts(Phase::Up, view, exiting, None).unwrap()
 }
 
-/// The machine that a record tells which names a process.
+/// The machine that a record says which names a process.
 fn running(loaded: &Loaded) -> Machine
     requires { 0 < (status_in loaded.now).pid }
     ensures { result ≡ running loaded.now }
@@ -149,11 +149,11 @@ impl Left {
     ///
     /// | process | record | it begins |
     /// |---|---|---|
-    /// | lives | names it | as the record tells |
+    /// | lives | names it | as the record says |
     /// | lives | names another, or none | up since it was found, wanted as the record says |
     /// | lives | there is none | up since it was found, wanted up |
     /// | gone | exiting or gone | by its row |
-    /// | gone | down | as the record tells |
+    /// | gone | down | as the record says |
     /// | gone | any other, wanted up | up |
     /// | gone | any other, wanted down or once | down |
     /// | gone | of 18 bytes, or none | by its row |

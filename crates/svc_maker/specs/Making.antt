@@ -54,7 +54,7 @@ abbrev pub behind : Role → List ℕ
 behind Main = []
 behind Log = codes "/log"
 
--- a part's name, as it is told
+-- a part's name, as it is reported
 abbrev pub part_name : (name : List ℕ) → Role → List ℕ
 part_name name role = name ++ behind role
 
@@ -62,7 +62,7 @@ part_name name role = name ++ behind role
 abbrev pub part_path : (folder name : List ℕ) → Role → List ℕ
 part_path folder name role = folder ++ (47 ∷ part_name name role)
 
--- What a part is set up with: the path of its folder, the name by which it is told, its number at the door, and the
+-- What a part is set up with: the path of its folder, the name by which it is reported, its number at the door, and the
 -- ends of pipes that its children have as standard input and output.
 pub record Plan : Type 0 where
   pub path : List ℕ
@@ -115,7 +115,7 @@ abbrev pub kept_after : Option MakeFault → KeptPart → List KeptPart → List
 kept_after None kept_part kept = kept ++ kept_part ∷ []
 kept_after (Some fault) kept_part kept = kept
 
--- what the host is told of a part that failed
+-- what the host is reported of a part that failed
 abbrev pub part_fault : MakeFault → PartFault
 part_fault why.NoRoom = part.Refused NoMemory
 part_fault (why.Unopened Locked) = part.Locked
@@ -137,7 +137,7 @@ pub record SetsUp (name : List ℕ) (part : PartId) (fault : Option MakeFault) (
 abbrev pub MakesPart : (name : List ℕ) → PartId → Opening → (old new : Making) → Type 0
 MakesPart name part opening old new = SetsUp name part None (Some opening) old new
 
--- A part was not made, and this is what the host is told: why it was not set up.
+-- A part was not made, and this is what the host is reported: why it was not set up.
 pub record FailsToMake (name : List ℕ) (part : PartId) (fault : PartFault) (old new : Making) : Type 0 where
   pub failure : MakeFault
   pub is : fault ≡ part_fault failure
@@ -179,7 +179,7 @@ pub record LacksPair (name : List ℕ) (cause : Cause) (old new : Making) : Type
   pub calls : ExtendedWhileKept old.calls new.calls tried
   pub stands : new ≡ record old { calls = new.calls }
 
--- The pipes of a pair were not made, and the host is told so.
+-- The pipes of a pair were not made, and the host is reported so.
 abbrev pub LacksPairFor : (name : List ℕ) → PartFault → (old new : Making) → Type 0
 LacksPairFor name part.Locked old new = ⊥
 LacksPairFor name (part.Refused cause) old new = LacksPair name cause old new
@@ -261,7 +261,7 @@ pub record Prepares (rows : List Row) (old new : Making) : Type 0 where
   pub calls : ExtendedWhileKept old.calls new.calls (Prepared old.folder rows ∷ [])
   pub stands : new ≡ record old { calls = new.calls }
 
--- The outputs were told to look after their flows, and nothing else.
+-- The outputs were reported to look after their flows, and nothing else.
 pub record WatchesOutputs (old new : Making) : Type 0 where
   pub calls : ExtendedWhileKept old.calls new.calls (WatchedOutputs ∷ [])
   pub stands : new ≡ record old { calls = new.calls }

@@ -4,7 +4,7 @@
 //! the door (`svc_door`), and for a pair it makes the two pipes between a service and its logger. Contracts see it as
 //! `Making` (specs/Making), over the small trait `PartSystem`: a part stands exactly where its folder was opened and
 //! locked, its world made and it was admitted; what fails on the way is taken back; a part that ends is dismissed,
-//! once. Below that trait is the system's own layer, `SystemParts`, which tells contracts nothing.
+//! once. Below that trait is the system's own layer, `SystemParts`, which says nothing to contracts.
 //!
 //! What no contract here says, and is only tested: what the system does at each call, and that a lock is free once its
 //! folder is let go.

@@ -62,12 +62,12 @@ pub trait PartSystem {
         ensures fault { IfErr result (λ fault.
             ExtendedWhileKept (calls self.old) (calls self.new) (OpenedOwn (string_bytes path) (Some fault) ∷ [])) };
 
-    /// Puts these bytes in the place of the status record in a folder, and tells whether it could.
+    /// Puts these bytes in the place of the status record in a folder, and says whether it could.
     fn record(&mut self, folder: &Self::Folder, bytes: &[u8; 20]) -> bool
         ensures calls { ExtendedWhileKept (calls self.old) (calls self.new)
             (Recorded (Self.Folder.path folder.now) bytes.now result ∷ []) };
 
-    /// Has all outputs look after their flows from now on, so that each can be told to end.
+    /// Has all outputs look after their flows from now on, so that each can be asked to end.
     fn watch_outputs(&mut self)
         ensures calls { ExtendedWhileKept (calls self.old) (calls self.new) (WatchedOutputs ∷ []) };
 
@@ -80,7 +80,7 @@ pub trait PartSystem {
     /// The world of the service in a folder of which this was left, and what waits for its processes, or why it
     /// can't be made. A process that lives on is adopted. Each child has copies of these ends of pipes as standard
     /// input and output, and svscan's own where there is none. The notifier is notified where there is news. By this
-    /// name the service is told.
+    /// name the service is reported.
     fn world(
         &mut self,
         folder: &Self::Folder,
@@ -110,7 +110,7 @@ pub trait PartSystem {
         ensures calls { ExtendedWhileKept (calls self.old) (calls self.new)
             (Dismissed number (Self.Folder.path folder.now) ∷ []) };
 
-    /// Puts a text in the place of the trace in a folder, and tells whether it could. Where not, the old one stands.
+    /// Puts a text in the place of the trace in a folder, and says whether it could. Where not, the old one stands.
     fn keep_trace(&mut self, folder: &Self::Folder, text: &[u8]) -> bool
         ensures calls { ExtendedWhileKept (calls self.old) (calls self.new)
             (KeptTrace (Self.Folder.path folder.now) text.now result ∷ []) };

@@ -30,7 +30,7 @@ pub(crate) enum MakeFault {
     NotAdmitted(Cause),
 }
 
-/// Why a part was not made, as its host is told.
+/// Why a part was not made, as its host is reported.
 pub(crate) fn part_fault(fault: MakeFault) -> PartFault
     ensures { result ≡ part_fault fault }
 {
@@ -62,7 +62,7 @@ pub(crate) fn behind(role: Role) -> &'static str
     }
 }
 
-/// A part's name, as it is told: of a logger the service's, with `/log` behind it.
+/// A part's name, as it is reported: of a logger the service's, with `/log` behind it.
 pub fn part_name(alloc: Global, name: &str, role: Role) -> Result<String, AllocError>
     ensures { IfOk result (λ text. string_bytes text ≡ part_name name.now role) }
 {

@@ -1,4 +1,4 @@
-//! The system's own parts of services. It tells contracts nothing.
+//! The system's own parts of services. It says nothing to contracts.
 ghost use Rattle.std.specs.Prelude.{◌≡◌, string_bytes, IfOk};
 
 use crate::kept_folder::LockedFolder;

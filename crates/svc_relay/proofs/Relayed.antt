@@ -19,15 +19,15 @@ use Rattle.svc_relay.proofs.Joined.{bytes_in-one}
 
 -- what holds of every relay
 pub relay_facts : (receiver : Receiver Piece Global) (earlier here : ℕ) (waiting : List ℕ) (put : ℕ)
-    (told : Option (List ℕ)) (failures : ℕ)
-    → IsCounted receiver earlier here waiting put told
-    → IsRelay (passing receiver earlier here waiting put told failures)
-relay_facts receiver earlier here waiting put told failures counted =
+    (shown : Option (List ℕ)) (failures : ℕ)
+    → IsCounted receiver earlier here waiting put shown
+    → IsRelay (passing receiver earlier here waiting put shown failures)
+relay_facts receiver earlier here waiting put shown failures counted =
     let taken = bytes_in (taken_by receiver) in record {
       taken = sym (take-append-drop (earlier + here) taken)
           ∙ ap (λ l. l ++ drop (earlier + here) taken) (take-add earlier here taken)
           ∙ ap (λ l. (take earlier taken ++ take here (drop earlier taken)) ++ l) counted.kept;
-      told = counted.life;
+      shown = counted.life;
     }
 
 -- more was taken
@@ -80,10 +80,10 @@ filled_here earlier here taken more bytes within is = ap (λ l. take here (drop 
     ∙ same_fronts earlier here taken bytes within
 
 pub filled : (old new : Receiver Piece Global) (earlier here : ℕ) (waiting after : List ℕ) (put : ℕ)
-    (told : Option (List ℕ))
-    → drop put waiting ≡ [] → Gathers old new [] after → IsCounted old earlier here waiting put told
-    → IsCounted new earlier here after 0 told
-filled old new earlier here waiting after put told none gathers counted =
+    (shown : Option (List ℕ))
+    → drop put waiting ≡ [] → Gathers old new [] after → IsCounted old earlier here waiting put shown
+    → IsCounted new earlier here after 0 shown
+filled old new earlier here waiting after put shown none gathers counted =
     let taken = bytes_in (taken_by old) in
     let bytes = gathers.bytes in
     let same = gathers.taken in record {
@@ -91,7 +91,7 @@ filled old new earlier here waiting after put told none gathers counted =
       front = omega arith;
       kept = ap (λ l. drop (earlier + here) l) same ∙ drop-append-le (earlier + here) taken bytes counted.within
           ∙ ap (λ l. l ++ bytes) (counted.kept ∙ none) ∙ sym gathers.waits;
-      life = subst (λ (l : List ℕ). IfSome told (λ b. b ≡ l))
+      life = subst (λ (l : List ℕ). IfSome shown (λ b. b ≡ l))
           (sym (filled_here earlier here taken (bytes_in (taken_by new)) bytes counted.within same)) counted.life;
     }
 
@@ -113,52 +113,52 @@ kept_part : (earlier here : ℕ) (taken : List ℕ) → drop here (drop earlier 
 kept_part earlier here taken = drop-drop here earlier taken
 
 pub puts_here : (receiver : Receiver Piece Global) (earlier here : ℕ) (waiting : List ℕ) (put : ℕ)
-    (told : Option (List ℕ)) (count : ℕ)
-    → IsCounted receiver earlier here waiting put told
+    (shown : Option (List ℕ)) (count : ℕ)
+    → IsCounted receiver earlier here waiting put shown
     → take (here + count) (drop earlier (bytes_in (taken_by receiver)))
     ≡ take here (drop earlier (bytes_in (taken_by receiver))) ++ take count (drop put waiting)
-puts_here receiver earlier here waiting put told count counted =
+puts_here receiver earlier here waiting put shown count counted =
     let taken = bytes_in (taken_by receiver) in
     take-add here count (drop earlier taken)
     ∙ ap (λ l. take here (drop earlier taken) ++ take count l) (kept_part earlier here taken ∙ counted.kept)
 
 pub puts : (receiver : Receiver Piece Global) (earlier here : ℕ) (waiting : List ℕ) (put : ℕ)
-    (told after : Option (List ℕ)) (count : ℕ)
-    → count ≤ length (drop put waiting) → after ≡ append_known told (take count (drop put waiting))
-    → IsCounted receiver earlier here waiting put told
+    (shown after : Option (List ℕ)) (count : ℕ)
+    → count ≤ length (drop put waiting) → after ≡ append_known shown (take count (drop put waiting))
+    → IsCounted receiver earlier here waiting put shown
     → IsCounted receiver earlier (here + count) waiting (put + count) after
-puts receiver earlier here waiting put told after count few extended counted =
+puts receiver earlier here waiting put shown after count few extended counted =
     let taken = bytes_in (taken_by receiver) in
     let sum : earlier + (here + count) ≡ earlier + here + count = omega arith in record {
       within = omega (arith, few, ap length counted.kept, length-drop (earlier + here) taken, counted.within);
       front = omega (arith, few, length-drop put waiting, counted.front);
       kept = ap (λ n. drop n taken) sum ∙ sym (drop-drop count (earlier + here) taken)
           ∙ ap (λ l. drop count l) counted.kept ∙ drop-drop count put waiting;
-      life = put_life here count (drop earlier taken) (drop put waiting) told after (kept_part earlier here taken
+      life = put_life here count (drop earlier taken) (drop put waiting) shown after (kept_part earlier here taken
           ∙ counted.kept) extended counted.life;
     }
 
 pub puts_more : (receiver : Receiver Piece Global) (earlier here : ℕ) (waiting : List ℕ) (put : ℕ)
-    (told after : Option (List ℕ)) (failures failed count : ℕ)
-    → count ≤ length (drop put waiting) → after ≡ append_known told (take count (drop put waiting))
-    → IsCounted receiver earlier here waiting put told
-    → PutsMore (passing receiver earlier here waiting put told failures) count
+    (shown after : Option (List ℕ)) (failures failed count : ℕ)
+    → count ≤ length (drop put waiting) → after ≡ append_known shown (take count (drop put waiting))
+    → IsCounted receiver earlier here waiting put shown
+    → PutsMore (passing receiver earlier here waiting put shown failures) count
     (passing receiver earlier (here + count) waiting (put + count) after failed)
-puts_more receiver earlier here waiting put told after failures failed count few extended counted = record {
+puts_more receiver earlier here waiting put shown after failures failed count few extended counted = record {
   bytes = take count (drop put waiting);
-  here = puts_here receiver earlier here waiting put told count counted;
+  here = puts_here receiver earlier here waiting put shown count counted;
   many = length-take-le count (drop put waiting) few;
-  told = extended;
+  shown = extended;
 }
 
 pub puts_all : (receiver : Receiver Piece Global) (earlier here : ℕ) (waiting : List ℕ) (put : ℕ)
-    (told after : Option (List ℕ)) (failures failed count : ℕ)
+    (shown after : Option (List ℕ)) (failures failed count : ℕ)
     → count ≡ length (drop put waiting) → 0 < length (drop put waiting) → failed ≡ failures
-    → after ≡ append_known told (take count (drop put waiting)) → IsCounted receiver earlier here waiting put told
-    → PutsAll (passing receiver earlier here waiting put told failures) count
+    → after ≡ append_known shown (take count (drop put waiting)) → IsCounted receiver earlier here waiting put shown
+    → PutsAll (passing receiver earlier here waiting put shown failures) count
     (passing receiver earlier (here + count) waiting (put + count) after failed)
-puts_all receiver earlier here waiting put told after failures failed count all some works extended counted = record {
-  put = puts_more receiver earlier here waiting put told after failures failed count (omega (arith, all)) extended
+puts_all receiver earlier here waiting put shown after failures failed count all some works extended counted = record {
+  put = puts_more receiver earlier here waiting put shown after failures failed count (omega (arith, all)) extended
       counted;
   some = omega (arith, all, some);
   kept = sym (drop-drop count put waiting) ∙ ap (λ n. drop n (drop put waiting)) all ∙ drop-length (drop put waiting);
@@ -166,20 +166,20 @@ puts_all receiver earlier here waiting put told after failures failed count all 
 }
 
 pub breaks : (receiver : Receiver Piece Global) (earlier here : ℕ) (waiting : List ℕ) (put : ℕ)
-    (told after : Option (List ℕ)) (failures failed count : ℕ)
+    (shown after : Option (List ℕ)) (failures failed count : ℕ)
     → count < length (drop put waiting) → Rose failures failed
-    → after ≡ append_known told (take count (drop put waiting)) → IsCounted receiver earlier here waiting put told
-    → IsBroken (passing receiver earlier here waiting put told failures)
+    → after ≡ append_known shown (take count (drop put waiting)) → IsCounted receiver earlier here waiting put shown
+    → IsBroken (passing receiver earlier here waiting put shown failures)
     (passing receiver earlier (here + count) waiting (put + count) after failed)
-breaks receiver earlier here waiting put told after failures failed count part rose extended counted = record {
+breaks receiver earlier here waiting put shown after failures failed count part rose extended counted = record {
   count = count;
-  put = puts_more receiver earlier here waiting put told after failures failed count (omega (arith, part)) extended
+  put = puts_more receiver earlier here waiting put shown after failures failed count (omega (arith, part)) extended
       counted;
   kept = omega (arith, part, length-drop put waiting, length-drop (put + count) waiting);
   failed = rose;
 }
 
--- what an outlet tells, when it took bytes and then more of them
+-- what an outlet reports, when it took bytes and then more of them
 pub known_more : (first old new : Option (List ℕ)) (bytes : List ℕ) (at count : ℕ)
     → old ≡ append_known first (take at bytes)
     → new ≡ append_known old (take count (drop at bytes)) → new ≡ append_known first (take (at + count) bytes)
@@ -194,28 +194,28 @@ known_more first old new bytes at count h k =
     twice (Some zs) xs ys = ap (λ l. Some l) (append_assoc zs xs ys)
 
 -- a turn is a step that puts nothing, and one that puts what that step keeps
-more : (old mid new : Passing) (count : ℕ) → mid.here ≡ old.here → mid.told ≡ old.told → PutsMore mid count new
+more : (old mid new : Passing) (count : ℕ) → mid.here ≡ old.here → mid.shown ≡ old.shown → PutsMore mid count new
     → PutsMore old count new
-more old mid new count here told h = record {
+more old mid new count here shown h = record {
   bytes = h.bytes;
   many = h.many;
   here = h.here ∙ ap (λ l. l ++ h.bytes) here;
-  told = h.told ∙ ap (λ o. append_known o h.bytes) told;
+  shown = h.shown ∙ ap (λ o. append_known o h.bytes) shown;
 }
 
-pub puts_kept : (old mid new : Passing) (turned : RelayTurn) → mid.here ≡ old.here → mid.told ≡ old.told
+pub puts_kept : (old mid new : Passing) (turned : RelayTurn) → mid.here ≡ old.here → mid.shown ≡ old.shown
     → mid.failures ≡ old.failures → 0 < length mid.kept
     → IsRelayTurn mid turned new → IsRelayTurn old turned new
-puts_kept old mid new (Moved count) here told failures some h = record {
-  put = more old mid new count here told h.put;
+puts_kept old mid new (Moved count) here shown failures some h = record {
+  put = more old mid new count here shown h.put;
   some = h.some;
   kept = h.kept;
   works = h.works ∙ failures;
 }
-puts_kept old mid new Idle here told failures some h = absurd (omega (arith, some, ap length h.kept.0))
-puts_kept old mid new Broken here told failures some h = record {
+puts_kept old mid new Idle here shown failures some h = absurd (omega (arith, some, ap length h.kept.0))
+puts_kept old mid new Broken here shown failures some h = record {
   count = h.count;
-  put = more old mid new h.count here told h.put;
+  put = more old mid new h.count here shown h.put;
   kept = h.kept;
   failed = subst (λ (n : ℕ). Rose n new.failures) failures h.failed;
 }
@@ -223,10 +223,10 @@ puts_kept old mid new Broken here told failures some h = record {
 -- the next life begins
 
 pub replaced : (receiver : Receiver Piece Global) (earlier here : ℕ) (waiting : List ℕ) (put : ℕ)
-    (told after : Option (List ℕ))
-    → IfSome after (λ b. b ≡ []) → IsCounted receiver earlier here waiting put told
+    (shown after : Option (List ℕ))
+    → IfSome after (λ b. b ≡ []) → IsCounted receiver earlier here waiting put shown
     → IsCounted receiver (earlier + here) 0 waiting put after
-replaced receiver earlier here waiting put told after none counted =
+replaced receiver earlier here waiting put shown after none counted =
     let taken = bytes_in (taken_by receiver) in
     let sum : earlier + here + 0 ≡ earlier + here = omega arith in record {
       within = omega (arith, counted.within);

@@ -17,30 +17,30 @@ pub record Passing : Type 0 where
   pub here : List ℕ
   -- the bytes that were taken and are not put
   pub kept : List ℕ
-  -- the bytes that this life's outlet tells, and how often it failed
-  pub told : Option (List ℕ)
+  -- the bytes that this life's outlet reports, and how often it failed
+  pub shown : Option (List ℕ)
   pub failures : ℕ
 
 -- What holds of every relay.
 pub record IsRelay (s : Passing) : Type 0 where
   -- The bytes taken are those put into earlier lives, those put into this one, and those kept.
   pub taken : bytes_in (taken_by s.receiver) ≡ (s.earlier ++ s.here) ++ s.kept
-  -- What this life's outlet tells are the bytes put into this life.
-  pub told : IfSome s.told (λ bytes. bytes ≡ s.here)
+  -- What this life's outlet reports are the bytes put into this life.
+  pub shown : IfSome s.shown (λ bytes. bytes ≡ s.here)
 
 -- a relay that begins: nothing is put or kept
 abbrev pub beginning : Receiver Piece Global → Option (List ℕ) → ℕ → Passing
-beginning receiver told failures =
-    record { receiver = receiver; earlier = []; here = []; kept = []; told = told; failures = failures }
+beginning receiver shown failures =
+    record { receiver = receiver; earlier = []; here = []; kept = []; shown = shown; failures = failures }
 
 -- the same relay at the beginning of the logger's next life, with this outlet
 abbrev pub next_life : Passing → Option (List ℕ) → ℕ → Passing
-next_life s told failures = record {
+next_life s shown failures = record {
   receiver = s.receiver;
   earlier = s.earlier ++ s.here;
   here = [];
   kept = s.kept;
-  told = told;
+  shown = shown;
   failures = failures;
 }
 
@@ -49,7 +49,7 @@ pub record PutsMore (old : Passing) (count : ℕ) (new : Passing) : Type 0 where
   pub bytes : List ℕ
   pub many : length bytes ≡ count
   pub here : new.here ≡ old.here ++ bytes
-  pub told : new.told ≡ append_known old.told bytes
+  pub shown : new.shown ≡ append_known old.shown bytes
 
 -- So many bytes were put, 1 at least. Nothing is kept, and the outlet did not fail.
 pub record PutsAll (old : Passing) (count : ℕ) (new : Passing) : Type 0 where
@@ -71,7 +71,7 @@ pub record HadNone (old new : Passing) : Type 0 where
   pub kept : (old.kept ≡ []) × (new.kept ≡ [])
   pub taken : taken_by new.receiver ≡ taken_by old.receiver
   pub here : new.here ≡ old.here
-  pub outlet : (new.told ≡ old.told) × (new.failures ≡ old.failures)
+  pub outlet : (new.shown ≡ old.shown) × (new.failures ≡ old.failures)
 
 -- what a turn did
 abbrev pub IsRelayTurn : Passing → RelayTurn → Passing → Type 0
@@ -82,19 +82,19 @@ IsRelayTurn old Broken new = IsBroken old new
 -- a relay, of what it counts: so many bytes were put into earlier lives, so many into this one, and so many of the
 -- block that waits
 abbrev pub passing : Receiver Piece Global → ℕ → ℕ → List ℕ → ℕ → Option (List ℕ) → ℕ → Passing
-passing receiver earlier here waiting put told failures = let taken = bytes_in (taken_by receiver) in record {
+passing receiver earlier here waiting put shown failures = let taken = bytes_in (taken_by receiver) in record {
   receiver = receiver;
   earlier = take earlier taken;
   here = take here (drop earlier taken);
   kept = drop put waiting;
-  told = told;
+  shown = shown;
   failures = failures;
 }
 
 -- What a relay counts fits what it took.
 pub record IsCounted (receiver : Receiver Piece Global) (earlier here : ℕ) (waiting : List ℕ) (put : ℕ)
-    (told : Option (List ℕ)) : Type 0 where
+    (shown : Option (List ℕ)) : Type 0 where
   pub within : earlier + here ≤ length (bytes_in (taken_by receiver))
   pub front : put ≤ length waiting
   pub kept : drop (earlier + here) (bytes_in (taken_by receiver)) ≡ drop put waiting
-  pub life : IfSome told (λ bytes. bytes ≡ take here (drop earlier (bytes_in (taken_by receiver))))
+  pub life : IfSome shown (λ bytes. bytes ≡ take here (drop earlier (bytes_in (taken_by receiver))))

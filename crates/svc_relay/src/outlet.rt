@@ -2,12 +2,12 @@
 use std::io::Write;
 use tai_status::Output;
 
-/// A fault of an outlet. Its count of failures tells of it.
+/// A fault of an outlet. Its count of failures reports of it.
 #[derive(Clone, Copy, Debug, PartialEq, Eq)]
 pub struct OutletFault;
 
 /// The input of one life of a logger. Contracts see how often it failed (`failures`, which may stand at its end)
-/// and, where it tells them, the bytes that were put into it, in order (`bytes`). That none of a piece's bytes was
+/// and, where it says them, the bytes that were put into it, in order (`bytes`). That none of a piece's bytes was
 /// taken is a failure.
 pub trait Outlet {
     ghost use Rattle.std.specs.Prelude.{◌≡◌, ◌≤◌, ◌<◌, ℕ, Option, None, List, length, take, IfOk, OnOk, OnErr};
@@ -28,7 +28,7 @@ pub trait Outlet {
         ensures failed { OnErr result (Rose (failures self.old) (failures self.new)) };
 }
 
-/// A counted writer is an outlet. It tells nothing of its bytes, since a writer over the machine knows of none.
+/// A counted writer is an outlet. It reports nothing of its bytes, since a writer over the machine knows of none.
 impl<D: Write> Outlet for Output<D> {
     ghost failures = { λ output. output.faults };
 

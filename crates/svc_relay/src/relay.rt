@@ -51,7 +51,7 @@ fn gather<R: Wait>(rt: &R, receiver: &mut Receiver<Piece>, waiting: &mut Block)
     }
 }
 
-// Takes what letters there are, and tells whether there were any.
+// Takes what letters there are, and says whether there were any.
 fn fill<R: Wait>(rt: &R, receiver: &mut Receiver<Piece>, waiting: &mut Block) -> bool
     requires { waiting.old ≡ [] }
     ensures same { IsSameReceiver receiver.old receiver.new }
@@ -134,7 +134,7 @@ impl<O: Outlet> Relay<O> {
     pub fn replace(&mut self, outlet: O) -> O
         requires { IfSome (O.bytes outlet) (λ bytes. bytes ≡ []) }
         ensures next { self.new ≡ next_life self.old (O.bytes outlet) (O.failures outlet) }
-        ensures old { (O.bytes result ≡ self.old.told) × (O.failures result ≡ self.old.failures) }
+        ensures old { (O.bytes result ≡ self.old.shown) × (O.failures result ≡ self.old.failures) }
         ensures bytes { IsRelay self.new }
     {
         self.earlier += self.here;
@@ -155,7 +155,7 @@ impl<O: Outlet> Relay<O> {
         ensures same { IsSameReceiver self.old.receiver self.new.receiver }
         ensures earlier { self.new.earlier ≡ self.old.earlier }
         ensures here { self.new.here ≡ self.old.here }
-        ensures outlet { (self.new.told ≡ self.old.told) × (self.new.failures ≡ self.old.failures) }
+        ensures outlet { (self.new.shown ≡ self.old.shown) × (self.new.failures ≡ self.old.failures) }
         ensures kept { 0 < length self.old.kept → self.new.receiver ≡ self.old.receiver }
         ensures some { result ≡ true → 0 < length self.new.kept }
         ensures none { result ≡ false → HadNone self.old self.new × IsRelay self.new }

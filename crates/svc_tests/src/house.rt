@@ -26,7 +26,7 @@ use svc_station::writer::Writer;
 use tai_status::{Label, View, Want};
 use test_base::Scarce;
 
-// A world with set answers, one for each poll. It keeps what it was told as long as there is memory.
+// A world with set answers, one for each poll. It keeps what it was reported as long as there is memory.
 #[derive(Drop)]
 struct Script {
     starts: [Option<StartAnswer>; 2],
@@ -34,7 +34,7 @@ struct Script {
     clock: Label,
     start_polls: usize,
     death_polls: usize,
-    told: Vec<Ask>,
+    reported: Vec<Ask>,
 }
 
 impl Script {
@@ -50,12 +50,12 @@ impl Script {
             clock,
             start_polls: 0,
             death_polls: 0,
-            told: Vec::new(alloc),
+            reported: Vec::new(alloc),
         }
     }
 
     fn note(&mut self, ask: Ask) {
-        let _ = self.told.push(ask);
+        let _ = self.reported.push(ask);
     }
 }
 
@@ -196,7 +196,7 @@ impl<A: Allocator + Clone> Stage<A> {
         wound
     }
 
-    // What the world was told, what was pending, and what a reader reads that learnt the writer's note: the status, and
+    // What the world was reported, what was pending, and what a reader reads that learnt the writer's note: the status, and
     // how many events there were.
     fn end<R: Wait + Abort>(self, rt: &R, alloc: Global) -> (Vec<Ask>, Pending, View, Option<u64>) {
         let Stage {
@@ -210,14 +210,14 @@ impl<A: Allocator + Clone> Stage<A> {
             readers,
         } = self;
         let (world, _inbox, mut writer, pending) = house.take_apart();
-        reader.learn(writer.tell());
+        reader.learn(writer.report());
         let count = match reader.trace(alloc) {
             Ok(text) => Some(text.folded() + text.entries().len() as u64),
             Err(_refused) => None,
         };
         let view = reader.status();
         end_two(rt, writer, reader, other, readers);
-        (world.told, pending, view, count)
+        (world.reported, pending, view, count)
     }
 }
 
@@ -298,7 +298,7 @@ fn wind_up_twice<A: Allocator + Clone, R: Wait>(
     let (refused, tried) = wind_up_gone(rt, limited, house, mailbox, senders);
     match tried {
         Ok((_world, mut writer, letters)) => {
-            let note = writer.tell();
+            let note = writer.report();
             match last_reading(alloc, reader, note) {
                 Ok((machine, trace)) => {
                     let wound = Wound {
@@ -390,7 +390,7 @@ fn a_service_from_its_start_to_its_death(rt: HostRuntime) -> Result<(), Fail> {
         (view.label, view.pid, view.want, count),
         (l3, 0, Want::Down, Some(4))
     );
-    let told = [
+    let reported = [
         "took record:400000000000000a000000000000000000750000 -> down",
         "took start -> down",
         "took record:400000000000000b000000006712000000750001 -> down",
@@ -400,7 +400,7 @@ fn a_service_from_its_start_to_its_death(rt: HostRuntime) -> Result<(), Fail> {
         "took record:400000000000000b000000006712000000640003 -> down",
         "took record:400000000000000d000000000000000000640004 -> down",
     ];
-    assert!(rt; are_asks(&asks, &told));
+    assert!(rt; are_asks(&asks, &reported));
     Ok(())
 }
 
@@ -463,7 +463,7 @@ fn a_start_that_fails_comes_again(rt: HostRuntime) -> Result<(), Fail> {
     assert!(rt; are_turns(&rt, &mut stage, &wanted));
     let (asks, _pending, view, count) = stage.end(&rt, rt.alloc());
     assert_eq!(rt; (view.pid, view.want, count), (7, Want::Up, Some(3)));
-    let told = [
+    let reported = [
         "took record:400000000000000a000000000000000000750000 -> down",
         "took start -> down",
         "took record:400000000000000a000000000000000000750002 -> down",
@@ -471,7 +471,7 @@ fn a_start_that_fails_comes_again(rt: HostRuntime) -> Result<(), Fail> {
         "took start -> down",
         "took record:400000000000000c000000000700000000750001 -> down",
     ];
-    assert!(rt; are_asks(&asks, &told));
+    assert!(rt; are_asks(&asks, &reported));
     Ok(())
 }
 

@@ -101,7 +101,7 @@ fn readers_read_what_was_published(rt: HostRuntime) {
     let text = answer_text(&taken, writer.machine().phase());
     let wanted = "took record:400000000000000a000000000000000000750000 start -> starting";
     assert_eq!(rt; text.as_str(), wanted);
-    first.learn(writer.tell());
+    first.learn(writer.report());
     let held = writer.publish(&rt, Event::Byte(b'u')).expect(&rt, "room");
     assert!(rt; matches!(&held, Reply::Held));
     trace_growth_by_growth(&rt, rt.alloc(), &mut first);
@@ -145,7 +145,7 @@ fn publish_turns<R: Wait + Abort + Copy + Drop>(rt: R, parked: Parked<R>, turns:
     Parked::new(writer, rt)
 }
 
-// Reads until so many events were published, and tells whether the count never fell.
+// Reads until so many events were published, and says whether the count never fell.
 fn watch<R: Wait + Abort>(rt: &R, alloc: Global, reader: &mut Reader, all: u64) -> bool
     ensures { IsSameReader reader.old reader.new }
 {
@@ -202,7 +202,7 @@ fn a_reader_reads_beside_the_thread_that_publishes(rt: HostRuntime) {
     let (mut writer, rose) = publish_beside(rt, rt.alloc(), writer, &mut first, 1000);
     assert!(rt; rose);
     begins_what_was_published(&rt, &first, &mut writer);
-    first.learn(writer.tell());
+    first.learn(writer.report());
     for (_view, count) in [read(&mut first, rt.alloc()), read(&mut second, rt.alloc())] {
         assert_eq!(rt; count, Some(2000));
     }

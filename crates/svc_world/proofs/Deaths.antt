@@ -1,4 +1,4 @@
--- A death that is told, and one that is found and told.
+-- A death that is reported, and one that is found and reported.
 use Rattle.std.proofs.Common.{◌≡◌, ℕ, Bool, List, [], ◌∷◌, Option, Some, ap, ◌∙◌, subst, inr}
 use Rattle.svc_house.specs.Calls.{ExtendedWhileKept}
 use Rattle.svc_house.proofs.Extended.{extended-append}
@@ -10,18 +10,18 @@ use Rattle.svc_exit.specs.declared.exit.Exit.{Exit}
 use Rattle.svc_world.specs.declared.begin.Death.{Death}
 use Rattle.svc_world.specs.declared.begin.LastChild.TheVariants.{Gone}
 use Rattle.svc_world.specs.Calls.{Call, SoughtDeath, RecordedExit, RecordedCounts}
-use Rattle.svc_world.specs.Watch.{Watch, SeeksDeath, TellsDeath, exit_of}
+use Rattle.svc_world.specs.Watch.{Watch, SeeksDeath, ReportsDeath, exit_of}
 
 -- how the child ended was recorded, and then the counts
-pub tells : (exit : Exit) (seen old new : Watch) (between : Option (List Call)) (line text : List ℕ)
+pub reports : (exit : Exit) (seen old new : Watch) (between : Option (List Call)) (line text : List ℕ)
     (written counted : Bool)
     (counts : Counts) → seen ≡ old → ExtendedWhileKept seen.calls between (RecordedExit line written ∷ [])
     → ExtendedWhileKept between new.calls (RecordedCounts text counted ∷ [])
     → line ≡ exit_text exit → text ≡ counts_text counts → counts ≡ one_ended seen.counts
     → new ≡ record seen { calls = new.calls; child = Gone; counts = counts }
-    → TellsDeath exit old new
-tells exit seen old new between line text written counted counts same first second line_is text_is counts_are stands =
-    subst (λ (o : Watch). TellsDeath exit o new) same (record {
+    → ReportsDeath exit old new
+reports exit seen old new between line text written counted counts same first second line_is text_is counts_are stands =
+    subst (λ (o : Watch). ReportsDeath exit o new) same (record {
       exit_written = written;
       counts_written = counted;
       calls = extended-append seen.calls between new.calls (RecordedExit (exit_text exit) written ∷ [])
@@ -33,20 +33,20 @@ tells exit seen old new between line text written counted counts same first seco
           stands;
     })
 
--- a death was sought and found, and then told
+-- a death was sought and found, and then reported
 pub finds : (pid : ℕ) (died : Death) (death : Option Death) (exit : Exit) (label : Tai64n) (old mid new : Watch)
     → death ≡ Some died → ExtendedWhileKept old.calls mid.calls (SoughtDeath death ∷ [])
     → mid ≡ record old { calls = mid.calls } → exit ≡ exit_of pid died → label ≡ exit.label
-    → TellsDeath exit mid new → SeeksDeath pid (Some label) old new
-finds pid died death exit label old mid new death_is sought same exit_is label_is told =
-    let tells : TellsDeath (exit_of pid died) (record old { calls = mid.calls }) new =
-    subst (λ (m : Watch). TellsDeath (exit_of pid died) m new) same (subst (λ e. TellsDeath e mid new) exit_is told) in
+    → ReportsDeath exit mid new → SeeksDeath pid (Some label) old new
+finds pid died death exit label old mid new death_is sought same exit_is label_is reported =
+    let reports : ReportsDeath (exit_of pid died) (record old { calls = mid.calls }) new =
+    subst (λ (m : Watch). ReportsDeath (exit_of pid died) m new) same (subst (λ e. ReportsDeath e mid new) exit_is reported) in
     inr (record {
       died = died;
-      told = ap Some (label_is ∙ ap (λ (e : Exit). e.label) exit_is);
-      exit_written = tells.exit_written;
-      counts_written = tells.counts_written;
+      reported = ap Some (label_is ∙ ap (λ (e : Exit). e.label) exit_is);
+      exit_written = reports.exit_written;
+      counts_written = reports.counts_written;
       calls = extended-append old.calls mid.calls new.calls (SoughtDeath (Some died) ∷ []) _
-          (subst (λ d. ExtendedWhileKept old.calls mid.calls (SoughtDeath d ∷ [])) death_is sought) tells.calls;
-      stands = tells.stands;
+          (subst (λ d. ExtendedWhileKept old.calls mid.calls (SoughtDeath d ∷ [])) death_is sought) reports.calls;
+      stands = reports.stands;
     })

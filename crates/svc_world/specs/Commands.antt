@@ -13,7 +13,7 @@ use Rattle.svc_world.specs.declared.begin.Begin.TheVariants.{Run, StillRuns}
 abbrev pub path_of_process : (pid : ℕ) (name : List ℕ) → List ℕ
 path_of_process pid name = codes "/proc/" ++ decimal pid ++ codes "/" ++ name
 
--- the line by which the shell of signals is told one
+-- the line by which the shell of signals is reported one
 abbrev pub signal_line : (name : List ℕ) (pid : ℕ) → List ℕ
 signal_line name pid = name ++ codes " " ++ decimal pid ++ 10 ∷ []
 
@@ -22,13 +22,13 @@ abbrev pub process_of : (pid : ℕ) → Option ℕ
 process_of pid = if pid == 0 then None else Some pid
 
 -- the process of a status record that was read
-abbrev pub process_told : Result Loaded RecordFault → Option ℕ
-process_told (Ok loaded) = process_of (status_in loaded).pid
-process_told (Err fault) = None
+abbrev pub process_loaded : Result Loaded RecordFault → Option ℕ
+process_loaded (Ok loaded) = process_of (status_in loaded).pid
+process_loaded (Err fault) = None
 
 -- the process that a status record of either length names, where these bytes are one
 abbrev pub process_in : (bytes : List ℕ) → Option ℕ
-process_in bytes = process_told (loaded_from bytes)
+process_in bytes = process_loaded (loaded_from bytes)
 
 -- what is said where the process of this number still runs
 abbrev pub still_runs : (pid : ℕ) → List ℕ

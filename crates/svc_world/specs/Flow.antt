@@ -1,12 +1,12 @@
 -- How the output of a service waits, and when it is over.
 use Rattle.std.specs.Prelude.{ℤ, pos, negsuc, Bool, true, false, not, Option, Some, None}
 
--- whether it is asked too whether outputs may be told to end: until they may, and then no more
+-- whether it is asked too whether outputs may be asked to end: until they may, and then no more
 abbrev pub is_watch_asked : (ends is_watched : Bool) → Bool
 is_watch_asked true is_watched = false
 is_watch_asked false is_watched = not is_watched
 
--- For how many milliseconds is waited at most: one that is to end does not wait; once outputs may be told to, 20; and
+-- For how many milliseconds is waited at most: one that is to end does not wait; once outputs may be reported to, 20; and
 -- before that without an end, which is -1.
 abbrev pub wait_millis : (ends is_watched : Bool) → ℤ
 wait_millis true is_watched = pos 0

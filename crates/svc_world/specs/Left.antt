@@ -26,7 +26,7 @@ abbrev pub is_starting : Phase → Bool
 is_starting Starting = true
 is_starting other = false
 
--- what a record tells of a service whose start was asked for and not answered
+-- what a record says of a service whose start was asked for and not answered
 abbrev pub starting : Option Loaded → Option Status
 starting (Some (New full)) = if is_starting full.phase then Some full.status else None
 starting other = None

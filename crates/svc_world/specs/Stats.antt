@@ -1,4 +1,4 @@
--- What the kernel's line of a process tells (proc(5), `/proc/PID/stat`).
+-- What the kernel's line of a process reports (proc(5), `/proc/PID/stat`).
 use Rattle.std.specs.Prelude.{◌≡◌, ◌<◌, ◌-◌, ◌^◌, ◌==◌, ℕ, Bool, false, not, ◌&&◌, ◌||◌, if◌then◌else◌, List, [], ◌∷◌}
 use Rattle.std.specs.Prelude.{◌↔◌, IsTrue, decimal, slice_get, Option, Some, None, option_and_then}
 use Rattle.std.specs.List.{after_last}
@@ -19,8 +19,8 @@ abbrev pub is_dead : List ℕ → Bool
 is_dead (letter ∷ []) = (letter == 90) || (letter == 88)
 is_dead other = false
 
--- A line tells this of its process: how it stands, its parent, and the tick at which it began.
-pub record TellsStat (line : List ℕ) (stat : Stat) : Type 0 where
+-- A line says this of its process: how it stands, its parent, and the tick at which it began.
+pub record SaysStat (line : List ℕ) (stat : Stat) : Type 0 where
   pub state : List ℕ
   pub stands : stat_field line 3 ≡ Some state
   pub has_died : stat.has_died ≡ is_dead state
@@ -38,7 +38,7 @@ living_tick stat = if stat.has_died then None else Some stat.tick
 
 -- It lives, and began at this tick, where that was found.
 abbrev pub LivesSince : (tick : ℕ) → Option Stat → (found : Bool) → Type 0
-LivesSince tick told found = IsTrue found ↔ (option_and_then living_tick told ≡ Some tick)
+LivesSince tick reported found = IsTrue found ↔ (option_and_then living_tick reported ≡ Some tick)
 
 -- whether a process lives and has lost its parent, so that it is a child of the first process
 abbrev pub is_orphan : Stat → Bool

@@ -26,7 +26,7 @@ pub record Watch : Type 0 where
   pub boot : Option (List ℕ)
   -- the process of an earlier svscan that is not adopted, until it was found gone
   pub earlier : Option ℕ
-  -- how the last start ended, until that is told
+  -- how the last start ended, until that is reported
   pub answer : Option StartAnswer
   -- the child that was spawned last, or the process that was adopted
   pub child : LastChild
@@ -154,13 +154,13 @@ abbrev pub sent : Sig → (pid : ℕ) → (death : Option Death) → List Call
 sent sig pid None = Signalled sig pid ∷ []
 sent sig pid (Some death) = []
 
--- the child, after its death was sought and is not told yet
+-- the child, after its death was sought and is not reported yet
 abbrev pub found : (pid : ℕ) (death : Option Death) → LastChild
 found pid None = Alive pid
 found pid (Some death) = Dead (exit_of pid death)
 
 -- A signal to the child spawned last, whose death is not known: its death is sought, and only where there is none the
--- signal is sent. A death that is found is kept, to be told.
+-- signal is sent. A death that is found is kept, to be reported.
 pub record SignalsChild (sig : Sig) (pid : ℕ) (old new : Watch) : Type 0 where
   pub death : Option Death
   pub calls : ExtendedWhileKept old.calls new.calls (SoughtDeath death ∷ sent sig pid death)
@@ -173,9 +173,9 @@ abbrev pub death_recorded : Exit → Counts → (exit_written counts_written : B
 death_recorded exit counts exit_written counts_written =
     RecordedExit (exit_text exit) exit_written ∷ RecordedCounts (counts_text (one_ended counts)) counts_written ∷ []
 
--- A death is told, and no more kept to be told: how the child ended is recorded, once, and it is counted, and the
+-- A death is reported, and no more kept to be reported: how the child ended is recorded, once, and it is counted, and the
 -- counts are recorded, once.
-pub record TellsDeath (exit : Exit) (old new : Watch) : Type 0 where
+pub record ReportsDeath (exit : Exit) (old new : Watch) : Type 0 where
   pub exit_written : Bool
   pub counts_written : Bool
   pub calls : ExtendedWhileKept old.calls new.calls (death_recorded exit old.counts exit_written counts_written)
@@ -183,29 +183,29 @@ pub record TellsDeath (exit : Exit) (old new : Watch) : Type 0 where
 
 -- The death of the child was sought, and there was none.
 pub record LivesOn (death : Option Tai64n) (old new : Watch) : Type 0 where
-  pub told : death ≡ None
+  pub reported : death ≡ None
   pub calls : ExtendedWhileKept old.calls new.calls (SoughtDeath None ∷ [])
   pub stands : new ≡ record old { calls = new.calls }
 
--- The death of the child of this number was sought, found and told.
+-- The death of the child of this number was sought, found and reported.
 pub record FindsDeath (pid : ℕ) (death : Option Tai64n) (old new : Watch) : Type 0 where
   pub died : Death
-  pub told : death ≡ Some died.label
+  pub reported : death ≡ Some died.label
   pub exit_written : Bool
   pub counts_written : Bool
   pub calls : ExtendedWhileKept old.calls new.calls
       (SoughtDeath (Some died) ∷ death_recorded (exit_of pid died) old.counts exit_written counts_written)
   pub stands : new ≡ record old { calls = new.calls; child = Gone; counts = one_ended old.counts }
 
--- The death of a child that lives was sought: there was none, or it was found and told.
+-- The death of a child that lives was sought: there was none, or it was found and reported.
 abbrev pub SeeksDeath : (pid : ℕ) (death : Option Tai64n) (old new : Watch) → Type 0
 SeeksDeath pid death old new = LivesOn death old new ⊎ FindsDeath pid death old new
 
--- What a poll for a death tells: one that was found already, else what the system finds of a child that lives. Each
--- death is told once.
+-- What a poll for a death reports: one that was found already, else what the system finds of a child that lives. Each
+-- death is reported once.
 abbrev pub PollsDeath : LastChild → (death : Option Tai64n) → (old new : Watch) → Type 0
 PollsDeath Gone death old new = (death ≡ None) × (new ≡ old)
-PollsDeath (Dead exit) death old new = (death ≡ Some exit.label) × TellsDeath exit old new
+PollsDeath (Dead exit) death old new = (death ≡ Some exit.label) × ReportsDeath exit old new
 PollsDeath (Alive pid) death old new = SeeksDeath pid death old new
 
 -- Records

@@ -21,11 +21,11 @@ pub struct Death {
 /// What is known of the child that was spawned last.
 #[derive(Clone, Copy, Debug, PartialEq, Eq)]
 pub enum LastChild {
-    /// There is none, or its death was told.
+    /// There is none, or its death was reported.
     Gone,
     /// It has this number, and its death is not known.
     Alive(u32),
-    /// Its death was found, and is not told yet.
+    /// Its death was found, and is not reported yet.
     Dead(Exit),
 }
 

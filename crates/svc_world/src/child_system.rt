@@ -15,12 +15,12 @@ pub trait ChildSystem {
 
     ghost calls: { Self → Option (List Call) } = { λ _. None };
 
-    /// Makes a child, and tells its number. None where no child could be made at all.
+    /// Makes a child, and reports its number. None where no child could be made at all.
     fn spawn(&mut self, begin: Begin) -> Option<u32>
         ensures calls { ExtendedWhileKept (calls self.old) (calls self.new) (Spawned begin result ∷ []) }
         ensures number { IfSome result (λ pid. 0 < pid) };
 
-    /// How and when the child that was made last died, or the process that was adopted, once it has. It is told once.
+    /// How and when the child that was made last died, or the process that was adopted, once it has. It is reported once.
     fn death(&mut self) -> Option<Death>
         ensures calls { ExtendedWhileKept (calls self.old) (calls self.new) (SoughtDeath result ∷ []) };
 

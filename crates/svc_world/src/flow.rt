@@ -45,7 +45,7 @@ trait ByteCounter {
         ensures { Extended (counted self.old) (counted self.new) (more ∷ []) };
 }
 
-/// A count of a flow, by which one thread alone counts. It tells contracts nothing.
+/// A count of a flow, by which one thread alone counts. It says nothing to contracts.
 #[derive(Drop)]
 struct FlowCount<'a> {
     bytes: &'a AtomicU64,
@@ -118,7 +118,7 @@ impl Flow {
     }
 }
 
-/// How an output waits for bytes: whether it is asked too whether outputs may be told to end, and for how many
+/// How an output waits for bytes: whether it is asked too whether outputs may be asked to end, and for how many
 /// milliseconds at most; less than 0 is without an end.
 fn wait_of(ends: bool, is_watched: bool) -> (bool, i32)
     ensures asked { result.0 ≡ is_watch_asked ends is_watched }
@@ -177,11 +177,11 @@ pub fn drain(input: &PipeReader) -> io::Result<u64> {
     io::copy(&mut input, &mut io::sink())
 }
 
-/// The end of a service's output that is read. It ends where nobody has the other end, and where it is told to.
+/// The end of a service's output that is read. It ends where nobody has the other end, and where it is reported to.
 #[derive(Drop)]
 pub struct ServiceOutput {
     file: File,
-    // At its end once outputs may be told to end.
+    // At its end once outputs may be asked to end.
     watch: Arc<PipeReader, Global>,
     flow: Arc<Flow, Global>,
     is_watched: bool,
@@ -202,7 +202,7 @@ impl ServiceOutput {
         }
     }
 
-    /// Waits until there is something to read, or the output is over, as it was told. Whether it is over.
+    /// Waits until there is something to read, or the output is over, as it was reported. Whether it is over.
     fn is_over(&mut self) -> io::Result<bool> {
         for _ in 0..TRIES {
             if self.flow.ends_at_once.load(Ordering::SeqCst) {

@@ -66,7 +66,7 @@ impl FileId {
 }
 
 /// The folder of a service, with its lock. It is held by descriptor, so that it is reached whatever becomes of its
-/// path, and however long that is. It tells contracts nothing.
+/// path, and however long that is. It says nothing to contracts.
 ///
 /// It has the runtime itself for its files, and not a type parameter, so that it may be used in any thread.
 #[derive(Drop)]
@@ -169,7 +169,7 @@ fn process_in(bytes: &[u8]) -> Option<u32>
     if view.pid > 0 { Some(view.pid) } else { None }
 }
 
-/// What the record tells of a service whose start was asked for and not answered. None where it tells of another one.
+/// What the record says of a service whose start was asked for and not answered. None where it says of another one.
 fn starting(recorded: Option<Loaded>) -> Option<View>
     ensures { result ≡ starting recorded }
 {
@@ -179,7 +179,7 @@ fn starting(recorded: Option<Loaded>) -> Option<View>
     }
 }
 
-/// The record that names this process, and tells else what it told.
+/// The record that names this process, and reports else what it reported.
 fn naming(view: View, pid: u32) -> [u8; 18]
     ensures { result ≡ status_record (named view pid) }
 {
@@ -283,7 +283,7 @@ impl ServiceFolder {
         self.listen(rt, "supervise/control")
     }
 
-    /// Listens at the socket that tells that the service is supervised.
+    /// Listens at the socket that says that the service is supervised.
     pub fn ok<R: Files + Net>(&self, rt: &R) -> io::Result<UnixListener> {
         self.listen(rt, "supervise/ok")
     }

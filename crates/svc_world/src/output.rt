@@ -138,7 +138,7 @@ fn open_pipe(files: &HostRuntime, alloc: Global) -> io::Result<(File, File)> {
     ))
 }
 
-/// Opens the output of the service in a folder. Once the pipe is at its end, the output may be told to end.
+/// Opens the output of the service in a folder. Once the pipe is at its end, the output may be asked to end.
 pub fn open_output<R: Processes<Started = SystemProcess> + Wait>(
     rt: &R,
     files: &HostRuntime,

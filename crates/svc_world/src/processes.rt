@@ -24,7 +24,7 @@ const ESRCH: i32 = 3;
 /// How much of a process's line is read: up to the tick at which it began, whatever the program's name.
 const STAT_BYTES: usize = 512;
 
-/// Fills a buffer from its start with what a reader gives, in as many reads as that takes, and tells how many bytes
+/// Fills a buffer from its start with what a reader gives, in as many reads as that takes, and says how many bytes
 /// that were: fewer than it has room for only where the reader is at its end. After a fault those that came are lost.
 fn fill<R: Read>(reader: &mut R, buffer: &mut [u8]) -> io::Result<usize>
     ensures bound { ReadsAtMost result buffer.new }
@@ -69,21 +69,21 @@ pub(crate) fn path_of_process(pid: u32, name: &str) -> ShortPath
     path
 }
 
-/// Where the kernel's lines of processes are read. Contracts see what is told of the process of a number, where that is
+/// Where the kernel's lines of processes are read. Contracts see what is reported of the process of a number, where that is
 /// known.
 pub(crate) trait StatSource {
     ghost use Rattle.std.specs.Prelude.{◌≡◌, ℕ, Option, None, IfOk, IfSome};
     ghost use Rattle.svc_world.specs.declared.stat.Stat.{Stat};
 
-    // what is told of the process of a number, if there is one
+    // what is reported of the process of a number, if there is one
     ghost stat_at: { Self → ℕ → Option (Option Stat) } = { λ _ _. None };
 
     /// What the kernel says of the process of this number, if there is one, or why it can't be asked.
     fn stat_of(&self, pid: u32) -> io::Result<Option<Stat>>
-        ensures { IfOk result (λ found. IfSome (stat_at self.now pid) (λ told. found ≡ told)) };
+        ensures { IfOk result (λ found. IfSome (stat_at self.now pid) (λ reported. found ≡ reported)) };
 }
 
-/// The system's own processes. They tell contracts nothing.
+/// The system's own processes. They say nothing to contracts.
 impl StatSource for HostRuntime {
     fn stat_of(&self, pid: u32) -> io::Result<Option<Stat>> {
         stat_of(self, pid)
@@ -114,7 +114,7 @@ fn stat_of<R: Files<File = File>>(files: &R, pid: u32) -> io::Result<Option<Stat
 /// asked.
 pub(crate) fn tick_of<S: StatSource>(processes: &S, pid: u32) -> io::Result<Option<u64>>
     ensures { IfOk result (λ tick.
-        IfSome (S.stat_at processes.now pid) (λ told. tick ≡ option_and_then living_tick told)) }
+        IfSome (S.stat_at processes.now pid) (λ reported. tick ≡ option_and_then living_tick reported)) }
 {
     match processes.stat_of(pid)? {
         Some(stat) => Ok(stat.living_tick()),
@@ -137,7 +137,7 @@ fn lives_by(found: io::Result<Option<Stat>>, tick: u64) -> bool
 
 /// Whether the process of this number is not known to be gone that began at this tick.
 fn lives<S: StatSource>(processes: &S, pid: u32, tick: u64) -> bool
-    ensures { result ≡ false → IfSome (S.stat_at processes.now pid) (λ told. LivesSince tick told false) }
+    ensures { result ≡ false → IfSome (S.stat_at processes.now pid) (λ reported. LivesSince tick reported false) }
 {
     lives_by(processes.stat_of(pid), tick)
 }
@@ -145,7 +145,7 @@ fn lives<S: StatSource>(processes: &S, pid: u32, tick: u64) -> bool
 /// Whether the process of this number lives and has lost its parent, or why the kernel can't be asked.
 fn is_orphan<S: StatSource>(processes: &S, pid: u32) -> io::Result<bool>
     ensures { IfOk result (λ is.
-        IfSome (S.stat_at processes.now pid) (λ told. is ≡ option_map_or is_orphan told false)) }
+        IfSome (S.stat_at processes.now pid) (λ reported. is ≡ option_map_or is_orphan reported false)) }
 {
     match processes.stat_of(pid)? {
         Some(stat) => Ok(stat.is_orphan()),

@@ -1,5 +1,5 @@
 //! The shell that sends signals, on this system.
-use crate::shell_process::{ShellProcess, tell_signal};
+use crate::shell_process::{ShellProcess, send_signal};
 use std::alloc::Global;
 use std::io;
 use std::io::{Error, ErrorKind, Write};
@@ -10,7 +10,7 @@ use sup_core::Sig;
 /// What the shell runs: it ends with its input, and passes over a process that is gone.
 const SCRIPT: &str = "while read -r s n; do kill -$s $n 2>/dev/null; done";
 
-/// The system's own shell, where it runs. It tells contracts nothing.
+/// The system's own shell, where it runs. It says nothing to contracts.
 #[derive(Drop)]
 struct SystemShell<R: Processes<Started = SystemProcess> + Drop> {
     runtime: R,
@@ -40,7 +40,7 @@ fn start_shell<R: Processes<Started = SystemProcess>>(
 }
 
 impl<R: Processes<Started = SystemProcess> + Drop> ShellProcess for SystemShell<R> {
-    fn tell(&mut self, line: &str) -> io::Result<()> {
+    fn send(&mut self, line: &str) -> io::Result<()> {
         match &mut self.child {
             Some(
                 Child {
@@ -84,6 +84,6 @@ impl<R: Processes<Started = SystemProcess> + Wait + Copy + Drop> SignalShell<R> 
     /// Has the shell send a signal to the process of this number.
     pub fn signal(&self, sig: Sig, pid: u32) {
         let mut shell = self.shell.lock(&self.runtime);
-        tell_signal(&mut *shell, sig, pid)
+        send_signal(&mut *shell, sig, pid)
     }
 }

@@ -1,8 +1,8 @@
-//! How a signal is told to the shell that sends it.
+//! How a signal is reported to the shell that sends it.
 ghost use Rattle.std.specs.Prelude.{◌≡◌, ◌≤◌, length};
 ghost use Rattle.sup_core.specs.Text.{signal_name};
 ghost use Rattle.svc_world.specs.Commands.{signal_line};
-ghost use Rattle.svc_world.specs.Shell.{TellsLine};
+ghost use Rattle.svc_world.specs.Shell.{SendsLine};
 
 use arrayvec::ArrayString;
 use cmd_base::push_number;
@@ -16,14 +16,14 @@ const LINE_BYTES: usize = 32;
 /// (`calls`), where they are kept.
 pub(crate) trait ShellProcess {
     ghost use Rattle.std.specs.Prelude.{Option, None, List, [], ◌∷◌, is_ok};
-    ghost use Rattle.svc_world.specs.Shell.{ShellCall, Told, Ended, Started};
+    ghost use Rattle.svc_world.specs.Shell.{ShellCall, Sent, Ended, Started};
     ghost use Rattle.tai_status.specs.Extended.{Extended};
 
     ghost calls: { Self → Option (List ShellCall) } = { λ _. None };
 
-    /// Tells the shell a line. A fault is that it did not take all of it.
-    fn tell(&mut self, line: &str) -> io::Result<()>
-        ensures calls { Extended (calls self.old) (calls self.new) (Told line.now (is_ok result) ∷ []) };
+    /// Reports the shell a line. A fault is that it did not take all of it.
+    fn send(&mut self, line: &str) -> io::Result<()>
+        ensures calls { Extended (calls self.old) (calls self.new) (Sent line.now (is_ok result) ∷ []) };
 
     /// Ends the shell: it sends the signals of the lines that it took, and meets the end of its input.
     fn end(&mut self)
@@ -34,7 +34,7 @@ pub(crate) trait ShellProcess {
         ensures calls { Extended (calls self.old) (calls self.new) (Started (is_ok result) ∷ []) };
 }
 
-/// The line that tells the shell a signal.
+/// The line that says the shell a signal.
 fn signal_line(name: &str, pid: u32) -> ArrayString<LINE_BYTES>
     requires { length name.now ≤ 4 }
     ensures { result.bytes ≡ signal_line name.now pid }
@@ -47,23 +47,23 @@ fn signal_line(name: &str, pid: u32) -> ArrayString<LINE_BYTES>
     line
 }
 
-/// Tells a line to a shell. One that does not take it is ended, and another one is started and told it, once. Where
+/// Reports a line to a shell. One that does not take it is ended, and another one is started and reported it, once. Where
 /// that fails too, nothing is sent.
-fn tell_line<S: ShellProcess>(shell: &mut S, line: &str)
-    ensures { TellsLine line.now (S.calls shell.old) (S.calls shell.new) }
+fn send_line<S: ShellProcess>(shell: &mut S, line: &str)
+    ensures { SendsLine line.now (S.calls shell.old) (S.calls shell.new) }
 {
-    if shell.tell(line).is_ok() {
+    if shell.send(line).is_ok() {
         return;
     }
     shell.end();
     if shell.start().is_ok() {
-        let _ = shell.tell(line);
+        let _ = shell.send(line);
     }
 }
 
 /// Has a shell send a signal to the process of this number.
-pub(crate) fn tell_signal<S: ShellProcess>(shell: &mut S, sig: Sig, pid: u32)
-    ensures { TellsLine (signal_line (signal_name sig) pid) (S.calls shell.old) (S.calls shell.new) }
+pub(crate) fn send_signal<S: ShellProcess>(shell: &mut S, sig: Sig, pid: u32)
+    ensures { SendsLine (signal_line (signal_name sig) pid) (S.calls shell.old) (S.calls shell.new) }
 {
-    tell_line(shell, signal_line(sig_name(sig), pid).as_str())
+    send_line(shell, signal_line(sig_name(sig), pid).as_str())
 }

@@ -1,11 +1,11 @@
-//! What the kernel's line of a process tells, and what follows of that.
+//! What the kernel's line of a process reports, and what follows of that.
 ghost use Rattle.std.specs.Prelude.{◌≡◌, option_copied, slice_get};
 ghost use Rattle.sup_core.specs.Reading.{fields};
 ghost use Rattle.svc_world.specs.Stats.{behind_name, is_dead};
 
 use sup_core::{read_number, split_field};
 
-/// What the line of a process tells of it (proc(5), `stat`).
+/// What the line of a process reports of it (proc(5), `stat`).
 #[derive(Clone, Copy, Debug, PartialEq, Eq)]
 pub(crate) struct Stat {
     /// Whether it died, and its parent has not waited for it.
@@ -50,12 +50,12 @@ fn is_dead(state: &[u8]) -> bool
 
 impl Stat {
     ghost use Rattle.std.specs.Prelude.{◌≡◌, ◌↔◌, IsTrue, IfSome, Some};
-    ghost use Rattle.svc_world.specs.Stats.{FitsStat, TellsStat, is_orphan, living_tick};
+    ghost use Rattle.svc_world.specs.Stats.{FitsStat, SaysStat, is_orphan, living_tick};
 
-    /// What the line of a process tells. None where it is no such line.
+    /// What the line of a process reports. None where it is no such line.
     pub(crate) fn read(line: &[u8]) -> Option<Stat>
-        ensures told { IfSome result (λ stat. TellsStat line.now stat) }
-        ensures only { (stat : Stat) → FitsStat stat → TellsStat line.now stat → result ≡ Some stat }
+        ensures reported { IfSome result (λ stat. SaysStat line.now stat) }
+        ensures only { (stat : Stat) → FitsStat stat → SaysStat line.now stat → result ≡ Some stat }
     {
         let behind = behind_name(line);
         Some(Stat {

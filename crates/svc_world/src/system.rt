@@ -46,7 +46,7 @@ enum DeathSource {
     Process(AdoptedProcess),
 }
 
-/// The children of one service on this system. It tells contracts nothing but that a child has a number.
+/// The children of one service on this system. It says nothing to contracts but that a child has a number.
 #[derive(Drop)]
 pub struct SystemChildren<R>
 where

@@ -74,7 +74,7 @@ fn child_of(child: Option<u32>) -> LastChild
 impl<C: ChildSystem + Drop> ChildWorld<C> {
     ghost use Rattle.std.specs.Prelude.{◌≡◌};
     ghost use Rattle.svc_world.specs.Watch.{CountsStart, RecordsProcess, RecordsStart, SeeksDeath, SeeksEarlier};
-    ghost use Rattle.svc_world.specs.Watch.{TellsDeath, begun};
+    ghost use Rattle.svc_world.specs.Watch.{ReportsDeath, begun};
 
     /// The world over these children, in this boot. `adopted` is the process that runs for the service already, and
     /// `earlier` one that an earlier svscan left, if there is one, and that can't be adopted.
@@ -152,10 +152,10 @@ impl<C: ChildSystem + Drop> ChildWorld<C> {
         self.count_start(child);
     }
 
-    // Records how the child ended whose death is told, and counts it. Answers when it ended.
-    fn tell_death(&mut self, exit: Exit) -> Label
+    // Records how the child ended whose death is reported, and counts it. Answers when it ended.
+    fn report_death(&mut self, exit: Exit) -> Label
         ensures label { result ≡ exit.label }
-        ensures tells { TellsDeath exit self.old self.new }
+        ensures reports { ReportsDeath exit self.old self.new }
     {
         self.child = LastChild::Gone;
         self.counts = self.counts.one_ended();
@@ -166,13 +166,13 @@ impl<C: ChildSystem + Drop> ChildWorld<C> {
         exit.label
     }
 
-    // Seeks the death of the child of this number, and tells it where there is one.
+    // Seeks the death of the child of this number, and reports it where there is one.
     fn seek_death(&mut self, pid: u32) -> Option<Label>
         ensures { SeeksDeath pid result self.old self.new }
     {
         let death = self.system.death();
         match death {
-            Some(death) => Some(self.tell_death(death.exit_of(pid))),
+            Some(death) => Some(self.report_death(death.exit_of(pid))),
             None => None,
         }
     }
@@ -222,22 +222,22 @@ impl<C: ChildSystem + Drop> World for ChildWorld<C> {
         }
     }
 
-    /// How the last start ended. It is told once.
+    /// How the last start ended. It is reported once.
     fn poll_start(&mut self) -> Option<StartAnswer>
-        ensures told { result ≡ self.old.answer }
+        ensures reported { result ≡ self.old.answer }
         ensures once { self.new ≡ record self.old { answer = None } }
         ensures process { IfSome result IsAnswer }
     {
         self.answer.take()
     }
 
-    /// When the child that was spawned last died, once it has. It is told once, and how it ended is recorded then.
+    /// When the child that was spawned last died, once it has. It is reported once, and how it ended is recorded then.
     fn poll_death(&mut self) -> Option<Label>
         ensures { PollsDeath self.old.child result self.old self.new }
     {
         match self.child {
             LastChild::Gone => None,
-            LastChild::Dead(exit) => Some(self.tell_death(exit)),
+            LastChild::Dead(exit) => Some(self.report_death(exit)),
             LastChild::Alive(pid) => self.seek_death(pid),
         }
     }

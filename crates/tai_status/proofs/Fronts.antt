@@ -1,4 +1,4 @@
--- What the front of a status file tells.
+-- What the front of a status file says.
 use Rattle.std.proofs.Common.{◌≡◌, ◌≤◌, ◌<◌, ℕ, List, length, take, Err, sym, ap, ◌∙◌, ⊎_elim, arith}
 use Rattle.std.proofs.lemmas.Bool.{cases_lt}
 use Rattle.std.proofs.lemmas.Grind.{common_steps}
@@ -12,9 +12,9 @@ too_long : (bytes : List ℕ) → 20 < length bytes → loaded_from bytes ≡ Er
 unfolding loaded_from status_from
 too_long bytes more = grind (arith, common_steps)
 
--- A front that may have more bytes than the longer record tells what the whole file tells.
-pub front_tells : (n : ℕ) (file : List ℕ) → 20 < n → loaded_from (take n file) ≡ loaded_from file
-front_tells n file more =
+-- A front that may have more bytes than the longer record says what the whole file says.
+pub front_gives : (n : ℕ) (file : List ℕ) → 20 < n → loaded_from (take n file) ≡ loaded_from file
+front_gives n file more =
     let cut : n < length file → loaded_from (take n file) ≡ loaded_from file =
     λ (longer : n < length file). let size : length (take n file) ≡ n = length-take-le n file (omega arith) in
     too_long (take n file) (omega arith) ∙ sym (too_long file (omega arith)) in

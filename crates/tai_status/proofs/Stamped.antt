@@ -140,7 +140,7 @@ record Reads (text : List ℕ) : Type 0 where
   count_new : begun false text ≡ length (lines_of text)
   count_on : begun true text ≡ length (lines_of text) - 1
 
--- what a byte does, where the rest of its line is told
+-- what a byte does, where the rest of its line is reported
 on_after : (gs : List Tai64n) (b : ℕ) (bs : List ℕ) (ends : Bool) → (b == 10) ≡ ends → Reads bs
     → b ∷ stamped_on (not (b == 10)) gs bs ≡ continued gs (lines_of (b ∷ bs))
 unfolding continued
@@ -342,7 +342,7 @@ is_inside-none inside x [] none =
     let apart : (x == 10) ≡ false = not_true (x == 10) (none 0 (omega arith)) in rw apart refl
 is_inside-none inside x (y ∷ ys) none = is_inside-none (not (x == 10)) y ys (λ j h. none (suc j) (omega (arith, h)))
 
--- what a search for the first newline tells
+-- what a search for the first newline reports
 pub part_found : (xs : List ℕ) (k : ℕ) → NoneBefore (Passes (is_byte 10) xs) 0 (length xs) k → Passes (is_byte 10) xs k
     → (take (k + 1) xs ≡ take_through 10 xs) × ((inside : Bool) → is_inside inside (take_through 10 xs) ≡ false)
 part_found xs k first is = (

@@ -38,9 +38,9 @@ Wrote old new text = Appends old.bytes new.bytes text
 abbrev pub WroteFront : (old new : Device) → List ℕ → Type 0
 WroteFront old new text = AppendsFront old.bytes new.bytes text
 
--- A text was told: it was written; or the device failed after a front of it.
-abbrev pub Tells : (old new : Device) → List ℕ → Type 0
-Tells old new text = Wrote old new text ⊎ (WroteFront old new text × Fails old new)
+-- A text was reported: it was written; or the device failed after a front of it.
+abbrev pub Reports : (old new : Device) → List ℕ → Type 0
+Reports old new text = Wrote old new text ⊎ (WroteFront old new text × Fails old new)
 
 -- These bytes were read from the device.
 abbrev pub Gives : (old new : Device) → List ℕ → Type 0

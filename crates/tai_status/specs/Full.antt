@@ -8,7 +8,7 @@ use Rattle.tai_status.specs.declared.phase.Phase.TheVariants as phase
 use Rattle.tai_status.specs.declared.record.Want.{Want}
 use Rattle.tai_status.specs.declared.record.Want.TheVariants as want
 
--- What a full record tells: the status, where supervise stands, and whether it is to end.
+-- What a full record says: the status, where supervise stands, and whether it is to end.
 pub record FullStatus : Type 0 where
   pub status : Status
   pub phase : Phase

@@ -6,7 +6,7 @@ use Rattle.tai_status.specs.Label.{Tai64n, IsLabel, packed}
 use Rattle.tai_status.specs.declared.record.Want.{Want}
 use Rattle.tai_status.specs.declared.record.Want.TheVariants.{Up, Down, Once}
 
--- What a record tells: the last change of process, the process number or 0 for none, whether the
+-- What a record says: the last change of process, the process number or 0 for none, whether the
 -- process is paused, and what is wanted.
 pub record Status : Type 0 where
   pub label : Tai64n

@@ -96,7 +96,7 @@ impl Block {
         Ok(())
     }
 
-    /// Puts a front of a piece, and tells how long it is.
+    /// Puts a front of a piece, and says how long it is.
     fn put_part<W: Write>(
         &mut self,
         piece: &[u8],

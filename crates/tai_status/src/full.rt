@@ -6,10 +6,10 @@ use crate::phase::{Phase, phase_byte};
 use crate::record::{View, Want, encode};
 use std::marker::Model;
 
-/// What a full status record tells of a service.
+/// What a full status record says of a service.
 #[derive(Clone, Copy, Debug, PartialEq, Eq)]
 pub struct Full {
-    /// What a record of 18 bytes tells.
+    /// What a record of 18 bytes reports.
     pub view: View,
     /// Where supervise stands.
     pub phase: Phase,

@@ -115,7 +115,7 @@ impl<A: Allocator> LineReader<A> {
     }
 
     /// Reads once, behind what is pending. Answers whether bytes came: none come at the end of the
-    /// input alone. That a line is too long is told before anything more is read. The line that was
+    /// input alone. That a line is too long is reported before anything more is read. The line that was
     /// given last is given up.
     pub fn fill<D: Read>(&mut self, reader: &mut Input<D>) -> Result<bool, LineFault>
         ensures filled { OnOk result (Fills reader.old reader.new self.old self.new) }

@@ -8,10 +8,10 @@ use crate::full::Full;
 use crate::phase::phase_from;
 use crate::record::{RecordFault, View};
 
-/// What the bytes of a status record tell.
+/// What the bytes of a status record say.
 #[derive(Clone, Copy, Debug, PartialEq, Eq)]
 pub enum Loaded {
-    /// Of 18 bytes, which tell no phase: the record of an earlier dtools.
+    /// Of 18 bytes, which say no phase: the record of an earlier dtools.
     Old(View),
     /// Of 20 bytes.
     New(Full),
@@ -21,7 +21,7 @@ impl Loaded {
     ghost use Rattle.std.specs.Prelude.{◌≡◌};
     ghost use Rattle.tai_status.specs.Loading.{status_in};
 
-    /// What either tells of the process and of what is wanted.
+    /// What either reports of the process and of what is wanted.
     pub fn view(&self) -> View
         ensures { result ≡ status_in self.now }
     {
@@ -32,7 +32,7 @@ impl Loaded {
     }
 }
 
-/// What these bytes tell, where they are a status record of 18 or of 20 bytes.
+/// What these bytes report, where they are a status record of 18 or of 20 bytes.
 pub fn decode_any(bytes: &[u8]) -> Result<Loaded, RecordFault>
     // What is read has this record.
     ensures found { IfOk result (λ loaded. IsLoaded bytes.now loaded) }
@@ -44,12 +44,12 @@ pub fn decode_any(bytes: &[u8]) -> Result<Loaded, RecordFault>
     load(bytes)
 }
 
-/// How many first bytes of a status file are enough to read it: one more than the longer record has, which tells a
+/// How many first bytes of a status file are enough to read it: one more than the longer record has, which says a
 /// longer file.
 pub const STATUS_FRONT: usize = 21;
 
-/// What a status file tells, of which these are the first `STATUS_FRONT` bytes, or all: however long it is, the whole
-/// file tells the same.
+/// What a status file says, of which these are the first `STATUS_FRONT` bytes, or all: however long it is, the whole
+/// file says the same.
 pub fn decode_front(front: &[u8]) -> Result<Loaded, RecordFault>
     ensures read { result ≡ loaded_from front.now }
     ensures file { (file : List ℕ) → front.now ≡ take STATUS_FRONT file → result ≡ loaded_from file }

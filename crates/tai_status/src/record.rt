@@ -25,7 +25,7 @@ impl Want {
     }
 }
 
-/// What a status record tells of a service.
+/// What a status record says of a service.
 #[derive(Clone, Copy, Debug, PartialEq, Eq, Hash)]
 pub struct View {
     /// The last change of process.
@@ -68,7 +68,7 @@ impl View {
     }
 }
 
-/// Why bytes are no status record. The first of these that applies is told.
+/// Why bytes are no status record. The first of these that applies is reported.
 #[derive(Clone, Copy, Debug, PartialEq, Eq, Error)]
 pub enum RecordFault {
     /// Not 18 bytes; where both lengths are read, not 20 either.

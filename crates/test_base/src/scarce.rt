@@ -11,7 +11,7 @@ struct Budget {
 }
 
 /// Memory that gives so many growths, and refuses the next one and each later one. What was given back serves none of
-/// them. It gives all of them until it is told how many it gives.
+/// them. It gives all of them until it is reported how many it gives.
 pub struct Scarce<B: Allocator> {
     inner: B,
     budget: Cell<Budget>,
@@ -37,7 +37,7 @@ impl<B: Allocator> Scarce<B> {
         });
     }
 
-    /// Whether it refused a growth since it was told how many it gives. From now on it gives all.
+    /// Whether it refused a growth since it was reported how many it gives. From now on it gives all.
     pub fn lift(&self) -> bool {
         let Budget { left: _, refused } = self.budget.get();
         self.budget.set(Budget {

@@ -1,7 +1,7 @@
 use Rattle.std.proofs.Common.{ℕ, List, [], ap, inl, inr, refl, rules, subst, sym}
-use Rattle.tai_status.specs.Counted.{Tells}
+use Rattle.tai_status.specs.Counted.{Reports}
 use Rattle.cmd_envdir.specs.System.{Child}
-use Rattle.cmd_envdir.specs.Ends.{envdir_told}
+use Rattle.cmd_envdir.specs.Ends.{envdir_report}
 use Rattle.cmd_envdir.proofs.Children.{is_read, not_read, of_no_file}
 use Rattle.cmd_envdir.proofs.command.run_in_folder.Goals as goal
 
@@ -19,11 +19,11 @@ returns-in-Err g c =
               c.in-Err.ensures.missing;
           first = of_none.0;
           status_is = c.report_fault.ensures.status;
-          told_why = subst (λ (name : List ℕ). Tells c.args.faults.now c.report_fault.new.faults
-              (envdir_told c.args.dir.now c.args.program.now.program name cause)) (sym of_none.1)
-              (subst (λ (program : List ℕ). Tells c.args.faults.now c.report_fault.new.faults
-              (envdir_told c.args.dir.now program [] cause)) (ap (λ (child : Child). child.program) c.program.view_is)
-              c.report_fault.ensures.told);
+          subject_why = subst (λ (name : List ℕ). Reports c.args.faults.now c.report_fault.new.faults
+              (envdir_report c.args.dir.now c.args.program.now.program name cause)) (sym of_none.1)
+              (subst (λ (program : List ℕ). Reports c.args.faults.now c.report_fault.new.faults
+              (envdir_report c.args.dir.now program [] cause)) (ap (λ (child : Child). child.program) c.program.view_is)
+              c.report_fault.ensures.reported);
         };
         none = inl (refl {a = g.L.Launcher.calls c.args.launcher.now}, of_none.2);
       });
@@ -52,12 +52,12 @@ returns g c =
               (search rules);
           first = search rules;
           status_is = c.report_fault-in-Err-run_with.ensures.status;
-          told_why = subst (λ (name : List ℕ). Tells c.args.faults.now c.report_fault-in-Err-run_with.new.faults
-              (envdir_told c.args.dir.now c.args.program.now.program name c.in-Err-run_with.fault))
+          subject_why = subst (λ (name : List ℕ). Reports c.args.faults.now c.report_fault-in-Err-run_with.new.faults
+              (envdir_report c.args.dir.now c.args.program.now.program name c.in-Err-run_with.fault))
               c.refused_name-refused.ensures
-              (subst (λ (program : List ℕ). Tells c.args.faults.now c.report_fault-in-Err-run_with.new.faults
-              (envdir_told c.args.dir.now program c.refused_name-refused.result.now c.in-Err-run_with.fault))
-              (ap (λ (child : Child). child.program) c.program.view_is) c.report_fault-in-Err-run_with.ensures.told);
+              (subst (λ (program : List ℕ). Reports c.args.faults.now c.report_fault-in-Err-run_with.new.faults
+              (envdir_report c.args.dir.now program c.refused_name-refused.result.now c.in-Err-run_with.fault))
+              (ap (λ (child : Child). child.program) c.program.view_is) c.report_fault-in-Err-run_with.ensures.reported);
         };
         none = search rules;
       });

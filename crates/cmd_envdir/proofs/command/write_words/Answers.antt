@@ -1,6 +1,6 @@
 use Rattle.std.proofs.Common.{ℕ, List, [], inr, refl, rules, subst, sym}
-use Rattle.tai_status.specs.Counted.{Tells}
-use Rattle.cmd_envdir.specs.Ends.{envdir_told}
+use Rattle.tai_status.specs.Counted.{Reports}
+use Rattle.cmd_envdir.specs.Ends.{envdir_report}
 use Rattle.cmd_envdir.proofs.Children.{is_read, not_read, of_no_file}
 use Rattle.cmd_envdir.proofs.command.write_words.Goals as goal
 
@@ -18,8 +18,8 @@ returns-in-Err g c =
               c.in-Err.ensures.missing;
           first = of_none.0;
           status_is = c.report_fault.ensures.status;
-          told_why = subst (λ (name : List ℕ). Tells c.args.faults.now c.report_fault.new.faults
-              (envdir_told c.args.dir.now [] name cause)) (sym of_none.1) c.report_fault.ensures.told;
+          subject_why = subst (λ (name : List ℕ). Reports c.args.faults.now c.report_fault.new.faults
+              (envdir_report c.args.dir.now [] name cause)) (sym of_none.1) c.report_fault.ensures.reported;
         };
         ran = of_none.2;
         unwritten = refl;
@@ -40,9 +40,9 @@ returns g c =
           read = is_read cause folder files neither.0 (search rules);
           first = search rules;
           status_is = c.report_fault-in-Err-folder_words.ensures.status;
-          told_why = subst (λ (name : List ℕ). Tells c.args.faults.now c.report_fault-in-Err-folder_words.new.faults
-              (envdir_told c.args.dir.now [] name cause)) c.refused_name.ensures
-              c.report_fault-in-Err-folder_words.ensures.told;
+          subject_why = subst (λ (name : List ℕ). Reports c.args.faults.now c.report_fault-in-Err-folder_words.new.faults
+              (envdir_report c.args.dir.now [] name cause)) c.refused_name.ensures
+              c.report_fault-in-Err-folder_words.ensures.reported;
         };
         ran = neither.1;
         unwritten = refl;

@@ -1,5 +1,5 @@
 use Rattle.std.proofs.Common.{None, Some, subst, List, ℕ, inr, refl}
-use Rattle.tai_status.specs.Counted.{Tells}
+use Rattle.tai_status.specs.Counted.{Reports}
 use Rattle.cmd_multilog.proofs.command.run_multilog.Goals as goal
 
 pub returns-in-Ok-run_parts : goal.returns-in-Ok-run_parts
@@ -17,7 +17,7 @@ returns-in-Ok-run_parts g c =
             asked = c.in-Ok-run_parts.ensures.stays.asked;
             runs = c.in-Ok-run_parts.ensures.runs;
             status_is = refl;
-            told = refl;
+            reported = refl;
           };
         }),
       );
@@ -38,8 +38,8 @@ returns g c =
             asked = c.in-Err-run_parts.ensures.stays.asked;
             runs = c.in-Err-run_parts.ensures.runs;
             status_is = c.report.ensures.status;
-            told = subst (λ (t : List ℕ). Tells c.args.faults.now c.report.new.faults t) c.run_text.ensures
-                c.report.ensures.told;
+            reported = subst (λ (t : List ℕ). Reports c.args.faults.now c.report.new.faults t) c.run_text.ensures
+                c.report.ensures.reported;
           };
         }),
       );

@@ -9,5 +9,5 @@ returns-in_default g c = record {
       (console c.args.reader.now c.args.writer.now c.args.faults.now)
       (console c.args.reader.now c.args.writer.now c.usage.new.faults) c.in-len1.len_below c.in-len1.len_at_least
       c.in_default.not-table
-      (record { status_is = c.usage.ensures.status; unread = refl; unwritten = refl; told = c.usage.ensures.told });
+      (record { status_is = c.usage.ensures.status; unread = refl; unwritten = refl; subject = c.usage.ensures.subject });
 }

@@ -3,13 +3,13 @@ use Rattle.std.proofs.lemmas.Result.{err_from_is_err_and, on_ok_weaker}
 use Rattle.tai_status.specs.LineReader.{Given}
 use Rattle.tai_status.specs.Counted.{Device, Rose}
 use Rattle.cmd_sim.specs.declared.fault.Why.TheVariants as fault
-use Rattle.cmd_sim.proofs.Steps.{SoFar-begin, SoFar-filled, SoFar-near, SoFar-kept, long_refused, read_failed, told_as}
+use Rattle.cmd_sim.proofs.Steps.{SoFar-begin, SoFar-filled, SoFar-near, SoFar-kept, long_refused, read_failed, subject_as}
 use Rattle.cmd_sim.proofs.session.answer_lines.Goals as goal
 
 pub reads-init : goal.reads-init
 reads-init g c = (
   SoFar-begin _ _ (ap (λ (l : Given). l.pending) c.in-Ok.ensures) c.new-session.ensures.waiting
-      c.new-session.ensures.told c.new-session.ensures.count,
+      c.new-session.ensures.subject c.new-session.ensures.count,
   c.new-session.ensures.waiting,
   ap (λ (l : Given). l.bound) c.in-Ok.ensures,
   (let n = c.new-session.ensures.count in let p : length c.in-Ok.lines.pending ≡ 0 =
@@ -94,7 +94,7 @@ returns-in-Err-TooLong-clause-refused g c = λ number why is.
     let less = c.in_ok-answer_pending.ensures.less in
     let small = c.reads.invariant.7 in
     let kept = c.in-Err-TooLong.ensures.kept in (
-      told_as c.args.reader.now.bytes c.args.writer.now.bytes c.answer_pending.new.writer.bytes number_is why_is all,
+      subject_as c.args.reader.now.bytes c.args.writer.now.bytes c.answer_pending.new.writer.bytes number_is why_is all,
       SoFar-near number (SoFar-kept s kept.1) (omega (arith, less, small)) (sym number_is),
     )
 

@@ -5,7 +5,7 @@ use Rattle.cmd_sim.proofs.session.answer_lines.Given as goal
 abbrev pub invariant-reads : goal.invariant-reads
 invariant-reads g l =
     SoFar l.fn.reader.bytes l.reader.bytes l.fn.writer.bytes l.writer.bytes
-    l.lines.pending l.session.waiting l.session.told l.session.count
+    l.lines.pending l.session.waiting l.session.subject l.session.count
     × (l.session.waiting ≡ []) × (l.lines.bound ≡ 65536)
     × (l.session.count + length l.lines.pending ≤ 32768 * l.reader.reads)
     × (l.reader.faults ≡ l.fn.reader.faults) × (l.writer.faults ≡ l.fn.writer.faults)

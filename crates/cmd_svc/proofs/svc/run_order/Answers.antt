@@ -16,7 +16,7 @@ returns-in-Err-UnknownLetter g c =
     (λ first. RefusesLetter first status old new)
     c.assemble.ensures.refuses
     (rw c.in-Err-UnknownLetter.field-0-is at c.in-Err-UnknownLetter.is)
-    (record { status_is = c.report_letter.ensures.status; unsent = refl; told = c.report_letter.ensures.told })
+    (record { status_is = c.report_letter.ensures.status; unsent = refl; reported = c.report_letter.ensures.reported })
 
 pub returns-in-Err-OutOfMemory : goal.returns-in-Err-OutOfMemory
 returns-in-Err-OutOfMemory g c =
@@ -33,5 +33,5 @@ returns-in-Err-OutOfMemory g c =
       some = c.assemble.ensures.memory (rw c.in-Err-OutOfMemory.field-0-is at c.in-Err-OutOfMemory.is);
       status_is = c.report.ensures.status;
       unsent = refl;
-      told = c.report.ensures.told;
+      reported = c.report.ensures.reported;
     }))

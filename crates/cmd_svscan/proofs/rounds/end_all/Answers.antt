@@ -1,6 +1,6 @@
 use Rattle.std.proofs.Common.{List, map, subst, refl}
 use Rattle.cmd_svscan.specs.declared.service_set.Remaining.{Remaining}
-use Rattle.cmd_svscan.specs.Rounds.{effects, remaining_told, TellsAll}
+use Rattle.cmd_svscan.specs.Rounds.{effects, remaining_report, ReportsAll}
 use Rattle.cmd_svscan.proofs.Turning.{ending-none, ending-more, ending-ends}
 use Rattle.cmd_svscan.proofs.rounds.end_all.Goals as goal
 
@@ -10,13 +10,13 @@ loop-init g c = (ending-none (effects (g.K.ServiceSet.calls c.args.services.now)
 pub loop-preserved : goal.loop-preserved
 loop-preserved g c =
     let calls = g.K.ServiceSet.calls in
-    let told = subst (λ (l : List Remaining).
-    TellsAll (map remaining_told l) c.loop.faults c.report_remaining.new.faults) c.deref.ensures.value
+    let reported = subst (λ (l : List Remaining).
+    ReportsAll (map remaining_report l) c.loop.faults c.report_remaining.new.faults) c.deref.ensures.value
     c.report_remaining.ensures in (
       ending-more (effects (calls c.args.services.now) c.args.faults.now)
           (effects (calls c.loop.services) c.loop.faults)
           (effects (calls c.end.new.self) c.report_remaining.new.faults) c.in-Some-end.left.items c.loop.invariant.0
-          c.in-Some-end.ensures.ended told,
+          c.in-Some-end.ensures.ended reported,
       c.end.ensures.ready,
     )
 

@@ -1,9 +1,9 @@
 use Rattle.std.proofs.Common.{rules, ◌≡◌, ◌+◌, ◌<◌, ℕ, List, [], ◌∷◌, ◌++◌, map, take, length, ap, sym, subst, ◌∙◌}
 use Rattle.std.proofs.lemmas.List.{take_more, map-append}
-use Rattle.tai_status.specs.Counted.{Tells}
+use Rattle.tai_status.specs.Counted.{Reports}
 use Rattle.cmd_svscan.specs.declared.service_set.Remaining.{Remaining}
-use Rattle.cmd_svscan.specs.Rounds.{name_told, still_runs, remaining_told, TellsAll}
-use Rattle.cmd_svscan.proofs.Telling.{tells-then, tells-one}
+use Rattle.cmd_svscan.specs.Rounds.{name_report, still_runs, remaining_report, ReportsAll}
+use Rattle.cmd_svscan.proofs.Reporting.{reports-then, reports-one}
 use Rattle.cmd_svscan.proofs.rounds.report_remaining.Goals as goal
 
 pub loop-remaining-preserved : goal.loop-remaining-preserved
@@ -18,13 +18,13 @@ loop-remaining-preserved g c =
     let text = c.as_bytes-in-loop-remaining.result.now in
     let name : c.as_bytes.result.now ≡ item.name = search rules in
     let what : text ≡ still_runs item.pid = search rules in
-    let told : Tells middle new (remaining_told item) =
-    subst (λ (t : List ℕ). Tells middle new (name_told t item.name)) what
-    (subst (λ (n : List ℕ). Tells middle new (name_told text n)) name c.report_parts.ensures.told) in
+    let reported : Reports middle new (remaining_report item) =
+    subst (λ (t : List ℕ). Reports middle new (name_report t item.name)) what
+    (subst (λ (n : List ℕ). Reports middle new (name_report text n)) name c.report_parts.ensures.reported) in
     let is : take (i + 1) all ≡ take i all ++ item ∷ [] = take_more all i item within
     ∙ ap (λ (u : Remaining). take i all ++ u ∷ []) (sym c.remaining-item.is) in
-    let lines : map remaining_told (take (i + 1) all) ≡ map remaining_told (take i all) ++ remaining_told item ∷ [] =
-    ap (map remaining_told) is ∙ map-append remaining_told (take i all) (item ∷ []) in
-    subst (λ (l : List (List ℕ)). TellsAll l old new) (sym lines)
-    (tells-then (map remaining_told (take i all)) (remaining_told item ∷ []) old middle new c.loop-remaining.invariant
-    (tells-one (remaining_told item) middle new told))
+    let lines : map remaining_report (take (i + 1) all) ≡ map remaining_report (take i all) ++ remaining_report item ∷ [] =
+    ap (map remaining_report) is ∙ map-append remaining_report (take i all) (item ∷ []) in
+    subst (λ (l : List (List ℕ)). ReportsAll l old new) (sym lines)
+    (reports-then (map remaining_report (take i all)) (remaining_report item ∷ []) old middle new c.loop-remaining.invariant
+    (reports-one (remaining_report item) middle new reported))

@@ -1,9 +1,9 @@
 use Rattle.std.proofs.Common.{rules, ◌≡◌, ◌+◌, ◌<◌, ℕ, List, [], ◌∷◌, ◌++◌, map, take, length, ap, sym, subst, ◌∙◌}
 use Rattle.std.proofs.lemmas.List.{take_more, map-append}
-use Rattle.tai_status.specs.Counted.{Tells}
+use Rattle.tai_status.specs.Counted.{Reports}
 use Rattle.cmd_svscan.specs.declared.service_set.Unmade.{Unmade}
-use Rattle.cmd_svscan.specs.Rounds.{name_told, not_made, unmade_told, TellsAll}
-use Rattle.cmd_svscan.proofs.Telling.{tells-then, tells-one}
+use Rattle.cmd_svscan.specs.Rounds.{name_report, not_made, unmade_report, ReportsAll}
+use Rattle.cmd_svscan.proofs.Reporting.{reports-then, reports-one}
 use Rattle.cmd_svscan.proofs.rounds.report_unmade.Goals as goal
 
 pub loop-unmade-preserved : goal.loop-unmade-preserved
@@ -18,13 +18,13 @@ loop-unmade-preserved g c =
     let text = c.as_bytes-in-loop-unmade.result.now in
     let name : c.as_bytes.result.now ≡ item.name = search rules in
     let what : text ≡ not_made item.fault = search rules in
-    let told : Tells middle new (unmade_told item) =
-    subst (λ (t : List ℕ). Tells middle new (name_told t item.name)) what
-    (subst (λ (n : List ℕ). Tells middle new (name_told text n)) name c.report_parts.ensures.told) in
+    let reported : Reports middle new (unmade_report item) =
+    subst (λ (t : List ℕ). Reports middle new (name_report t item.name)) what
+    (subst (λ (n : List ℕ). Reports middle new (name_report text n)) name c.report_parts.ensures.reported) in
     let is : take (i + 1) all ≡ take i all ++ item ∷ [] = take_more all i item within
     ∙ ap (λ (u : Unmade). take i all ++ u ∷ []) (sym c.unmade-item.is) in
-    let lines : map unmade_told (take (i + 1) all) ≡ map unmade_told (take i all) ++ unmade_told item ∷ [] =
-    ap (map unmade_told) is ∙ map-append unmade_told (take i all) (item ∷ []) in
-    subst (λ (l : List (List ℕ)). TellsAll l old new) (sym lines)
-    (tells-then (map unmade_told (take i all)) (unmade_told item ∷ []) old middle new c.loop-unmade.invariant
-    (tells-one (unmade_told item) middle new told))
+    let lines : map unmade_report (take (i + 1) all) ≡ map unmade_report (take i all) ++ unmade_report item ∷ [] =
+    ap (map unmade_report) is ∙ map-append unmade_report (take i all) (item ∷ []) in
+    subst (λ (l : List (List ℕ)). ReportsAll l old new) (sym lines)
+    (reports-then (map unmade_report (take i all)) (unmade_report item ∷ []) old middle new c.loop-unmade.invariant
+    (reports-one (unmade_report item) middle new reported))

@@ -1,7 +1,7 @@
 use Rattle.std.proofs.Common.{◌≡◌, ℕ, ◌+◌, Option, Some, subst, ap, ◌∙◌, refl, Bool}
 use Rattle.cmd_svscan.specs.declared.orders.Order.{Order}
 use Rattle.cmd_svscan.specs.Rounds.{effects, Answers, Rests}
-use Rattle.cmd_svscan.proofs.Turning.{IsUnderWay, IsLeft, way_more, way_fails, way_done, way_left, way_none, way_told}
+use Rattle.cmd_svscan.proofs.Turning.{IsUnderWay, IsLeft, way_more, way_fails, way_done, way_left, way_none, way_report}
 use Rattle.cmd_svscan.proofs.Turning.{less-some, less-none}
 use Rattle.cmd_svscan.proofs.rounds.take_rounds.Goals as goal
 use Rattle.cmd_svscan.proofs.rounds.take_rounds.Goals.{in-Some-left+else-number-eq1, in_default}
@@ -64,7 +64,7 @@ returns-in-End g c =
     let calls = g.K.ServiceSet.calls in
     let made = c.take_round.ensures.round in
     let on = subst (λ (on : Bool). Answers on made.0) c.if-not-take_round.false made.1 in
-    way_told c.args.folder.now c.args.rounds c.loop.left (effects (calls c.args.services.now) c.args.faults.now)
+    way_report c.args.folder.now c.args.rounds c.loop.left (effects (calls c.args.services.now) c.args.faults.now)
     (effects (calls c.loop.services) c.loop.faults)
     (effects (calls c.take_round.new.services) c.take_round.new.faults)
     (effects (calls c.rest.new.services) c.take_round.new.faults)

@@ -7,7 +7,7 @@ pub returns-then-is_empty : goal.returns-then-is_empty
 returns-then-is_empty g c = record {
   ends = ends_without_words (λ word. word.now) c.args.words.now (g.Z.Zone.ahead_at c.args.zone.now)
       (g.R.FileSource.file_at c.args.files.now) c.usage.result c.args.writer.now c.args.writer.now
-      c.args.faults.now c.usage.new.faults (search rules) c.usage.ensures.status refl c.usage.ensures.told;
+      c.args.faults.now c.usage.new.faults (search rules) c.usage.ensures.status refl c.usage.ensures.reported;
 }
 
 pub returns-in-Ok-read_spec : goal.returns-in-Ok-read_spec

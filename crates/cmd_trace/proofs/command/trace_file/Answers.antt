@@ -3,16 +3,16 @@ use Rattle.cmd_trace.proofs.command.trace_file.Goals as goal
 
 pub returns-in-Err : goal.returns-in-Err
 returns-in-Err g c = record {
-  ends = elim c.report_missed.ensures.told [
+  ends = elim c.report_missed.ensures.reported [
     | inl starved ↦ inr (inr (record {
       unwritten = refl;
-      told = starved.1;
+      reported = starved.1;
       status_is = c.report_missed.ensures.status;
     }))
     | inr unread ↦ inr (inl (record {
       unknown = c.in-Err.ensures.missing unread.0;
       unwritten = refl;
-      told = unread.1;
+      reported = unread.1;
       status_is = c.report_missed.ensures.status;
     }))
   ];

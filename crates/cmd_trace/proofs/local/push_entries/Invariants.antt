@@ -8,6 +8,6 @@ use Rattle.cmd_trace.proofs.local.push_entries.Given as goal
 -- the machine before the entry at this place, and the lines of the entries so far
 abbrev pub invariant-loop-place : goal.invariant-loop-place
 invariant-loop-place g l = record {
-  machine : l.machine ≡ state_of (before l.told l.place);
-  lines : l.out.items ≡ l.fn.out.items ++ printed (take l.place (local_lines (g.Z.Zone.ahead_at l.zone) l.told));
+  machine : l.machine ≡ state_of (before l.content l.place);
+  lines : l.out.items ≡ l.fn.out.items ++ printed (take l.place (local_lines (g.Z.Zone.ahead_at l.zone) l.content));
 }

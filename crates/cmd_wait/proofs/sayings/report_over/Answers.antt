@@ -1,8 +1,8 @@
 use Rattle.std.proofs.Common.{rules, ◌<◌, ◌≡◌, ℕ, List, [], take, map, length, get_or, sym, subst, Bor}
-use Rattle.tai_status.specs.Counted.{Tells}
+use Rattle.tai_status.specs.Counted.{Reports}
 use Rattle.cmd_svc.specs.Turns.{InTurn}
 use Rattle.cmd_svc.proofs.Turns.{in_turn-then, taken-one}
-use Rattle.cmd_wait.specs.Ends.{TellsOver, over_note, told_of}
+use Rattle.cmd_wait.specs.Ends.{ReportsOver, over_note, report_of}
 use Rattle.cmd_wait.proofs.sayings.report_over.Goals as goal
 
 nowhere : Bor (List ℕ)
@@ -21,10 +21,10 @@ loop-folder-preserved g c =
     let folder = now (get_or left i nowhere) in
     let text : c.as_bytes.result.now ≡ folder = search rules in
     let note : c.over_note.result.now ≡ over_note c.args.goal = search rules in
-    let told : Tells middle new (told_of folder (over_note c.args.goal)) =
-    subst (λ (bytes : List ℕ). Tells middle new (told_of folder bytes)) note
-    (subst (λ (bytes : List ℕ). Tells middle new (told_of bytes c.over_note.result.now)) text
-    c.report_parts.ensures.told) in
-    subst (λ (done : List (List ℕ)). InTurn (TellsOver c.args.goal) done old new)
+    let reported : Reports middle new (report_of folder (over_note c.args.goal)) =
+    subst (λ (bytes : List ℕ). Reports middle new (report_of folder bytes)) note
+    (subst (λ (bytes : List ℕ). Reports middle new (report_of bytes c.over_note.result.now)) text
+    c.report_parts.ensures.reported) in
+    subst (λ (done : List (List ℕ)). InTurn (ReportsOver c.args.goal) done old new)
     (sym (taken-one now left i nowhere within))
-    (in_turn-then (TellsOver c.args.goal) (map now (take i left)) folder old middle new c.loop-folder.invariant told)
+    (in_turn-then (ReportsOver c.args.goal) (map now (take i left)) folder old middle new c.loop-folder.invariant reported)

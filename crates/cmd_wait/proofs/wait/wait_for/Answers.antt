@@ -1,13 +1,13 @@
 use Rattle.std.proofs.Common.{rules, ◌≡◌, ℕ, List, [], length, refl, sym, subst, inl, inr, Bor}
 use Rattle.cmd_svc.specs.Words.{texts}
-use Rattle.tai_status.specs.Counted.{Device, Tells}
+use Rattle.tai_status.specs.Counted.{Device, Reports}
 use Rattle.cmd_svc.specs.Turns.{InTurn}
 use Rattle.cmd_wait.specs.Words.{order}
 use Rattle.cmd_wait.specs.Steps.{Sight, sight, IsOver}
 use Rattle.cmd_wait.specs.Watching.{Watched, watched, first_watch, Pauses}
 use Rattle.cmd_wait.specs.declared.watch.Watch.{Watch}
 use Rattle.cmd_wait.specs.Rounds.{LooksAt}
-use Rattle.cmd_wait.specs.Ends.{scene, TellsOver, fault_note, told_of}
+use Rattle.cmd_wait.specs.Ends.{scene, ReportsOver, fault_note, report_of}
 use Rattle.cmd_wait.proofs.Found.{all-found}
 use Rattle.cmd_wait.proofs.Waiting.{IsUnderWay, way-begins, way-more, way-ends, texts-empty, texts-some}
 use Rattle.cmd_wait.proofs.wait.wait_for.Goals as goal
@@ -35,10 +35,10 @@ returns-in-Err g c =
     let calls = g.S.Services.calls in
     let steps = g.P.Pace.steps in
     let failure = c.in-Err.failure in
-    let told : Tells c.args.faults.now c.report_failure.new.faults
-    (told_of failure.folder.now (fault_note failure.fault)) =
-    subst (λ (d : Device). Tells d c.report_failure.new.faults (told_of failure.folder.now (fault_note failure.fault)))
-    c.loop.invariant.1 c.report_failure.ensures.told in
+    let reported : Reports c.args.faults.now c.report_failure.new.faults
+    (report_of failure.folder.now (fault_note failure.fault)) =
+    subst (λ (d : Device). Reports d c.report_failure.new.faults (report_of failure.folder.now (fault_note failure.fault)))
+    c.loop.invariant.1 c.report_failure.ensures.reported in
     way-ends o c.now-begin.result c.report_failure.result (sight (calls c.args.services.now) (steps c.args.pace.now))
     (watched c.loop.watch (sight (calls c.loop.services) (steps c.loop.pace)))
     (texts c.loop.left.items) c.args.faults.now
@@ -51,7 +51,7 @@ returns-in-Err g c =
       read = c.now-now.ensures.read;
       fails = c.in-Err.ensures.err;
       status_is = c.report_failure.ensures.status;
-      told = told;
+      reported = reported;
     })))
 
 pub returns-then-is_empty : goal.returns-then-is_empty
@@ -80,7 +80,7 @@ returns-then-is_empty g c =
         looked = nothing;
       };
       status_is = refl;
-      untold = c.loop.invariant.1;
+      unreported = c.loop.invariant.1;
       found = all-found c.loop.invariant.0.waits (calls c.loop.services) (calls c.look_at_each.new.services) nothing;
     }))
 
@@ -93,10 +93,10 @@ returns-then-is_over g c =
     let some : length items ≡ 0 → ⊥ = search rules in
     let over : IsOver o.limit c.now-begin.result c.now-now.result = search rules in
     let all : c.deref.result.now ≡ items = search rules in
-    let told : InTurn (TellsOver o.goal) (texts items) c.args.faults.now c.report_over.new.faults =
-    subst (λ (d : Device). InTurn (TellsOver o.goal) (texts items) d c.report_over.new.faults) c.loop.invariant.1
+    let reported : InTurn (ReportsOver o.goal) (texts items) c.args.faults.now c.report_over.new.faults =
+    subst (λ (d : Device). InTurn (ReportsOver o.goal) (texts items) d c.report_over.new.faults) c.loop.invariant.1
     (subst (λ (left : List (Bor (List ℕ))).
-    InTurn (TellsOver o.goal) (texts left) c.loop.faults c.report_over.new.faults) all c.report_over.ensures) in
+    InTurn (ReportsOver o.goal) (texts left) c.loop.faults c.report_over.new.faults) all c.report_over.ensures) in
     way-ends o c.now-begin.result 99 (sight (calls c.args.services.now) (steps c.args.pace.now))
     (watched c.loop.watch (sight (calls c.loop.services) (steps c.loop.pace)))
     (texts c.loop.left.items) c.args.faults.now
@@ -109,7 +109,7 @@ returns-then-is_over g c =
       some = texts-some items some;
       over = over;
       status_is = refl;
-      told = told;
+      reported = reported;
     })))
 
 pub loop-preserved : goal.loop-preserved

@@ -6,7 +6,7 @@ use Rattle.cmd_wait.specs.Watching.{watched}
 use Rattle.cmd_wait.proofs.Waiting.{IsUnderWay}
 use Rattle.cmd_wait.proofs.wait.wait_for.Given as goal
 
--- the rounds so far are not the last, and nothing is told
+-- the rounds so far are not the last, and nothing is reported
 abbrev pub invariant-loop : goal.invariant-loop
 invariant-loop g l =
     IsUnderWay (order l.options.goal l.options.limit (texts l.options.services.now)) l.begin

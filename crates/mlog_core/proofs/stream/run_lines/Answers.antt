@@ -1,7 +1,7 @@
 use Rattle.std.proofs.Common.{List, ℕ, take, subst, arith, refl, ◌∙◌}
 use Rattle.std.specs.Io.KnownBytes.{Consumes}
 use Rattle.std.proofs.lemmas.Grind.{common_steps}
-use Rattle.mlog_core.proofs.Coming.{err_same, came_none, came_then, came_to_end, told_block, told_end}
+use Rattle.mlog_core.proofs.Coming.{err_same, came_none, came_then, came_to_end, visible_block, visible_end}
 use Rattle.mlog_files.proofs.Doing.{Stays-then}
 use Rattle.mlog_core.proofs.Alike.{all_fed}
 use Rattle.mlog_core.proofs.stream.run_lines.Goals as goal
@@ -41,11 +41,11 @@ returns-in-Err-feed_end-clause-runs g c =
     record {
       done = tt;
       came = λ is. absurd (c.fault_of.ensures.other.0 (err_same _ _ is));
-      store = λ is. told_end c.args.script.now _ _ _ (g.I.PartedInput.feed c.args.input.now).device
+      store = λ is. visible_end c.args.script.now _ _ _ (g.I.PartedInput.feed c.args.input.now).device
           (g.I.PartedInput.feed c.reads.input).device (g.I.PartedInput.feed c.read_part.new.self).device c.reads.lines _
           _ (c.fault_of.ensures.only_store (err_same _ _ is)) refl
           c.reads.invariant.came ended refl c.in-Err-feed_end.ensures.ends.stopped;
-      spent = λ is. told_end c.args.script.now _ _ _ (g.I.PartedInput.feed c.args.input.now).device
+      spent = λ is. visible_end c.args.script.now _ _ _ (g.I.PartedInput.feed c.args.input.now).device
           (g.I.PartedInput.feed c.reads.input).device (g.I.PartedInput.feed c.read_part.new.self).device c.reads.lines _
           _ (c.fault_of.ensures.only_spent (err_same _ _ is)) refl
           c.reads.invariant.came ended refl c.in-Err-feed_end.ensures.ends.stopped;
@@ -86,11 +86,11 @@ returns-in-Err-feed_block-clause-runs g c =
     record {
       done = tt;
       came = λ is. absurd (why.other.0 (err_same _ _ is));
-      store = λ is. told_block c.args.script.now _ _ _ (g.I.PartedInput.feed c.args.input.now).device
+      store = λ is. visible_block c.args.script.now _ _ _ (g.I.PartedInput.feed c.args.input.now).device
           (g.I.PartedInput.feed c.reads.input).device (g.I.PartedInput.feed c.read_part.new.self).device c.reads.lines _
           _ _ (why.only_store (err_same _ _ is)) refl c.reads.invariant.came
           block c.in-Err-feed_block.ensures.feeds.stopped;
-      spent = λ is. told_block c.args.script.now _ _ _ (g.I.PartedInput.feed c.args.input.now).device
+      spent = λ is. visible_block c.args.script.now _ _ _ (g.I.PartedInput.feed c.args.input.now).device
           (g.I.PartedInput.feed c.reads.input).device (g.I.PartedInput.feed c.read_part.new.self).device c.reads.lines _
           _ _ (why.only_spent (err_same _ _ is)) refl c.reads.invariant.came
           block c.in-Err-feed_block.ensures.feeds.stopped;

@@ -1,6 +1,6 @@
 use Rattle.std.proofs.Common.{refl}
 use Rattle.mlog_core.proofs.Coming.{fault_moved}
-use Rattle.mlog_core.proofs.Telling.{runs_all, runs_up_to, runs_lines}
+use Rattle.mlog_core.proofs.Showing.{runs_all, runs_up_to, runs_lines}
 use Rattle.mlog_core.proofs.stream.run_part.Goals as goal
 
 pub returns-in-Ok-run_lines-clause-runs : goal.returns-in-Ok-run_lines-clause-runs
@@ -21,9 +21,9 @@ returns-clause-runs g c =
     record {
       done = tt;
       read = λ is.
-          let told = runs.came (fault_moved _ _ is) in
-          runs_lines c.args.script.now _ _ _ _ _ _ c.in-Ok.router c.run_lines.new.router told.0 told.1 opened told.2
-          told.3;
+          let visible = runs.came (fault_moved _ _ is) in
+          runs_lines c.args.script.now _ _ _ _ _ _ c.in-Ok.router c.run_lines.new.router visible.0 visible.1 opened visible.2
+          visible.3;
       store = λ is. runs_up_to c.args.script.now _ _ _ _ _ _ c.in-Ok.router c.run_lines.new.router _ _ opened (λ e. cc)
           (runs.store (fault_moved _ _ is));
       spent = λ is. runs_up_to c.args.script.now _ _ _ _ _ _ c.in-Ok.router c.run_lines.new.router _ _ opened

@@ -25,7 +25,7 @@ parts-preserved g c =
     let turned = c.in-Ok-rotate_all.ensures.done in
     let first = ran.stays in
     let second = turned.stays in
-    let told : c.next_part.result ≡ true = c.if-not-next_part.false in
+    let visible : c.next_part.result ≡ true = c.if-not-next_part.false in
     record {
       begun = here ∷ before.begun;
       turns = (
@@ -33,8 +33,8 @@ parts-preserved g c =
         record {
           ended = ended;
           runs = ran_part _ c.args.script.now here ended ran.runs ran.end ran.works ran.behind;
-          heard = sym c.next_part.ensures.told ∙ told;
-          opens = c.next_part.ensures.next told;
+          heard = sym c.next_part.ensures.visible ∙ visible;
+          opens = c.next_part.ensures.next visible;
           rotates = turned;
         },
       );
@@ -54,7 +54,7 @@ returns-in-Err-rotate_all-clause-runs g c =
     let now = play (g.I.PartedInput.feed c.next_part.new.self) (g.S.LogStore.state c.rotate_all.new.store)
     (g.C.TimeSource.readings c.rotate_all.new.clock) in
     let ran = c.in-Ok-run_part.ensures in
-    let told : c.next_part.result ≡ true = c.if-not-next_part.false in
+    let visible : c.next_part.result ≡ true = c.if-not-next_part.false in
     record {
       begun = before.begun;
       last = here;
@@ -63,8 +63,8 @@ returns-in-Err-rotate_all-clause-runs g c =
           c.fault_of.ensures.store c.fault_of.ensures.spent (record {
             ended = ended;
             runs = ran_part _ c.args.script.now here ended ran.runs ran.end ran.works ran.behind;
-            heard = sym c.next_part.ensures.told ∙ told;
-            opens = c.next_part.ensures.next told;
+            heard = sym c.next_part.ensures.visible ∙ visible;
+            opens = c.next_part.ensures.next visible;
             rotates = c.in-Err-rotate_all.ensures.stopped;
           });
     }

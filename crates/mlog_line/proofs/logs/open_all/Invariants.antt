@@ -7,7 +7,7 @@ use Rattle.mlog_line.proofs.logs.open_all.Given as goal
 abbrev pub invariant-loop-plan : goal.invariant-loop-plan
 invariant-loop-plan g l =
     ((log : ℕ) → log < length l.tails.items
-    → IsOpenedAt (slice_get (log_plans l.script) log) ((g.S.LogStore.state l.store).told.files log)
+    → IsOpenedAt (slice_get (log_plans l.script) log) ((g.S.LogStore.state l.store).visible.files log)
     (slice_get l.tails.items log))
     × (length l.tails.items ≤ count_by is_log l.script)
 

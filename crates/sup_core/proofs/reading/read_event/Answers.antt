@@ -4,11 +4,11 @@ use Rattle.sup_core.proofs.Lines.{event_from-event_text, event_text-event_from, 
 use Rattle.sup_core.proofs.reading.read_event.Goals as goal
 
 pub returns-clause-found : goal.returns-clause-found
-returns-clause-found c = event_text-event_from c.args.line.now c.tell_event.result c.tell_event.ensures
+returns-clause-found c = event_text-event_from c.args.line.now c.parse_event.result c.parse_event.ensures
 
 pub returns-clause-only : goal.returns-clause-only
 returns-clause-only c = λ event range is.
-    c.tell_event.ensures ∙ ap (λ line. event_from (fields line)) is ∙ event_from-event_text event range
+    c.parse_event.ensures ∙ ap (λ line. event_from (fields line)) is ∙ event_from-event_text event range
 
 pub returns-clause-event : goal.returns-clause-event
-returns-clause-event c = IsEvent-event_from c.args.line.now c.tell_event.result c.tell_event.ensures
+returns-clause-event c = IsEvent-event_from c.args.line.now c.parse_event.result c.parse_event.ensures

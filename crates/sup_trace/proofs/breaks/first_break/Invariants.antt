@@ -7,6 +7,6 @@ use Rattle.sup_trace.proofs.breaks.first_break.Given as goal
 -- the machine before the entry at this place, with no break before it
 abbrev pub invariant-loop-place : goal.invariant-loop-place
 invariant-loop-place g l = record {
-  machine : l.machine ≡ state_of (before l.told l.place);
-  none : (place : ℕ) → place < l.place → ¬ BreaksAt l.told l.at place;
+  machine : l.machine ≡ state_of (before l.content l.place);
+  none : (place : ℕ) → place < l.place → ¬ BreaksAt l.content l.at place;
 }

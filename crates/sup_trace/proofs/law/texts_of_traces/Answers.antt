@@ -1,9 +1,9 @@
-use Rattle.sup_trace.proofs.Heard.{told_from-found}
-use Rattle.sup_trace.proofs.Whole.{told_from-only}
+use Rattle.sup_trace.proofs.Heard.{content_from-found}
+use Rattle.sup_trace.proofs.Whole.{content_from-only}
 use Rattle.sup_trace.proofs.law.texts_of_traces.Goals as goal
 
 pub returns-clause-read : goal.returns-clause-read
-returns-clause-read c = told_from-only
+returns-clause-read c = content_from-only
 
-pub returns-clause-told : goal.returns-clause-told
-returns-clause-told c = told_from-found
+pub returns-clause-content : goal.returns-clause-content
+returns-clause-content c = content_from-found

@@ -2,7 +2,7 @@ use Rattle.std.proofs.Common.{ℕ, [], Result, Ok, Err, ◌∙◌}
 use Rattle.std.specs.Prelude.{IfOk, IfErr}
 use Rattle.sup_core.specs.State.{State}
 use Rattle.sup_trace.specs.declared.fault.TraceFault.{TraceFault}
-use Rattle.sup_trace.specs.Told.{told_of}
+use Rattle.sup_trace.specs.Content.{content_of}
 use Rattle.sup_trace.specs.Reading.{Nothing, Header, Entries}
 use Rattle.sup_trace.proofs.Steps.{line_read, entry_later}
 use Rattle.sup_trace.proofs.reading.take_opening.Goals as goal
@@ -23,7 +23,7 @@ returns-clause-ok c =
     ok_so _ _ c.take_base.result (λ (opening : ℕ × State) reads.
     first ∙ line_read c.take_header.new.lines.number c.take_base.new.lines.number c.take_header.new.lines.rest.now
     c.take_base.new.lines.rest.now
-    Header (Entries (told_of opening.1 opening.0 [])) reads) c.take_base.ensures.ok
+    Header (Entries (content_of opening.1 opening.0 [])) reads) c.take_base.ensures.ok
 
 pub returns-clause-entry : goal.returns-clause-entry
 returns-clause-entry c =
@@ -33,7 +33,7 @@ returns-clause-entry c =
     c.in_ok-take_header.ensures.ok
     (entry_later at c.take_header.new.lines.number c.take_base.new.lines.number c.take_header.new.lines.rest.now
     c.take_base.new.lines.rest.now
-    Header (Entries (told_of opening.1 opening.0 [])) reads entry)) c.take_base.ensures.ok
+    Header (Entries (content_of opening.1 opening.0 [])) reads entry)) c.take_base.ensures.ok
 
 pub returns-clause-fault : goal.returns-clause-fault
 returns-clause-fault c =

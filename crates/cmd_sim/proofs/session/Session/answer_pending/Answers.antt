@@ -22,10 +22,10 @@ pub returns-in_err-answer_line-clause-refused : goal.returns-in_err-answer_line-
 returns-in_err-answer_line-clause-refused g c = λ number why is before now held first.
     let passed = err_from_is_err_and c.from_residual.result c.from_residual.ensures.1 in
     let same = ap Err (sym passed.2) ∙ sym passed.1 ∙ is in
-    let told = c.in_err-answer_line.ensures.refused_wrote number why same in
+    let subject = c.in_err-answer_line.ensures.refused_wrote number why same in
     let s = c.each.invariant.0 before now held first in
     SoFar-line_refused c.answer_line.new.writer.bytes s why (c.take_line.ensures.taken c.each-test.true) c.line.ensures
-    told.0 (c.in_err-answer_line.ensures.refused number why same s.past s.stands) told.1
+    subject.0 (c.in_err-answer_line.ensures.refused number why same s.past s.stands) subject.1
 
 pub returns-in_err-answer_line-clause-write : goal.returns-in_err-answer_line-clause-write
 returns-in_err-answer_line-clause-write g c = λ is before now held first.
@@ -40,7 +40,7 @@ returns-clause-ok g c =
     (λ w none. λ before now held first.
     SoFar-flushed c.flush.new.writer.bytes (c.each.invariant.0 before now held first)
     (c.take_line.ensures.none c.each-test.false).1
-    w none c.flush.ensures.told c.flush.ensures.count)
+    w none c.flush.ensures.subject c.flush.ensures.count)
     c.flush.ensures.ok c.flush.ensures.waiting
 
 pub returns-clause-write : goal.returns-clause-write
@@ -51,9 +51,9 @@ pub returns-in_err-answer_line-clause-near : goal.returns-in_err-answer_line-cla
 returns-in_err-answer_line-clause-near g c = λ number why is before now held first small.
     let passed = err_from_is_err_and c.from_residual.result c.from_residual.ensures.1 in
     let same = ap Err (sym passed.2) ∙ sym passed.1 ∙ is in
-    let told = c.in_err-answer_line.ensures.refused_wrote number why same in
+    let subject = c.in_err-answer_line.ensures.refused_wrote number why same in
     let less = c.each.invariant.4 in
-    SoFar-near number (c.each.invariant.0 before now held first) (omega (arith, less, small)) told.0
+    SoFar-near number (c.each.invariant.0 before now held first) (omega (arith, less, small)) subject.0
 
 pub returns-in_err-answer_line-clause-refused_works : goal.returns-in_err-answer_line-clause-refused_works
 returns-in_err-answer_line-clause-refused_works g c = λ number why is.

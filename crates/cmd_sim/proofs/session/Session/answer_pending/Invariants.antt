@@ -5,8 +5,8 @@ use Rattle.cmd_sim.proofs.session.Session.answer_pending.Given as goal
 abbrev pub invariant-each : goal.invariant-each
 invariant-each g l =
     ((before now held : Option (List ℕ))
-    → SoFar before now held l.fn.writer.bytes l.fn.lines.pending l.fn.self.waiting l.fn.self.told l.fn.self.count
-    → SoFar before now held l.writer.bytes l.lines.pending l.self.waiting l.self.told l.self.count)
+    → SoFar before now held l.fn.writer.bytes l.fn.lines.pending l.fn.self.waiting l.fn.self.subject l.fn.self.count
+    → SoFar before now held l.writer.bytes l.lines.pending l.self.waiting l.self.subject l.self.count)
     × (l.self.count + length l.lines.pending ≤ l.fn.self.count + length l.fn.lines.pending)
     × (l.lines.bound ≡ l.fn.lines.bound)
     × (l.writer.faults ≡ l.fn.writer.faults)

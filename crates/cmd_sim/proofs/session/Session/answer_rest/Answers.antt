@@ -8,11 +8,11 @@ pub returns-in_err-answer_line-clause-refused : goal.returns-in_err-answer_line-
 returns-in_err-answer_line-clause-refused g c = λ number why is before now held s end.
     let passed = err_from_is_err_and c.from_residual.result c.from_residual.ensures.1 in
     let same = ap Err (sym passed.2) ∙ sym passed.1 ∙ is in
-    let told = c.in_err-answer_line.ensures.refused_wrote number why same in
+    let subject = c.in_err-answer_line.ensures.refused_wrote number why same in
     let some = not_nothing c.args.lines.now.pending c.if-not-take_rest.false c.take_rest.ensures.none in
     rest_refused c.answer_line.new.writer.bytes s why some c.requires.plain end
-    (c.line.ensures ∙ c.take_rest.ensures.taken c.if-not-take_rest.false) told.0
-    (c.in_err-answer_line.ensures.refused number why same s.past s.stands) told.1
+    (c.line.ensures ∙ c.take_rest.ensures.taken c.if-not-take_rest.false) subject.0
+    (c.in_err-answer_line.ensures.refused number why same s.past s.stands) subject.1
 
 pub returns-in_err-answer_line-clause-write : goal.returns-in_err-answer_line-clause-write
 returns-in_err-answer_line-clause-write g c = λ is before now held s.
@@ -41,8 +41,8 @@ pub returns-in_err-answer_line-clause-near : goal.returns-in_err-answer_line-cla
 returns-in_err-answer_line-clause-near g c = λ number why is before now held s small.
     let passed = err_from_is_err_and c.from_residual.result c.from_residual.ensures.1 in
     let same = ap Err (sym passed.2) ∙ sym passed.1 ∙ is in
-    let told = c.in_err-answer_line.ensures.refused_wrote number why same in
-    SoFar-near number s small told.0
+    let subject = c.in_err-answer_line.ensures.refused_wrote number why same in
+    SoFar-near number s small subject.0
 
 pub returns-in_err-answer_line-clause-refused_works : goal.returns-in_err-answer_line-clause-refused_works
 returns-in_err-answer_line-clause-refused_works g c = λ number why is.

@@ -21,6 +21,6 @@ loop-line-preserved g c =
       puts = puts_more (λ line. string_bytes line) c.args.lines.now c.loop-line.line-index c.line-item.result
           c.loop-line-test.true c.line-item.is c.loop-line.invariant.puts put;
       faults = c.in_ok-put.ensures.faults ∙ c.loop-line.invariant.faults;
-      told = c.in_ok-put.ensures.told ∙ c.loop-line.invariant.told;
+      subject = c.in_ok-put.ensures.subject ∙ c.loop-line.invariant.subject;
       count = c.in_ok-put.ensures.count ∙ c.loop-line.invariant.count;
     }

@@ -9,6 +9,6 @@ invariant-loop-line g l = record {
   puts : Puts l.fn.writer l.writer l.fn.self.waiting l.self.waiting
       (printed (map (λ line. string_bytes line) (take l.line-index l.lines)));
   faults : l.writer.faults ≡ l.fn.writer.faults;
-  told : l.self.told ≡ l.fn.self.told;
+  subject : l.self.subject ≡ l.fn.self.subject;
   count : l.self.count ≡ l.fn.self.count;
 }

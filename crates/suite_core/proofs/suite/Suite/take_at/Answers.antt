@@ -29,9 +29,9 @@ invariant_of-self g c =
     record { table = c.self.inside.table; parts = c.self.inside.parts.items; capacity = c.self.inside.capacity } in
     let rising = parts-rise suite.table suite.parts c.self.invariant.rising c.self.invariant.tied in
     subst IsSuite (sym (suite-at suite c.args.id c.args.event c.in-Some.place c.deref.result.now
-    c.take_event_in-answer.new.parts.items c.tell_end.new.table c.take_event_in-answer.result.1
+    c.take_event_in-answer.new.parts.items c.note_end.new.table c.take_event_in-answer.result.1
     rising c.deref.ensures.value c.in-Some.ensures c.take_event_in-answer.ensures.parts
-    c.take_event_in-answer.ensures.ended c.tell_end.ensures))
+    c.take_event_in-answer.ensures.ended c.note_end.ensures))
     (IsSuite-at suite c.args.id c.args.event c.requires c.self.invariant)
 
 pub returns-clause-ok : goal.returns-clause-ok
@@ -40,9 +40,9 @@ returns-clause-ok g c =
     record { table = c.self.inside.table; parts = c.self.inside.parts.items; capacity = c.self.inside.capacity } in
     let rising = parts-rise suite.table suite.parts c.self.invariant.rising c.self.invariant.tied in
     suite-at suite c.args.id c.args.event c.in-Some.place c.deref.result.now c.take_event_in-answer.new.parts.items
-    c.tell_end.new.table c.take_event_in-answer.result.1
+    c.note_end.new.table c.take_event_in-answer.result.1
     rising c.deref.ensures.value c.in-Some.ensures c.take_event_in-answer.ensures.parts
-    c.take_event_in-answer.ensures.ended c.tell_end.ensures
+    c.take_event_in-answer.ensures.ended c.note_end.ensures
     ∙ ap (λ s. suite_at s c.args.id c.args.event) c.self.view_is
 
 pub returns-clause-taken : goal.returns-clause-taken

@@ -6,7 +6,7 @@ use Rattle.sup_trace.proofs.reading.Reading.take_entries.Goals as goal
 pub returns-then-branch-clause-ok : goal.returns-then-branch-clause-ok
 returns-then-branch-clause-ok g c =
     let reads = rw c.if-branch.true at c.in_ok-take_next.ensures.ok in
-    c.entries.invariant.told
+    c.entries.invariant.content
     ∙ line_read c.entries.lines.number c.take_next.new.lines.number c.entries.lines.rest.now
     c.take_next.new.lines.rest.now
     (Entries c.entries.self) (Whole c.take_next.new.self) reads
@@ -22,6 +22,6 @@ entries-preserved g c =
     let reads = rw c.if-branch.false at c.in_ok-take_next.ensures.ok in
     record {
       room = c.in_ok-take_next.ensures.room;
-      told = c.entries.invariant.told ∙ line_read number later text rest here next reads;
+      content = c.entries.invariant.content ∙ line_read number later text rest here next reads;
       entry = λ at entry. c.entries.invariant.entry at (entry_later at number later text rest here next reads entry);
     }

@@ -1,13 +1,13 @@
 use Rattle.std.proofs.Common.{◌≡◌, ℕ, ◌+◌, ◌^◌, ◌<◌, length}
-use Rattle.sup_trace.specs.Reading.{Entries, told_by_parts, parts_of, ReadsEntry}
+use Rattle.sup_trace.specs.Reading.{Entries, content_by_parts, parts_of, ReadsEntry}
 use Rattle.sup_trace.proofs.reading.Reading.take_entries.Given as goal
 
--- What is left tells the same, and an entry that is read there is read.
+-- What is left reports the same, and an entry that is read there is read.
 abbrev pub invariant-entries : goal.invariant-entries
 invariant-entries g l = record {
   room : l.lines.number + length l.lines.rest.now < 2 ^ 64;
-  told : told_by_parts l.fn.lines.number (Entries l.fn.self) (parts_of l.fn.lines.rest.now)
-      ≡ told_by_parts l.lines.number (Entries l.self) (parts_of l.lines.rest.now);
+  content : content_by_parts l.fn.lines.number (Entries l.fn.self) (parts_of l.fn.lines.rest.now)
+      ≡ content_by_parts l.lines.number (Entries l.self) (parts_of l.lines.rest.now);
   entry : (at : ℕ) → ReadsEntry at l.lines.number (Entries l.self) (parts_of l.lines.rest.now)
       → ReadsEntry at l.fn.lines.number (Entries l.fn.self) (parts_of l.fn.lines.rest.now);
 }

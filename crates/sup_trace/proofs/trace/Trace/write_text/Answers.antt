@@ -3,9 +3,9 @@ use Rattle.std.specs.List.{AllByRecursion}
 use Rattle.sup_core.specs.History.{Opened}
 use Rattle.sup_core.specs.Rules.{IsEvent}
 use Rattle.sup_core.proofs.Laws.{AreTaken-events}
-use Rattle.sup_trace.specs.Told.{told_of}
+use Rattle.sup_trace.specs.Content.{content_of}
 use Rattle.sup_trace.specs.Text.{trace_text}
-use Rattle.sup_trace.specs.Trace.{told_by}
+use Rattle.sup_trace.specs.Trace.{content_by}
 use Rattle.sup_trace.proofs.trace.Trace.write_text.Goals as goal
 
 pub trace_text-requires-clause-events : goal.trace_text-requires-clause-events
@@ -15,7 +15,7 @@ trace_text-requires-clause-events g c =
 
 pub returns-clause-text : goal.returns-clause-text
 returns-clause-text g c =
-    subst (λ kept. IfOk c.trace_text.result (λ bytes. bytes.items ≡ trace_text (told_by kept))) c.self.view_is
+    subst (λ kept. IfOk c.trace_text.result (λ bytes. bytes.items ≡ trace_text (content_by kept))) c.self.view_is
     (subst (λ entries. IfOk c.trace_text.result (λ bytes. bytes.items
-    ≡ trace_text (told_of c.self.inside.base c.self.inside.folded entries)))
+    ≡ trace_text (content_of c.self.inside.base c.self.inside.folded entries)))
     c.as_slices.ensures c.trace_text.ensures.text)

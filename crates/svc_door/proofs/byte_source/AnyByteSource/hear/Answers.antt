@@ -6,5 +6,5 @@ pub returns-in-Some-clause-heard : goal.returns-in-Some-clause-heard
 returns-in-Some-clause-heard g c =
     heard-of c.read.result (g.S.Read.remaining c.args.self.now) (g.S.Read.remaining c.loop.self)
     (g.S.Read.remaining c.read.new.self) c.in-Some.heard
-    c.read.new.buf c.loop.invariant (omega arith) c.read.ensures.bound c.read.ensures.bytes (sym c.told.ensures
+    c.read.new.buf c.loop.invariant (omega arith) c.read.ensures.bound c.read.ensures.bytes (sym c.heard_of.ensures
     ∙ c.in-Some.is)

@@ -7,4 +7,4 @@ returns-in-By-clause-hands g c =
     let part = c.growth.new.self in
     trace-noted c.args.part.now.kept part c.hand_trace.new.part c.hand_trace.result c.in-By.count part.id
     c.deref.result.now (g.M.Maker.calls c.args.self.now.maker) (g.M.Maker.calls c.hand_trace.new.self.maker) refl
-    (c.deref.ensures.value ∙ c.in-By.ensures.tells.1) c.hand_trace.ensures.noted c.hand_trace.ensures.handed
+    (c.deref.ensures.value ∙ c.in-By.ensures.shows.1) c.hand_trace.ensures.noted c.hand_trace.ensures.handed

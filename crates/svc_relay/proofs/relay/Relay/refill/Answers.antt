@@ -20,7 +20,7 @@ returns-clause-none g c nothing =
         taken = had.1 ∙ ap (λ s. taken_by s.receiver) c.self.view_is;
         here = ap (λ letters. take inside.here (drop inside.earlier (bytes_in letters))) had.1
             ∙ ap (λ s. s.here) c.self.view_is;
-        outlet = (ap (λ s. s.told) c.self.view_is, ap (λ s. s.failures) c.self.view_is);
+        outlet = (ap (λ s. s.shown) c.self.view_is, ap (λ s. s.failures) c.self.view_is);
       },
       relay_facts c.fill.new.receiver inside.earlier inside.here c.fill.new.waiting 0 (g.O.Outlet.bytes inside.outlet)
           (g.O.Outlet.failures inside.outlet)

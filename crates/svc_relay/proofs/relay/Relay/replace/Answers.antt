@@ -16,7 +16,7 @@ overflow_add-self g c =
 pub returns-clause-next : goal.returns-clause-next
 returns-clause-next g c =
     let inside = c.self.inside in
-    let told = g.O.Outlet.bytes c.args.outlet in
+    let shown = g.O.Outlet.bytes c.args.outlet in
     let failures = g.O.Outlet.failures c.args.outlet in
     ap (λ o. passing inside.receiver (inside.earlier + inside.here) 0 inside.waiting inside.put (g.O.Outlet.bytes o)
     (g.O.Outlet.failures o)) c.replace.ensures.after
@@ -25,7 +25,7 @@ returns-clause-next g c =
       earlier = earlier;
       here = [];
       kept = drop inside.put inside.waiting;
-      told = told;
+      shown = shown;
       failures = failures;
     }) (take-add inside.earlier inside.here (bytes_in (taken_by inside.receiver)))
-    ∙ ap (λ s. next_life s told failures) c.self.view_is
+    ∙ ap (λ s. next_life s shown failures) c.self.view_is

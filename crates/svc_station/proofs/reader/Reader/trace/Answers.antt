@@ -1,5 +1,5 @@
 use Rattle.std.proofs.Common.{◌≡◌, rules, ap, ◌∙◌}
-use Rattle.sup_trace.specs.Told.{replay_of}
+use Rattle.sup_trace.specs.Content.{replay_of}
 use Rattle.sup_trace.proofs.After.{replay-trace_after}
 use Rattle.svc_station.specs.Origins.{text_of}
 use Rattle.svc_station.proofs.reader.Reader.trace.Goals as goal

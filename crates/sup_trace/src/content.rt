@@ -1,14 +1,14 @@
 ghost use Rattle.std.specs.Prelude.{◌≡◌, ◌≤◌, ◌^◌, IfOk, OnOk};
 ghost use Rattle.sup_trace.specs.Text.{trace_text};
-ghost use Rattle.sup_trace.specs.Told.{replay_of};
+ghost use Rattle.sup_trace.specs.Content.{replay_of};
 
 use crate::text::trace_text;
 use std::alloc::{AllocError, Allocator, Global};
 use std::marker::Model;
 use sup_core::{Event, Machine};
 
-/// What the text of a trace tells: the machine before the entries, how many events had led to it, and the events taken
-/// since. Contracts see it as `Told`.
+/// What the text of a trace says: the machine before the entries, how many events had led to it, and the events taken
+/// since. Contracts see it as `Content`.
 #[derive(Drop)]
 pub struct TraceText<A: Allocator = Global> {
     base: Machine,
@@ -17,22 +17,22 @@ pub struct TraceText<A: Allocator = Global> {
 }
 
 impl<A: Allocator> Model for TraceText<A> {
-    ghost use Rattle.sup_trace.specs.Told.{Told, IsTraceText, told_of};
+    ghost use Rattle.sup_trace.specs.Content.{Content, IsTraceText, content_of};
 
-    ghost Value = { Told };
+    ghost Value = { Content };
 
-    ghost view = { λ text. told_of text.base text.folded text.entries.items };
+    ghost view = { λ text. content_of text.base text.folded text.entries.items };
 
-    ghost invariant = { λ text. IsTraceText (told_of text.base text.folded text.entries.items) };
+    ghost invariant = { λ text. IsTraceText (content_of text.base text.folded text.entries.items) };
 }
 
 impl<A: Allocator> TraceText<A> {
-    ghost use Rattle.sup_trace.specs.Told.{IsTold, IsTraceText, told_of};
+    ghost use Rattle.sup_trace.specs.Content.{IsContent, IsTraceText, content_of};
 
-    /// The text that tells of this base, of as many events before it, and of these entries.
+    /// The text that says of this base, of as many events before it, and of these entries.
     pub(crate) fn from_parts(base: Machine, folded: u64, entries: Vec<Event, A>) -> TraceText<A>
-        requires { IsTraceText (told_of base folded entries.items) }
-        ensures { result ≡ told_of base folded entries.items }
+        requires { IsTraceText (content_of base folded entries.items) }
+        ensures { result ≡ content_of base folded entries.items }
     {
         TraceText {
             base,
@@ -67,18 +67,18 @@ impl<A: Allocator> TraceText<A> {
     /// where the allocator refuses the memory for it, which is asked for at once.
     pub fn write_text<B: Allocator>(&self, alloc: B) -> Result<Vec<u8, B>, AllocError>
         ensures text { IfOk result (λ bytes. bytes.items ≡ trace_text self.now) }
-        // Such a text is read as what it tells.
-        ensures range { OnOk result (IsTold self.now) }
+        // Such a text is read as what it says.
+        ensures range { OnOk result (IsContent self.now) }
     {
         trace_text(alloc, &self.base, self.folded, &[], &self.entries)
     }
 }
 
 /// The machine after the entries.
-pub fn replay<A: Allocator>(told: &TraceText<A>) -> Machine
-    ensures { result ≡ replay_of told.now }
+pub fn replay<A: Allocator>(content: &TraceText<A>) -> Machine
+    ensures { result ≡ replay_of content.now }
 {
-    let mut machine = told.base();
-    machine.run(told.entries());
+    let mut machine = content.base();
+    machine.run(content.entries());
     machine
 }

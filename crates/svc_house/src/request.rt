@@ -1,12 +1,12 @@
-//! How a world is told what is asked.
+//! How a world is reported what is asked.
 ghost use Rattle.std.specs.Prelude.{◌≡◌, [], ◌∷◌, All};
 ghost use Rattle.svc_house.specs.declared.call.Call.{Call};
-ghost use Rattle.svc_house.specs.Calls.{ExtendedWhileKept, IsAsk, told};
+ghost use Rattle.svc_house.specs.Calls.{ExtendedWhileKept, IsAsk, requested};
 
 use crate::world::World;
 use sup_core::Ask;
 
-fn tell_one<W: World>(world: &mut W, ask: &Ask)
+fn request_one<W: World>(world: &mut W, ask: &Ask)
     requires { IsAsk ask.now }
     ensures { ExtendedWhileKept (W.calls world.old) (W.calls world.new) (Call.Requested ask.now ∷ []) }
 {
@@ -17,12 +17,12 @@ fn tell_one<W: World>(world: &mut W, ask: &Ask)
     }
 }
 
-/// Tells the asks, in order.
-pub(crate) fn tell<W: World>(world: &mut W, asks: &[Ask])
+/// Reports the asks, in order.
+pub(crate) fn request<W: World>(world: &mut W, asks: &[Ask])
     requires { All IsAsk asks.now }
-    ensures { ExtendedWhileKept (W.calls world.old) (W.calls world.new) (told asks.now) }
+    ensures { ExtendedWhileKept (W.calls world.old) (W.calls world.new) (requested asks.now) }
 {
     for ask in asks {
-        tell_one(world, ask);
+        request_one(world, ask);
     }
 }

@@ -1,7 +1,7 @@
 use Rattle.std.proofs.Common.{sym, ap, ◌∙◌}
 use Rattle.sup_core.specs.Reading.{event_from}
 use Rattle.sup_core.proofs.Lines.{unknown_word}
-use Rattle.sup_core.proofs.reading.tell_event.Goals as goal
+use Rattle.sup_core.proofs.reading.parse_event.Goals as goal
 
 pub returns-in-None : goal.returns-in-None
 returns-in-None c =

@@ -1,4 +1,4 @@
--- What a run tells of the logs, alerts and status files.
+-- What a run reports of the logs, alerts and status files.
 use Rattle.std.proofs.Common.{◌≡◌, ℕ, ◌+◌, ◌-◌, ◌^◌, min, List, [], ◌∷◌, ◌++◌, take, map, fold, Option, Some}
 use Rattle.std.proofs.Common.{None, refl, sym, subst, ap, ◌∙◌, arith, append-nil}
 use Rattle.std.proofs.lemmas.Option.{slice_get-map}
@@ -14,7 +14,7 @@ use Rattle.mlog_script.specs.Script.{Act, Plan, log_plans}
 use Rattle.mlog_script.specs.Selection.{log_text}
 use Rattle.mlog_files.specs.Files.{Files, Step, append_steps}
 use Rattle.mlog_files.specs.Going.{Standing, steps_on, standing_on}
-use Rattle.mlog_files.specs.Store.{StoreState, Told, Reaches}
+use Rattle.mlog_files.specs.Store.{StoreState, Visible, Reaches}
 use Rattle.mlog_files.specs.Tails.{keep_of, waiting_in, standing, found}
 use Rattle.mlog_files.specs.declared.tail.Tail.{Tail}
 use Rattle.mlog_files.specs.declared.tail.LogFault.{LogFault}
@@ -40,8 +40,8 @@ stood_at (Some t) files = standing t
 stood_at None (Some files) = found files
 stood_at None None = found (record { current = []; olds = [] })
 
-stood_of : List Tail → Told → ℕ → Standing
-stood_of tails told log = stood_at (slice_get tails log) (told.files log)
+stood_of : List Tail → Visible → ℕ → Standing
+stood_of tails visible log = stood_at (slice_get tails log) (visible.files log)
 
 found_by : (plan : Option Plan) (files : Option Files) (tail : Option Tail) → IsOpenedAt plan files tail
     → IfSome files (λ f. stood_at tail files ≡ found f)
@@ -52,11 +52,11 @@ found_by None (Some f) (Some t) o = absurd o
 found_by (Some plan) (Some f) None o = absurd o
 found_by (Some plan) (Some f) (Some t) o = o.stands
 
-all_found : (script : List Act) (told : Told) (tails : List Tail) → AreOpened script told tails
-    → AreFound told (stood_of tails told)
+all_found : (script : List Act) (visible : Visible) (tails : List Tail) → AreOpened script visible tails
+    → AreFound visible (stood_of tails visible)
 unfolding stood_of
-all_found script told tails opened =
-    λ log. found_by (slice_get (log_plans script) log) (told.files log) (slice_get tails log) (opened log)
+all_found script visible tails opened =
+    λ log. found_by (slice_get (log_plans script) log) (visible.files log) (slice_get tails log) (opened log)
 
 written_by : (plan : Option Plan) (files : Option Files) (tail : Option Tail) → IsOpenedAt plan files tail
     → IsWrittenAt tail
@@ -65,10 +65,10 @@ written_by None files (Some t) o = absurd o
 written_by (Some plan) files None o = absurd o
 written_by (Some plan) files (Some t) o = o.waiting
 
-pub opened_written : (script : List Act) (told : Told) (tails : List Tail) → AreOpened script told tails
+pub opened_written : (script : List Act) (visible : Visible) (tails : List Tail) → AreOpened script visible tails
     → IsWritten tails
-opened_written script told tails opened =
-    λ log. written_by (slice_get (log_plans script) log) (told.files log) (slice_get tails log) (opened log)
+opened_written script visible tails opened =
+    λ log. written_by (slice_get (log_plans script) log) (visible.files log) (slice_get tails log) (opened log)
 
 -- One log
 
@@ -148,7 +148,7 @@ fold_map f g n (x ∷ xs) = fold_map f g (f n (g x)) xs
 
 pub runs_all : (script : List Act) (r p : Device) (old new : StoreState) (a b : Option (List Tai64n)) (p0 p1 : Place)
     (n : ℕ) (counts : Counts)
-    → AreOpened script old.told p0.tails → IsWritten p1.tails
+    → AreOpened script old.visible p0.tails → IsWritten p1.tails
     → Done script (scene None p0 old a) (scene None p1 new b) r p n
     → counts.lines ≡ n → counts.finished ≡ total_finished p1.tails → counts.removed ≡ total_removed p1.tails
     → RunsAll script (world r old a) (world p new b) counts
@@ -156,23 +156,23 @@ unfolding stood_of
 runs_all script r p old new a b p0 p1 n counts opened written d lines finished removed = record {
   bytes = d.bytes;
   labels = d.labels;
-  stood = stood_of p0.tails old.told;
+  stood = stood_of p0.tails old.visible;
   ends = map standing p1.tails;
   read = d.read;
   gave = d.gave;
   each = d.each;
-  are_found = all_found script old.told p0.tails opened;
-  logs = λ log. log_done (slice_get (log_plans script) log) (old.told.files log) (new.told.files log)
+  are_found = all_found script old.visible p0.tails opened;
+  logs = λ log. log_done (slice_get (log_plans script) log) (old.visible.files log) (new.visible.files log)
       (slice_get p0.tails log) (slice_get p1.tails log) (log_text script log d.labels d.bytes)
       (opened log) (d.takes.logs log) (written log);
   alerts = d.takes.alerts;
   files = d.takes.files;
   lines = lines ∙ d.count_is ∙ d.each;
   are_ends = λ log. subst
-      (λ (end : Option Standing). IsEnd (slice_get (log_plans script) log) (stood_of p0.tails old.told log)
+      (λ (end : Option Standing). IsEnd (slice_get (log_plans script) log) (stood_of p0.tails old.visible log)
       (log_text script log d.labels d.bytes) end)
       (sym (slice_get-map standing p1.tails log))
-      (log_end (slice_get (log_plans script) log) (old.told.files log) (new.told.files log) (slice_get p0.tails log)
+      (log_end (slice_get (log_plans script) log) (old.visible.files log) (new.visible.files log) (slice_get p0.tails log)
       (slice_get p1.tails log) (log_text script log d.labels d.bytes)
       (opened log) (d.takes.logs log));
   finished = finished ∙ sym (fold_map (λ (t : ℕ) (s : Standing). min (2 ^ 64 - 1) (t + s.marks.finished)) standing 0
@@ -182,26 +182,26 @@ runs_all script r p old new a b p0 p1 n counts opened written d lines finished r
 }
 
 pub runs_up_to : (script : List Act) (r p : Device) (old new : StoreState) (a b : Option (List Tai64n)) (p0 p1 : Place)
-    (why : LogFault) (tells : RunFault)
-    → AreOpened script old.told p0.tails → (tells ≡ fault.LabelsSpent → why ≡ log_fault.LabelsSpent)
+    (why : LogFault) (reports : RunFault)
+    → AreOpened script old.visible p0.tails → (reports ≡ fault.LabelsSpent → why ≡ log_fault.LabelsSpent)
     → Halted script (scene None p0 old a) (scene None p1 new b) r p why
-    → RunsUpTo script (world r old a) (world p new b) tells
+    → RunsUpTo script (world r old a) (world p new b) reports
 unfolding stood_of
-runs_up_to script r p old new a b p0 p1 why tells opened same h = record {
+runs_up_to script r p old new a b p0 p1 why reports opened same h = record {
   bytes = h.bytes;
   labels = h.labels;
-  stood = stood_of p0.tails old.told;
+  stood = stood_of p0.tails old.visible;
   read = h.read;
   gave = h.gave;
-  are_found = all_found script old.told p0.tails opened;
-  logs = λ log. log_front (slice_get (log_plans script) log) (old.told.files log) (new.told.files log)
+  are_found = all_found script old.visible p0.tails opened;
+  logs = λ log. log_front (slice_get (log_plans script) log) (old.visible.files log) (new.visible.files log)
       (slice_get p0.tails log) (log_text script log h.labels h.bytes)
       (opened log) (h.stops.logs log);
   alerts = h.stops.alerts;
   files = h.stops.files;
   spent = λ is. let s = h.stops.spent (same is) in (
     s.log,
-    log_spent (slice_get (log_plans script) s.log) (old.told.files s.log) (slice_get p0.tails s.log)
+    log_spent (slice_get (log_plans script) s.log) (old.visible.files s.log) (slice_get p0.tails s.log)
         (log_text script s.log h.labels h.bytes) (opened s.log) s.spent,
   );
 }
@@ -218,7 +218,7 @@ plain_left script p (Some label) left is = is.1
 
 pub runs_lines : (script : List Act) (r p : Device) (old new : StoreState) (a b : Option (List Tai64n)) (p0 p1 : Place)
     (i : Option Tai64n) (n : ℕ)
-    → AreOpened script old.told p0.tails → IsWritten p1.tails
+    → AreOpened script old.visible p0.tails → IsWritten p1.tails
     → Came script (scene None p0 old a) (scene i p1 new b) r p n
     → RunsLines script (world r old a) (world p new b)
 unfolding stood_of
@@ -236,15 +236,15 @@ runs_lines script r p old new a b p0 p1 i n opened written c =
       front = w.left;
       labels = w.names;
       begun = i;
-      stood = stood_of p0.tails old.told;
+      stood = stood_of p0.tails old.visible;
       read = subst (λ (t : List ℕ). Consumes r.bytes p.bytes t) w.cut c.read;
       gave = subst (λ (t : List Tai64n). Extended a b t) w.named w.gave;
       whole = w.lines;
       plain = plain_left script p1 i w.left w.at;
       is_begun = begun_left script p1 i w.left w.at;
       each = w.each;
-      are_found = all_found script old.told p0.tails opened;
-      logs = λ log. log_done (slice_get (log_plans script) log) (old.told.files log) (new.told.files log)
+      are_found = all_found script old.visible p0.tails opened;
+      logs = λ log. log_done (slice_get (log_plans script) log) (old.visible.files log) (new.visible.files log)
           (slice_get p0.tails log) (slice_get p1.tails log) (t1.logs log ++ s1.logs log)
           (opened log) (takes.logs log) (written log);
       alerts = takes.alerts;

@@ -1,10 +1,10 @@
 -- Calls and lines, one after the other.
 use Rattle.std.proofs.Common.{ℕ, List, [], ◌∷◌, ◌++◌, Option, Some, None, refl, sym, ap, ◌∙◌, subst, append_assoc}
 use Rattle.std.proofs.Common.{append-nil}
-use Rattle.tai_status.specs.Counted.{Device, Tells}
+use Rattle.tai_status.specs.Counted.{Device, Reports}
 use Rattle.cmd_svscan.specs.Calls.{Call}
 use Rattle.tai_status.specs.Extended.{Extended}
-use Rattle.cmd_svscan.specs.Rounds.{TellsAll}
+use Rattle.cmd_svscan.specs.Rounds.{ReportsAll}
 
 -- calls after calls
 pub extended-then : (a b c : Option (List Call)) (first rest : List Call) → Extended a b first → Extended b c rest
@@ -20,11 +20,11 @@ extended-none None = tt
 extended-none (Some a) = sym (append-nil a)
 
 -- lines after lines
-pub tells-then : (first rest : List (List ℕ)) (a b c : Device) → TellsAll first a b → TellsAll rest b c
-    → TellsAll (first ++ rest) a c
-tells-then [] rest a b c h k = subst (λ (d : Device). TellsAll rest d c) h k
-tells-then (line ∷ lines) rest a b c h k = (h.0, (h.1.0, tells-then lines rest h.0 b c h.1.1 k))
+pub reports-then : (first rest : List (List ℕ)) (a b c : Device) → ReportsAll first a b → ReportsAll rest b c
+    → ReportsAll (first ++ rest) a c
+reports-then [] rest a b c h k = subst (λ (d : Device). ReportsAll rest d c) h k
+reports-then (line ∷ lines) rest a b c h k = (h.0, (h.1.0, reports-then lines rest h.0 b c h.1.1 k))
 
 -- one line
-pub tells-one : (line : List ℕ) (a b : Device) → Tells a b line → TellsAll (line ∷ []) a b
-tells-one line a b h = (b, (h, refl))
+pub reports-one : (line : List ℕ) (a b : Device) → Reports a b line → ReportsAll (line ∷ []) a b
+reports-one line a b h = (b, (h, refl))

@@ -2,7 +2,7 @@ use Rattle.std.proofs.Common.{◌≡◌, Err, sym, ap, ◌∙◌}
 use Rattle.std.proofs.lemmas.Result.{err_from_is_err_and}
 use Rattle.cmd_sim.specs.declared.fault.NoAnswer.TheVariants as none
 use Rattle.cmd_sim.proofs.Answered.{service_refused, service_says, suite_missed, suite_refused, suite_says}
-use Rattle.cmd_sim.proofs.answering.Told.answer.Goals as goal
+use Rattle.cmd_sim.proofs.answering.Subject.answer.Goals as goal
 
 pub returns-in_err-step_service-in-Service-clause-refused : goal.returns-in_err-step_service-in-Service-clause-refused
 returns-in_err-step_service-in-Service-clause-refused g c = λ why is past stands.
