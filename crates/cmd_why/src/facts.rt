@@ -202,7 +202,11 @@ fn last_ended<A: Allocator>(content: &TraceText<A>) -> Option<Ended>
     ensures { result ≡ last_ended content.now }
 {
     let entries = content.entries();
-    ended_by(&content.base().view(), entries, &last_of(Kind::Death, entries))
+    ended_by(
+        &content.base().view(),
+        entries,
+        &last_of(Kind::Death, entries),
+    )
 }
 
 /// Whether the last start failed.

@@ -80,7 +80,11 @@ fn read_content<A: Allocator + Clone, K: Evidence>(
 }
 
 /// What a trace says, where there is one.
-fn facts_in<A: Allocator>(content: Option<&TraceText<A>>, status: &View, now: &Label) -> Option<Facts>
+fn facts_in<A: Allocator>(
+    content: Option<&TraceText<A>>,
+    status: &View,
+    now: &Label,
+) -> Option<Facts>
     ensures { result ≡ option_map (λ content. facts_of content status.now now.now) (option_copied content.entry) }
 {
     match content {

@@ -150,7 +150,10 @@ fn titling(memory: &Scarce<Global>, growths: u64) -> Result<bool, Fail> {
         return Ok(false);
     }
     let is_reported = reported.as_slice() == b"readproctitle: OutOfMemory\n".as_slice();
-    check("want of memory", status == 111 && is_reported && out.is_empty())?;
+    check(
+        "want of memory",
+        status == 111 && is_reported && out.is_empty(),
+    )?;
     let unread = reader.into_device().len() == 8;
     check(
         "the first growth is before the first read",

@@ -8,20 +8,20 @@
 
 mod base;
 mod breaks;
+mod content;
 mod explained;
 mod fault;
 mod law;
 mod lines;
 mod reading;
 mod text;
-mod content;
 mod trace;
 
 pub use breaks::{Break, first_break};
+pub use content::{TraceText, replay};
 pub use explained::explain;
 pub use fault::{TraceFault, TraceFaultKind, kind_name};
 pub use law::{texts_of_traces, traces_after_events};
 pub use reading::read_text;
 pub use text::record_digits;
-pub use content::{TraceText, replay};
 pub use trace::{MAX_CAPACITY, Trace};

@@ -13,9 +13,9 @@ ghost use Rattle.sup_trace.specs.Reading.{AddsEntry, at_base, IsBeforeFaults, Re
 ghost use Rattle.sup_trace.specs.Steps.{KeepsEntries, ReadsNext, EndsInFault, ReadsAlike, WantsMemory};
 
 use crate::base::read_base;
+use crate::content::TraceText;
 use crate::fault::{TraceFault, TraceFaultKind};
 use crate::lines::Lines;
-use crate::content::TraceText;
 use crate::trace::MAX_CAPACITY;
 use std::alloc::{Allocator, Global};
 use std::marker::Model;

@@ -5,8 +5,8 @@ ghost use Rattle.sup_trace.specs.Content.{IsContent};
 ghost use Rattle.sup_trace.specs.Text.{trace_text};
 ghost use Rattle.sup_trace.specs.Trace.{IsTrace, kept_of, history_of, noted};
 
-use crate::text::trace_text;
 use crate::content::TraceText;
+use crate::text::trace_text;
 use circular_buffer::HeapCircularBuffer;
 use std::alloc::{AllocError, Allocator, Global};
 use std::marker::Model;
