@@ -1,5 +1,20 @@
 -- Why the system refused something, and in which words that is reported (errno(3), strerror(3)).
-use Rattle.std.specs.Prelude.{ℕ, ℤ, pos, negsuc, ◌==◌, ◌||◌, Bool, false, if◌then◌else◌, List, codes, Option, Some, None}
+use Rattle.std.specs.Prelude.{
+  ℕ,
+  ℤ,
+  pos,
+  negsuc,
+  ◌==◌,
+  ◌||◌,
+  Bool,
+  false,
+  if◌then◌else◌,
+  List,
+  codes,
+  Option,
+  Some,
+  None,
+}
 use Rattle.std.specs.declared.io.ErrorKind.{ErrorKind}
 use Rattle.std.specs.declared.io.ErrorKind.TheVariants as io
 use Rattle.cmd_base.specs.declared.cause.Cause.{Cause}

@@ -98,12 +98,13 @@ pub record EndsWithChild (system : SystemState) (dir : List ℕ) (child : Child)
   pub silent : reports ≡ faults
 
 -- It is reported why the files of the folder do nothing.
-pub record ReportsWhy (system : SystemState) (dir program : List ℕ) (cause : EnvdirFault) (files : List File) (status : ℕ)
+pub record ReportsWhy (system : SystemState) (dir program : List ℕ) (cause : EnvdirFault) (files : List File)
+    (status : ℕ)
     (faults reports : Device) : Type 0 where
   pub read : WasRead cause (system.folder dir) files
   pub first : IsFirstFault cause files
   pub status_is : status ≡ 111
-  pub subject_why : Reports faults reports (envdir_report dir program (name_of cause files) cause)
+  pub reported_why : Reports faults reports (envdir_report dir program (name_of cause files) cause)
 
 -- There was no child, and it is reported why.
 pub record EndsWithout (system : SystemState) (dir : List ℕ) (child : Child) (status : ℕ)

@@ -7,7 +7,15 @@ ghost use Rattle.tai_status.specs.Counted.{Reports};
 ghost use Rattle.cmd_envdir.specs.System.{outputs, texts};
 ghost use Rattle.cmd_envdir.specs.Words.{ReadsAsWordsOf};
 ghost use Rattle.cmd_envdir.specs.Ends.{AskedEnds, ChildEnds, EndsWriting, EnvdirStarts, EnvdirWrites, HasNoChild};
-ghost use Rattle.cmd_envdir.specs.Ends.{IsChangedBy, IsFirstFault, RunsChild, WordsEnd, envdir_report, name_of, starved};
+ghost use Rattle.cmd_envdir.specs.Ends.{
+  IsChangedBy,
+  IsFirstFault,
+  RunsChild,
+  WordsEnd,
+  envdir_report,
+  name_of,
+  starved,
+};
 
 use crate::child::{Program, run_child};
 use crate::env_system::EnvSystem;

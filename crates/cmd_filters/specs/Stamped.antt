@@ -54,7 +54,8 @@ StampsEnd (word ∷ words) status past now old new = RefusesWords status old new
 abbrev pub TaiEnds : {C : Type 0} (words : List (List ℕ)) (status : ℕ) (readings : C → Option (List Tai64n))
     (clock read : C) (reader reads writer writes faults reports : Device) → Type 0
 TaiEnds words status readings clock read reader reads writer writes faults reports =
-    StampsEnd words status (readings clock) (readings read) (console reader writer faults) (console reads writes reports)
+    StampsEnd words status (readings clock) (readings read) (console reader writer faults)
+    (console reads writes reports)
 
 -- the texts of words
 abbrev pub texts : List (Bor (List ℕ)) → List (List ℕ)

@@ -40,7 +40,8 @@ version_report = codes "version: write fault" ++ 10 ∷ []
 -- A page is printed. An empty one is of a word that names no command, which is refused.
 abbrev pub PrintsPage : (page : List ℕ) (status : ℕ) (old new faults reports : Device) → Type 0
 PrintsPage [] status old new faults reports = Refuses status old new faults reports
-PrintsPage (byte ∷ bytes) status old new faults reports = Prints (byte ∷ bytes) help_report status old new faults reports
+PrintsPage (byte ∷ bytes) status old new faults reports = Prints (byte ∷ bytes) help_report status old new faults
+    reports
 
 pub record ShowsPage (name : List ℕ) (status : ℕ) (old new faults reports : Device) : Type 0 where
   pub page : List ℕ

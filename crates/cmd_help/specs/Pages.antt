@@ -14,12 +14,12 @@ overview = printed (
     codes "  multilog       logs lines into folders" ∷
     codes "  tai64n         puts a label before each line" ∷
     codes "  tai64nlocal    shows labels as local times" ∷
-    codes "  envdir         runs a program in the environment that a folder says" ∷
+    codes "  envdir         runs a program in the environment that a folder holds" ∷
     codes "  readproctitle  keeps the last bytes of its input" ∷
     codes "  sim            answers a script of events as supervise would" ∷
     codes "  trace          explains the last events of a service" ∷
     codes "  why            says in plain words how a service stands, and why" ∷
-    codes "  help COMMAND   reports the words of a command; man dtools-COMMAND has the rest" ∷
+    codes "  help COMMAND   shows the words of a command; man dtools-COMMAND has the rest" ∷
     codes "  version        says which dtools this is" ∷ [])
 
 -- A word of which `help` has nothing.

@@ -10,18 +10,18 @@ pub fn overview() -> &'static [u8]
   svscan         keeps the services of a folder running
   svc            controls services
   svstat         shows how services stand
-  svok           reports whether a service is supervised
+  svok           says whether a service is supervised
   wait           returns once services are up, or down, or no longer supervised
   multilog       logs lines into folders
   tai64n         puts a label before each line
   tai64nlocal    shows labels as local times
-  envdir         runs a program in the environment that a folder reports
+  envdir         runs a program in the environment that a folder holds
   readproctitle  keeps the last bytes of its input
   sim            answers a script of events as supervise would
   trace          explains the last events of a service
   why            says in plain words how a service stands, and why
-  help COMMAND   reports the words of a command; man dtools-COMMAND has the rest
-  version        reports which dtools this is
+  help COMMAND   shows the words of a command; man dtools-COMMAND has the rest
+  version        says which dtools this is
 "
 }
 

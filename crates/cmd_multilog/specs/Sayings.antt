@@ -9,7 +9,8 @@ use Rattle.mlog_core.specs.declared.stream.RunFault.TheVariants as fault
 
 -- what is reported of a fault of the script
 abbrev pub script_report : ScriptFault → List ℕ
-script_report fault = codes "multilog: word " ++ (decimal fault.word ++ (codes ": " ++ (kind_name fault.kind ++ 10 ∷ [])))
+script_report fault = codes "multilog: word "
+    ++ (decimal fault.word ++ (codes ": " ++ (kind_name fault.kind ++ 10 ∷ [])))
 
 abbrev pub kind_status : ScriptFaultKind → ℕ
 kind_status kind.StampNotFirst = 100

@@ -6,7 +6,8 @@ use Rattle.cmd_svc.specs.Svstat.{SvstatEnds, look_line}
 use Rattle.cmd_report.specs.Json.{json_line}
 use Rattle.cmd_report.specs.MetricsEnds.{CountFiles, MetricsEnds}
 
--- The first word names the form in which the services behind it are reported; or it is a service, and the form is svstat's.
+-- The first word names the form in which the services behind it are reported; or it is a service, and the form is
+-- svstat's.
 pub record FormEnds (files : CountFiles) (word : List ℕ) (services : List (List ℕ)) (status : ℕ) (sight sees : Sight)
     (writer writes faults reports : Device) : Type 0 where
   pub json : word ≡ codes "--json" → SvstatEnds json_line services status sight sees writer writes faults reports

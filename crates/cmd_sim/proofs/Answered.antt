@@ -136,13 +136,13 @@ unread_so suite (Ok (Scan rows label)) fault why h is = let missed : none.OutOfM
 unread_so suite (Ok (At part event)) fault why h is = cc h
 unread_so suite (Err e) fault why h is =
     let same : fault ≡ line_fault e = cc h in
-    ap Err (subject_why e why (ap unread (sym same) ∙ is))
+    ap Err (why_reported e why (ap unread (sym same) ∙ is))
   where
-    subject_why : (e : EventFault) (why : Why) → unread (line_fault e) ≡ none.Refused why → event_why e ≡ why
-    subject_why event.UnknownEvent why is = cc is
-    subject_why event.Line why is = cc is
-    subject_why event.Number why is = cc is
-    subject_why event.Label why is = cc is
+    why_reported : (e : EventFault) (why : Why) → unread (line_fault e) ≡ none.Refused why → event_why e ≡ why
+    why_reported event.UnknownEvent why is = cc is
+    why_reported event.Line why is = cc is
+    why_reported event.Number why is = cc is
+    why_reported event.Label why is = cc is
 
 pub unstepped_so : {A : Type 0} (suite : SuiteState) (event : SuiteEvent A) (fault : StepFault) (why : Why)
     → IsCause (refusal suite event) fault → unstepped fault ≡ none.Refused why → stepping suite (Ok event) ≡ Err why
@@ -179,7 +179,8 @@ stepped_so suite after subject event lines is taken goes said_so =
 
 -- Want of memory at a suite's line
 
-pub read_missed : {A : Type 0} (suite : SuiteState) (subject : Result (SuiteEvent A) EventFault) (fault : SuiteLineFault)
+pub read_missed : {A : Type 0} (suite : SuiteState) (subject : Result (SuiteEvent A) EventFault)
+    (fault : SuiteLineFault)
     → IsRead subject (Err fault) → unread fault ≡ none.OutOfMemory → IsRight suite subject
 read_missed suite (Ok (Scan rows label)) fault h is = tt
 read_missed suite (Ok (At part event)) fault h is = cc h
@@ -223,7 +224,8 @@ right_any A suite parts right =
     subst (λ (r : Result (SuiteEvent Plain) EventFault). IsRight suite r) (sym (read_plainly A parts))
     (right_plainly suite (suite_event_from {A = A} parts) right)
 
-pub right_ok : {A : Type 0} (suite : SuiteState) (subject : Result (SuiteEvent A) EventFault) → IsRight suite subject → IsOk subject
+pub right_ok : {A : Type 0} (suite : SuiteState) (subject : Result (SuiteEvent A) EventFault) → IsRight suite subject
+    → IsOk subject
 right_ok suite (Err fault) right = absurd right
 right_ok suite (Ok event) right = refl
 
@@ -343,7 +345,8 @@ stepping-past suite (Ok event) next answer h = unless (refused_step (refusal sui
     unless (Some why) h = cc h
     unless None h = ap (λ (r : Result Said Why). is_suite_line (past_in r) next) (sym h)
 
-beginning-past : (subject : Result (Bool × Tai64n) EventFault) (next : List ℕ) (answer : Said) → beginning subject ≡ Ok answer
+beginning-past : (subject : Result (Bool × Tai64n) EventFault) (next : List ℕ) (answer : Said)
+    → beginning subject ≡ Ok answer
     → is_suite_line answer.past next ≡ false
 beginning-past (Err why) next answer h = cc h
 beginning-past (Ok opening) next answer h = ap (λ (r : Result Said Why). is_suite_line (past_in r) next) (sym h)

@@ -139,7 +139,8 @@ SoFar-printed s more =
     ap (λ (t : List (List ℕ)). printed (answers Nothing t)) (s.cut more)
     ∙ ap printed (s.says (texts_of more)) ∙ printed-append s.texts (answers s.past (texts_of more))
 
-SoFar-refused_in : {before now held holds : Option (List ℕ)} {pending waiting : List ℕ} {B : Type 0} {subject : Subject B}
+SoFar-refused_in : {before now held holds : Option (List ℕ)} {pending waiting : List ℕ} {B : Type 0}
+    {subject : Subject B}
     {count : ℕ}
     (s : SoFar before now held holds pending waiting subject count) (more : List ℕ)
     → refused_in (s.done ++ more) ≡ first_refused (count + 1) s.past (texts_of more)
@@ -178,7 +179,8 @@ SoFar-flush s w = record {
 }
 
 -- A write failed, after a front of the answers that wait and of those that come next.
-front_of : {before now held holds holds2 : Option (List ℕ)} {pending waiting : List ℕ} {B : Type 0} {subject : Subject B}
+front_of : {before now held holds holds2 : Option (List ℕ)} {pending waiting : List ℕ} {B : Type 0}
+    {subject : Subject B}
     {count : ℕ}
     (s : SoFar before now held holds pending waiting subject count) (next rest : List ℕ)
     → AppendsFront holds holds2 (waiting ++ next)
@@ -200,7 +202,8 @@ SoFar-unflushed {holds = holds} {holds2 = holds2} {pending = pending} {waiting =
     front_of s [] (printed (answers s.past (texts_of pending)))
     (subst (λ (t : List ℕ). AppendsFront holds holds2 t) (sym (append-nil waiting)) f) refl
 
-printed_by : (past : Past) (line : List ℕ) (later : List (List ℕ)) (subject : Result Said Why) → said past line ≡ subject
+printed_by : (past : Past) (line : List ℕ) (later : List (List ℕ)) (subject : Result Said Why)
+    → said past line ≡ subject
     → (rest : List ℕ) × (printed (answers past (line ∷ later)) ≡ text_said subject ++ rest)
 printed_by past line later (Ok answer) e = (
   printed (answers answer.past later),
@@ -209,7 +212,8 @@ printed_by past line later (Ok answer) e = (
 printed_by past line later (Err why) e = ([], ap printed (answers-refused past line later why e))
 
 -- A line was not written, or the answers before it were not.
-unwritten : {before now held holds holds2 : Option (List ℕ)} {pending waiting : List ℕ} {B : Type 0} {subject : Subject B}
+unwritten : {before now held holds holds2 : Option (List ℕ)} {pending waiting : List ℕ} {B : Type 0}
+    {subject : Subject B}
     {count : ℕ}
     (s : SoFar before now held holds pending waiting subject count) (line : List ℕ) (later : List (List ℕ))
     → texts_of pending ≡ line ∷ later
@@ -288,7 +292,8 @@ SoFar-near {pending = pending} {count = count} number s small is =
     record { bytes = s.done ++ pending; read = s.read; near = omega (arith, all, front, small) }
 
 -- A read gave nothing.
-pub SoFar-kept : {before now after held holds : Option (List ℕ)} {pending waiting : List ℕ} {B : Type 0} {subject : Subject B}
+pub SoFar-kept : {before now after held holds : Option (List ℕ)} {pending waiting : List ℕ} {B : Type 0}
+    {subject : Subject B}
     {count : ℕ}
     → SoFar before now held holds pending waiting subject count → Keeps now after
     → SoFar before after held holds pending waiting subject count
@@ -326,7 +331,8 @@ more_input (Some xs) None bytes input c e = absurd c
 more_input (Some xs) (Some ys) bytes input c e = let same : input ≡ xs = cc e in (ys, same ∙ c)
 
 -- All was answered and written.
-pub SoFar-end : {before now held holds : Option (List ℕ)} {pending : List ℕ} {B : Type 0} {subject : Subject B} {count : ℕ}
+pub SoFar-end : {before now held holds : Option (List ℕ)} {pending : List ℕ} {B : Type 0} {subject : Subject B}
+    {count : ℕ}
     → SoFar before now held holds pending [] subject count → pending ≡ [] → IsAtEnd now → AnswersWhole before held holds
 SoFar-end {before} {now} {held} {holds} {pending} s none end = λ input is.
     let whole : input ≡ s.done ++ [] = whole_input before now (s.done ++ pending) input s.read end is
@@ -361,7 +367,8 @@ SoFar-last {before} {now} {held} {pending = pending} {count = count} holds3 s so
 
 refused_at : {before now held holds : Option (List ℕ)} {pending waiting : List ℕ} {B : Type 0} {subject : Subject B}
     {count : ℕ}
-    (holds2 : Option (List ℕ)) (s : SoFar before now held holds pending waiting subject count) (input more line : List ℕ)
+    (holds2 : Option (List ℕ)) (s : SoFar before now held holds pending waiting subject count)
+    (input more line : List ℕ)
     (later : List (List ℕ)) (why : Why)
     → input ≡ s.done ++ more → texts_of more ≡ line ∷ later → said s.past line ≡ Err why → Appends holds holds2 waiting
     → (refused_in input ≡ Some (record { line = count + 1; why = why })) × Appends held holds2 (printed_for input)
@@ -376,7 +383,8 @@ refused_at {held = held} {count = count} holds2 s input more line later why is c
       subst (λ (t : List ℕ). Appends held holds2 t) (sym nothing) (Appends-emitted (Emits-written s.text w)),
     )
 
-pub SoFar-refused : {before now held holds : Option (List ℕ)} {pending waiting : List ℕ} {B : Type 0} {subject : Subject B}
+pub SoFar-refused : {before now held holds : Option (List ℕ)} {pending waiting : List ℕ} {B : Type 0}
+    {subject : Subject B}
     {count : ℕ}
     (holds2 : Option (List ℕ)) (s : SoFar before now held holds pending waiting subject count) (line rest : List ℕ)
     (why : Why) → pending ≡ line ++ 10 ∷ rest → IsPlain line
@@ -466,7 +474,7 @@ SoFar-missed {held = held} {pending = pending} holds2 s line later next wants w 
       past = s.past;
       read = s.read;
       cut = s.cut pending ∙ ap (λ (t : List (List ℕ)). s.lines ++ t) next;
-      subject = λ more. s.says more ∙ ap (λ (t : List (List ℕ)). t ++ answers s.past more) (sym same);
+      answered = λ more. s.says more ∙ ap (λ (t : List (List ℕ)). t ++ answers s.past more) (sym same);
       wants = wants;
       text = subst (λ (t : List (List ℕ)). Appends held holds2 (printed t)) (sym same)
           (Appends-emitted (Emits-written s.text w));
@@ -492,7 +500,8 @@ SoFar-line_missed {before} {now} {old = old} {new = new} {text = text} holds2 s 
       ∙ ap (λ (t : List ℕ). t ∷ texts_of new.pending) (sym same)) wants w,
 )
 
-pub rest_missed : {before now held holds : Option (List ℕ)} {pending waiting text : List ℕ} {B : Type 0} {subject : Subject B}
+pub rest_missed : {before now held holds : Option (List ℕ)} {pending waiting text : List ℕ} {B : Type 0}
+    {subject : Subject B}
     {count : ℕ}
     (holds2 : Option (List ℕ)) (s : SoFar before now held holds pending waiting subject count) → 0 < length pending
     → IsPlain pending → IsAtEnd now
@@ -513,7 +522,8 @@ pub on_err_of : {A E P : Type 0} (r : Result A E) (x : E) → IsErrOf r x → On
 on_err_of (Ok a) x is p = absurd (cc is)
 on_err_of (Err e) x is p = p
 
-pub SoFar-begin : (before held : Option (List ℕ)) {pending waiting : List ℕ} {B : Type 0} {subject : Subject B} {count : ℕ}
+pub SoFar-begin : (before held : Option (List ℕ)) {pending waiting : List ℕ} {B : Type 0} {subject : Subject B}
+    {count : ℕ}
     → pending ≡ [] → waiting ≡ [] → subject ≡ code.Nothing → count ≡ 0
     → SoFar before before held held pending waiting subject count
 SoFar-begin before held p w m c = rw (p, w, m, c) (SoFar-none before held)
@@ -550,7 +560,8 @@ pub SoFar-flushed : {before now held holds : Option (List ℕ)} {waiting waiting
     {subject subject2 : Subject B} {count count2 : ℕ} {old new : Given}
     (holds2 : Option (List ℕ)) (s : SoFar before now held holds old.pending waiting subject count) → new ≡ old
     → Appends holds holds2 waiting
-    → waiting2 ≡ [] → subject2 ≡ subject → count2 ≡ count → SoFar before now held holds2 new.pending waiting2 subject2 count2
+    → waiting2 ≡ [] → subject2 ≡ subject → count2 ≡ count
+    → SoFar before now held holds2 new.pending waiting2 subject2 count2
 SoFar-flushed holds2 s same w none m c = rw (ap (λ (v : Given). v.pending) same, none, m, c) (SoFar-flush s w)
 
 pub flush_failed : {A E : Type 0} {before now held holds holds2 : Option (List ℕ)} {pending waiting : List ℕ}
@@ -567,7 +578,8 @@ SoFar-empty : {before now held holds : Option (List ℕ)} {pending waiting : Lis
 SoFar-empty {before} {now} {held} {holds} {pending} {subject = subject} {count = count} s none =
     subst (λ (t : List ℕ). SoFar before now held holds pending t subject count) none s
 
-pub long_refused : {before now held holds : Option (List ℕ)} {waiting : List ℕ} {B : Type 0} {subject : Subject B} {count : ℕ}
+pub long_refused : {before now held holds : Option (List ℕ)} {waiting : List ℕ} {B : Type 0} {subject : Subject B}
+    {count : ℕ}
     (given : Given)
     → SoFar before now held holds given.pending waiting subject count → waiting ≡ [] → given.bound ≡ 65536
     → given.bound < length given.pending
@@ -600,7 +612,8 @@ some_bytes (x ∷ xs) none = omega arith
 pub not_nothing : {b : Bool} (xs : List ℕ) → b ≡ true → (b ≡ false) ↔ (xs ≡ []) → 0 < length xs
 not_nothing {b} xs is none = some_bytes xs (λ e. let off : true ≡ false = sym is ∙ none.1 e in cc off)
 
-pub end_of_nothing : {before now held holds : Option (List ℕ)} {pending waiting : List ℕ} {B : Type 0} {subject : Subject B}
+pub end_of_nothing : {before now held holds : Option (List ℕ)} {pending waiting : List ℕ} {B : Type 0}
+    {subject : Subject B}
     {count : ℕ}
     → SoFar before now held holds pending waiting subject count → waiting ≡ [] → pending ≡ [] → IsAtEnd now
     → AnswersWhole before held holds
@@ -617,7 +630,8 @@ rest_refused holds2 s why some plain end same counted refused w =
 
 pub rest_unwritten : {before now held holds holds2 : Option (List ℕ)} {pending waiting text : List ℕ} {B : Type 0}
     {subject : Subject B} {count : ℕ}
-    (s : SoFar before now held holds pending waiting subject count) → 0 < length pending → IsPlain pending → text ≡ pending
+    (s : SoFar before now held holds pending waiting subject count) → 0 < length pending → IsPlain pending
+    → text ≡ pending
     → AppendsFront holds holds2 (waiting ++ text_said (said s.past text)) → AnswersPart before now held holds2
 rest_unwritten {holds = holds} {holds2 = holds2} {waiting = waiting} s some plain same f =
     SoFar-rest_unwritten s some plain
@@ -629,7 +643,8 @@ pub rest_answered : {before now held holds holds2 : Option (List ℕ)} {pending 
     → IsPlain pending → IsAtEnd now → text ≡ pending
     → Answered s.past text subject2 holds holds2 waiting waiting2 → Appends holds2 holds3 waiting2
     → AnswersWhole before held holds3
-rest_answered {holds = holds} {holds2 = holds2} {waiting = waiting} {waiting2 = waiting2} {subject2 = subject2} holds3 s some
+rest_answered {holds = holds} {holds2 = holds2} {waiting = waiting} {waiting2 = waiting2} {subject2 = subject2} holds3
+    s some
     plain end same a w =
     SoFar-last holds3 s some plain end
     (subst (λ (t : List ℕ). Answered s.past t subject2 holds holds2 waiting waiting2) same a) w
@@ -637,7 +652,8 @@ rest_answered {holds = holds} {holds2 = holds2} {waiting = waiting} {waiting2 = 
 -- The last line was answered, and its answer was not written.
 pub rest_unflushed : {before now held holds holds2 holds3 : Option (List ℕ)} {pending waiting waiting2 text : List ℕ}
     {B : Type 0} {subject subject2 : Subject B} {count : ℕ}
-    (s : SoFar before now held holds pending waiting subject count) → 0 < length pending → IsPlain pending → text ≡ pending
+    (s : SoFar before now held holds pending waiting subject count) → 0 < length pending → IsPlain pending
+    → text ≡ pending
     → Answered s.past text subject2 holds holds2 waiting waiting2 → AppendsFront holds2 holds3 waiting2
     → AnswersPart before now held holds3
 rest_unflushed {holds = holds} {holds2 = holds2} {holds3 = holds3} {pending = pending} {waiting = waiting} {waiting2 =
@@ -663,10 +679,10 @@ on_ok_both (Ok a) f p q = f p q
 on_ok_both (Err e) f p q = tt
 
 -- The same line, under equal names.
-pub subject_as : (before held holds : Option (List ℕ)) {n m : ℕ} {why subject : Why} → n ≡ m → why ≡ subject
+pub refused_as : (before held holds : Option (List ℕ)) {n m : ℕ} {why subject : Why} → n ≡ m → why ≡ subject
     → AnswersBefore before held holds (record { line = n; why = why })
     → AnswersBefore before held holds (record { line = m; why = subject })
-subject_as before held holds {n} {m} {why} {subject} e f all =
+refused_as before held holds {n} {m} {why} {subject} e f all =
     subst (λ (r : Refusal). AnswersBefore before held holds r) (ap (λ (k : ℕ). record { line = k; why = why }) e
     ∙ ap (λ (w : Why). record { line = m; why = w }) f) all
 
@@ -739,15 +755,15 @@ ends_by status old new (sim.Refused line why) is reports refused memory read wri
         reads = all.1.0;
         writes =
             all.1.1;
-        subject = reports;
+        reported = reports;
       },
     ))
 ends_by status old new sim.OutOfMemory is reports refused memory read write =
-    inr (inr (is, record { fault = sim.OutOfMemory; cause = memory refl; subject = reports }))
+    inr (inr (is, record { fault = sim.OutOfMemory; cause = memory refl; reported = reports }))
 ends_by status old new sim.Read is reports refused memory read write =
-    inr (inr (is, record { fault = sim.Read; cause = read refl; subject = reports }))
+    inr (inr (is, record { fault = sim.Read; cause = read refl; reported = reports }))
 ends_by status old new sim.Write is reports refused memory read write =
-    inr (inr (is, record { fault = sim.Write; cause = write refl; subject = reports }))
+    inr (inr (is, record { fault = sim.Write; cause = write refl; reported = reports }))
 
 -- one row after another
 pub two_rows : {out middle last front : List ℕ} (row row2 : List ℕ) → middle ≡ out ++ row → last ≡ middle ++ row2

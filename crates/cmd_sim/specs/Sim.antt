@@ -202,7 +202,7 @@ pub record MissesAt (before after held holds : Option (List ℕ)) : Type 0 where
   pub past : Past
   pub read : Consumes before after bytes
   pub cut : texts_of bytes ≡ lines ++ line ∷ later
-  pub subject : (more : List (List ℕ)) → answers Nothing (lines ++ more) ≡ answers Nothing lines ++ answers past more
+  pub answered : (more : List (List ℕ)) → answers Nothing (lines ++ more) ≡ answers Nothing lines ++ answers past more
   pub wants : MayWantMemory past line
   pub text : Appends held holds (printed (answers Nothing lines))
 

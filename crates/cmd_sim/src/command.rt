@@ -46,7 +46,7 @@ fn status(fault: SimFault) -> u8
 /// Reports a fault, and answers its status.
 fn report_fault<E: Write>(fault: SimFault, faults: &mut Output<E>) -> u8
     ensures status { result ≡ status_of fault }
-    ensures subject { Reports faults.old faults.new (report_of fault) }
+    ensures reported { Reports faults.old faults.new (report_of fault) }
 {
     report(faults, fault_text(fault).as_bytes(), status(fault))
 }

@@ -144,11 +144,11 @@ impl<A: Allocator + Clone + Copy> Session<A> {
     /// What is reported where the next line has no answer. The answers that wait are written first.
     fn give_up<W: Write>(&mut self, none: NoAnswer, writer: &mut Output<W>) -> SimFault
         requires { self.old.count < 2 ^ 63 }
-        ensures subject { (number : ℕ) (why : Why) → result ≡ SimFault.Refused number why
+        ensures refused { (number : ℕ) (why : Why) → result ≡ SimFault.Refused number why
             → (number ≡ self.old.count + 1) × (none ≡ NoAnswer.Refused why) }
-        ensures reported_wrote { (number : ℕ) (why : Why) → result ≡ SimFault.Refused number why
+        ensures refused_wrote { (number : ℕ) (why : Why) → result ≡ SimFault.Refused number why
             → Wrote writer.old writer.new self.old.waiting }
-        ensures reported_works { (number : ℕ) (why : Why) → result ≡ SimFault.Refused number why
+        ensures refused_works { (number : ℕ) (why : Why) → result ≡ SimFault.Refused number why
             → Works writer.old writer.new }
         ensures memory { result ≡ SimFault.OutOfMemory
             → (none ≡ NoAnswer.OutOfMemory) × Wrote writer.old writer.new self.old.waiting }

@@ -59,7 +59,8 @@ taken None r x cases fine = refl
 taken (Some letter) r x cases fine = cc
 
 -- An option word's letters were refused: the first unknown letter of all was reported.
-pub reported_first : (words : List (Bor (List ℕ))) (i : ℕ) (d : Bor (List ℕ)) (letters : List ℕ) (r : Result Unit SvcFault)
+pub reported_first : (words : List (Bor (List ℕ))) (i : ℕ) (d : Bor (List ℕ)) (letters : List ℕ)
+    (r : Result Unit SvcFault)
     (e : SvcFault)
     → i < length words → is_option (get_or words i d).now ≡ true → letters ≡ drop 1 (get_or words i d).now
     → first_unknown (option_letters (map (λ word. word.now) (drop i words)))

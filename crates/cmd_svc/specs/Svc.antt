@@ -70,8 +70,8 @@ ServesAll (byte ∷ bytes) services old new = InTurn (Serves (byte ∷ bytes)) s
 
 -- Ends
 
--- Each service got the bytes of the words, or it is reported that it can't be reached. The status says whether one could
--- not.
+-- Each service got the bytes of the words, or it is reported that it can't be reached. The status says whether one
+-- could not.
 pub record ServesWords (missed_status : ℕ) (words : List (List ℕ)) (status : ℕ) (old new : Effects) : Type 0 where
   pub missed : Bool
   pub status_is : status ≡ (if missed then missed_status else 0)

@@ -65,7 +65,8 @@ way_more folder limit left after old mid now new round way makes on rests same l
           (sym (flat_map-push (calls_of_turn folder) way.turns turn))
           (extended-then old.calls mid.calls new.calls _ _ way.calls
           (extended-then mid.calls now.calls new.calls _ _ makes.calls rests.calls));
-      reported = subst (λ (d : Device). ReportsAll (flat_map lines_of_turn (way.turns ++ turn ∷ [])) old.faults d) (sym same)
+      reported = subst (λ (d : Device). ReportsAll (flat_map lines_of_turn (way.turns ++ turn ∷ [])) old.faults d)
+          (sym same)
           (subst (λ (l : List (List ℕ)). ReportsAll l old.faults now.faults)
           (sym (flat_map-push lines_of_turn way.turns turn))
           (reports-then _ _ old.faults mid.faults now.faults way.reported makes.reported));

@@ -36,8 +36,8 @@ pub record Effects : Type 0 where
 abbrev pub effects : (calls : Option (List Call)) (faults : Device) → Effects
 effects calls faults = record { calls = calls; faults = faults }
 
--- A round: the folder was not listed; it was, and its rows were scanned, with what could not be done; or the scan of its
--- rows failed.
+-- A round: the folder was not listed; it was, and its rows were scanned, with what could not be done; or the scan of
+-- its rows failed.
 pub data Round : Type 0 where
   Unlisted : (fault : ListFault) → Round
   Scan : (listing : Listing) → (out : RoundOut) → Round
@@ -250,7 +250,8 @@ pub record Runs (folder : List ℕ) (limit : Option ℕ) (status : ℕ) (old new
   pub followed : All IsFollowed turns
   pub calls : Extended old.calls new.calls
       (flat_map (calls_of_turn folder) turns ++ (calls_of folder last ++ calls_of_close close))
-  pub reported : ReportsAll (flat_map lines_of_turn turns ++ (lines_of last ++ lines_of_close close)) old.faults new.faults
+  pub reported : ReportsAll (flat_map lines_of_turn turns
+      ++ (lines_of last ++ lines_of_close close)) old.faults new.faults
   pub ends : EndsBy limit (length turns + 1) last close status
 
 -- What is reported where svscan is to be served in a folder.

@@ -7,15 +7,15 @@ use libc::types::rlimit;
 use libc::{RLIMIT_NOFILE, getrlimit};
 use scan_table::DirRow;
 
-/// How many svscan has for itself: 15, and those that its threads have open for a moment, as a child starts or a record is
-/// written.
+/// How many svscan has for itself: 15, and those that its threads have open for a moment, as a child starts or a record
+/// is written.
 const OWN: u64 = 24;
 
 /// How many a service takes: its folder, its lock and two sockets.
 const SERVICE: u64 = 4;
 
-/// How many a service with a logger takes: twice as many, the output of the service and the input of the logger with two
-/// ends each, and for each of the two a copy of one end.
+/// How many a service with a logger takes: twice as many, the output of the service and the input of the logger with
+/// two ends each, and for each of the two a copy of one end.
 const PAIR: u64 = 14;
 
 /// How many descriptors the service of a row needs.

@@ -86,8 +86,8 @@ fn state_of<R: Files>(rt: &R, path: &str) -> Option<FolderState> {
     })
 }
 
-/// Whether a folder that changed last then, changes its time by another change now: some systems report whole seconds, or
-/// every second one.
+/// Whether a folder that changed last then, changes its time by another change now: some systems report whole seconds,
+/// or every second one.
 fn is_past(changed: Label, now: Label) -> bool {
     changed.plus_second().plus_second() < now
 }

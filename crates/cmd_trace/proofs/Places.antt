@@ -75,7 +75,8 @@ written-more ahead content place event start so_far more entry is grown =
     ∙ ap (λ (text : List ℕ). start ++ text) (sym (printed-more (take place lines) line))
     ∙ ap (λ (texts : List (List ℕ)). start ++ printed texts) (sym (lines-more ahead content place event entry))
 
-pub length-local_lines : (ahead : ℤ → ℤ) (content : Content) → length (local_lines ahead content) ≡ length content.entries
+pub length-local_lines : (ahead : ℤ → ℤ) (content : Content)
+    → length (local_lines ahead content) ≡ length content.entries
 length-local_lines ahead content =
     length-map (enumerate_from 0 content.entries) (λ p. local_line ahead (p.0 + 1) (before content p.0) p.1)
     ∙ length-enumerate_from 0 content.entries

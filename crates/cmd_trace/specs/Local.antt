@@ -52,8 +52,9 @@ want_words want.Once = codes ", wanted once"
 abbrev pub exiting_words : (exiting : Bool) → List ℕ
 exiting_words exiting = if exiting then codes ", exiting" else []
 
--- What the record of a machine reports, as `up 4711, paused, wanted down, exiting, since 2026-11-25 01:33:02.123456789`:
--- its process; whether that is paused; what is wanted; whether supervise is to end; and the last change of process.
+-- What the record of a machine reports, as `up 4711, paused, wanted down, exiting, since 2026-11-25
+-- 01:33:02.123456789`: its process; whether that is paused; what is wanted; whether supervise is to end; and the last
+-- change of process.
 unfoldable pub record_words : (ahead : ℤ → ℤ) → State → List ℕ
 record_words ahead state =
     process_words state.status.pid ++ paused_words state.status.paused ++ want_words state.status.want
@@ -109,7 +110,8 @@ AddsEntry result ahead number machine event old new =
 -- a line for each entry, numbered from 1
 abbrev pub local_lines : (ahead : ℤ → ℤ) → Content → List (List ℕ)
 local_lines ahead content =
-    map (λ placed. local_line ahead (placed.0 + 1) (before content placed.0) placed.1) (enumerate_from 0 content.entries)
+    map (λ placed. local_line ahead (placed.0 + 1) (before content placed.0) placed.1)
+    (enumerate_from 0 content.entries)
 
 -- the line on the machine after the entries: its phase, and what its record says
 abbrev pub local_state : (ahead : ℤ → ℤ) → State → List ℕ

@@ -64,8 +64,8 @@ IsBreakLine content at line =
     ((number : ℕ) × (IsFirstBreak content at number × (line ≡ codes "break " ++ decimal number ++ 10 ∷ [])))
     ⊎ (HasNoBreak content at × (line ≡ codes "no break" ++ 10 ∷ []))
 
--- How times are reported: as labels where there is nothing, else as local times, where clocks are ahead of UTC by so many
--- seconds at each second of Unix time.
+-- How times are reported: as labels where there is nothing, else as local times, where clocks are ahead of UTC by so
+-- many seconds at each second of Unix time.
 abbrev pub Times : Type 0
 Times = Option (ℤ → ℤ)
 
@@ -195,7 +195,8 @@ abbrev pub FileEnds : (times : Times) (file_at : List ℕ → Option (List ℕ))
     (status : ℕ) (writer writes faults reports : Device) → Type 0
 FileEnds times file_at file at status writer writes faults reports =
     EndsWithText times (file_at file) at status writer writes faults reports
-    ⊎ (ReportsUnread file_at file status writer writes faults reports ⊎ ReportsStarved status writer writes faults reports)
+    ⊎ (ReportsUnread file_at file status writer writes faults reports
+    ⊎ ReportsStarved status writer writes faults reports)
 
 -- Words ask for nothing; nothing is written, and the usage is reported.
 pub record ReportsUsage (words : List (List ℕ)) (status : ℕ) (writer writes faults reports : Device) : Type 0 where
@@ -219,4 +220,5 @@ abbrev pub TraceEnds : (ahead : ℤ → ℤ) (file_at : List ℕ → Option (Lis
 TraceEnds ahead file_at [] status writer writes faults reports = ReportsUsage [] status writer writes faults reports
 TraceEnds ahead file_at (word ∷ words) status writer writes faults reports =
     DoesAsked ahead file_at (word ∷ words) status writer writes faults reports
-    ⊎ (ReportsUsage (word ∷ words) status writer writes faults reports ⊎ ReportsStarved status writer writes faults reports)
+    ⊎ (ReportsUsage (word ∷ words) status writer writes faults reports
+    ⊎ ReportsStarved status writer writes faults reports)

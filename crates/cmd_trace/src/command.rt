@@ -90,8 +90,8 @@ fn show_bytes<A: Allocator + Clone + Copy, W: Write, E: Write, Z: Zone>(
 }
 
 /// Prints what this text says, with labels, and answers the status: 0; or 111 for a text that is refused, for want of
-/// memory and for a fault of the writer. A text that is refused is reported as such, however little memory there is. The
-/// allocator is one of which a copy takes none, as the program's own.
+/// memory and for a fault of the writer. A text that is refused is reported as such, however little memory there is.
+/// The allocator is one of which a copy takes none, as the program's own.
 pub fn trace_bytes<A: Allocator + Clone + Copy, W: Write, E: Write>(
     alloc: A,
     text: &[u8],

@@ -87,8 +87,8 @@ pub record RunsOut (order : Order) (begin : ℕ) (services : List (List ℕ)) (s
   pub status_is : status ≡ 99
   pub reported : InTurn (ReportsOver order.goal) left old.faults new.faults
 
--- A look found a service that can't be waited for: it is reported why, with the status of that, and none after it is looked
--- at.
+-- A look found a service that can't be waited for: it is reported why, with the status of that, and none after it is
+-- looked at.
 pub record Fails (order : Order) (services : List (List ℕ)) (status : ℕ) (old new : Scene) : Type 0 where
   pub now : ℕ
   pub folder : List ℕ

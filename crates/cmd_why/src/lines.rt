@@ -80,8 +80,8 @@ pub struct Standing {
 }
 
 /// Why nobody answers, by why the service was not reached, and why its folder can't be looked at, where it can't. The
-/// first of these that holds is reported: permission lacks at either; there is no such folder; it can't be looked at, or
-/// somebody is there who does not answer; nobody is there.
+/// first of these that holds is reported: permission lacks at either; there is no such folder; it can't be looked at,
+/// or somebody is there who does not answer; nobody is there.
 pub fn absence_of(why: Unreached, fault: Option<ErrorKind>) -> Absence
     ensures { result ≡ absence_of why fault }
 {

@@ -18,10 +18,10 @@ use std::alloc::{AllocError, Allocator};
 /// these. A file of 0 bytes removes its variable. Else the value is the first line of the file, without the spaces and
 /// tabs at its end, and with each NUL made a newline.
 ///
-/// The first file that cannot be applied is reported, also where there is no memory: a `=` in its name is `NameHasEquals`,
-/// also where the file has 0 bytes, and a value that is not UTF-8 is `NotText`, also where a later file of that name
-/// counts. Else `OutOfMemory` comes only where the allocator refuses the memory for the variables. No variable and no
-/// file take none.
+/// The first file that cannot be applied is reported, also where there is no memory: a `=` in its name is
+/// `NameHasEquals`, also where the file has 0 bytes, and a value that is not UTF-8 is `NotText`, also where a later
+/// file of that name counts. Else `OutOfMemory` comes only where the allocator refuses the memory for the variables. No
+/// variable and no file take none.
 pub fn apply<A: Allocator + Clone>(
     alloc: A,
     files: &[EnvFile<'_>],

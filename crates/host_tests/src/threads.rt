@@ -312,8 +312,8 @@ fn comes_back<R: Threads + Wait + Clock + Copy + Drop + Send + 'static>(
         && comes(rt, host, again, Sight::Process)
 }
 
-/// Ends these parts, and makes rounds over no rows until two slots went: whether they are these, and the maker was reported
-/// to forget just these.
+/// Ends these parts, and makes rounds over no rows until two slots went: whether they are these, and the maker was
+/// reported to forget just these.
 fn are_dropped<R: Threads + Wait + Clock + Copy + Drop + Send + 'static>(
     rt: &R,
     alloc: Global,

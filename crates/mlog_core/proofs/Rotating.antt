@@ -68,7 +68,8 @@ pub stopped_as_found : (o q : StoreState) (log : ℕ) (t : Tail) (plan : Plan) (
     → IfSome (o.visible.files log) (λ f. standing t ≡ found f)
     → keep_of t ≡ plan.keep
     → StopsOn o q log (rotate_steps (keep_of t) (standing t) r) (rotated (keep_of t) (standing t) r) why
-    → StopsOn o q log (rotation (Some plan) r (o.visible.files log)) (stands_rotated (Some plan) r (o.visible.files log)) why
+    → StopsOn o q log (rotation (Some plan) r (o.visible.files log))
+    (stands_rotated (Some plan) r (o.visible.files log)) why
 stopped_as_found o q log t plan r why is keep s =
     let same = steps_found (o.visible.files log) t plan r is keep in
     let a = rotate_steps (keep_of t) (standing t) r in
@@ -197,7 +198,8 @@ whole_front a b steps k = record {
 front_of_one : (script : List Act) (r : Tai64n) (o p q : StoreState) (log n : ℕ) (b low : Bool) → (n == log) ≡ b
     → nat_lt n log ≡ low → RotatedBelow script r o p log
     → DoesFront p q log (rotation (slice_get (log_plans script) log) r (p.visible.files log))
-    → ReachesFront (o.visible.files n) (q.visible.files n) 0 (rotation (slice_get (log_plans script) n) r (o.visible.files n))
+    → ReachesFront (o.visible.files n) (q.visible.files n) 0 (rotation (slice_get (log_plans script) n) r
+    (o.visible.files n))
 front_of_one script r o p q log n true low e l up d =
     let same : n ≡ log = grind (arith, e) in
     subst (λ (m : ℕ). ReachesFront (o.visible.files m) (q.visible.files m) 0
@@ -210,7 +212,8 @@ front_of_one script r o p q log n true low e l up d =
           (up.beyond log (omega arith)) d.front.here;
     })
 front_of_one script r o p q log n false true e l up d =
-    whole_front (o.visible.files n) (q.visible.files n) (rotation (slice_get (log_plans script) n) r (o.visible.files n))
+    whole_front (o.visible.files n) (q.visible.files n) (rotation (slice_get (log_plans script) n) r
+    (o.visible.files n))
     (subst (λ (f : Option Files).
     Reaches (o.visible.files n) f (rotation (slice_get (log_plans script) n) r (o.visible.files n)))
     (sym (d.front.others n (not_same n log e))) (up.below n (grind (arith, l))))

@@ -172,7 +172,8 @@ runs_all script r p old new a b p0 p1 n counts opened written d lines finished r
       (λ (end : Option Standing). IsEnd (slice_get (log_plans script) log) (stood_of p0.tails old.visible log)
       (log_text script log d.labels d.bytes) end)
       (sym (slice_get-map standing p1.tails log))
-      (log_end (slice_get (log_plans script) log) (old.visible.files log) (new.visible.files log) (slice_get p0.tails log)
+      (log_end (slice_get (log_plans script) log) (old.visible.files log) (new.visible.files log)
+      (slice_get p0.tails log)
       (slice_get p1.tails log) (log_text script log d.labels d.bytes)
       (opened log) (d.takes.logs log));
   finished = finished ∙ sym (fold_map (λ (t : ℕ) (s : Standing). min (2 ^ 64 - 1) (t + s.marks.finished)) standing 0

@@ -2,8 +2,8 @@
 use Rattle.std.specs.Prelude.{◌≡◌, ⊤, ℕ, Bool, false, List, [], ◌∷◌, Option, Some, None}
 use Rattle.tai_status.specs.Counted.{Device}
 
--- The part that is read; the bytes of each part behind it, where they are reported; and whether it was heard, in the part
--- that is read, that the logs are to be rotated behind it.
+-- The part that is read; the bytes of each part behind it, where they are reported; and whether it was heard, in the
+-- part that is read, that the logs are to be rotated behind it.
 pub record Feed : Type 0 where
   pub device : Device
   pub behind : Option (List (List ℕ))

@@ -137,7 +137,8 @@ pub record RunsUpTo (script : List Act) (old new : World) (why : RunFault) : Typ
   pub gave : Extended old.readings new.readings labels
   pub are_found : AreFound old.store.visible stood
   pub logs : (log : ℕ)
-      → ReachesFront (old.store.visible.files log) (new.store.visible.files log) 0 (log_steps script stood labels bytes log)
+      → ReachesFront (old.store.visible.files log) (new.store.visible.files log) 0
+      (log_steps script stood labels bytes log)
   pub alerts : AppendsFront old.store.visible.alerts new.store.visible.alerts (alert_text script labels bytes)
   pub files : (file : ℕ) → GivenFront (old.store.visible.statuses file) (new.store.visible.statuses file)
       (file_contents script file labels bytes)

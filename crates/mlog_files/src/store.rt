@@ -20,7 +20,8 @@ pub trait LogStore {
     ghost use Rattle.mlog_files.specs.Store.{StoreState, Does, AppendsPart, FailsAt, Replaces, FailsToReplace};
     ghost use Rattle.mlog_files.specs.Store.{AlertsPart, FailsToAlert};
 
-    // How many logs and status files there are, which folders were asked for, how many calls failed, and what is reported.
+    // How many logs and status files there are, which folders were asked for, how many calls failed, and what is
+    // reported.
     ghost state: { Self → StoreState };
 
     /// Appends a front of the piece to a log's current file, and says how long it is.

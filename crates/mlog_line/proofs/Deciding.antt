@@ -64,7 +64,8 @@ pub decided_half : (tails now : List Tail) (a b c : StoreState) (script : List A
     → Alerts a b (alerts_for flags kept) → ReplacedSome b c files (padded kept)
     → Stops (outputs tails a) (outputs now c) (of_put script label front text) fault.Store
 decided_half tails now a b c script label front kept text flags files is sf same k o = record {
-  logs = λ log. subst (λ (files : ℕ → Option Files). TakesFrontAt (slice_get tails log) (a.visible.files log) (files log)
+  logs = λ log. subst (λ (files : ℕ → Option Files). TakesFrontAt (slice_get tails log) (a.visible.files log)
+      (files log)
       (if flag_at (chosen script front).logs log then sent label text else []))
       (sym (o.files ∙ k.files))
       (TakesFrontAt-none (slice_get tails log) (a.visible.files log)

@@ -53,13 +53,16 @@ one_at : (tails now : List Tail) (old new : StoreState) (log other : ℕ) (text 
     (if other == log then text else [])
 one_at tails now old new log other text true e here rest files =
     let same : other ≡ log = grind (arith, e) in
-    rw e (subst (λ (n : ℕ). TakesInAt (slice_get tails n) (slice_get now n) (old.visible.files n) (new.visible.files n) text)
+    rw e (subst (λ (n : ℕ). TakesInAt (slice_get tails n) (slice_get now n) (old.visible.files n)
+    (new.visible.files n) text)
     (sym same) here)
 one_at tails now old new log other text false e here rest files =
     let apart = not_same other log e in
-    rw e (subst (λ (t : Option Tail). TakesInAt (slice_get tails other) t (old.visible.files other) (new.visible.files other)
+    rw e (subst (λ (t : Option Tail). TakesInAt (slice_get tails other) t (old.visible.files other)
+    (new.visible.files other)
     []) (sym (rest other apart))
-    (subst (λ (f : Option Files). TakesInAt (slice_get tails other) (slice_get tails other) (old.visible.files other) f [])
+    (subst (λ (f : Option Files). TakesInAt (slice_get tails other) (slice_get tails other)
+    (old.visible.files other) f [])
     (sym (files other apart))
     (TakesInAt-none (slice_get tails other) (old.visible.files other))))
 
@@ -70,7 +73,8 @@ front_at : (tails : List Tail) (old new : StoreState) (log other : ℕ) (text : 
     (if other == log then text else [])
 front_at tails old new log other text true e here files =
     let same : other ≡ log = grind (arith, e) in
-    rw e (subst (λ (n : ℕ). TakesFrontAt (slice_get tails n) (old.visible.files n) (new.visible.files n) text) (sym same)
+    rw e (subst (λ (n : ℕ). TakesFrontAt (slice_get tails n) (old.visible.files n) (new.visible.files n) text)
+    (sym same)
     here)
 front_at tails old new log other text false e here files =
     rw e (subst (λ (f : Option Files). TakesFrontAt (slice_get tails other) (old.visible.files other) f [])
@@ -92,7 +96,8 @@ pub one_takes : (tails now : List Tail) (old new : StoreState) (log : ℕ) (t u 
     → slice_get tails log ≡ Some t → slice_get now log ≡ Some u
     → ((n : ℕ) → n ≢ log → slice_get now n ≡ slice_get tails n)
     → ((n : ℕ) → n ≢ log → new.visible.files n ≡ old.visible.files n)
-    → new.visible.statuses ≡ old.visible.statuses → new.visible.alerts ≡ old.visible.alerts → old.failures ≤ new.failures
+    → new.visible.statuses ≡ old.visible.statuses → new.visible.alerts ≡ old.visible.alerts
+    → old.failures ≤ new.failures
     → TakesIn t u (old.visible.files log) (new.visible.files log) text
     → Takes (outputs tails old) (outputs now new) (to_one log text)
 one_takes tails now old new log t u text was is rest files statuses alerts steady k = record {

@@ -76,7 +76,8 @@ within_stops tails now old new log t bytes text why was room f is_store bytes_ar
     (record {
       count = k.count;
       reaches = subst (λ (w : List Step).
-          Reaches (old.visible.files log) (new.visible.files log) (take k.count (append_steps (waiting_in t) ++ w))) (sym s.0)
+          Reaches (old.visible.files log) (new.visible.files log) (take k.count (append_steps (waiting_in t) ++ w)))
+          (sym s.0)
           k.front.here;
     })
     (λ is. f.rose) (λ is. cc)

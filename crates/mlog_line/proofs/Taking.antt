@@ -214,8 +214,10 @@ Takes-then a b c x y k l = record {
   logs = λ log. TakesInAt-then (slice_get a.tails log) (slice_get b.tails log) (slice_get c.tails log)
       (a.store.visible.files log) (b.store.visible.files log) (c.store.visible.files log)
       (x.logs log) (y.logs log) (k.logs log) (l.logs log);
-  alerts = Appends-then a.store.visible.alerts b.store.visible.alerts c.store.visible.alerts x.alerts y.alerts k.alerts l.alerts;
-  files = λ file. WasGiven-then (a.store.visible.statuses file) (b.store.visible.statuses file) (c.store.visible.statuses file)
+  alerts = Appends-then a.store.visible.alerts b.store.visible.alerts c.store.visible.alerts x.alerts y.alerts k.alerts
+      l.alerts;
+  files = λ file. WasGiven-then (a.store.visible.statuses file) (b.store.visible.statuses file)
+      (c.store.visible.statuses file)
       (x.files file) (y.files file) (k.files file) (l.files file);
   steady = let s = k.steady in let t = l.steady in omega (arith, s, t);
 }
@@ -233,7 +235,8 @@ Takes-same a b x y k s = record {
   logs = λ log. subst (λ (text : List Sent). TakesInAt (slice_get a.tails log) (slice_get b.tails log)
       (a.store.visible.files log) (b.store.visible.files log) text) (s.logs log) (k.logs log);
   alerts = subst (λ (text : List ℕ). Appends a.store.visible.alerts b.store.visible.alerts text) s.alerts k.alerts;
-  files = λ file. subst (λ (contents : List (List ℕ)). WasGiven (a.store.visible.statuses file) (b.store.visible.statuses file)
+  files = λ file. subst (λ (contents : List (List ℕ)). WasGiven (a.store.visible.statuses file)
+      (b.store.visible.statuses file)
       contents) (s.files file) (k.files file);
   steady = k.steady;
 }
@@ -246,7 +249,8 @@ Stops-then a b c x y why k f = record {
       (x.logs log) (y.logs log) (k.logs log) (f.logs log);
   alerts = Appends-front a.store.visible.alerts b.store.visible.alerts c.store.visible.alerts x.alerts y.alerts k.alerts
       f.alerts;
-  files = λ file. WasGiven-front (a.store.visible.statuses file) (b.store.visible.statuses file) (c.store.visible.statuses file)
+  files = λ file. WasGiven-front (a.store.visible.statuses file) (b.store.visible.statuses file)
+      (c.store.visible.statuses file)
       (x.files file) (y.files file) (k.files file) (f.files file);
   store = λ is. rose_since a.store.failures b.store.failures c.store.failures k.steady (f.store is);
   spent = λ is. let s = f.spent is in record {
@@ -259,7 +263,8 @@ Stops-then a b c x y why k f = record {
 
 pub Stops-more : (a b : Outputs) (x y : Given) (why : LogFault) → Stops a b x why → Stops a b (joined x y) why
 Stops-more a b x y why f = record {
-  logs = λ log. TakesFrontAt-more (slice_get a.tails log) (a.store.visible.files log) (b.store.visible.files log) (x.logs log)
+  logs = λ log. TakesFrontAt-more (slice_get a.tails log) (a.store.visible.files log) (b.store.visible.files log)
+      (x.logs log)
       (y.logs log) (f.logs log);
   alerts = AppendsFront-more y.alerts f.alerts;
   files = λ file. GivenFront-more (a.store.visible.statuses file) (b.store.visible.statuses file) (x.files file)

@@ -64,7 +64,8 @@ pub record Takes (old new : Outputs) (given : Given) : Type 0 where
   pub logs : (log : ℕ) → TakesInAt (slice_get old.tails log) (slice_get new.tails log)
       (old.store.visible.files log) (new.store.visible.files log) (given.logs log)
   pub alerts : Appends old.store.visible.alerts new.store.visible.alerts given.alerts
-  pub files : (file : ℕ) → WasGiven (old.store.visible.statuses file) (new.store.visible.statuses file) (given.files file)
+  pub files : (file : ℕ)
+      → WasGiven (old.store.visible.statuses file) (new.store.visible.statuses file) (given.files file)
   pub steady : old.store.failures ≤ new.store.failures
 
 -- There is no label for an old file that a text fills.
@@ -81,9 +82,11 @@ pub record Spends (old : Outputs) (given : Given) : Type 0 where
 -- front of its contents; and why.
 pub record Stops (old new : Outputs) (given : Given) (why : LogFault) : Type 0 where
   pub logs : (log : ℕ)
-      → TakesFrontAt (slice_get old.tails log) (old.store.visible.files log) (new.store.visible.files log) (given.logs log)
+      → TakesFrontAt (slice_get old.tails log) (old.store.visible.files log) (new.store.visible.files log)
+      (given.logs log)
   pub alerts : AppendsFront old.store.visible.alerts new.store.visible.alerts given.alerts
-  pub files : (file : ℕ) → GivenFront (old.store.visible.statuses file) (new.store.visible.statuses file) (given.files file)
+  pub files : (file : ℕ)
+      → GivenFront (old.store.visible.statuses file) (new.store.visible.statuses file) (given.files file)
   pub store : why ≡ fault.Store → Rose old.store.failures new.store.failures
   pub spent : why ≡ fault.LabelsSpent → Spends old given
 

@@ -20,7 +20,8 @@ given_to file chosen content = if flag_at chosen file then content ∷ [] else [
 
 -- Each status file whose flag is set was given this content, once, and all else is as before.
 pub record Replaced (old new : StoreState) (chosen : List Bool) (content : List ℕ) : Type 0 where
-  pub here : (file : ℕ) → WasGiven (old.visible.statuses file) (new.visible.statuses file) (given_to file chosen content)
+  pub here : (file : ℕ)
+      → WasGiven (old.visible.statuses file) (new.visible.statuses file) (given_to file chosen content)
   pub files : new.visible.files ≡ old.visible.files
   pub alerts : new.visible.alerts ≡ old.visible.alerts
   pub stays : Stays old new
@@ -28,7 +29,8 @@ pub record Replaced (old new : StoreState) (chosen : List Bool) (content : List 
 -- The store failed on the way of status files: some of those whose flag is set were given this content, once, all else
 -- is as before, and the failure is counted.
 pub record ReplacedSome (old new : StoreState) (chosen : List Bool) (content : List ℕ) : Type 0 where
-  pub here : (file : ℕ) → GivenFront (old.visible.statuses file) (new.visible.statuses file) (given_to file chosen content)
+  pub here : (file : ℕ)
+      → GivenFront (old.visible.statuses file) (new.visible.statuses file) (given_to file chosen content)
   pub files : new.visible.files ≡ old.visible.files
   pub alerts : new.visible.alerts ≡ old.visible.alerts
   pub stays : Stays old new

@@ -47,7 +47,8 @@ words_at f words k d within =
     ∙ ap (λ rest. map f (take k words) ++ map f rest) (drop-cons words k d within)
 
 -- The first bad word stands behind words that are not bad.
-pub reported_at : {R : Type 0} (f : R → List ℕ) (words : List R) (k : ℕ) (d : R) (kind : ScriptFaultKind) → k < length words
+pub reported_at : {R : Type 0} (f : R → List ℕ) (words : List R) (k : ℕ) (d : R) (kind : ScriptFaultKind)
+    → k < length words
     → faults (map f (take k words)) ≡ [] → Some kind ≡ fault_of (map f (take k words)) (f (get_or words k d))
     → first_fault (map f words) ≡ Some (record { word = k + 1; kind = kind })
 reported_at f words k d kind within lawful bad =

@@ -42,8 +42,8 @@ impl<A: Allocator + Clone> Script<A> {
     /// Reads the words of a script. No words are a lawful script.
     ///
     /// The first bad word is reported, also where there is no memory. Else `OutOfMemory` comes only where the allocator
-    /// refuses the memory for the action of the word that is reported, or for the list of the actions up to it. No words
-    /// take none.
+    /// refuses the memory for the action of the word that is reported, or for the list of the actions up to it. No
+    /// words take none.
     pub fn read(alloc: A, words: &[&[u8]]) -> Result<Script<A>, ScriptFault>
         ensures ok { IfOk result (λ script. map said (texts words.now) ≡ map (λ action. Ok action) script) }
         ensures refuses { MatchOption (first_fault (texts words.now))

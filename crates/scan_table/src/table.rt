@@ -229,9 +229,9 @@ impl<A: Allocator + Clone> ScanTable<A> {
     /// its name is refused. A row is eligible where it is a directory whose name is not empty and does not begin with a
     /// dot; a new slot is a pair, the service and its logger, where the row has a log and its name at most 255 bytes.
     ///
-    /// `Unsorted` and `Twice` report the first place where the names do not rise, and come first; then `Exhausted`, where
-    /// there are fewer numbers than the scan needs; `OutOfMemory` only where nothing else is wrong. At a fault the
-    /// table is as it was.
+    /// `Unsorted` and `Twice` report the first place where the names do not rise, and come first; then `Exhausted`,
+    /// where there are fewer numbers than the scan needs; `OutOfMemory` only where nothing else is wrong. At a fault
+    /// the table is as it was.
     pub fn scan(&mut self, rows: &[DirRow<A>]) -> Result<ScanOut<A>, ScanFault>
         ensures starts { IfOk result (λ out. out.starts ≡ starts self.old.slots self.old.next rows.now) }
         ensures restarts { IfOk result (λ out. out.restarts ≡ restarts self.old.slots self.old.next rows.now) }

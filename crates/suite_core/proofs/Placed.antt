@@ -181,7 +181,8 @@ part-stands [] id place rising at = absurd (omega (arith, at.within))
 part-stands (part ∷ parts) id place rising at = ap is_none (trace-read (part ∷ parts) id place part rising at)
 
 -- The table is reported what the trace says.
-pub reported-as : (table : TableState) (id : PartId) (event : Event) (t : Option Kept) (ended : Bool) → is_none t ≡ false →
+pub reported-as : (table : TableState) (id : PartId) (event : Event) (t : Option Kept) (ended : Bool)
+    → is_none t ≡ false →
     IfSome t (λ kept. ended ≡ has_ended (noted_if_taken kept event)) → (if ended then after_end table id else table)
     ≡ table_noted table id event t
 reported-as table id event None ended there reported = absurd (cc)
@@ -286,7 +287,8 @@ restarted-end (item ∷ items) parts whole none so = absurd (omega (arith, none)
 
 pub read-before : (parts : List PartState) (place : ℕ) (part : PartState) (id reported : PartId) (result : Bool)
     → place < length parts → part ≡ get_or parts place part → reported ≡ part.id →
-    result ≡ nat_lt (rank reported) (rank id) → result ≡ true → (d : PartState) → rank (get_or parts place d).id < rank id
+    result ≡ nat_lt (rank reported) (rank id) → result ≡ true → (d : PartState)
+    → rank (get_or parts place d).id < rank id
 read-before parts place part id reported result within read is compared so d =
     let same : rank (get_or parts place d).id ≡ rank reported =
     ap (λ (p : PartState). rank p.id) (rank-read parts place part within read d) ∙ ap rank (sym is) in
@@ -295,7 +297,8 @@ read-before parts place part id reported result within read is compared so d =
 
 pub read-after : (parts : List PartState) (place : ℕ) (part : PartState) (id reported : PartId) (result : Bool)
     → place < length parts → part ≡ get_or parts place part → reported ≡ part.id →
-    result ≡ nat_lt (rank reported) (rank id) → result ≡ false → (d : PartState) → rank id ≤ rank (get_or parts place d).id
+    result ≡ nat_lt (rank reported) (rank id) → result ≡ false → (d : PartState)
+    → rank id ≤ rank (get_or parts place d).id
 read-after parts place part id reported result within read is compared so d =
     let same : rank (get_or parts place d).id ≡ rank reported =
     ap (λ (p : PartState). rank p.id) (rank-read parts place part within read d) ∙ ap rank (sym is) in

@@ -99,7 +99,8 @@ record SpellsEvent {A : Type 0} (parts : List (List ℕ)) (event : SuiteEvent A)
   so : IsSpellable event
   is : parts ≡ suite_event_fields event
 
-scan_spelt : {A : Type 0} (word text : List ℕ) (texts : List (List ℕ)) (label : Option Tai64n) (rows : Option (List Row))
+scan_spelt : {A : Type 0} (word text : List ℕ) (texts : List (List ℕ)) (label : Option Tai64n)
+    (rows : Option (List Row))
     (event : SuiteEvent A) → IfSome label (SpellsLabel text) → ((r : List Row) → rows ≡ Some r → SpellsRows texts r)
     → word ≡ codes "scan" → scan_of label rows ≡ Ok event → SpellsEvent (word ∷ text ∷ texts) event
 scan_spelt word text texts None rows event l r is h = cc h
@@ -107,7 +108,11 @@ scan_spelt word text texts (Some label) None event l r is h = cc h
 scan_spelt word text texts (Some label) (Some rows) event l r is h =
     let same : Scan rows label ≡ event = cc h in
     let reported = r rows refl in
-    let parts : word ∷ text ∷ texts ≡ codes "scan" ∷ label_text label ∷ map row_text rows = cc (is, l.is, reported.is) in
+    let parts : word ∷ text ∷ texts ≡ codes "scan" ∷ label_text label ∷ map row_text rows = cc (
+      is,
+      l.is,
+      reported.is,
+    ) in
     subst (SpellsEvent (word ∷ text ∷ texts)) same (record { so = (l.range, reported.names); is = parts })
 
 scan_line : {A : Type 0} (word : List ℕ) (rest : List (List ℕ)) (event : SuiteEvent A) → word ≡ codes "scan"
@@ -216,19 +221,20 @@ pub IsRead-unread : {A : Type 0} (parts texts : List (List ℕ)) (text : List �
 IsRead-unread {A} parts texts text label answer is read right missed =
     rw (is, read) (scan_unread label (rows_of_texts texts) answer right missed)
 
-pub read_subject : {A : Type 0} (reported : Result (SuiteEvent A) EventFault) (answer : Result (SuiteEvent A) SuiteLineFault)
+pub read_spelt : {A : Type 0} (reported : Result (SuiteEvent A) EventFault)
+    (answer : Result (SuiteEvent A) SuiteLineFault)
     (event : SuiteEvent A)
     → IsRead reported answer → answer ≡ Ok event → reported ≡ Ok event
-read_subject (Ok (Scan rows label)) (Ok read) event h is = let same : read ≡ event = cc is in cc (h, same)
-read_subject (Ok (Scan rows label)) (Err why) event h is = cc is
-read_subject (Ok (At part at)) answer event h is = let same : Ok (At part at) ≡ Ok event = sym h ∙ is in cc same
-read_subject (Err why) answer event h is = let none : Err (line_fault why) ≡ Ok event = sym h ∙ is in cc none
+read_spelt (Ok (Scan rows label)) (Ok read) event h is = let same : read ≡ event = cc is in cc (h, same)
+read_spelt (Ok (Scan rows label)) (Err why) event h is = cc is
+read_spelt (Ok (At part at)) answer event h is = let same : Ok (At part at) ≡ Ok event = sym h ∙ is in cc same
+read_spelt (Err why) answer event h is = let none : Err (line_fault why) ≡ Ok event = sym h ∙ is in cc none
 
 pub read-found : {A : Type 0} (line : List ℕ) (answer : Result (SuiteEvent A) SuiteLineFault)
     → IsRead (suite_event_from (fields line)) answer
     → IfOk answer (λ event. IsSpellable event × (line ≡ suite_event_text event))
 read-found line (Ok event) h =
-    suite_event_text-suite_event_from line event (read_subject (suite_event_from (fields line)) (Ok event) event h refl)
+    suite_event_text-suite_event_from line event (read_spelt (suite_event_from (fields line)) (Ok event) event h refl)
 read-found line (Err why) h = tt
 
 read_only : {A : Type 0} (event : SuiteEvent A) (answer : Result (SuiteEvent A) SuiteLineFault)

@@ -163,7 +163,8 @@ pub record SpellsRows (texts : List (List ℕ)) (rows : List Row) : Type 0 where
   pub is : texts ≡ map row_text rows
 
 onto_spelt : (text : List ℕ) (texts : List (List ℕ)) (o : Option Row) (os : Option (List Row)) (rows : List Row)
-    → ((row : Row) → o ≡ Some row → SpellsRow text row) → ((later : List Row) → os ≡ Some later → SpellsRows texts later)
+    → ((row : Row) → o ≡ Some row → SpellsRow text row)
+    → ((later : List Row) → os ≡ Some later → SpellsRows texts later)
     → onto_rows o os ≡ Some rows → SpellsRows (text ∷ texts) rows
 onto_spelt text texts None os rows one more h = cc h
 onto_spelt text texts (Some row) None rows one more h = cc h
@@ -176,7 +177,8 @@ onto_spelt text texts (Some row) (Some later) rows one more h =
 pub rows-reported : (texts : List (List ℕ)) (rows : List Row) → rows_of_texts texts ≡ Some rows → SpellsRows texts rows
 rows-reported [] rows h = let same : [] ≡ rows = cc h in subst (SpellsRows []) same (record { names = tt; is = refl })
 rows-reported (text ∷ texts) rows h =
-    onto_spelt text texts (row_of_text text) (rows_of_texts texts) rows (row_of_text-reported text) (rows-reported texts) h
+    onto_spelt text texts (row_of_text text) (rows_of_texts texts) rows (row_of_text-reported text)
+    (rows-reported texts) h
 
 -- One field more
 

@@ -100,9 +100,9 @@ fn parse_suite_event<A: Allocator + Clone>(
 /// directory), `l` (has a log), `n` (has a file `down`) and `m` (its log has one), each its letter or `-`, then a
 /// colon, and a name of at least one byte, all from `!` to `~`.
 ///
-/// The first fault is reported: another first word; for a scan no field of a label, a wrong label, a field that is no row's
-/// text; at a part fewer than three fields or no part, then a slot or a life that is no number of 64 bits, then the
-/// faults of the event's line. Memory is asked for once a scan's line is known to be right.
+/// The first fault is reported: another first word; for a scan no field of a label, a wrong label, a field that is no
+/// row's text; at a part fewer than three fields or no part, then a slot or a life that is no number of 64 bits, then
+/// the faults of the event's line. Memory is asked for once a scan's line is known to be right.
 pub fn read_suite_event<A: Allocator + Clone>(
     alloc: A,
     line: &[u8],

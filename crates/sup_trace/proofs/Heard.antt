@@ -29,7 +29,15 @@ use Rattle.sup_trace.specs.Text.{trace_text}
 use Rattle.sup_trace.specs.Reading.{Heard, Nothing, Header, Entries, Whole, folded_of_text, phase_of_text}
 use Rattle.sup_trace.specs.Reading.{status_of_text, exiting_of_text, until_of_text, standing, state_of_parts, base_from}
 use Rattle.sup_trace.specs.Reading.{base_result, with_entry, entry_result, end_result, later_result, line_result}
-use Rattle.sup_trace.specs.Reading.{at_end, content_by_parts, parts_of, content_from, HasEntryAt, ReadsEntry, heard_along}
+use Rattle.sup_trace.specs.Reading.{
+  at_end,
+  content_by_parts,
+  parts_of,
+  content_from,
+  HasEntryAt,
+  ReadsEntry,
+  heard_along,
+}
 use Rattle.std.proofs.lemmas.List.{map-append, length-append, append-nil}
 use Rattle.sup_trace.proofs.Steps.{followed, along_after, some_rest, fault_after_entry}
 use Rattle.sup_trace.proofs.Lists.{AllByRecursion-joined}
@@ -123,13 +131,15 @@ test_false false b e x h = (refl, h)
 lt-from_not : (m n : ℕ) → not (nat_lt m n) ≡ false → m < n
 lt-from_not m n h = grind (arith)
 
-entry_spelt : (content : Content) (line : List ℕ) (more : Heard) (r : Result Event EventFault) → r ≡ event_from (fields line)
+entry_spelt : (content : Content) (line : List ℕ) (more : Heard) (r : Result Event EventFault)
+    → r ≡ event_from (fields line)
     → entry_result content r ≡ Ok more → SpellsEntry content line more
 entry_spelt content line more (Err fault) is h = cc h
 entry_spelt content line more (Ok event) is h =
     let text = event_text-event_from line (Ok event) is in
     let room = test_false (not (nat_lt (length content.entries) 65536)) _ kind.Line more h in
-    let taken = test_true (takes (content_history content) event) (Ok (Entries (with_entry content event))) kind.NotTaken more
+    let taken = test_true (takes (content_history content) event)
+    (Ok (Entries (with_entry content event))) kind.NotTaken more
     room.1 in
     record {
       event = event;
@@ -213,19 +223,22 @@ heard_entry content line lines more reports h =
     let text : lines ++ line ∷ [] ≡ header ∷ base_text content.folded content.base
     ∷ map event_text (content.entries ++ reports.event ∷ []) =
     ap (λ (ls : List (List ℕ)). ls ++ line ∷ []) h.1
-    ∙ ap (λ (l : List ℕ). header ∷ base_text content.folded content.base ∷ (map event_text content.entries ++ l ∷ [])) reports.is
+    ∙ ap (λ (l : List ℕ). header ∷ base_text content.folded content.base ∷ (map event_text content.entries
+    ++ l ∷ [])) reports.is
     ∙ ap (λ (ls : List (List ℕ)). header ∷ base_text content.folded content.base ∷ ls)
     (sym (map-append event_text content.entries (reports.event ∷ []))) in
     subst (λ (m : Heard). IsHeard m (lines ++ line ∷ [])) (sym reports.more_is) (next, text)
 
-heard_end : (content : Content) (line : List ℕ) (lines : List (List ℕ)) (more : Heard) → line ≡ end_text (length content.entries)
+heard_end : (content : Content) (line : List ℕ) (lines : List (List ℕ)) (more : Heard)
+    → line ≡ end_text (length content.entries)
     → more ≡ Whole content
     → IsHeard (Entries content) lines → IsHeard more (lines ++ line ∷ [])
 heard_end content line lines more is whole h =
     subst (λ (m : Heard). IsHeard m (lines ++ line ∷ [])) (sym whole) (
       h.0,
       ap (λ (ls : List (List ℕ)). ls ++ line ∷ []) h.1
-          ∙ ap (λ (l : List ℕ). header ∷ base_text content.folded content.base ∷ (map event_text content.entries ++ l ∷ [])) is,
+          ∙ ap (λ (l : List ℕ). header ∷ base_text content.folded content.base ∷ (map event_text content.entries
+          ++ l ∷ [])) is,
     )
 
 heard_line : (heard : Heard) (line : List ℕ) (lines : List (List ℕ)) (more : Heard) → IsHeard heard lines
@@ -239,13 +252,15 @@ heard_line Header line lines more h is =
     subst (λ (ls : List (List ℕ)). IsHeard more (ls ++ line ∷ [])) (sym h)
     (heard_base line more (base_spelt (fields line) more is))
 heard_line (Entries content) line lines more h is =
-    ⊎_elim (λ (e : (line ≡ end_text (length content.entries)) × (more ≡ Whole content)). heard_end content line lines more e.0
+    ⊎_elim (λ (e : (line ≡ end_text (length content.entries))
+    × (more ≡ Whole content)). heard_end content line lines more e.0
     e.1 h)
     (λ (reports : SpellsEntry content line more). heard_entry content line lines more reports h)
     (later_spelt content line more (fields line) refl is)
 heard_line (Whole content) line lines more h is = cc is
 
-heard_rest : (number : ℕ) (heard : Heard) (lines : List (List ℕ)) (rest : List ℕ) (content : Content) → IsHeard heard lines
+heard_rest : (number : ℕ) (heard : Heard) (lines : List (List ℕ)) (rest : List ℕ) (content : Content)
+    → IsHeard heard lines
     → at_end number heard rest ≡ Ok content
     → IsContent content × (lines ++ rest ∷ [] ≡ trace_lines content ++ [] ∷ [])
 heard_rest number Nothing lines rest content h is = cc is
@@ -256,11 +271,13 @@ heard_rest number (Whole all) lines [] content h is =
     (subst IsContent same h.0, ap (λ (ls : List (List ℕ)). ls ++ [] ∷ []) (h.1 ∙ ap trace_lines same))
 heard_rest number (Whole all) lines (byte ∷ rest) content h is = cc is
 
-heard_after : (number : ℕ) (line : List ℕ) (lines parts : List (List ℕ)) (content : Content) (r : Result Heard TraceFaultKind)
+heard_after : (number : ℕ) (line : List ℕ) (lines parts : List (List ℕ)) (content : Content)
+    (r : Result Heard TraceFaultKind)
     → ((more : Heard) → r ≡ Ok more → IsHeard more (lines ++ line ∷ []))
     → ((more : Heard) → IsHeard more (lines ++ line ∷ []) → content_by_parts (number + 1) more parts ≡ Ok content
     → IsContent content × ((lines ++ line ∷ []) ++ parts ≡ trace_lines content ++ [] ∷ []))
-    → followed number parts r ≡ Ok content → IsContent content × (lines ++ line ∷ parts ≡ trace_lines content ++ [] ∷ [])
+    → followed number parts r ≡ Ok content → IsContent content
+    × (lines ++ line ∷ parts ≡ trace_lines content ++ [] ∷ [])
 heard_after number line lines parts content (Ok more) here rest is =
     let all = rest more (here more refl) is in
     (all.0, sym (append_assoc lines (line ∷ []) parts) ∙ all.1)
@@ -268,7 +285,8 @@ heard_after number line lines parts content (Err why) here rest is = cc is
 
 heard_parts : (number : ℕ) (heard : Heard) (lines parts : List (List ℕ)) (content : Content) → (parts ≡ [] → ⊥)
     → IsHeard heard lines
-    → content_by_parts number heard parts ≡ Ok content → IsContent content × (lines ++ parts ≡ trace_lines content ++ [] ∷ [])
+    → content_by_parts number heard parts ≡ Ok content → IsContent content
+    × (lines ++ parts ≡ trace_lines content ++ [] ∷ [])
 heard_parts number heard lines [] content some h is = absurd (some refl)
 heard_parts number heard lines (rest ∷ []) content some h is = heard_rest number heard lines rest content h is
 heard_parts number heard lines (line ∷ part ∷ parts) content some h is =
@@ -284,7 +302,8 @@ join_lines (line ∷ next ∷ lines) =
     ap (λ (rest : List ℕ). line ++ 10 ∷ rest) (join_lines (next ∷ lines)) ∙ sym (append_assoc line (10 ∷ []) _)
 
 -- What a text is read as has that text.
-pub content_from-found : (text : List ℕ) (content : Content) → content_from text ≡ Ok content → IsContent content × (text ≡ trace_text content)
+pub content_from-found : (text : List ℕ) (content : Content) → content_from text ≡ Ok content → IsContent content
+    × (text ≡ trace_text content)
 content_from-found text content is =
     let all = heard_parts 1 Nothing [] (parts_of text) content (split_some_part (λ byte. byte == 10) text) refl is in
     (all.0, sym (join_with_byte-slice_split 10 text) ∙ ap (join_with_byte 10) all.1 ∙ join_lines (trace_lines content))

@@ -186,7 +186,8 @@ until_label text (Some label) until reports h =
     subst (SpellsUntil text) e (record { range = reports.range; is = reports.is })
 until_label text None until reports h = cc h
 
-until_none : (text : List ℕ) (until : Option Tai64n) → text ≡ codes "-" → Some None ≡ Some until → SpellsUntil text until
+until_none : (text : List ℕ) (until : Option Tai64n) → text ≡ codes "-" → Some None ≡ Some until
+    → SpellsUntil text until
 until_none text until is h =
     let e : None ≡ until = cc h in
     subst (SpellsUntil text) e (record { range = tt; is = is })

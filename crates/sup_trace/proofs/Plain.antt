@@ -30,7 +30,10 @@ plain-explained_line content place event =
 plain-lines : (content : Content) (place : ℕ) (events : List Event)
     → AllByRecursion IsPlain (map (λ placed. explained_line content placed.0 placed.1) (enumerate_from place events))
 plain-lines content place [] = tt
-plain-lines content place (event ∷ events) = (plain-explained_line content place event, plain-lines content (place + 1) events)
+plain-lines content place (event ∷ events) = (
+  plain-explained_line content place event,
+  plain-lines content (place + 1) events,
+)
 
 pub plain-explained : (content : Content) → AllByRecursion IsPlain (explained content)
 plain-explained content = plain-lines content 0 content.entries

@@ -84,17 +84,20 @@ over_parts number content part (next ∷ parts) some = refl
 
 -- The end line
 
-end_fields : (content : Content) (count : List ℕ) (parts : List (List ℕ)) → (parts ≡ [] → ⊥) → end_result content (count ∷ parts)
+end_fields : (content : Content) (count : List ℕ) (parts : List (List ℕ)) → (parts ≡ [] → ⊥)
+    → end_result content (count ∷ parts)
     ≡ Err kind.Line
 end_fields content count [] h = absurd (h refl)
 end_fields content count (part ∷ parts) h = refl
 
-pub end_result_many : (content : Content) (count rest : List ℕ) → end_result content (count ∷ fields rest) ≡ Err kind.Line
+pub end_result_many : (content : Content) (count rest : List ℕ)
+    → end_result content (count ∷ fields rest) ≡ Err kind.Line
 end_result_many content count rest = end_fields content count (fields rest) (split_some_part (λ byte. byte == 32) rest)
 
 -- whether the machine takes an event, and the machine after it
 pub machine_takes : (content : Content) (machine : State) (event : Event) (taken : Bool) → machine ≡ replay_of content
-    → ((past : History) → state_of past ≡ machine → taken ≡ takes past event) → takes (content_history content) event ≡ taken
+    → ((past : History) → state_of past ≡ machine → taken ≡ takes past event)
+    → takes (content_history content) event ≡ taken
 machine_takes content machine event taken stands said = sym (said (content_history content) (sym stands))
 
 replay-more : (content : Content) (event : Event) → takes (content_history content) event ≡ true
@@ -143,20 +146,24 @@ entry_full content seen event r same is full =
     entry_seen content seen event r same is ∙ rw (full-test (length content.entries) 65536 full) refl
 
 pub entry_held : (content seen : Content) (event : Event) (r : Result Event EventFault) → content ≡ seen → Ok event ≡ r
-    → length content.entries < 65536 → takes (content_history content) event ≡ false → entry_result seen r ≡ Err kind.NotTaken
+    → length content.entries < 65536 → takes (content_history content) event ≡ false
+    → entry_result seen r ≡ Err kind.NotTaken
 entry_held content seen event r same is room held =
     entry_seen content seen event r same is ∙ rw (room-test (length content.entries) 65536 room, held) refl
 
-pub entry_taken : (content seen : Content) (event : Event) (r : Result Event EventFault) (entries : List Event) → content ≡ seen
+pub entry_taken : (content seen : Content) (event : Event) (r : Result Event EventFault) (entries : List Event)
+    → content ≡ seen
     → Ok event ≡ r
-    → length content.entries < 65536 → takes (content_history content) event ≡ true → entries ≡ content.entries ++ event ∷ []
+    → length content.entries < 65536 → takes (content_history content) event ≡ true
+    → entries ≡ content.entries ++ event ∷ []
     → entry_result seen r ≡ Ok (Entries (content_of content.base content.folded entries))
 entry_taken content seen event r entries same is room taken grown =
     entry_seen content seen event r same is ∙ rw (room-test (length content.entries) 65536 room, taken) refl
     ∙ ap (λ (es : List Event). read_so (Entries (content_of content.base content.folded es))) (sym grown)
 
 pub adds_entry : (content seen : Content) (event : Event) (r : Result Event EventFault) → content ≡ seen → Ok event ≡ r
-    → length content.entries < 65536 → takes (content_history content) event ≡ true → AddsEntry seen (entry_result seen r)
+    → length content.entries < 65536 → takes (content_history content) event ≡ true
+    → AddsEntry seen (entry_result seen r)
 adds_entry content seen event r same is room taken = record {
   event = event;
   is = entry_taken content seen event r (content.entries ++ event ∷ []) same is room taken refl
@@ -245,7 +252,8 @@ heard_first heard more line lines is = ap (along_after lines) is
 
 -- an entry that is read on the first line
 pub entry_here : (number : ℕ) (content : Content) (line text rest : List ℕ) → parts_of text ≡ line ∷ parts_of rest
-    → AddsEntry content (line_result (Entries content) line) → ReadsEntry number number (Entries content) (parts_of text)
+    → AddsEntry content (line_result (Entries content) line)
+    → ReadsEntry number number (Entries content) (parts_of text)
 entry_here number content line text rest cut adds = record {
   lines = line ∷ [];
   rest = parts_of rest;
@@ -301,7 +309,8 @@ pub fault_after_entry : (at number : ℕ) (heard : Heard) (parts : List (List �
 fault_after_entry at number heard parts first entry h =
     let content : content_by_parts number heard (entry.lines ++ entry.rest) ≡ Err first =
     ap (content_by_parts number heard) (sym entry.cut) ∙ h in
-    let later = fault_after number heard (Entries entry.content) entry.lines entry.rest first entry.ended entry.is content in
+    let later = fault_after number heard (Entries entry.content) entry.lines entry.rest first entry.ended entry.is
+    content in
     let place = entry.place in
     omega (arith, later, place)
 
@@ -315,7 +324,8 @@ from_start text rest number same first =
 
 -- after the two lines before the entries, which reported the base
 pub from_base : (text start rest : List ℕ) (number next : ℕ) (base made : Content) → start ≡ text → number ≡ 1
-    → content_by_parts number Nothing (parts_of start) ≡ content_by_parts next (Entries base) (parts_of rest) → made ≡ base
+    → content_by_parts number Nothing (parts_of start) ≡ content_by_parts next (Entries base) (parts_of rest)
+    → made ≡ base
     → content_from text ≡ content_by_parts next (Entries made) (parts_of rest)
 from_base text start rest number next base made same first opened is =
     from_start text start number same first ∙ opened

@@ -132,9 +132,11 @@ end_line content =
 end_parts : (number : ℕ) (content : Content)
     → content_by_parts number (Entries content) (end_text (length content.entries) ∷ [] ∷ []) ≡ Ok content
 end_parts number content =
-    goes_on number (Entries content) (Whole content) (end_text (length content.entries)) ([] ∷ []) (λ e. cc e) (end_line content)
+    goes_on number (Entries content) (Whole content) (end_text (length content.entries)) ([] ∷ []) (λ e. cc e)
+    (end_line content)
 
-history_after : (content : Content) (event : Event) → content_history (with_entry content event) ≡ Then (content_history content) event
+history_after : (content : Content) (event : Event)
+    → content_history (with_entry content event) ≡ Then (content_history content) event
 history_after content event = followed_by-append (Opened content.base) content.entries (event ∷ [])
 
 longer : (content : Content) (event : Event) → length (with_entry content event).entries ≡ length content.entries + 1
@@ -163,7 +165,8 @@ entries_read number total content (event ∷ events) ranges taken is limit =
     ∙ entries_read (number + 1) total (with_entry content event) events ranges.1
     (subst (λ (past : History). AreTaken past events) (sym (history_after content event)) taken.2)
     (omega (arith, is, more)) limit
-    ∙ ap (λ (es : List Event). Ok (content_of content.base content.folded es)) (append_assoc content.entries (event ∷ []) events)
+    ∙ ap (λ (es : List Event). Ok (content_of content.base content.folded es))
+    (append_assoc content.entries (event ∷ []) events)
 
 lines_and_end : (content : Content) → trace_lines content ++ [] ∷ []
     ≡ header ∷ base_text content.folded content.base
@@ -189,7 +192,8 @@ pub content_from-only : (content : Content) → IsContent content → content_fr
 content_from-only content h =
     let base = content_of content.base content.folded [] in
     let rest = map event_text content.entries ++ end_text (length content.entries) ∷ [] ∷ [] in
-    ap (content_by_parts 1 Nothing) (split_lines (trace_lines content) (plain-trace_lines content) ∙ lines_and_end content)
+    ap (content_by_parts 1 Nothing) (split_lines (trace_lines content) (plain-trace_lines content)
+    ∙ lines_and_end content)
     ∙ goes_on 1 Nothing Header header (base_text content.folded content.base ∷ rest) (λ e. cc e) header_said
     ∙ goes_on 2 Header (Entries base) (base_text content.folded content.base) rest
     (some_parts (map event_text content.entries) _) (base_line content h)
@@ -216,7 +220,8 @@ memory_spelt kind.UnknownEvent h = absurd (h (λ e. cc e))
 memory_spelt kind.NotTaken h = absurd (h (λ e. cc e))
 
 -- A text that says a trace is refused for want of memory alone.
-pub only-ok : (text : List ℕ) (content : Content) (r : Result Content TraceFault) → IsContent content → text ≡ trace_text content
+pub only-ok : (text : List ℕ) (content : Content) (r : Result Content TraceFault) → IsContent content
+    → text ≡ trace_text content
     → IfOk r (λ read. content_from text ≡ Ok read)
     → IfErr r (λ fault. (fault.kind ≢ kind.OutOfMemory) → content_from text ≡ Err fault)
     → MatchResult r (λ read. read ≡ content) (λ fault. fault.kind ≡ kind.OutOfMemory)

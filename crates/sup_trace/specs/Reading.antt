@@ -238,9 +238,10 @@ pub record ReadsEntry (at number : ℕ) (heard : Heard) (parts : List (List ℕ)
   pub is : heard_along heard lines ≡ Ok (Entries content)
   pub place : at + 1 ≡ number + length lines
 
--- What is reported from here is reported from there: by the number of a line, what the lines before it reported, and the text
--- that begins with it.
-abbrev pub SpellsAlike : (number : ℕ) (heard : Heard) (text : List ℕ) (later : ℕ) (more : Heard) (rest : List ℕ) → Type 0
+-- What is reported from here is reported from there: by the number of a line, what the lines before it reported, and
+-- the text that begins with it.
+abbrev pub SpellsAlike : (number : ℕ) (heard : Heard) (text : List ℕ) (later : ℕ) (more : Heard) (rest : List ℕ)
+    → Type 0
 SpellsAlike number heard text later more rest =
     content_by_parts number heard (parts_of text) ≡ content_by_parts later more (parts_of rest)
 

@@ -3,7 +3,15 @@ use Rattle.std.specs.Prelude.{◌≡◌, ◌≢◌, Err}
 use Rattle.sup_trace.specs.declared.fault.TraceFault.{TraceFault}
 use Rattle.sup_trace.specs.declared.fault.TraceFaultKind.TheVariants as kind
 use Rattle.sup_trace.specs.declared.lines.Lines.{Lines}
-use Rattle.sup_trace.specs.Reading.{Heard, parts_of, content_by_parts, ReadsEntry, ReadsItsEntries, ReadsLine, SpellsAlike}
+use Rattle.sup_trace.specs.Reading.{
+  Heard,
+  parts_of,
+  content_by_parts,
+  ReadsEntry,
+  ReadsItsEntries,
+  ReadsLine,
+  SpellsAlike,
+}
 
 -- The next line is read.
 abbrev pub ReadsNext : (old new : Lines) (heard more : Heard) → Type 0

@@ -25,6 +25,7 @@ pub fn traces_after_events()
 /// events.
 pub fn texts_of_traces()
     ensures read { (content : Content) → IsContent content → content_from (trace_text content) ≡ Ok content }
-    ensures content { (text : List ℕ) (content : Content) → content_from text ≡ Ok content → IsContent content × (text ≡ trace_text content) }
+    ensures content { (text : List ℕ) (content : Content) → content_from text ≡ Ok content → IsContent content
+        × (text ≡ trace_text content) }
     ensures replayed { (kept : Kept) → replay_of (content_by kept) ≡ replay kept }
 {}

@@ -283,7 +283,8 @@ fn read_lines<A: Allocator>(alloc: A, text: &[u8]) -> Result<TraceText<A>, Trace
 /// The first faulty line is reported. Want of memory for an entry is reported as a fault of its line.
 pub fn read_text<A: Allocator>(alloc: A, text: &[u8]) -> Result<TraceText<A>, TraceFault>
     ensures found { IfOk result (λ content. IsContent content × (text.now ≡ trace_text content)) }
-    ensures only { (content : Content) → IsContent content → text.now ≡ trace_text content → ReadsOrStarves result content }
+    ensures only { (content : Content) → IsContent content → text.now ≡ trace_text content
+        → ReadsOrStarves result content }
     // Which fault it is.
     ensures fault { IfErr result (λ fault. fault.kind ≢ kind.OutOfMemory → content_from text.now ≡ Err fault) }
     // Memory is wanted at an entry alone: the lines before it are read, its line is, and its event is taken there.

@@ -32,7 +32,8 @@ pub(crate) fn trace_text<A: Allocator>(
 ) -> Result<Vec<u8, A>, AllocError>
     requires few { length first.now + length second.now ≤ 65536 }
     requires events { AllByRecursion IsEvent (first.now ++ second.now) }
-    ensures text { IfOk result (λ bytes. bytes.items ≡ trace_text (content_of base.now folded (first.now ++ second.now))) }
+    ensures text { IfOk result (λ bytes. bytes.items
+        ≡ trace_text (content_of base.now folded (first.now ++ second.now))) }
     ensures state { OnOk result (IsState base.now) }
     ensures status { OnOk result (IsStatus base.now.status) }
     ensures until { OnOk result (IfSome base.now.until IsLabel) }

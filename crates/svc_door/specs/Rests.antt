@@ -15,8 +15,8 @@ sooner_of (Some one) (Some other) = Some (min one other)
 abbrev pub after : (time wait : ℕ) → ℕ
 after time wait = min (time + wait) (2 ^ 64 - 1)
 
--- A listener that gave no connection: it has none, and an event will report of the next; or the call was for nothing, and
--- is made again; or there are no descriptors or no memory for it, and it is tried again after 100 ms.
+-- A listener that gave no connection: it has none, and an event will report of the next; or the call was for nothing,
+-- and is made again; or there are no descriptors or no memory for it, and it is tried again after 100 ms.
 abbrev pub refused_until : ErrorKind → (now : ℕ) → Option ℕ
 refused_until WouldBlock now = None
 refused_until Interrupted now = Some now

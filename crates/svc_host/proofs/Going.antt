@@ -6,7 +6,18 @@ use Rattle.sup_core.specs.State.{State}
 use Rattle.tai_status.specs.declared.phase.Phase.TheVariants as phase
 use Rattle.sup_core.specs.History.{phase_of, state_of}
 use Rattle.scan_table.specs.declared.part.PartId.{PartId}
-use Rattle.svc_host.specs.Parts.{HostPart, PartGoesOn, HasPosted, GoOn, IsRead, IsNowhere, IsPlace, IsPost, IsReading, IsStep}
+use Rattle.svc_host.specs.Parts.{
+  HostPart,
+  PartGoesOn,
+  HasPosted,
+  GoOn,
+  IsRead,
+  IsNowhere,
+  IsPlace,
+  IsPost,
+  IsReading,
+  IsStep,
+}
 use Rattle.svc_host.specs.Parts.{history_of}
 
 pub stays_same : (part : HostPart) → PartGoesOn part part

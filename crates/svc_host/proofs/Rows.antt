@@ -32,7 +32,8 @@ begins slots rows label id name row part named found begun =
         opening = begun.opening
             ∙ sym (ap (λ (p : PartId). state_of (beginning part.opening (is_down p.role row) label)) begun.is);
         adopted = begun.adopted
-            ∙ sym (ap (λ (p : PartId). (state_of (beginning part.opening (is_down p.role row) label)).status.pid) begun.is);
+            ∙ sym (ap (λ (p : PartId). (state_of (beginning part.opening (is_down p.role row) label)).status.pid)
+            begun.is);
         known = begun.known;
         posted = begun.posted;
         end_bytes = begun.end_bytes;

@@ -119,8 +119,8 @@ IsSight slot role old new sight =
     × IsRead (slice_index_or old place d) part)
     × (new ≡ slice_set old place part) × (sight ≡ part_sight part))
 
--- Whether svscan may leave a pair whose output was asked to end, so that nothing of it is lost, or nothing can be saved:
--- all of it is put into the logger's input, and was read or will be, or no logger will come.
+-- Whether svscan may leave a pair whose output was asked to end, so that nothing of it is lost, or nothing can be
+-- saved: all of it is put into the logger's input, and was read or will be, or no logger will come.
 abbrev pub may_leave : (is_put is_read : Bool) → ProcessSight → Bool
 may_leave is_put is_read Lives = is_put
 may_leave is_put is_read Comes = is_put && is_read

@@ -54,8 +54,8 @@ impl Last {
     ghost use Rattle.svc_host.specs.Served.{IsServed};
     ghost use Rattle.svc_host.specs.Growth.{IsText};
 
-    /// What a reader reads once it has learnt what the writer of its station reports, whose service is gone. Where there
-    /// is no memory for it, there is no trace.
+    /// What a reader reads once it has learnt what the writer of its station reports, whose service is gone. Where
+    /// there is no memory for it, there is no trace.
     pub(crate) fn of(
         alloc: Global,
         reader: &mut Reader,

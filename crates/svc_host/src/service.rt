@@ -141,7 +141,8 @@ fn run<W: World, I: Inbox, G: Gate + Drop, R: Wait + Clock + Copy + Drop>(
     }
 }
 
-/// Opens the house of a service whose station was opened as the service begins. The world is reported what is asked then.
+/// Opens the house of a service whose station was opened as the service begins. The world is reported what is asked
+/// then.
 fn open<W: World + Drop, G: Gate + Drop>(
     world: W,
     receiver: Receiver<u8>,

@@ -14,8 +14,9 @@ use svc_station::audit::last_machine;
 use svc_station::note::Note;
 use svc_station::reader::Reader;
 
-/// What a reader reads once it has learnt a note that the writer reported when the service was gone: the machine after the
-/// whole history, and the trace of that, which replays to that machine. `AllocError` where there is no memory for the trace.
+/// What a reader reads once it has learnt a note that the writer reported when the service was gone: the machine after
+/// the whole history, and the trace of that, which replays to that machine. `AllocError` where there is no memory for
+/// the trace.
 pub fn last_reading<A: Allocator>(
     alloc: A,
     reader: &mut Reader,

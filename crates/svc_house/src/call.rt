@@ -2,7 +2,8 @@
 use sup_core::{Ask, Event};
 use tai_status::Label;
 
-/// One call of a world, with its answer. Contracts report by lists of these what a world was reported and what it answered.
+/// One call of a world, with its answer. Contracts report by lists of these what a world was reported and what it
+/// answered.
 #[derive(Clone, Copy, Debug, PartialEq, Eq)]
 pub enum Call {
     /// It was reported this ask.

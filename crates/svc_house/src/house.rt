@@ -78,8 +78,8 @@ impl<W: World, I: Inbox, G: Gate + Drop> House<W, I, G> {
     ghost use Rattle.svc_house.specs.Turn.{polls_of};
     ghost use Rattle.svc_house.specs.declared.pending.Pending.TheVariants as pending;
 
-    /// A service whose station is new. The world is reported `first`, in order, and nothing else: the asks of the machine's
-    /// begin, for a service that begins.
+    /// A service whose station is new. The world is reported `first`, in order, and nothing else: the asks of the
+    /// machine's begin, for a service that begins.
     pub fn open(world: W, inbox: I, gate: G, writer: Writer, first: Asks) -> House<W, I, G>
         requires published { published writer ≡ [] }
         requires given { I.given inbox ≡ [] }

@@ -6,9 +6,9 @@ use std::time::Duration;
 
 /// What one thread waits for, and any thread notifies.
 ///
-/// The rule of use, by which no notification is lost: who notifies has put its news first, as its type says; who waits has
-/// looked at everything since it last came back from a wait. A notification that comes between the look and the wait ends
-/// that wait at once.
+/// The rule of use, by which no notification is lost: who notifies has put its news first, as its type says; who waits
+/// has looked at everything since it last came back from a wait. A notification that comes between the look and the
+/// wait ends that wait at once.
 #[derive(Drop)]
 pub struct Notifier {
     parker: Parker,

@@ -60,8 +60,8 @@ impl<T: Copy, A: Allocator> Receiver<T, A> {
 
     /// The next letter of the mailbox's one history, after those that were taken. `None`, and nothing was taken, only
     /// if the mailbox was empty at one moment of the call, for all that the receiver knows: all letters that it has
-    /// seen, and all that a sender reported it of (`learn`), had been taken. Of letters that no one reported it of it may
-    /// believe that they are not posted yet. It takes no memory. It may wait, at any letter. After 2^62 letters it
+    /// seen, and all that a sender reported it of (`learn`), had been taken. Of letters that no one reported it of it
+    /// may believe that they are not posted yet. It takes no memory. It may wait, at any letter. After 2^62 letters it
     /// waits for ever.
     pub fn take<R: Wait>(&mut self, rt: &R) -> Option<Letter<T>>
         ensures same { IsSameReceiver self.old self.new }

@@ -124,8 +124,8 @@ impl<T: Copy, A: Allocator + Clone> Sender<T, A> {
         Note::of(&self.queue, &mut self.mark)
     }
 
-    /// Learns what the receiver reported: from now on `post` answers `Full` only where the box held as many letters as it
-    /// has room for behind those that were taken by that note.
+    /// Learns what the receiver reported: from now on `post` answers `Full` only where the box held as many letters as
+    /// it has room for behind those that were taken by that note.
     pub fn learn(&mut self, note: Note<T>)
         requires { note_home note ≡ home self.old }
         ensures same { IsSameSender self.old self.new }

@@ -14,15 +14,14 @@ use Rattle.svc_world.specs.declared.folder.FolderFault.{FolderFault}
 
 -- One call, with its answer: what the outputs of the services of these rows of a folder lacked was made, as far as it
 -- could be; a pipe was to be made, and these are its two ends, or this came of it; the output of the
--- service in the folder at a path was to be opened, and these are its ends, or this came of it; the folder at a path was
--- to be opened and locked, and was, or this came of it; this was found left of the service in the folder at a path; a
--- world was to be made over the folder at a path, reported by this name, of which this was left, with these ends of pipes as
--- standard input and output, and was, or this came of it; the part of this number was to be admitted to the door, with
--- the sockets of the folder at a path, and was, or this came of it; the part of this number was dismissed from the door,
--- and the sockets of the folder
--- at a path removed; a trace was to be kept in the folder at a path, and was or not; svscan's own folder at a path was
--- to be opened and locked, and was, or this came of it; a status record was to be written in the folder at a path, and
--- was or not; all outputs were to look after their flows.
+-- service in the folder at a path was to be opened, and these are its ends, or this came of it; the folder at a path
+-- was to be opened and locked, and was, or this came of it; this was found left of the service in the folder at a path;
+-- a world was to be made over the folder at a path, reported by this name, of which this was left, with these ends of
+-- pipes as standard input and output, and was, or this came of it; the part of this number was to be admitted to the
+-- door, with the sockets of the folder at a path, and was, or this came of it; the part of this number was dismissed
+-- from the door, and the sockets of the folder at a path removed; a trace was to be kept in the folder at a path, and
+-- was or not; svscan's own folder at a path was to be opened and locked, and was, or this came of it; a status record
+-- was to be written in the folder at a path, and was or not; all outputs were to look after their flows.
 pub data Call : Type 0 where
   Prepared : (folder : List ℕ) → (rows : List Row) → Call
   MadePipe : (ends : Result (PipeReader × LoggerInput) Cause) → Call

@@ -287,8 +287,8 @@ where
         Ok(())
     }
 
-    /// What the outputs of the services of these rows lack, in the folder that is scanned, is made at once, as far as it
-    /// can be.
+    /// What the outputs of the services of these rows lack, in the folder that is scanned, is made at once, as far as
+    /// it can be.
     fn prepare(&mut self, rows: &[DirRow])
         ensures { Prepares rows.now self.old self.new }
     {

@@ -62,8 +62,8 @@ impl<R> SystemParts<R>
 where
     R: Files + Net + Processes<Started = SystemProcess> + Wait + Clock + Copy + Drop,
 {
-    /// With a door at which parts are called, and what looks after the processes that are adopted. Its shell for signals
-    /// is started.
+    /// With a door at which parts are called, and what looks after the processes that are adopted. Its shell for
+    /// signals is started.
     pub fn new(
         runtime: R,
         files: HostRuntime,

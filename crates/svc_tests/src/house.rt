@@ -196,8 +196,8 @@ impl<A: Allocator + Clone> Stage<A> {
         wound
     }
 
-    // What the world was reported, what was pending, and what a reader reads that learnt the writer's note: the status, and
-    // how many events there were.
+    // What the world was reported, what was pending, and what a reader reads that learnt the writer's note: the status,
+    // and how many events there were.
     fn end<R: Wait + Abort>(self, rt: &R, alloc: Global) -> (Vec<Ask>, Pending, View, Option<u64>) {
         let Stage {
             house,

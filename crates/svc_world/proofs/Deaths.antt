@@ -40,7 +40,8 @@ pub finds : (pid : ℕ) (died : Death) (death : Option Death) (exit : Exit) (lab
     → ReportsDeath exit mid new → SeeksDeath pid (Some label) old new
 finds pid died death exit label old mid new death_is sought same exit_is label_is reported =
     let reports : ReportsDeath (exit_of pid died) (record old { calls = mid.calls }) new =
-    subst (λ (m : Watch). ReportsDeath (exit_of pid died) m new) same (subst (λ e. ReportsDeath e mid new) exit_is reported) in
+    subst (λ (m : Watch). ReportsDeath (exit_of pid died) m new) same
+    (subst (λ e. ReportsDeath e mid new) exit_is reported) in
     inr (record {
       died = died;
       reported = ap Some (label_is ∙ ap (λ (e : Exit). e.label) exit_is);

@@ -2,8 +2,8 @@
 use Rattle.std.specs.Prelude.{ℕ, Bool, true, false, List, [], ◌∷◌, Option}
 use Rattle.tai_status.specs.Extended.{Extended}
 
--- One call, with its answer: the shell was reported a line, and took it or did not; it was ended; another one was started,
--- or could not be.
+-- One call, with its answer: the shell was reported a line, and took it or did not; it was ended; another one was
+-- started, or could not be.
 pub data ShellCall : Type 0 where
   Sent : (line : List ℕ) → (taken : Bool) → ShellCall
   Ended : ShellCall
@@ -14,8 +14,8 @@ abbrev pub sent_anew : (line : List ℕ) (started taken : Bool) → List ShellCa
 sent_anew line false taken = []
 sent_anew line true taken = Sent line taken ∷ []
 
--- A line is reported once where the shell takes it. Where it does not, that shell is ended, another one is started, once,
--- and reported the line, once.
+-- A line is reported once where the shell takes it. Where it does not, that shell is ended, another one is started,
+-- once, and reported the line, once.
 abbrev pub line_sent : (line : List ℕ) (taken started taken_anew : Bool) → List ShellCall
 line_sent line true started taken_anew = Sent line true ∷ []
 line_sent line false started taken_anew =

@@ -173,8 +173,8 @@ abbrev pub death_recorded : Exit → Counts → (exit_written counts_written : B
 death_recorded exit counts exit_written counts_written =
     RecordedExit (exit_text exit) exit_written ∷ RecordedCounts (counts_text (one_ended counts)) counts_written ∷ []
 
--- A death is reported, and no more kept to be reported: how the child ended is recorded, once, and it is counted, and the
--- counts are recorded, once.
+-- A death is reported, and no more kept to be reported: how the child ended is recorded, once, and it is counted, and
+-- the counts are recorded, once.
 pub record ReportsDeath (exit : Exit) (old new : Watch) : Type 0 where
   pub exit_written : Bool
   pub counts_written : Bool

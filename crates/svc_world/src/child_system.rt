@@ -20,7 +20,8 @@ pub trait ChildSystem {
         ensures calls { ExtendedWhileKept (calls self.old) (calls self.new) (Spawned begin result ∷ []) }
         ensures number { IfSome result (λ pid. 0 < pid) };
 
-    /// How and when the child that was made last died, or the process that was adopted, once it has. It is reported once.
+    /// How and when the child that was made last died, or the process that was adopted, once it has. It is reported
+    /// once.
     fn death(&mut self) -> Option<Death>
         ensures calls { ExtendedWhileKept (calls self.old) (calls self.new) (SoughtDeath result ∷ []) };
 

@@ -69,8 +69,8 @@ pub(crate) fn path_of_process(pid: u32, name: &str) -> ShortPath
     path
 }
 
-/// Where the kernel's lines of processes are read. Contracts see what is reported of the process of a number, where that is
-/// known.
+/// Where the kernel's lines of processes are read. Contracts see what is reported of the process of a number, where
+/// that is known.
 pub(crate) trait StatSource {
     ghost use Rattle.std.specs.Prelude.{◌≡◌, ℕ, Option, None, IfOk, IfSome};
     ghost use Rattle.svc_world.specs.declared.stat.Stat.{Stat};

@@ -47,8 +47,8 @@ fn signal_line(name: &str, pid: u32) -> ArrayString<LINE_BYTES>
     line
 }
 
-/// Reports a line to a shell. One that does not take it is ended, and another one is started and reported it, once. Where
-/// that fails too, nothing is sent.
+/// Reports a line to a shell. One that does not take it is ended, and another one is started and reported it, once.
+/// Where that fails too, nothing is sent.
 fn send_line<S: ShellProcess>(shell: &mut S, line: &str)
     ensures { SendsLine line.now (S.calls shell.old) (S.calls shell.new) }
 {

@@ -9,4 +9,5 @@ returns-in_default-clause-first g c =
 
 pub returns-in_default-clone-clause-first : goal.returns-in_default-clone-clause-first
 returns-in_default-clone-clause-first g c =
-    starved_first c.args.folder.now _ (c.starved-in_default-clone.ensures ∙ ap starved c.fault_in-in_default-clone.ensures)
+    starved_first c.args.folder.now _ (c.starved-in_default-clone.ensures
+    ∙ ap starved c.fault_in-in_default-clone.ensures)

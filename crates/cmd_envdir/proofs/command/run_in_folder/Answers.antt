@@ -19,7 +19,7 @@ returns-in-Err g c =
               c.in-Err.ensures.missing;
           first = of_none.0;
           status_is = c.report_fault.ensures.status;
-          subject_why = subst (λ (name : List ℕ). Reports c.args.faults.now c.report_fault.new.faults
+          reported_why = subst (λ (name : List ℕ). Reports c.args.faults.now c.report_fault.new.faults
               (envdir_report c.args.dir.now c.args.program.now.program name cause)) (sym of_none.1)
               (subst (λ (program : List ℕ). Reports c.args.faults.now c.report_fault.new.faults
               (envdir_report c.args.dir.now program [] cause)) (ap (λ (child : Child). child.program) c.program.view_is)
@@ -52,12 +52,13 @@ returns g c =
               (search rules);
           first = search rules;
           status_is = c.report_fault-in-Err-run_with.ensures.status;
-          subject_why = subst (λ (name : List ℕ). Reports c.args.faults.now c.report_fault-in-Err-run_with.new.faults
+          reported_why = subst (λ (name : List ℕ). Reports c.args.faults.now c.report_fault-in-Err-run_with.new.faults
               (envdir_report c.args.dir.now c.args.program.now.program name c.in-Err-run_with.fault))
               c.refused_name-refused.ensures
               (subst (λ (program : List ℕ). Reports c.args.faults.now c.report_fault-in-Err-run_with.new.faults
               (envdir_report c.args.dir.now program c.refused_name-refused.result.now c.in-Err-run_with.fault))
-              (ap (λ (child : Child). child.program) c.program.view_is) c.report_fault-in-Err-run_with.ensures.reported);
+              (ap (λ (child : Child). child.program) c.program.view_is)
+              c.report_fault-in-Err-run_with.ensures.reported);
         };
         none = search rules;
       });

@@ -18,7 +18,7 @@ returns-in-Err g c =
               c.in-Err.ensures.missing;
           first = of_none.0;
           status_is = c.report_fault.ensures.status;
-          subject_why = subst (λ (name : List ℕ). Reports c.args.faults.now c.report_fault.new.faults
+          reported_why = subst (λ (name : List ℕ). Reports c.args.faults.now c.report_fault.new.faults
               (envdir_report c.args.dir.now [] name cause)) (sym of_none.1) c.report_fault.ensures.reported;
         };
         ran = of_none.2;
@@ -40,7 +40,8 @@ returns g c =
           read = is_read cause folder files neither.0 (search rules);
           first = search rules;
           status_is = c.report_fault-in-Err-folder_words.ensures.status;
-          subject_why = subst (λ (name : List ℕ). Reports c.args.faults.now c.report_fault-in-Err-folder_words.new.faults
+          reported_why = subst (λ
+              (name : List ℕ). Reports c.args.faults.now c.report_fault-in-Err-folder_words.new.faults
               (envdir_report c.args.dir.now [] name cause)) c.refused_name.ensures
               c.report_fault-in-Err-folder_words.ensures.reported;
         };

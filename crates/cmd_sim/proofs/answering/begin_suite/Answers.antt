@@ -5,7 +5,7 @@ use Rattle.sup_core.specs.Reading.{fields}
 use Rattle.sup_core.specs.declared.reading.EventFault.{EventFault}
 use Rattle.suite_lines.specs.declared.event.SuiteEvent.{SuiteEvent}
 use Rattle.suite_lines.specs.Reading.{suite_event_from}
-use Rattle.suite_lines.proofs.EventTexts.{read_subject}
+use Rattle.suite_lines.proofs.EventTexts.{read_spelt}
 use Rattle.suite_core.specs.Suite.{SuiteState, new_suite}
 use Rattle.cmd_sim.specs.declared.fault.NoAnswer.TheVariants as none
 use Rattle.cmd_sim.specs.Sim.{stepping}
@@ -37,7 +37,7 @@ returns-in_err-lines-clause-refused g c = λ why is.
     let passed = err_from_is_err_and c.from_residual-in_err-lines.result c.from_residual-in_err-lines.ensures.1 in
     let whole = sym passed.1 ∙ is in
     let why_is : passed.0 ≡ none.Refused why = cc whole in
-    let subject = read_subject (suite_event_from {A = g.row.A.Denot} (fields c.args.line.now)) (Ok c.in_ok-event.event)
+    let subject = read_spelt (suite_event_from {A = g.row.A.Denot} (fields c.args.line.now)) (Ok c.in_ok-event.event)
     c.in_ok-event.event c.in_ok-event.ensures.exact refl in
     ap (stepping (new_suite 0 256)) subject
     ∙ ap (λ (s : SuiteState). stepping s (Ok c.in_ok-event.event)) (sym c.in_ok-suite.ensures)
@@ -45,13 +45,13 @@ returns-in_err-lines-clause-refused g c = λ why is.
 
 pub returns-in_err-lines-clause-memory : goal.returns-in_err-lines-clause-memory
 returns-in_err-lines-clause-memory g c = λ is.
-    let subject = read_subject (suite_event_from {A = g.row.A.Denot} (fields c.args.line.now)) (Ok c.in_ok-event.event)
+    let subject = read_spelt (suite_event_from {A = g.row.A.Denot} (fields c.args.line.now)) (Ok c.in_ok-event.event)
     c.in_ok-event.event c.in_ok-event.ensures.exact refl in
     subst (λ (r : Result (SuiteEvent g.row.A.Denot) EventFault). IsOk r) (sym subject) refl
 
 pub returns-clause-ok : goal.returns-clause-ok
 returns-clause-ok g c =
-    let subject = read_subject (suite_event_from {A = g.row.A.Denot} (fields c.args.line.now)) (Ok c.in_ok-event.event)
+    let subject = read_spelt (suite_event_from {A = g.row.A.Denot} (fields c.args.line.now)) (Ok c.in_ok-event.event)
     c.in_ok-event.event c.in_ok-event.ensures.exact refl in
     ap (stepping (new_suite 0 256)) subject
     ∙ ap (λ (s : SuiteState). stepping s (Ok c.in_ok-event.event)) (sym c.in_ok-suite.ensures)

@@ -9,5 +9,10 @@ returns-in_default g c = record {
       (console c.args.reader.now c.args.writer.now c.args.faults.now)
       (console c.args.reader.now c.args.writer.now c.usage.new.faults) c.in-len1.len_below c.in-len1.len_at_least
       c.in_default.not-table
-      (record { status_is = c.usage.ensures.status; unread = refl; unwritten = refl; subject = c.usage.ensures.subject });
+      (record {
+        status_is = c.usage.ensures.status;
+        unread = refl;
+        unwritten = refl;
+        reported = c.usage.ensures.reported;
+      });
 }

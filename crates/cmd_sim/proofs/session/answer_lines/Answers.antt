@@ -3,7 +3,15 @@ use Rattle.std.proofs.lemmas.Result.{err_from_is_err_and, on_ok_weaker}
 use Rattle.tai_status.specs.LineReader.{Given}
 use Rattle.tai_status.specs.Counted.{Device, Rose}
 use Rattle.cmd_sim.specs.declared.fault.Why.TheVariants as fault
-use Rattle.cmd_sim.proofs.Steps.{SoFar-begin, SoFar-filled, SoFar-near, SoFar-kept, long_refused, read_failed, subject_as}
+use Rattle.cmd_sim.proofs.Steps.{
+  SoFar-begin,
+  SoFar-filled,
+  SoFar-near,
+  SoFar-kept,
+  long_refused,
+  read_failed,
+  refused_as,
+}
 use Rattle.cmd_sim.proofs.session.answer_lines.Goals as goal
 
 pub reads-init : goal.reads-init
@@ -94,7 +102,7 @@ returns-in-Err-TooLong-clause-refused g c = λ number why is.
     let less = c.in_ok-answer_pending.ensures.less in
     let small = c.reads.invariant.7 in
     let kept = c.in-Err-TooLong.ensures.kept in (
-      subject_as c.args.reader.now.bytes c.args.writer.now.bytes c.answer_pending.new.writer.bytes number_is why_is all,
+      refused_as c.args.reader.now.bytes c.args.writer.now.bytes c.answer_pending.new.writer.bytes number_is why_is all,
       SoFar-near number (SoFar-kept s kept.1) (omega (arith, less, small)) (sym number_is),
     )
 

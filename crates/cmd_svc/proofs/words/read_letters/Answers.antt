@@ -5,7 +5,8 @@ use Rattle.cmd_svc.proofs.words.read_letters.Goals as goal
 
 pub returns-in_err-add_all-clause-fault : goal.returns-in_err-add_all-clause-fault
 returns-in_err-add_all-clause-fault c =
-    let fault = reported_first c.args.words.now c.loop-word.word-index _ c.letters_of.result.now _ _ c.loop-word-test.true
+    let fault = reported_first c.args.words.now c.loop-word.word-index _ c.letters_of.result.now _ _
+    c.loop-word-test.true
     (sym c.if-not-is_option.ensures) c.letters_of.ensures c.loop-word.invariant.0 c.add_all.ensures.fault
     c.in_err-add_all.was in
     let passed = err_from_is_err_and c.from_residual.result c.from_residual.ensures.1 in

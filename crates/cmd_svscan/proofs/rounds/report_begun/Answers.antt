@@ -14,7 +14,8 @@ returns-in-Unserved g c =
     let new = c.report_parts.new.faults in
     let text = c.as_bytes.result.now in
     let what : text ≡ unable_to_supervise cause = search rules in
-    let reported = subst (λ (t : List ℕ). Reports old new (name_report t (codes ".svscan"))) what c.report_parts.ensures.reported in
+    let reported = subst (λ (t : List ℕ). Reports old new (name_report t (codes ".svscan"))) what
+    c.report_parts.ensures.reported in
     subst (λ (begun : Begun). ReportsAll (lines_of_begun folder begun) old new) (sym c.in-Unserved.is)
     (reports-one (name_report (unable_to_supervise cause) (codes ".svscan")) old new reported)
 

@@ -21,9 +21,11 @@ loop-name-preserved g c =
     let is : take (i + 1) names ≡ take i names ++ name ∷ [] =
     take_more names i c.name-item.result within
     ∙ ap (λ (n : List ℕ). take i names ++ n ∷ []) (sym (c.as_str.ensures ∙ c.name-item.is)) in
-    let lines : map (name_report what) (take (i + 1) names) ≡ map (name_report what) (take i names) ++ name_report what name
+    let lines : map (name_report what) (take (i + 1) names) ≡ map (name_report what) (take i names)
+    ++ name_report what name
     ∷ [] =
     ap (map (name_report what)) is ∙ map-append (name_report what) (take i names) (name ∷ []) in
     subst (λ (l : List (List ℕ)). ReportsAll l old new) (sym lines)
-    (reports-then (map (name_report what) (take i names)) (name_report what name ∷ []) old middle new c.loop-name.invariant
+    (reports-then (map (name_report what) (take i names))
+    (name_report what name ∷ []) old middle new c.loop-name.invariant
     (reports-one (name_report what name) middle new reported))

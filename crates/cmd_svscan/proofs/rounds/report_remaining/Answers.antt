@@ -23,8 +23,10 @@ loop-remaining-preserved g c =
     (subst (λ (n : List ℕ). Reports middle new (name_report text n)) name c.report_parts.ensures.reported) in
     let is : take (i + 1) all ≡ take i all ++ item ∷ [] = take_more all i item within
     ∙ ap (λ (u : Remaining). take i all ++ u ∷ []) (sym c.remaining-item.is) in
-    let lines : map remaining_report (take (i + 1) all) ≡ map remaining_report (take i all) ++ remaining_report item ∷ [] =
+    let lines : map remaining_report (take (i + 1) all) ≡ map remaining_report (take i all)
+    ++ remaining_report item ∷ [] =
     ap (map remaining_report) is ∙ map-append remaining_report (take i all) (item ∷ []) in
     subst (λ (l : List (List ℕ)). ReportsAll l old new) (sym lines)
-    (reports-then (map remaining_report (take i all)) (remaining_report item ∷ []) old middle new c.loop-remaining.invariant
+    (reports-then (map remaining_report (take i all))
+    (remaining_report item ∷ []) old middle new c.loop-remaining.invariant
     (reports-one (remaining_report item) middle new reported))

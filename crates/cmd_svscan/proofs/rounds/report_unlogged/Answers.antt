@@ -26,5 +26,6 @@ loop-unlogged-preserved g c =
     let lines : map unlogged_report (take (i + 1) all) ≡ map unlogged_report (take i all) ++ unlogged_report item ∷ [] =
     ap (map unlogged_report) is ∙ map-append unlogged_report (take i all) (item ∷ []) in
     subst (λ (l : List (List ℕ)). ReportsAll l old new) (sym lines)
-    (reports-then (map unlogged_report (take i all)) (unlogged_report item ∷ []) old middle new c.loop-unlogged.invariant
+    (reports-then (map unlogged_report (take i all))
+    (unlogged_report item ∷ []) old middle new c.loop-unlogged.invariant
     (reports-one (unlogged_report item) middle new reported))

@@ -27,4 +27,5 @@ loop-folder-preserved g c =
     c.report_parts.ensures.reported) in
     subst (λ (done : List (List ℕ)). InTurn (ReportsOver c.args.goal) done old new)
     (sym (taken-one now left i nowhere within))
-    (in_turn-then (ReportsOver c.args.goal) (map now (take i left)) folder old middle new c.loop-folder.invariant reported)
+    (in_turn-then (ReportsOver c.args.goal) (map now (take i left)) folder old middle new c.loop-folder.invariant
+    reported)

@@ -9,6 +9,10 @@ returns-in-Err g c =
       ends = inr (record {
         order = order options.goal options.limit (texts options.services.now);
         asks = c.in-Some.ensures.asks;
-        waits = inl (record { status_is = c.report.ensures.status; unasked = refl; reported = c.report.ensures.reported });
+        waits = inl (record {
+          status_is = c.report.ensures.status;
+          unasked = refl;
+          reported = c.report.ensures.reported;
+        });
       });
     }

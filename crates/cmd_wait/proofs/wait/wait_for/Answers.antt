@@ -37,7 +37,8 @@ returns-in-Err g c =
     let failure = c.in-Err.failure in
     let reported : Reports c.args.faults.now c.report_failure.new.faults
     (report_of failure.folder.now (fault_note failure.fault)) =
-    subst (λ (d : Device). Reports d c.report_failure.new.faults (report_of failure.folder.now (fault_note failure.fault)))
+    subst (λ (d : Device). Reports d c.report_failure.new.faults
+    (report_of failure.folder.now (fault_note failure.fault)))
     c.loop.invariant.1 c.report_failure.ensures.reported in
     way-ends o c.now-begin.result c.report_failure.result (sight (calls c.args.services.now) (steps c.args.pace.now))
     (watched c.loop.watch (sight (calls c.loop.services) (steps c.loop.pace)))

@@ -16,13 +16,17 @@ pub returns : goal.returns
 returns g c =
     let content = c.args.content.now in
     let now = c.args.now.now in
-    let from : c.nanos-from.result ≡ nanos (left_end content now) = cc (c.nanos-from.ensures.value, c.left_end.ensures) in
+    let from : c.nanos-from.result ≡ nanos (left_end content now) = cc (
+      c.nanos-from.ensures.value,
+      c.left_end.ensures,
+    ) in
     let until : c.nanos-until.result ≡ nanos now = c.nanos-until.ensures.value in
     let wide : c.width-width.result ≡ width (nanos (left_end content now)) (nanos now) =
     cc (from, until, c.width-width.ensures.value) in
     let shown : c.shown_before.result ≡ shown_before content.base.status =
     cc (c.shown_before.ensures, c.view.ensures.view, c.base-base.ensures) in
-    let drawn : c.in_ok-drawn.drawn.items ≡ stretches_of content c.args.leads (nanos (left_end content now)) (nanos now) =
+    let drawn : c.in_ok-drawn.drawn.items ≡ stretches_of content c.args.leads (nanos (left_end content now))
+    (nanos now) =
     cc (c.in_ok-drawn.ensures, from, until, wide, shown, c.base-base.ensures, c.entries.ensures.entries) in
     let all : c.bar.result.bytes ≡ bar_of content c.args.leads now =
     cc (c.bar.ensures, from, wide, drawn, c.deref.ensures.value) in

@@ -22,7 +22,8 @@ returns-clause-runs g c =
       done = tt;
       read = λ is.
           let visible = runs.came (fault_moved _ _ is) in
-          runs_lines c.args.script.now _ _ _ _ _ _ c.in-Ok.router c.run_lines.new.router visible.0 visible.1 opened visible.2
+          runs_lines c.args.script.now _ _ _ _ _ _ c.in-Ok.router c.run_lines.new.router visible.0 visible.1 opened
+          visible.2
           visible.3;
       store = λ is. runs_up_to c.args.script.now _ _ _ _ _ _ c.in-Ok.router c.run_lines.new.router _ _ opened (λ e. cc)
           (runs.store (fault_moved _ _ is));

@@ -5,14 +5,16 @@ use Rattle.scan_table.proofs.row.check_order.Goals as goal
 
 pub returns-in-Equal-clause-exact : goal.returns-in-Equal-clause-exact
 returns-in-Equal-clause-exact g c =
-    sym (order-reported c.args.rows.now c.loop-place.place c.index-rows-place.result c.index-rows-place-in-loop-place.result
+    sym (order-reported c.args.rows.now c.loop-place.place c.index-rows-place.result
+    c.index-rows-place-in-loop-place.result
     c.name.result.now c.name-in-loop-place.result.now c.cmp.result Equal
     c.loop-place.invariant.above c.loop-place-test.true c.index-rows-place.is c.index-rows-place-in-loop-place.is
     c.name.ensures c.name-in-loop-place.ensures c.cmp.ensures c.in-Equal.is c.loop-place.invariant.left)
 
 pub returns-in-Greater-clause-exact : goal.returns-in-Greater-clause-exact
 returns-in-Greater-clause-exact g c =
-    sym (order-reported c.args.rows.now c.loop-place.place c.index-rows-place.result c.index-rows-place-in-loop-place.result
+    sym (order-reported c.args.rows.now c.loop-place.place c.index-rows-place.result
+    c.index-rows-place-in-loop-place.result
     c.name.result.now c.name-in-loop-place.result.now c.cmp.result Greater
     c.loop-place.invariant.above c.loop-place-test.true c.index-rows-place.is c.index-rows-place-in-loop-place.is
     c.name.ensures c.name-in-loop-place.ensures c.cmp.ensures c.in-Greater.is c.loop-place.invariant.left)

@@ -8,7 +8,8 @@ pub returns-in_err-byte-clause-exact : goal.returns-in_err-byte-clause-exact
 returns-in_err-byte-clause-exact c =
     let text = c.args.text.now in
     let none : None ≡ byte_of_text text =
-    none_spelt (SpellsByte text) _ (byte_of_text-found text) λ byte h. let e = c.in_err-byte.ensures byte h.below h.is in
+    none_spelt (SpellsByte text) _ (byte_of_text-found text) λ byte h. let e = c.in_err-byte.ensures byte h.below h.is
+    in
     cc e in
     cc none
 

@@ -43,7 +43,8 @@ loop-place-preserved g c =
     record {
       machine = state ∙ ap state_of (sym entry.next_is);
       none = below_more (λ n. ¬ BreaksAt content c.args.at n) place c.loop-place.invariant.none
-          (no_break content c.args.at place event entry (λ breaks. true≢false (sym (met.1 breaks) ∙ c.if-is_met.false)));
+          (no_break content c.args.at place event entry (λ breaks. true≢false (sym (met.1 breaks)
+          ∙ c.if-is_met.false)));
     }
 
 pub returns : goal.returns

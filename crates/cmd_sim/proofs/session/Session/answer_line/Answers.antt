@@ -9,19 +9,19 @@ use Rattle.cmd_sim.proofs.session.Session.answer_line.Goals as goal
 pub returns-in-Err-clause-refused : goal.returns-in-Err-clause-refused
 returns-in-Err-clause-refused g c = λ number why is past stands.
     let same : c.give_up.result ≡ fault.Refused number why = cc is in
-    c.in-Err.ensures.refused why (ap Err (c.give_up.ensures.subject number why same).1) past stands
+    c.in-Err.ensures.refused why (ap Err (c.give_up.ensures.refused number why same).1) past stands
 
 pub returns-in-Err-clause-refused_wrote : goal.returns-in-Err-clause-refused_wrote
 returns-in-Err-clause-refused_wrote g c = λ number why is.
     let same : c.give_up.result ≡ fault.Refused number why = cc is in (
-      (c.give_up.ensures.subject number why same).0 ∙ ap (λ (n : ℕ). n + 1) c.in-Err.ensures.count,
+      (c.give_up.ensures.refused number why same).0 ∙ ap (λ (n : ℕ). n + 1) c.in-Err.ensures.count,
       subst (λ (t : List ℕ). Wrote c.args.writer.now c.give_up.new.writer t) c.in-Err.ensures.waiting
-          (c.give_up.ensures.reported_wrote number why same),
+          (c.give_up.ensures.refused_wrote number why same),
     )
 
 pub returns-in-Err-clause-refused_works : goal.returns-in-Err-clause-refused_works
 returns-in-Err-clause-refused_works g c = λ number why is.
-    let same : c.give_up.result ≡ fault.Refused number why = cc is in c.give_up.ensures.reported_works number why same
+    let same : c.give_up.result ≡ fault.Refused number why = cc is in c.give_up.ensures.refused_works number why same
 
 pub returns-in-Err-clause-memory : goal.returns-in-Err-clause-memory
 returns-in-Err-clause-memory g c = λ is.

@@ -32,7 +32,8 @@ returns-then-len-ge-MAX_CAPACITY-clause-fault g c = λ other.
 pub returns-then-not-takes-clause-fault : goal.returns-then-not-takes-clause-fault
 returns-then-not-takes-clause-fault g c = λ other.
     entry_held _ c.args.self.now c.in-Ok.event _ c.self.view_is c.in-Ok.ensures.exact (omega arith)
-    (machine_takes (content_of c.self.inside.base c.self.inside.folded c.self.inside.entries.items) _ _ _ c.self.invariant
+    (machine_takes (content_of c.self.inside.base c.self.inside.folded c.self.inside.entries.items) _ _ _
+    c.self.invariant
     c.if-not-takes.ensures.taken)
 
 pub returns-in-Err-push-clause-fault : goal.returns-in-Err-push-clause-fault
@@ -41,13 +42,15 @@ returns-in-Err-push-clause-fault g c = λ other. absurd (other refl)
 pub returns-in-Err-push-clause-memory : goal.returns-in-Err-push-clause-memory
 returns-in-Err-push-clause-memory g c = λ memory.
     adds_entry _ c.args.self.now c.in-Ok.event _ c.self.view_is c.in-Ok.ensures.exact (omega arith)
-    (machine_takes (content_of c.self.inside.base c.self.inside.folded c.self.inside.entries.items) _ _ _ c.self.invariant
+    (machine_takes (content_of c.self.inside.base c.self.inside.folded c.self.inside.entries.items) _ _ _
+    c.self.invariant
     c.if-not-takes.ensures.taken)
 
 pub returns-clause-ok : goal.returns-clause-ok
 returns-clause-ok g c =
     entry_taken _ c.args.self.now c.in-Ok.event _ c.push.new.self.items c.self.view_is c.in-Ok.ensures.exact
     (omega arith)
-    (machine_takes (content_of c.self.inside.base c.self.inside.folded c.self.inside.entries.items) _ _ _ c.self.invariant
+    (machine_takes (content_of c.self.inside.base c.self.inside.folded c.self.inside.entries.items) _ _ _
+    c.self.invariant
     c.if-not-takes.ensures.taken)
     c.in-Ok-push.ensures.items

@@ -7,5 +7,6 @@ pub returns : goal.returns
 returns g c =
     let ends = c.post.ensures in
     rw (sym c.self.view_is)
-    (posts_or_not _ _ (sender_in c.self.inside.sender) (sender_in c.post.new.self) c.args.byte c.post.result refl ends.same
+    (posts_or_not _ _ (sender_in c.self.inside.sender) (sender_in c.post.new.self) c.args.byte c.post.result refl
+    ends.same
     ends.posted ends.unposted ends.unseen ends.unheard ends.full)

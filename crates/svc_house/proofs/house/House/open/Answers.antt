@@ -7,7 +7,8 @@ pub invariant_of-result : goal.invariant_of-result
 invariant_of-result g c =
     let asks = c.as_slice.result.now in record {
       bytes = ap (λ l. bytes_in (l ++ [])) c.requires.published ∙ sym c.requires.given;
-      outcomes = answers-extended (g.W.World.calls c.args.world) (g.W.World.calls c.request.new.world) (requested asks) [] _
+      outcomes = answers-extended (g.W.World.calls c.args.world) (g.W.World.calls c.request.new.world)
+          (requested asks) [] _
           c.request.ensures
           (answered-none (g.W.World.calls c.args.world) c.requires.answered)
           (ap (λ l. outcomes_in (l ++ [])) c.requires.published ∙ sym (answers_in-requested asks));
