@@ -1,4 +1,4 @@
-"""lanes.py: runs the kit's own `rt ci` in this folder, and reports it which crate to take next, and on how many processors.
+"""lanes.py: runs the kit's own `rt ci` in this folder, and says which crate comes next, and on how many processors.
 
 `rt ci` goes by the lines of the crates. Here it goes by the seconds that each took, measured, so that what the most work
 waits for comes first; and that crate gets as many processors as its share of all that is left: the others have the rest.
