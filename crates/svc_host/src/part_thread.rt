@@ -134,9 +134,9 @@ fn read_last(
     ensures kept { writer.new ≡ writer.old }
     ensures trace { option_map (λ _. trace_at reader.new) result.1 ≡ result.1 }
 {
-    match last_reading(alloc, reader, writer.report()) {
+    match last_reading(alloc, reader, writer.tell()) {
         Ok((machine, trace)) => (machine, Some(trace)),
-        Err(_refused) => (last_machine(reader, writer.report()), None),
+        Err(_refused) => (last_machine(reader, writer.tell()), None),
     }
 }
 

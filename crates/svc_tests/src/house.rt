@@ -210,7 +210,7 @@ impl<A: Allocator + Clone> Stage<A> {
             readers,
         } = self;
         let (world, _inbox, mut writer, pending) = house.take_apart();
-        reader.learn(writer.report());
+        reader.learn(writer.tell());
         let count = match reader.trace(alloc) {
             Ok(text) => Some(text.folded() + text.entries().len() as u64),
             Err(_refused) => None,
@@ -298,7 +298,7 @@ fn wind_up_twice<A: Allocator + Clone, R: Wait>(
     let (refused, tried) = wind_up_gone(rt, limited, house, mailbox, senders);
     match tried {
         Ok((_world, mut writer, letters)) => {
-            let note = writer.report();
+            let note = writer.tell();
             match last_reading(alloc, reader, note) {
                 Ok((machine, trace)) => {
                     let wound = Wound {

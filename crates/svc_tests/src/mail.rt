@@ -87,9 +87,9 @@ fn each_growth_is_refused_in_turn(rt: HostRuntime) -> Result<(), Fail> {
         assert_eq!(rt; first.post(&rt, b't'), Ok(()));
         assert_eq!(rt; second.post(&rt, b'd'), Ok(()));
         assert_eq!(rt; first.post(&rt, b'k'), Err(Full(b'k')));
-        receiver.learn(second.report());
+        receiver.learn(second.tell());
         assert_eq!(rt; receiver.take(&rt), Some(letters[0]));
-        first.learn(receiver.report());
+        first.learn(receiver.tell());
         memory.give(growths);
         let left = close_two(
             &rt,

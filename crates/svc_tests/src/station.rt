@@ -101,7 +101,7 @@ fn readers_read_what_was_published(rt: HostRuntime) {
     let text = answer_text(&taken, writer.machine().phase());
     let wanted = "took record:400000000000000a000000000000000000750000 start -> starting";
     assert_eq!(rt; text.as_str(), wanted);
-    first.learn(writer.report());
+    first.learn(writer.tell());
     let held = writer.publish(&rt, Event::Byte(b'u')).expect(&rt, "room");
     assert!(rt; matches!(&held, Reply::Held));
     trace_growth_by_growth(&rt, rt.alloc(), &mut first);
@@ -202,7 +202,7 @@ fn a_reader_reads_beside_the_thread_that_publishes(rt: HostRuntime) {
     let (mut writer, rose) = publish_beside(rt, rt.alloc(), writer, &mut first, 1000);
     assert!(rt; rose);
     begins_what_was_published(&rt, &first, &mut writer);
-    first.learn(writer.report());
+    first.learn(writer.tell());
     for (_view, count) in [read(&mut first, rt.alloc()), read(&mut second, rt.alloc())] {
         assert_eq!(rt; count, Some(2000));
     }
