@@ -105,19 +105,17 @@ module _ (old mid new : Option (List Call)) (ids : List PartId) (back : GivenBac
             (one_is_set back.given ids back.returned id back.given_back);
       }
 
-pub begun_none : (slots : List SlotState) (rows : List Row) (label : Tai64n) (parts : List HostPart)
-    (calls : Option (List Call))
-    → AreBegun slots rows label [] (record { parts = parts; failed = []; calls = calls })
-    (record { parts = parts; failed = []; calls = calls })
-begun_none slots rows label parts calls =
+pub begun_none : (slots : List SlotState) (rows : List Row) (label : Tai64n) (so_far : Beginnings)
+    → so_far.failed ≡ [] → AreBegun slots rows label [] so_far so_far
+begun_none slots rows label so_far none =
     record {
       begun = [];
-      parts = sym (append-nil parts);
+      parts = sym (append-nil so_far.parts);
       each = (λ k d less. absurd (omega (arith, less)));
-      parted = record { flags = []; each = refl; set = refl; not_set = refl };
+      parted = record { flags = []; each = refl; set = refl; not_set = none };
       given = [];
       returned = [];
-      hands = hands-none calls;
+      hands = hands-none so_far.calls;
       given_back = record { flags = []; each = refl; set = refl; not_set = refl };
     }
 
@@ -180,13 +178,22 @@ module _ (slots : List SlotState) (rows : List Row) (label : Tai64n) (done : Lis
       failed_more parts failed
       (back_one old.calls mid.calls new.calls (map id_of before.begun) back_before id one)
 
--- the same, said of what is equal
+-- the same, said of what is equal, and of what failed before nothing
 pub begun_as : (slots slots' : List SlotState) (rows : List Row) (label : Tai64n) (ids ids' : List PartId)
-    (olds olds' : List HostPart) (calls : Option (List Call)) (new : Beginnings)
-    → AreBegun slots rows label ids (record { parts = olds; failed = []; calls = calls }) new
-    → slots ≡ slots' → ids ≡ ids' → olds ≡ olds'
-    → AreBegun slots' rows label ids' (record { parts = olds'; failed = []; calls = calls }) new
-begun_as slots slots' rows label ids ids' olds olds' calls new begun a b c =
-    subst (λ s. AreBegun s rows label ids' (record { parts = olds'; failed = []; calls = calls }) new) a
-    (subst (λ p. AreBegun slots rows label p (record { parts = olds'; failed = []; calls = calls }) new) b
-    (subst (λ o. AreBegun slots rows label ids (record { parts = o; failed = []; calls = calls }) new) c begun))
+    (olds : List HostPart) (old new : Beginnings)
+    → AreBegun slots rows label ids old new → slots ≡ slots' → ids ≡ ids' → old.parts ≡ olds
+    → AreBegun slots' rows label ids' (record { parts = olds; failed = []; calls = old.calls }) new
+begun_as slots slots' rows label ids ids' olds old new begun a b c =
+    subst (λ s. AreBegun s rows label ids' (record { parts = olds; failed = []; calls = old.calls }) new) a
+    (subst (λ p. AreBegun slots rows label p (record { parts = olds; failed = []; calls = old.calls }) new) b
+    (subst (λ o. AreBegun slots rows label ids (record { parts = o; failed = []; calls = old.calls }) new) c
+    (record {
+      begun = begun.begun;
+      parts = begun.parts;
+      each = begun.each;
+      parted = begun.parted;
+      given = begun.given;
+      returned = begun.returned;
+      hands = begun.hands;
+      given_back = begun.given_back;
+    })))

@@ -1,7 +1,6 @@
 -- Threads that are joined, one part after the other.
 use Rattle.std.proofs.Common.{◌≡◌, ℕ, zero, suc, ◌<◌, ◌≤◌, Bool, true, false, List, [], ◌∷◌, ◌++◌, length, refl, sym}
 use Rattle.std.proofs.Common.{ap, ◌∙◌, subst, arith, slice_index_or}
-use Rattle.std.specs.Prelude.{MatchBool}
 use Rattle.std.proofs.lemmas.List.{append-nil}
 use Rattle.std.proofs.lemmas.List.Elements.{All-append}
 use Rattle.scan_table.specs.Table.{after_end}
@@ -65,10 +64,11 @@ module _ (old mid new : HostState) (place : ℕ) (within : place < length old.pa
   }
 
   pub collected_next : (joined : Bool)
-      → MatchBool joined ((d : HostPart) → new.table ≡ after_end mid.table (slice_index_or mid.parts place d).id)
-      (new.table ≡ mid.table)
+      → (joined ≡ true → (d : HostPart) → new.table ≡ after_end mid.table (slice_index_or mid.parts place d).id)
+      → (joined ≡ false → new.table ≡ mid.table)
       → (joined ≡ true → (d : HostPart) → (slice_index_or mid.parts place d).has_ended ≡ false)
       → ((d : HostPart) → HandsOut mid.calls new.calls [] (returned_by joined (slice_index_or mid.parts place d).id))
       → AreCollected old new
-  collected_next true table ran returned = joined_one (table step.part) (ran refl step.part) (returned step.part)
-  collected_next false table ran returned = joined_none table (returned step.part)
+  collected_next true ended table ran returned =
+      joined_one (ended refl step.part) (ran refl step.part) (returned step.part)
+  collected_next false ended table ran returned = joined_none (table refl) (returned step.part)

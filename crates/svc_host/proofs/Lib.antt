@@ -7,5 +7,4 @@ pub mod Going
 pub mod OneReader
 pub mod Rows
 pub mod Tables
-pub mod LastReading
 pub mod Stepping

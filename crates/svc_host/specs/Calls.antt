@@ -1,8 +1,9 @@
 -- What the maker of parts was asked, and what came of it.
 use Rattle.std.specs.Prelude.{◌≡◌, ◌≢◌, ◌⊎◌, ⊤, ℕ, ◌==◌, Bool, true, false, List, [], ◌∷◌, ◌++◌, not, length, map}
-use Rattle.std.specs.Prelude.{Option, Some, None}
+use Rattle.std.specs.Prelude.{Option, Some, None, Vec}
 use Rattle.std.specs.List.{filter, list_any}
 use Rattle.scan_table.specs.declared.part.PartId.{PartId}
+use Rattle.scan_table.specs.Table.{TableState, has_log, slot_at}
 use Rattle.sup_trace.specs.Text.{trace_text}
 use Rattle.svc_house.specs.Calls.{ExtendedWhileKept}
 use Rattle.svc_host.specs.declared.maker.PartFault.{PartFault}
@@ -98,10 +99,16 @@ StartsPair slot (Some fault) olds news old new =
     (has_pair slot olds ≡ false) × (news ≡ olds) × AsksPair slot fault old new
 
 -- The threads of a slot are to run where it is a pair. Of another slot nothing is asked.
-abbrev pub StartsIfPair : (is_pair : Bool) → (slot : ℕ) → (fault : Option PartFault) → (olds news : List Pair)
+abbrev pub StartsWhere : (is_pair : Bool) → (slot : ℕ) → (fault : Option PartFault) → (olds news : List Pair)
     → (old new : Option (List Call)) → Type 0
-StartsIfPair true slot fault olds news old new = StartsPair slot fault olds news old new
-StartsIfPair false slot fault olds news old new = (fault ≡ None) × (news ≡ olds) × (new ≡ old)
+StartsWhere true slot fault olds news old new = StartsPair slot fault olds news old new
+StartsWhere false slot fault olds news old new = (fault ≡ None) × (news ≡ olds) × (new ≡ old)
+
+-- the same of a slot of this table
+abbrev pub StartsIfPair : {A : Type 0} → TableState → (slot : ℕ) → (fault : Option PartFault)
+    → (olds news : Vec Pair A) → (old new : Option (List Call)) → Type 0
+StartsIfPair table slot fault olds news old new =
+    StartsWhere (has_log (slot_at table.slots slot)) slot fault olds.items news.items old new
 
 -- Traces
 

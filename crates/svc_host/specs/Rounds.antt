@@ -10,6 +10,7 @@ use Rattle.scan_table.specs.Slots.{Row, SlotState}
 use Rattle.scan_table.specs.Order.{scan_refusal}
 use Rattle.scan_table.specs.Scan.{starts, restarts, drops, refused}
 use Rattle.scan_table.specs.Table.{TableState, after_end, scanned}
+use Rattle.svc_host.specs.declared.host.Begun.{Begun}
 use Rattle.svc_host.specs.declared.host.HostOut.{HostOut}
 use Rattle.svc_host.specs.declared.host.Unmade.{Unmade}
 use Rattle.svc_house.specs.Calls.{ExtendedWhileKept}
@@ -22,9 +23,6 @@ pub record HostState : Type 0 where
   pub table : TableState
   pub parts : List HostPart
   pub calls : Option (List Call)
-
-abbrev pub host_of : TableState → List HostPart → Option (List Call) → HostState
-host_of table parts calls = record { table = table; parts = parts; calls = calls }
 
 -- a table after these parts have ended
 abbrev pub after_ends : List PartId → TableState → TableState
@@ -77,8 +75,9 @@ pub record Beginnings : Type 0 where
   pub failed : List PartId
   pub calls : Option (List Call)
 
-abbrev pub beginnings : List HostPart → List Unmade → Option (List Call) → Beginnings
-beginnings parts failed calls = record { parts = parts; failed = unmade_ids failed; calls = calls }
+abbrev pub beginnings : {R : Type 0} → Begun R → Option (List Call) → Beginnings
+beginnings begun calls =
+    record { parts = begun.parts.items; failed = unmade_ids begun.failed.items; calls = calls }
 
 -- Of the parts that a scan began each is there now, or failed. Of those for which resources were handed out each is
 -- there, or its resources were given back, once.
@@ -101,6 +100,17 @@ IsBegunOne slots rows label id old new =
     × HandsOut old.calls new.calls (id ∷ []) [])
     ⊎ ((new.parts ≡ old.parts) × (new.failed ≡ old.failed ++ id ∷ [])
     × (HandsOutNone old.calls new.calls ⊎ HandsOut old.calls new.calls (id ∷ []) (id ∷ [])))
+
+-- the same of what a scan has begun so far, and of what its maker was asked
+abbrev pub BeginsAll : {R : Type 0} → List SlotState → List Row → Tai64n → List PartId → (old new : Begun R)
+    → (asked now_asked : Option (List Call)) → Type 0
+BeginsAll slots rows label ids old new asked now_asked =
+    AreBegun slots rows label ids (beginnings old asked) (beginnings new now_asked)
+
+abbrev pub BeginsOne : {R : Type 0} → List SlotState → List Row → Tai64n → PartId → (old new : Begun R)
+    → (asked now_asked : Option (List Call)) → Type 0
+BeginsOne slots rows label id old new asked now_asked =
+    IsBegunOne slots rows label id (beginnings old asked) (beginnings new now_asked)
 
 -- what the maker was asked once it knows of each slot that was dropped
 abbrev pub Forgets : (dropped : List ℕ) → (old new : Option (List Call)) → Type 0

@@ -2,7 +2,6 @@
 ghost use Rattle.std.specs.Prelude.{◌≡◌, ◌≤◌, ◌<◌, [], ◌∷◌, IfOk, MatchBool, Some, length};
 ghost use Rattle.std.specs.Result.{result_err};
 ghost use Rattle.svc_house.specs.Calls.{ExtendedWhileKept};
-ghost use Rattle.scan_table.specs.Table.{has_log, slot_at};
 ghost use Rattle.svc_host.specs.Calls.{AsksPart, ForgotSlot, HandsOutNone, HandsOutOne, HandsTrace, KeptTrace};
 ghost use Rattle.svc_host.specs.Calls.{StartsIfPair, StartsPair, has_pair, pairs_without};
 ghost use Rattle.svc_left.specs.Opening.{beginning};
@@ -184,8 +183,8 @@ impl<M: Maker + Drop, R: Threads + Wait + Clock + Copy + Drop + Send + 'static> 
 
     // The threads of the pair in a slot run now, where it is one, or can't be made.
     fn start_if_pair(&mut self, table: &ScanTable, name: &str, slot: u64) -> Result<(), PartFault>
-        ensures starts { StartsIfPair (has_log (slot_at table.now.slots slot)) slot (result_err result)
-            self.old.pairs.items self.new.pairs.items (M.calls self.old.maker) (M.calls self.new.maker) }
+        ensures starts { StartsIfPair table.now slot (result_err result) self.old.pairs self.new.pairs
+            (M.calls self.old.maker) (M.calls self.new.maker) }
         ensures hands { HandsOutNone (M.calls self.old.maker) (M.calls self.new.maker) }
     {
         if table.is_pair(slot) {

@@ -1,15 +1,14 @@
 //! The host of all services.
-ghost use Rattle.std.specs.Prelude.{◌≡◌, ◌+◌, ◌-◌, ◌≤◌, ◌++◌, ◌<◌, [], None, true, false};
-ghost use Rattle.std.specs.Prelude.{IfOk, OnOk, MatchBool, IfErr, OnErr, length, slice_index_or, vec_len, vec_capacity};
+ghost use Rattle.std.specs.Prelude.{◌≡◌, ◌+◌, ◌-◌, ◌≤◌, ◌++◌, ◌<◌, [], None};
+ghost use Rattle.std.specs.Prelude.{IfOk, OnOk, length, slice_index_or, vec_len, vec_capacity};
 ghost use Rattle.scan_table.specs.Scan.{AreRising};
 ghost use Rattle.scan_table.specs.Order.{scan_refusal};
-ghost use Rattle.scan_table.specs.Table.{after_end, scanned};
-ghost use Rattle.svc_host.specs.Calls.{GivesBack, HandsOut, HandsOutNone, returned_by};
+ghost use Rattle.scan_table.specs.Table.{scanned};
+ghost use Rattle.svc_host.specs.Calls.{GivesBack, HandsOutNone};
 ghost use Rattle.svc_host.specs.Ending.{EndSteps, IsEndStep};
 ghost use Rattle.svc_host.specs.Outputs.{EndsInput, EndsOutput};
 ghost use Rattle.svc_host.specs.Parts.{GoOn, HostPart, IsJoined, IsStep, PartGoesOn};
-ghost use Rattle.svc_host.specs.Rounds.{AreBegun, AreCollected, Forgets, IsBegunOne, IsCause, IsScan, IsScanned};
-ghost use Rattle.svc_host.specs.Rounds.{after_ends, beginnings, host_of, staying, unmade_ids};
+ghost use Rattle.svc_host.specs.Rounds.{BeginsAll, BeginsOne, Forgets, IsScan, after_ends, staying, unmade_ids};
 
 use crate::ending::{lives, may_leave};
 use crate::ends::open_box;
@@ -23,6 +22,7 @@ use crate::shared::Activity;
 use scan_table::{DirRow, PartId, Role, ScanFault, ScanOut, ScanTable};
 use std::alloc::{AllocError, Global};
 use std::marker::Model;
+use std::mem;
 use std::sync::{Arc, Wait};
 use std::thread::Threads;
 use std::time::{Clock, Duration};
@@ -145,6 +145,13 @@ fn take_away<M: Maker + Drop, R: Threads + Wait + Clock + Copy + Drop + Send + '
     }
 }
 
+/// The parts that are there, and those of a scan that could not be made.
+#[derive(Drop)]
+struct Begun<R: Wait + Drop> {
+    parts: Vec<Part<R>>,
+    failed: Vec<Unmade>,
+}
+
 /// Begins a part, or notes that it can't be made.
 fn begin_one<M: Maker + Drop, R: Threads + Wait + Clock + Copy + Drop + Send + 'static>(
     factory: &mut PartFactory<M, R>,
@@ -152,23 +159,21 @@ fn begin_one<M: Maker + Drop, R: Threads + Wait + Clock + Copy + Drop + Send + '
     rows: &[DirRow],
     label: Label,
     id: PartId,
-    parts: &mut Vec<Part<R>>,
-    failed: &mut Vec<Unmade>,
+    begun: &mut Begun<R>,
 )
     requires rising { AreRising rows.now }
-    requires parts_room { vec_len parts.old < vec_capacity parts.old }
-    requires failed_room { vec_len failed.old < vec_capacity failed.old }
-    ensures begun { IsBegunOne table.now.slots rows.now label id
-        (beginnings parts.old.items failed.old.items (M.calls factory.old.maker))
-        (beginnings parts.new.items failed.new.items (M.calls factory.new.maker)) }
-    ensures parts_len { vec_len parts.new ≤ vec_len parts.old + 1 }
-    ensures failed_len { vec_len failed.new ≤ vec_len failed.old + 1 }
-    ensures parts_room { vec_capacity parts.new ≡ vec_capacity parts.old }
-    ensures failed_room { vec_capacity failed.new ≡ vec_capacity failed.old }
+    requires parts_room { vec_len begun.old.parts < vec_capacity begun.old.parts }
+    requires failed_room { vec_len begun.old.failed < vec_capacity begun.old.failed }
+    ensures begun { BeginsOne table.now.slots rows.now label id begun.old begun.new
+        (M.calls factory.old.maker) (M.calls factory.new.maker) }
+    ensures parts_len { vec_len begun.new.parts ≤ vec_len begun.old.parts + 1 }
+    ensures failed_len { vec_len begun.new.failed ≤ vec_len begun.old.failed + 1 }
+    ensures parts_room { vec_capacity begun.new.parts ≡ vec_capacity begun.old.parts }
+    ensures failed_room { vec_capacity begun.new.failed ≡ vec_capacity begun.old.failed }
 {
     match factory.begin(table, rows, label, id) {
-        Ok(part) => parts.push_reserved(part),
-        Err(fault) => failed.push_reserved(Unmade { part: id, fault }),
+        Ok(part) => begun.parts.push_reserved(part),
+        Err(fault) => begun.failed.push_reserved(Unmade { part: id, fault }),
     }
 }
 
@@ -179,19 +184,17 @@ fn begin_all<M: Maker + Drop, R: Threads + Wait + Clock + Copy + Drop + Send + '
     rows: &[DirRow],
     label: Label,
     ids: &[PartId],
-    parts: &mut Vec<Part<R>>,
-    failed: &mut Vec<Unmade>,
+    begun: &mut Begun<R>,
 )
     requires rising { AreRising rows.now }
-    requires parts_room { vec_len parts.old + length ids.now ≤ vec_capacity parts.old }
-    requires failed_room { vec_len failed.old + length ids.now ≤ vec_capacity failed.old }
-    requires failed { failed.old.items ≡ [] }
-    ensures { AreBegun table.now.slots rows.now label ids.now
-        (beginnings parts.old.items [] (M.calls factory.old.maker))
-        (beginnings parts.new.items failed.new.items (M.calls factory.new.maker)) }
+    requires parts_room { vec_len begun.old.parts + length ids.now ≤ vec_capacity begun.old.parts }
+    requires failed_room { vec_len begun.old.failed + length ids.now ≤ vec_capacity begun.old.failed }
+    requires failed { begun.old.failed.items ≡ [] }
+    ensures { BeginsAll table.now.slots rows.now label ids.now begun.old begun.new
+        (M.calls factory.old.maker) (M.calls factory.new.maker) }
 {
     for id in ids {
-        begin_one(factory, table, rows, label, *id, parts, failed);
+        begin_one(factory, table, rows, label, *id, begun);
     }
 }
 
@@ -217,48 +220,6 @@ fn join_part<M: Maker + Drop, R: Threads + Wait + Clock + Copy + Drop + Send + '
     let has_trace = factory.keep_trace(part);
     factory.maker.ended(part.id());
     part.note_loss(&factory.rt, factory.rooms.mail, has_trace);
-}
-
-/// Joins the thread of the part at a place, where it has ended. Whether it was joined.
-fn reap<M: Maker + Drop, R: Threads + Wait + Clock + Copy + Drop + Send + 'static>(
-    factory: &mut PartFactory<M, R>,
-    table: &mut ScanTable,
-    parts: &mut Vec<Part<R>>,
-    place: usize,
-) -> bool
-    requires { place < length parts.old.items }
-    ensures parts { IsStep parts.old.items place parts.new.items }
-    ensures table { MatchBool result
-        ((d : HostPart) → table.new ≡ after_end table.old (slice_index_or parts.old.items place d).id)
-        (table.new ≡ table.old) }
-    ensures ran { result ≡ true → (d : HostPart) → (slice_index_or parts.old.items place d).has_ended ≡ false }
-    ensures joined { result ≡ true → (d : HostPart) → IsJoined (slice_index_or parts.new.items place d) }
-    ensures same { result ≡ false → parts.new.items ≡ parts.old.items }
-    ensures returned { (d : HostPart) → HandsOut (M.calls factory.old.maker) (M.calls factory.new.maker)
-        [] (returned_by result (slice_index_or parts.old.items place d).id) }
-{
-    let part = &mut parts[place];
-    let ends = part.is_to_be_joined();
-    if ends {
-        join_part(factory, part);
-        let id = part.id();
-        table.ended(id);
-    }
-    ends
-}
-
-/// Joins the threads of the parts that have ended.
-fn collect<M: Maker + Drop, R: Threads + Wait + Clock + Copy + Drop + Send + 'static>(
-    factory: &mut PartFactory<M, R>,
-    table: &mut ScanTable,
-    parts: &mut Vec<Part<R>>,
-)
-    ensures { AreCollected (host_of table.old parts.old.items (M.calls factory.old.maker))
-        (host_of table.new parts.new.items (M.calls factory.new.maker)) }
-{
-    for place in 0..parts.len() {
-        reap(factory, table, parts, place);
-    }
 }
 
 /// Keeps the trace of the part at a place, where that has grown. Whether its newest one is kept.
@@ -288,41 +249,6 @@ fn keep_traces<M: Maker + Drop, R: Threads + Wait + Clock + Copy + Drop + Send +
         all = keep_trace(factory, parts, place) && all;
     }
     all
-}
-
-/// One scan of a host.
-fn run_scan<M: Maker + Drop, R: Threads + Wait + Clock + Copy + Drop + Send + 'static>(
-    factory: &mut PartFactory<M, R>,
-    table: &mut ScanTable,
-    parts: &mut Vec<Part<R>>,
-    rows: &[DirRow],
-    label: Label,
-) -> Result<HostOut, ScanFault>
-    ensures scanned { IfOk result (λ out. IsScanned
-        (host_of table.old parts.old.items (M.calls factory.old.maker)) rows.now label out
-        (host_of table.new parts.new.items (M.calls factory.new.maker))) }
-    ensures calls { OnErr result (M.calls factory.new.maker ≡ M.calls factory.old.maker) }
-    ensures table { OnErr result (table.new ≡ table.old) }
-    ensures parts { OnErr result (parts.new.items ≡ parts.old.items) }
-    ensures cause { IfErr result (λ fault. IsCause table.new rows.now fault) }
-{
-    if let Err(fault) = table.check(rows) {
-        return Err(fault);
-    }
-    let Ok(found) = scan(factory.alloc, table, rows, parts) else {
-        return Err(ScanFault::OutOfMemory);
-    };
-    let Scanned {
-        table: next,
-        scan,
-        ids,
-        mut failed,
-    } = found;
-    *table = next;
-    take_away(factory, parts, &scan);
-    begin_all(factory, table, rows, label, &ids, parts, &mut failed);
-    end_all(table, &failed);
-    Ok(HostOut { scan, failed })
 }
 
 /// Posts to the part at a place what is next for it in the end of all services. Once a logger was asked to end with its
@@ -395,13 +321,13 @@ fn end_pair<M: Maker + Drop, R: Threads + Wait + Clock + Copy + Drop + Send + 's
 }
 
 impl<M: Maker + Drop, R: Threads + Wait + Clock + Copy + Drop + Send + 'static> Host<M, R> {
-    ghost use Rattle.std.specs.Prelude.{◌≡◌, ◌↔◌, ◌<◌, ◌≤◌, [], Err, IfOk, IfErr, OnErr, MatchOption};
-    ghost use Rattle.std.specs.Prelude.{length, map, option_copied, option_map};
-    ghost use Rattle.scan_table.specs.Table.{name_of, new_table, slot_at};
+    ghost use Rattle.std.specs.Prelude.{◌≡◌, ◌↔◌, ◌<◌, ◌≤◌, [], Err, IfOk, IfErr, OnErr, MatchOption, true, false};
+    ghost use Rattle.std.specs.Prelude.{length, map, option_copied, option_map, slice_index_or};
+    ghost use Rattle.scan_table.specs.Table.{after_end, name_of, new_table, slot_at};
     ghost use Rattle.svc_host.specs.Ending.{EndsAll};
-    ghost use Rattle.svc_host.specs.Parts.{GoOn, IsFullAt, IsNowhere, IsPost, IsReading, count_running, losses_in};
-    ghost use Rattle.svc_host.specs.Parts.{running_ids, without_loss};
-    ghost use Rattle.svc_host.specs.Calls.{HandsOutNone};
+    ghost use Rattle.svc_host.specs.Parts.{GoOn, HostPart, IsFullAt, IsJoined, IsNowhere, IsPost, IsReading, IsStep};
+    ghost use Rattle.svc_host.specs.Parts.{count_running, losses_in, running_ids, without_loss};
+    ghost use Rattle.svc_host.specs.Calls.{HandsOut, HandsOutNone, returned_by};
     ghost use Rattle.svc_host.specs.Outputs.{CountsLost};
     ghost use Rattle.svc_host.specs.Rounds.{AreCollected, HostState, IsCause, IsScanned};
     ghost use Rattle.scan_table.specs.Whole.{is_whole};
@@ -495,12 +421,37 @@ impl<M: Maker + Drop, R: Threads + Wait + Clock + Copy + Drop + Send + 'static> 
         }
     }
 
+    // Joins the thread of the part at a place, where it has ended. Whether it was joined.
+    fn reap(&mut self, place: usize) -> bool
+        requires { place < length self.old.parts }
+        ensures parts { IsStep self.old.parts place self.new.parts }
+        ensures ended { result ≡ true → (d : HostPart)
+            → self.new.table ≡ after_end self.old.table (slice_index_or self.old.parts place d).id }
+        ensures table { result ≡ false → self.new.table ≡ self.old.table }
+        ensures ran { result ≡ true → (d : HostPart) → (slice_index_or self.old.parts place d).has_ended ≡ false }
+        ensures joined { result ≡ true → (d : HostPart) → IsJoined (slice_index_or self.new.parts place d) }
+        ensures same { result ≡ false → self.new.parts ≡ self.old.parts }
+        ensures returned { (d : HostPart) → HandsOut self.old.calls self.new.calls []
+            (returned_by result (slice_index_or self.old.parts place d).id) }
+    {
+        let part = &mut self.parts[place];
+        let ends = part.is_to_be_joined();
+        if ends {
+            join_part(&mut self.factory, part);
+            let id = part.id();
+            self.table.ended(id);
+        }
+        ends
+    }
+
     /// Joins the threads of the parts that have ended since the last time, keeps their last traces, and gives back what
     /// they had.
     pub fn collect(&mut self)
         ensures { AreCollected self.old self.new }
     {
-        collect(&mut self.factory, &mut self.table, &mut self.parts);
+        for place in 0..self.parts.len() {
+            self.reap(place);
+        }
     }
 
     /// Whether there is a service of this name, and no part of it has ended, as far as threads were joined. Then a scan
@@ -520,13 +471,28 @@ impl<M: Maker + Drop, R: Threads + Wait + Clock + Copy + Drop + Send + 'static> 
         ensures refused { OnErr result (self.new ≡ self.old) }
         ensures cause { IfErr result (λ fault. IsCause self.new.table rows.now fault) }
     {
-        run_scan(
-            &mut self.factory,
-            &mut self.table,
-            &mut self.parts,
-            rows,
-            label,
-        )
+        if let Err(fault) = self.table.check(rows) {
+            return Err(fault);
+        }
+        let alloc = self.factory.alloc;
+        let Ok(found) = scan(alloc, &self.table, rows, &mut self.parts) else {
+            return Err(ScanFault::OutOfMemory);
+        };
+        let Scanned {
+            table,
+            scan,
+            ids,
+            failed,
+        } = found;
+        self.table = table;
+        take_away(&mut self.factory, &mut self.parts, &scan);
+        let parts = mem::replace(&mut self.parts, Vec::new(alloc));
+        let mut begun = Begun { parts, failed };
+        begin_all(&mut self.factory, &self.table, rows, label, &ids, &mut begun);
+        let Begun { parts, failed } = begun;
+        self.parts = parts;
+        end_all(&mut self.table, &failed);
+        Ok(HostOut { scan, failed })
     }
 
     /// What parts lost at their ends since that was forgotten last, in their order.
