@@ -1,17 +1,15 @@
 -- What is posted to a part in the end of all services, and what is seen of one.
-use Rattle.std.proofs.Common.{◌≡◌, true, false, ℕ, ◌<◌, inl, inr, Bool, List, [], ◌∷◌, ◌++◌, length, refl, sym, ap, ◌∙◌}
+use Rattle.std.proofs.Common.{◌≡◌, ℕ, inl, inr, List, [], ◌∷◌, ◌++◌, refl, sym, ap, ◌∙◌}
 use Rattle.std.proofs.Common.{subst}
-use Rattle.std.specs.Prelude.{Result, Ok, Err, IfErr, MatchBool, MatchResult, OnErr, OnOk}
-use mathlib.Core.List.{IsPrefix}
-use Rattle.svc_station.proofs.Prefixes.{prefix_self}
+use Rattle.std.specs.Prelude.{Result, Ok, Err, IfErr, MatchResult, OnErr, OnOk}
 use Rattle.scan_table.specs.declared.part.Role.{Role}
 use Rattle.svc_mail.specs.declared.sender.Sender.{Sender}
 use Rattle.svc_mail.specs.Ends.{IsSameSender, heard_by, posted, seen_by}
 use Rattle.svc_mail.specs.Ends.{WasFull as SenderWasFull}
 use Rattle.svc_host.specs.declared.ending.ProcessSight.{ProcessSight}
 use Rattle.svc_host.specs.Mails.{Mail, WasFull, mail_of}
-use Rattle.svc_host.specs.Parts.{HostPart, GoOn, HasPosted, IsRead, IsRefused}
-use Rattle.svc_host.specs.Ending.{IsSight, PostsDown, PostsExit}
+use Rattle.svc_host.specs.Parts.{HostPart, GoOn, HasPosted, IsRefused}
+use Rattle.svc_host.specs.Ending.{IsSight}
 use Rattle.svc_host.proofs.Going.{all_same, one_goes_on}
 
 -- a sender that posted, saw and heard no more knows what it knew

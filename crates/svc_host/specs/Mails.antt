@@ -1,5 +1,5 @@
 -- What a host knows of the mailbox of a part by its sender.
-use Rattle.std.specs.Prelude.{◌≡◌, ℕ, List, [], ◌++◌, length, All}
+use Rattle.std.specs.Prelude.{◌≡◌, ℕ, List, ◌++◌, length, All}
 use Rattle.svc_mail.specs.declared.letter.Letter.{Letter}
 use Rattle.svc_mail.specs.declared.sender.Sender.{Sender}
 use Rattle.svc_mail.specs.Ends.{heard_by, number_of, posted, room_of, seen_by, senders_of}

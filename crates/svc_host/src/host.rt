@@ -488,7 +488,14 @@ impl<M: Maker + Drop, R: Threads + Wait + Clock + Copy + Drop + Send + 'static> 
         take_away(&mut self.factory, &mut self.parts, &scan);
         let parts = mem::replace(&mut self.parts, Vec::new(alloc));
         let mut begun = Begun { parts, failed };
-        begin_all(&mut self.factory, &self.table, rows, label, &ids, &mut begun);
+        begin_all(
+            &mut self.factory,
+            &self.table,
+            rows,
+            label,
+            &ids,
+            &mut begun,
+        );
         let Begun { parts, failed } = begun;
         self.parts = parts;
         end_all(&mut self.table, &failed);

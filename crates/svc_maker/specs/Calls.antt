@@ -2,6 +2,7 @@
 use Rattle.std.specs.Prelude.{ℕ, Bool, List, [], ◌∷◌, Option, Result}
 use Rattle.std.specs.Borrow.{Bor}
 use Rattle.std.specs.Option.{option_copied}
+use Rattle.std.specs.Result.{result_err}
 use Rattle.std.specs.declared.io.PipeReader.{PipeReader}
 use Rattle.std.specs.declared.fs.File.{File}
 use Rattle.cmd_base.specs.declared.cause.Cause.{Cause}
@@ -38,7 +39,8 @@ pub data Call : Type 0 where
   WatchedOutputs : Call
 
 -- A world was to be made, with copies of these ends of pipes: that is one call more, while calls are kept.
-abbrev pub MakesWorld : (old new : Option (List Call)) (path name : List ℕ) (left : Left)
-    (input : Option (Bor PipeReader)) (output : Option (Bor File)) (fault : Option Cause) → Type 0
-MakesWorld old new path name left input output fault =
-    ExtendedWhileKept old new (MadeWorld path name left (option_copied input) (option_copied output) fault ∷ [])
+abbrev pub MakesWorld : {A : Type 0} → (old new : Option (List Call)) (path name : List ℕ) (left : Left)
+    (input : Option (Bor PipeReader)) (output : Option (Bor File)) (made : Result A Cause) → Type 0
+MakesWorld old new path name left input output made =
+    ExtendedWhileKept old new
+    (MadeWorld path name left (option_copied input) (option_copied output) (result_err made) ∷ [])

@@ -1,7 +1,8 @@
 -- The parts of services over folders, and what each call of their maker does.
 use Rattle.std.specs.Prelude.{◌≡◌, ◌≢◌, ◌<◌, ◌⊎◌, ⊤, ℕ, Bool, true, false, List, [], ◌∷◌, ◌++◌, codes, length}
 use Rattle.std.specs.Prelude.{◌-◌, ◌^◌, remove, slice_index_or, Option, Some, None, MatchOption, Result, Ok, Err}
-use Rattle.std.specs.Prelude.{MatchResult}
+use Rattle.std.specs.Prelude.{MatchResult, option_map}
+use Rattle.std.specs.Result.{result_err, result_ok}
 use Rattle.std.specs.List.{All}
 use Rattle.std.specs.declared.io.PipeReader.{PipeReader}
 use Rattle.std.specs.declared.fs.File.{File}
@@ -109,6 +110,12 @@ IsSetUp (Some (why.NotAdmitted cause)) opening plan old new =
     × ((left : Left) × ExtendedWhileKept old new
     (world_made plan left None
     ++ Admitted plan.number plan.path (Some cause) ∷ Dismissed plan.number plan.path ∷ []))
+
+-- the same of what setting up answers, by the plan for these
+abbrev pub SetsUpAt : {A : Type 0} → Result A MakeFault → (opening : A → Opening) → (path name : List ℕ) → PartId
+    → List PairPipes → (old new : Option (List Call)) → Type 0
+SetsUpAt result opening path name part pipes old new =
+    IsSetUp (result_err result) (option_map opening (result_ok result)) (plan_at path name part pipes) old new
 
 -- the parts that stand, after this one was set up or failed
 abbrev pub kept_after : Option MakeFault → KeptPart → List KeptPart → List KeptPart

@@ -91,7 +91,7 @@ pub trait PartSystem {
         notifier: Arc<Notifier, Global>,
     ) -> Result<(Self::World, Self::Reaper), Cause>
         ensures calls { MakesWorld (calls self.old) (calls self.new) (Self.Folder.path folder.now) name.now left.now
-            input.entry output.entry (result_err result) }
+            input.entry output.entry result }
         ensures fresh { IfOk result (λ made. answered (Self.World.calls made.0) ≡ []) };
 
     /// Admits a part to the door, by the sockets of its folder, or says why not. The number is one that no other part

@@ -1,9 +1,9 @@
 //! How a part is set up.
-ghost use Rattle.std.specs.Prelude.{◌≡◌, ◌≢◌, ◌++◌, ◌∷◌, [], Some, option_map, string_bytes, IfOk};
-ghost use Rattle.std.specs.Result.{result_err, result_ok};
+ghost use Rattle.std.specs.Prelude.{◌≡◌, ◌≢◌, ◌++◌, ◌∷◌, [], Some, string_bytes, IfOk};
+ghost use Rattle.std.specs.Result.{result_err};
 ghost use Rattle.svc_maker.specs.declared.set_up.MakeFault.{MakeFault};
 ghost use Rattle.svc_host.specs.Answers.{answered};
-ghost use Rattle.svc_maker.specs.Making.{IsSetUp, behind, part_fault, part_name, plan_at};
+ghost use Rattle.svc_maker.specs.Making.{SetsUpAt, behind, part_fault, part_name};
 
 use crate::kept_folder::LockedFolder;
 use crate::part_system::PartSystem;
@@ -92,9 +92,8 @@ pub(crate) fn set_up<S: PartSystem>(
     sender: ControlSender,
     notifier: Arc<Notifier, Global>,
 ) -> Result<PartSetup<S>, MakeFault>
-    ensures sets_up { IsSetUp (result_err result)
-        (option_map (λ setup. setup.opening) (result_ok result))
-        (plan_at (string_bytes path) name.now part pipes.now) (S.calls system.old) (S.calls system.new) }
+    ensures sets_up { SetsUpAt result (λ setup. setup.opening) (string_bytes path) name.now part pipes.now
+        (S.calls system.old) (S.calls system.new) }
     ensures path { IfOk result (λ setup. S.Folder.path setup.folder ≡ string_bytes path) }
     ensures fresh { IfOk result (λ setup. answered (S.World.calls setup.world) ≡ []) }
     ensures asked { result_err result ≢ Some MakeFault.NoRoom }

@@ -1,4 +1,4 @@
-use Rattle.std.proofs.Common.{sym, ◌∙◌, subst}
+use Rattle.std.proofs.Common.{◌∙◌, subst}
 use Rattle.svc_host.specs.Mails.{WasFull}
 use Rattle.svc_host.specs.Parts.{HostPart, IsPlace}
 use Rattle.svc_host.proofs.Going.{same_default}
