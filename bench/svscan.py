@@ -12,7 +12,7 @@ program, room, count = sys.argv[1], sys.argv[2], int(sys.argv[3])
 
 
 class Suite:
-    """One suite: how its scanner starts, what its supervisors are called, how it is reported to bring one down, its logger."""
+    """One suite: how its scanner starts, what its supervisors are called, how it is asked to bring one down, its logger."""
 
     def __init__(self, name, scanner, supervisors, down, logger):
         self.name, self.scanner, self.supervisors, self.down, self.logger = name, scanner, supervisors, down, logger

@@ -1,5 +1,5 @@
 /* What the devices of a program give: at most READ_MOST bytes a read, at most WRITE_MOST a write to a file, and of the time
-   always the beginning of second CLOCK. The write to a file whose number WRITE_STOPS reports, and each later one, takes nothing,
+   always the beginning of second CLOCK. The write to a file whose number WRITE_STOPS gives, and each later one, takes nothing,
    and fails where WRITE_ERROR is an error number. What is not set is as it is. */
 #define _GNU_SOURCE
 #include <dlfcn.h>

@@ -382,8 +382,8 @@ heard aaa ./by/four
 is 'three rotations, one line' '0 1' "$? $(olds by/four)"
 
 # 40 TERMs in a flow of lines: each is in the log once, and in order, and each logger ends with 0.
-# reported_40_times NAME COUNT PAUSE: lines with numbers up to COUNT, each after a pause of so many seconds
-reported_40_times() {
+# asked_40_times NAME COUNT PAUSE: lines with numbers up to COUNT, each after a pause of so many seconds
+asked_40_times() {
   local turn ends=0
   mkfifo "flow$1"
   python3 -c '
@@ -408,9 +408,9 @@ for number in range(1, count + 1):
   is "40 TERMs, $1: each line once, in order" 0 "$?"
   exec 6<&-
 }
-reported_40_times 1 6000000 0
-reported_40_times 2 2500 0.001
-reported_40_times 3 150 0.02
+asked_40_times 1 6000000 0
+asked_40_times 2 2500 0.001
+asked_40_times 3 150 0.02
 
 # The channel is the pipe that the environment names; where it names none there is none, and TERM ends the program.
 echo x >in

@@ -232,7 +232,7 @@ stat 'paused: down file' "${label}671200000164" \
 stat 'down: down file' "${label}000000000064" 's: down SECONDS_SINCE seconds'
 rm s/down
 stat 'in the future' 7fffffffffffffff00000000671200000075 's: up (pid 4711) 0 seconds'
-# Records of 20 bytes report a phase and whether supervise is to end.
+# Records of 20 bytes have a phase and whether supervise is to end.
 stat 'starting' "${label}0000000000750000" 's: down SECONDS_SINCE seconds, normally up, want up, starting'
 stat 'settling' "${label}6712000000750001" 's: up (pid 4711) SECONDS_SINCE seconds, settling'
 stat 'resting' "${label}0000000000750002" 's: down SECONDS_SINCE seconds, normally up, want up, resting'

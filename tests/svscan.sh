@@ -296,7 +296,7 @@ counts_are() { [ "$(cat "$2/supervise/counts" 2>/dev/null)" = "$1" ]; }
 counts_are_even() { grep -qE '^([0-9]+) \1$' "$1/supervise/counts"; }
 # it was wanted once, and is down: a record without a process stands between two lives, too
 has_run_once() { wants o "$1" && [ "$(phase "$1")" = '0 4' ]; }
-# its file exit reports of the process that noted its number in pid
+# its file exit speaks of the process that noted its number in pid
 ended_last() { [ "$(cat "$1/pid")" = "$(cut -d ' ' -f 1 "$1/supervise/exit")" ]; }
 
 # How processes end, and how many began and ended, in the files exit and counts.

@@ -1,8 +1,10 @@
-//! The resources of a part in a test: a world that answers at once, and loggers that keep what they take.
-use std::alloc::Global;
+//! The resources of a part in a test: a world that answers at once, what waits for its process, and loggers that keep
+//! what they take.
+use crate::meeting::{LOOKS, rest};
+use std::alloc::{AllocError, Global};
 use std::io;
 use std::io::Read;
-use std::sync::atomic::{AtomicU64, Ordering};
+use std::sync::atomic::{AtomicBool, AtomicU64, Ordering};
 use std::sync::{Arc, Wait};
 use std::time::Clock;
 use sup_core::Sig;
@@ -11,24 +13,40 @@ use svc_house::{News, Notifier, StartAnswer, World};
 use svc_relay::outlet::{Outlet, OutletFault};
 use tai_status::Label;
 
+/// How an actor's process stands, for its world and for what waits for it.
+#[derive(Drop)]
+pub(crate) struct Process {
+    is_dying: AtomicBool,
+    is_dead: AtomicBool,
+}
+
+impl Process {
+    pub(crate) fn new(alloc: Global) -> Result<Arc<Process, Global>, AllocError> {
+        let process = Process {
+            is_dying: AtomicBool::new(false),
+            is_dead: AtomicBool::new(false),
+        };
+        Ok(Arc::new(alloc, process)?)
+    }
+}
+
 /// A world whose process starts as soon as it is asked for and dies of TERM. Its start, its clock and its death have a
 /// second each, one after the other.
 #[derive(Drop)]
 pub(crate) struct Actor {
+    pub(crate) process: Arc<Process, Global>,
     pub(crate) notifier: Arc<Notifier, Global>,
     pub(crate) pid: u32,
     pub(crate) start: Label,
     pub(crate) clock: Label,
     pub(crate) death: Label,
     pub(crate) is_starting: bool,
-    pub(crate) is_dying: bool,
 }
 
 impl World for Actor {
     fn signal(&mut self, sig: Sig, _pid: u32) {
         if sig == Sig::Term {
-            self.is_dying = true;
-            self.notifier.notify(News::seen());
+            self.process.is_dying.store(true, Ordering::SeqCst);
         }
     }
 
@@ -51,10 +69,10 @@ impl World for Actor {
     }
 
     fn poll_death(&mut self) -> Option<Label> {
-        if !self.is_dying {
+        if !self.process.is_dead.load(Ordering::SeqCst) {
             return None;
         }
-        self.is_dying = false;
+        self.process.is_dead.store(false, Ordering::SeqCst);
         Some(self.death)
     }
 
@@ -63,12 +81,30 @@ impl World for Actor {
     }
 }
 
-/// Nothing waits beside an actor.
+/// What waits for an actor's process: it dies a while after its signal, when its part rests, and only its own part's
+/// notifier is notified then.
 #[derive(Drop)]
-pub(crate) struct Nobody;
+pub(crate) struct ActorReaper {
+    pub(crate) process: Arc<Process, Global>,
+    pub(crate) notifier: Arc<Notifier, Global>,
+}
 
-impl Reaper for Nobody {
-    fn run<R: Wait + Clock + Copy + Drop>(self, _rt: R) {}
+/// How many rests of 1 ms a process lives on after its signal.
+const LAST_RESTS: u32 = 20;
+
+impl Reaper for ActorReaper {
+    fn run<R: Wait + Clock + Copy + Drop>(self, rt: R) {
+        for _ in 0..LOOKS {
+            if self.process.is_dying.load(Ordering::SeqCst) {
+                self.process.is_dying.store(false, Ordering::SeqCst);
+                for _ in 0..LAST_RESTS {
+                    rest(&rt);
+                }
+                self.notifier.notify(News::raise(&self.process.is_dead));
+            }
+            rest(&rt);
+        }
+    }
 }
 
 /// What a pair's service writes: six bytes, at most four of them a read.

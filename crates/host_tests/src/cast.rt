@@ -1,5 +1,5 @@
 //! What makes the parts of a host in a test.
-use crate::actor::{Actor, Life, Lives, Nobody, Said, Taken};
+use crate::actor::{Actor, ActorReaper, Life, Lives, Process, Said, Taken};
 use crate::meeting::{Flag, Meeting};
 use scan_table::PartId;
 use std::alloc::{AllocError, Global};
@@ -12,6 +12,7 @@ use tai_status::Label;
 /// Makes actors. The parts of the first slot get one gate, those of every other slot another.
 #[derive(Drop)]
 pub(crate) struct Cast {
+    pub(crate) alloc: Global,
     pub(crate) first: Meeting,
     pub(crate) second: Meeting,
     /// What the loggers of the first slot and of the others took.
@@ -24,6 +25,7 @@ pub(crate) struct Cast {
 impl Cast {
     fn new(alloc: Global, first: Meeting, second: Meeting) -> Result<Cast, AllocError> {
         Ok(Cast {
+            alloc,
             first,
             second,
             taken: [
@@ -73,7 +75,7 @@ impl Maker for Cast {
 
     type Gate = Meeting;
 
-    type Reaper = Nobody;
+    type Reaper = ActorReaper;
 
     type Output = Said;
 
@@ -87,26 +89,31 @@ impl Maker for Cast {
         part: PartId,
         _sender: ControlSender,
         notifier: Arc<Notifier, Global>,
-    ) -> Result<PartResources<Actor, Meeting, Nobody>, PartFault> {
+    ) -> Result<PartResources<Actor, Meeting, ActorReaper>, PartFault> {
         let gate = if part.slot == 0 {
             self.first.copy()?
         } else {
             self.second.copy()?
         };
+        let process = Process::new(self.alloc)?;
+        let reaper = ActorReaper {
+            process: Arc::try_clone(&process)?,
+            notifier: Arc::try_clone(&notifier)?,
+        };
         let world = Actor {
+            process,
             notifier,
             pid: self.next_pid,
             start: Label::from_unix(1, 0).unwrap(),
             clock: Label::from_unix(2, 0).unwrap(),
             death: Label::from_unix(3, 0).unwrap(),
             is_starting: false,
-            is_dying: false,
         };
         self.next_pid = self.next_pid.saturating_add(1);
         Ok(PartResources {
             world,
             gate,
-            reaper: Nobody,
+            reaper,
             opening: Opening::ByRow,
         })
     }

@@ -7,6 +7,8 @@ mod house;
 #[cfg(test)]
 mod mail;
 #[cfg(test)]
+mod order;
+#[cfg(test)]
 mod relay;
 #[cfg(test)]
 mod station;
