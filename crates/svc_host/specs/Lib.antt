@@ -10,3 +10,4 @@ pub mod Rests
 pub mod Rounds
 pub mod Served
 pub mod Threads
+pub mod Growing
