@@ -6,5 +6,6 @@ pub mod Forgetting
 pub mod Going
 pub mod OneReader
 pub mod Rows
+pub mod Senders
 pub mod Tables
 pub mod Stepping

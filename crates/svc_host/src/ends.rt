@@ -1,12 +1,15 @@
 //! The ends of mailboxes and stations that were just opened.
 ghost use Rattle.std.specs.Prelude.{◌≡◌, ◌≤◌, ◌<◌, [], IfSome};
+ghost use Rattle.svc_house.specs.Mail.{sender_in};
 ghost use Rattle.svc_mail.specs.Ends.{home, posted, receiver_home, taken_by};
 ghost use Rattle.svc_station.specs.Ends.{known_to, opening_of, published, reader_station, station};
 
 use crate::running::{StatusReader, status_reader_of};
-use std::alloc::Global;
-use std::sync::Wait;
+use crate::shared::{Activity, PartShared};
+use std::alloc::{AllocError, Global};
+use std::sync::{Arc, Wait};
 use sup_core::Machine;
+use svc_house::{ControlSender, Notifier};
 use svc_mail::mailbox::Mailbox;
 use svc_mail::receiver::Receiver;
 use svc_mail::sender::Sender;
@@ -53,6 +56,49 @@ pub(crate) fn open_mailbox(
         return None;
     };
     Some((inside, outside, receiver))
+}
+
+/// What a part has before its maker is asked: what its thread shares with the host, in the hands of both, what that
+/// thread waits for, and a mailbox of which nothing was taken and to which the host posted nothing.
+#[derive(Drop)]
+pub(crate) struct PartEnds {
+    pub(crate) shared: Arc<PartShared, Global>,
+    pub(crate) own: Arc<PartShared, Global>,
+    pub(crate) notifier: Arc<Notifier, Global>,
+    pub(crate) inside: ControlSender,
+    pub(crate) outside: ControlSender,
+    pub(crate) receiver: Receiver<u8>,
+    ghost unposted: { posted (sender_in inside) ≡ [] },
+    ghost untaken: { taken_by receiver ≡ [] },
+}
+
+impl PartEnds {
+    ghost use Rattle.std.specs.Prelude.{◌<◌};
+
+    /// The ends of a part whose mailbox has room for so many control bytes.
+    pub(crate) fn open(
+        alloc: Global,
+        host: &Arc<Notifier, Global>,
+        activity: &Arc<Activity, Global>,
+        capacity: usize,
+    ) -> Result<PartEnds, AllocError>
+        requires { 0 < capacity }
+    {
+        let Ok(shared) = Arc::new(alloc, PartShared::new(alloc, host, activity)?) else {
+            return Err(AllocError);
+        };
+        let Some((inside, outside, receiver)) = open_mailbox(alloc, capacity) else {
+            return Err(AllocError);
+        };
+        Ok(PartEnds {
+            inside: ControlSender::new(inside, Arc::try_clone(&shared.notifier)?),
+            outside: ControlSender::new(outside, Arc::try_clone(&shared.notifier)?),
+            notifier: Arc::try_clone(&shared.notifier)?,
+            own: Arc::try_clone(&shared)?,
+            shared,
+            receiver,
+        })
+    }
 }
 
 /// The writer and the reader of a station over a machine, with a trace of so many entries.

@@ -9,14 +9,14 @@ ghost use Rattle.scan_table.specs.Scan.{AreRising};
 ghost use Rattle.svc_host.specs.Parts.{PartGoesOn};
 ghost use Rattle.svc_host.specs.Begun.{Begins, IsBegun, is_down};
 
-use crate::ends::{open_mailbox, open_station};
+use crate::ends::{PartEnds, open_station};
 use crate::growth::Growth;
 use crate::maker::{Maker, PartFault, PartResources, Reaper};
 use crate::pair::Pair;
 use crate::part::Part;
 use crate::running::{Running, end};
 use crate::service::{Beginning, Task};
-use crate::shared::{Activity, PartShared};
+use crate::shared::Activity;
 use cmd_base::Cause;
 use scan_table::{DirRow, PartId, Role, ScanTable, find_row};
 use std::alloc::Global;
@@ -24,7 +24,7 @@ use std::io;
 use std::sync::{Arc, Wait};
 use std::thread::{Builder, Threads};
 use std::time::Clock;
-use svc_house::{ControlSender, Notifier};
+use svc_house::Notifier;
 use svc_station::parked::Parked;
 use tai_status::Label;
 
@@ -101,17 +101,14 @@ impl<M: Maker + Drop, R: Threads + Wait + Clock + Copy + Drop + Send + 'static> 
         ensures begun { IfOk result (λ part. IsBegun id (beginning part.opening down label) part) }
         ensures asks { AsksPart id (result_err result) (M.calls self.old.maker) (M.calls self.new.maker) }
     {
-        let shared = PartShared::new(self.alloc, &self.notifier, &self.activity)?;
-        let Ok(shared) = Arc::new(self.alloc, shared) else {
-            return Err(PartFault::Refused(Cause::NoMemory));
-        };
-        let Some((inside, outside, receiver)) = open_mailbox(self.alloc, self.rooms.mail) else {
-            return Err(PartFault::Refused(Cause::NoMemory));
-        };
-        let outside = ControlSender::new(outside, Arc::try_clone(&shared.notifier)?);
-        let inside = ControlSender::new(inside, Arc::try_clone(&shared.notifier)?);
-        let notifier = Arc::try_clone(&shared.notifier)?;
-        let own = Arc::try_clone(&shared)?;
+        let PartEnds {
+            shared,
+            own,
+            notifier,
+            inside,
+            outside,
+            receiver,
+        } = PartEnds::open(self.alloc, &self.notifier, &self.activity, self.rooms.mail)?;
         let PartResources {
             world,
             gate,
