@@ -1,7 +1,12 @@
 -- What is left of a reader in blocks.
 use Rattle.std.specs.Prelude.{ℕ, List, Option, slice_range}
 use Rattle.std.specs.Io.KnownBytes.{prepend_known}
+use Rattle.svc_host.specs.declared.growing_reader.ReadBlock.{ReadBlock}
 
--- the bytes of its block that were not given yet, and those that its own reader has left, where these are known
-abbrev pub left_of : (block : List ℕ) (begin end : ℕ) → (rest : Option (List ℕ)) → Option (List ℕ)
-left_of block begin end rest = prepend_known (slice_range block begin end) rest
+-- the bytes of a block that were not given yet
+abbrev pub held_in : ReadBlock → List ℕ
+held_in block = slice_range block.bytes.items block.begin block.end
+
+-- those, and the bytes that the reader of the block has left, where these are known
+abbrev pub left_of : ReadBlock → (rest : Option (List ℕ)) → Option (List ℕ)
+left_of block rest = prepend_known (held_in block) rest

@@ -12,100 +12,110 @@ const FEW: usize = 512;
 /// How many are read at once after a read that gave as many as it could.
 const MANY: usize = 32_768;
 
+/// A block of bytes that were read, of which some were not given yet: those from `begin` to `end`.
+#[derive(Drop)]
+pub(crate) struct ReadBlock {
+    bytes: Vec<u8>,
+    begin: usize,
+    end: usize,
+    ghost ordered: { begin ≤ end },
+    ghost within: { end ≤ vec_len bytes },
+    ghost some: { 0 < vec_len bytes },
+}
+
 /// A reader in blocks, which are small until one of them is full. It gives the bytes of its own reader, in order.
 #[derive(Drop)]
 pub(crate) struct GrowingReader<D: Read + Drop> {
     inner: D,
     alloc: Global,
-    block: Vec<u8>,
-    // The bytes of the block that were read and not given yet.
-    begin: usize,
-    end: usize,
-    ghost ordered: { begin ≤ end },
-    ghost within: { end ≤ vec_len block },
-    ghost some: { 0 < vec_len block },
+    block: ReadBlock,
 }
 
-/// Reads once into a block.
-fn read_block<D: Read>(from: &mut D, block: &mut Vec<u8>) -> io::Result<usize>
-    ensures len { vec_len block.new ≡ vec_len block.old }
-    ensures bound { IfOk result (λ count. count ≤ vec_len block.new) }
+/// Reads once into these bytes.
+fn read_into<D: Read>(from: &mut D, bytes: &mut Vec<u8>) -> io::Result<usize>
+    ensures len { vec_len bytes.new ≡ vec_len bytes.old }
+    ensures bound { IfOk result (λ count. count ≤ vec_len bytes.new) }
     ensures bytes { IfOk result (λ count.
-        Consumes (D.remaining from.old) (D.remaining from.new) (take count block.new.items)) }
-    ensures end { IfOk result (λ count. count ≡ 0 → 0 < vec_len block.old → IsAtEnd (D.remaining from.new)) }
+        Consumes (D.remaining from.old) (D.remaining from.new) (take count bytes.new.items)) }
+    ensures end { IfOk result (λ count. count ≡ 0 → 0 < vec_len bytes.old → IsAtEnd (D.remaining from.new)) }
     ensures kept { OnErr result (Keeps (D.remaining from.old) (D.remaining from.new)) }
 {
-    from.read(block.as_mut_slice())
+    from.read(bytes.as_mut_slice())
+}
+
+impl ReadBlock {
+    ghost use Rattle.std.specs.Prelude.{◌≡◌, ◌≤◌, ◌<◌, ◌++◌, length, take};
+    ghost use Rattle.svc_host.specs.Growing.{held_in};
+
+    // Takes a larger block, where the last one was full. Where there is no memory for it the small one stays.
+    fn grow(&mut self, alloc: Global)
+        ensures { (self.new.begin ≡ 0) × (self.new.end ≡ 0) }
+    {
+        let is_full = self.end == self.bytes.len() && self.end < MANY;
+        self.begin = 0;
+        self.end = 0;
+        if is_full {
+            if let Ok(bytes) = vec![in alloc; 0; MANY] {
+                self.bytes = bytes;
+            }
+        }
+    }
+
+    // Gives as many bytes as there is room for.
+    fn give(&mut self, into: &mut [u8]) -> usize
+        ensures bound { result ≤ length into.new }
+        ensures bytes { held_in self.old ≡ take result into.new ++ held_in self.new }
+        ensures some { self.old.begin < self.old.end → 0 < length into.old → 0 < result }
+    {
+        let count = into.len().min(self.end - self.begin);
+        into[..count].copy_from_slice(&self.bytes[self.begin..self.begin + count]);
+        self.begin += count;
+        count
+    }
 }
 
 impl<D: Read + Drop> GrowingReader<D> {
-    ghost use Rattle.std.specs.Prelude.{◌≡◌, ◌≤◌, ◌<◌, ◌++◌, Ok, false, true, length, slice_range, take};
+    ghost use Rattle.std.specs.Prelude.{◌≡◌, ◌≤◌, ◌<◌, Ok, false, true};
     ghost use Rattle.std.specs.Io.KnownBytes.{IsAtEnd, Keeps};
     ghost use Rattle.svc_host.specs.Growing.{left_of};
 
     /// Over a reader of which nothing was read.
     pub(crate) fn new(alloc: Global, inner: D) -> Result<GrowingReader<D>, AllocError> {
+        let block = ReadBlock {
+            bytes: vec![in alloc; 0; FEW]?,
+            begin: 0,
+            end: 0,
+        };
         Ok(GrowingReader {
             inner,
             alloc,
-            block: vec![in alloc; 0; FEW]?,
-            begin: 0,
-            end: 0,
+            block,
         })
-    }
-
-    // Takes a larger block, where the last one was full. Where there is no memory for it the small one stays.
-    fn grow(&mut self)
-        ensures empty { (self.new.begin ≡ 0) × (self.new.end ≡ 0) }
-        ensures inner { self.new.inner ≡ self.old.inner }
-    {
-        let is_full = self.end == self.block.len() && self.end < MANY;
-        self.begin = 0;
-        self.end = 0;
-        if is_full {
-            if let Ok(block) = vec![in self.alloc; 0; MANY] {
-                self.block = block;
-            }
-        }
     }
 
     /// Whether there are bytes to be given, for which it may wait. There are none at the end alone.
     pub(crate) fn fill(&mut self) -> io::Result<bool>
-        ensures kept { Keeps (left_of self.old.block.items self.old.begin self.old.end (D.remaining self.old.inner))
-            (left_of self.new.block.items self.new.begin self.new.end (D.remaining self.new.inner)) }
-        ensures some { result ≡ Ok true → self.new.begin < self.new.end }
-        ensures none { result ≡ Ok false → self.new.end ≤ self.new.begin }
+        ensures kept { Keeps (left_of self.old.block (D.remaining self.old.inner))
+            (left_of self.new.block (D.remaining self.new.inner)) }
+        ensures some { result ≡ Ok true → self.new.block.begin < self.new.block.end }
+        ensures none { result ≡ Ok false → self.new.block.end ≤ self.new.block.begin }
         ensures end { result ≡ Ok false → IsAtEnd (D.remaining self.new.inner) }
     {
-        if self.begin == self.end {
-            self.grow();
-            self.end = read_block(&mut self.inner, &mut self.block)?;
+        if self.block.begin == self.block.end {
+            self.block.grow(self.alloc);
+            self.block.end = read_into(&mut self.inner, &mut self.block.bytes)?;
         }
-        Ok(self.begin < self.end)
-    }
-
-    // Gives as many of the bytes of the block as there is room for.
-    fn give(&mut self, into: &mut [u8]) -> usize
-        ensures bound { result ≤ length into.new }
-        ensures bytes { slice_range self.old.block.items self.old.begin self.old.end
-            ≡ take result into.new ++ slice_range self.new.block.items self.new.begin self.new.end }
-        ensures some { self.old.begin < self.old.end → 0 < length into.old → 0 < result }
-        ensures inner { self.new.inner ≡ self.old.inner }
-    {
-        let count = into.len().min(self.end - self.begin);
-        into[..count].copy_from_slice(&self.block[self.begin..self.begin + count]);
-        self.begin += count;
-        count
+        Ok(self.block.begin < self.block.end)
     }
 }
 
 impl<D: Read + Drop> Read for GrowingReader<D> {
     ghost use Rattle.svc_host.specs.Growing.{left_of};
 
-    ghost remaining = { λ reader. left_of reader.block.items reader.begin reader.end (D.remaining reader.inner) };
+    ghost remaining = { λ reader. left_of reader.block (D.remaining reader.inner) };
 
     fn read(&mut self, into: &mut [u8]) -> io::Result<usize> {
         self.fill()?;
-        Ok(self.give(into))
+        Ok(self.block.give(into))
     }
 }
