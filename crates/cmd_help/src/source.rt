@@ -4,4 +4,4 @@
 pub(crate) const KIT: &str = "rattle-kit-13f logic dac8208d650f15bf";
 
 /// The sum of its sources, as packaging/source-sum says it.
-pub(crate) const SOURCE: &str = "4b06ac87bec942982f7192b6bf23d322e25f71c48bef9b41f2e972a7640b477c";
+pub(crate) const SOURCE: &str = "8a3ada602fa5950c9bf7088fe5cc63e04d07206bc2a3ecc3e238e0e6047afa68";

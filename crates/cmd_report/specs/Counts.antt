@@ -1,4 +1,4 @@
--- What the file `counts` of a service reports: how often it was started, and how often it died, since svscan began.
+-- What the file `counts` of a service says: how often it was started, and how often it died, since svscan began.
 use Rattle.std.specs.Prelude.{ℕ, ◌+◌, ◌*◌, ◌-◌, ◌^◌, nat_le, nat_lt, ◌==◌, Bool, not, ◌&&◌, ◌||◌, if◌then◌else◌, List}
 use Rattle.std.specs.Prelude.{length, slice_index, take, drop, fold, position, Option, Some, None}
 use Rattle.std.specs.List.{list_all}
@@ -33,7 +33,7 @@ counts_around (Some space) line = both (number_of (take space line)) (number_of 
 abbrev pub line_counts : (line : List ℕ) → Option Counts
 line_counts line = counts_around (position (λ byte. byte == 32) line) line
 
--- what bytes report whose first newline is here: it is their last byte
+-- what bytes say whose first newline is here: it is their last byte
 abbrev pub counts_before : (newline : Option ℕ) → (bytes : List ℕ) → Option Counts
 counts_before None bytes = None
 counts_before (Some newline) bytes =

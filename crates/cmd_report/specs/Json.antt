@@ -57,7 +57,7 @@ null_member name = key name ∷ null ∷ []
 unfoldable pub pid_member : Status → List Token
 pid_member status = if is_running status then number_member (codes "pid") status.pid else null_member (codes "pid")
 
--- what a record of 18 bytes does not report
+-- what a record of 18 bytes does not say
 unfoldable pub phase_member : Loaded → List Token
 phase_member (Old status) = null_member (codes "phase")
 phase_member (New full) = string_member (codes "phase") (phase_name full.phase)

@@ -1,4 +1,4 @@
-//! How often a service was started and died, as its file `counts` reports it.
+//! How often a service was started and died, as its file `counts` says.
 ghost use Rattle.std.specs.Prelude.{◌≡◌, ◌==◌, ◌<◌, ◌-◌, ◌+◌, ◌*◌, ◌^◌, min, length, position, IfSome};
 ghost use Rattle.std.specs.List.{list_all};
 ghost use Rattle.cmd_report.specs.Counts.{both, counts_in, is_digit, is_numeral, line_counts, number_of, value_of};
@@ -10,7 +10,7 @@ pub struct Counts {
     pub deaths: u64,
 }
 
-/// What the bytes of a file `counts` report: one line `STARTS DEATHS`, two decimal numbers below 2^64 with no zero in
+/// What the bytes of a file `counts` say: one line `STARTS DEATHS`, two decimal numbers below 2^64 with no zero in
 /// front. Anything else is none.
 pub fn counts_in(bytes: &[u8]) -> Option<Counts>
     ensures { result ≡ counts_in bytes.now }
@@ -39,7 +39,7 @@ fn line_counts(line: &[u8]) -> Option<Counts>
     }
 }
 
-/// Counts of which both are reported.
+/// Counts of which both are known.
 fn both(starts: Option<u64>, deaths: Option<u64>) -> Option<Counts>
     ensures { result ≡ both starts deaths }
 {

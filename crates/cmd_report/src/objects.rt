@@ -24,11 +24,11 @@ use tai_status::{Label, Loaded, Output, RecordFault, TimeSource, View, Want, pha
 /// | `up` | whether it runs |
 /// | `pid` | its process number, `null` where it does not run |
 /// | `seconds` | whole seconds since its last change of process, 0 where that is still to come |
-/// | `phase` | `starting`, `settling`, `up`, `down`, `resting` or `gone`; `null`: a record of 18 bytes reports none |
+/// | `phase` | `starting`, `settling`, `up`, `down`, `resting` or `gone`; `null`: a record of 18 bytes says none |
 /// | `want` | `up`, `down` or `once` |
 /// | `paused` | whether it is paused |
 /// | `normally` | `down` where its folder has a file `down`, else `up` |
-/// | `exiting` | whether supervise is to end; `null`: a record of 18 bytes does not report |
+/// | `exiting` | whether supervise is to end; `null`: a record of 18 bytes does not say |
 ///
 /// Of any other there are `path` and `error`: what svstat's line has behind the folder and `: `.
 ///

@@ -62,7 +62,7 @@ fn is_supervised(look: &Look) -> bool
     }
 }
 
-/// How many starts are reported.
+/// How many starts are counted.
 fn starts_in(counts: Option<Counts>) -> Option<u64>
     ensures { result ≡ starts_in counts }
 {
@@ -72,7 +72,7 @@ fn starts_in(counts: Option<Counts>) -> Option<u64>
     }
 }
 
-/// How many deaths are reported.
+/// How many deaths are counted.
 fn deaths_in(counts: Option<Counts>) -> Option<u64>
     ensures { result ≡ deaths_in counts }
 {

@@ -7,7 +7,7 @@ pub const COUNTS_FRONT: usize = 43;
 /// The first bytes of a file `counts`.
 pub type CountsFront = ArrayVec<u8, COUNTS_FRONT>;
 
-/// The files `counts` of services. Contracts see what they hold, where that is reported.
+/// The files `counts` of services. Contracts see what they hold, where that is known.
 pub trait CountFiles {
     ghost use Rattle.std.specs.Prelude.{ℕ, List, Option, None, option_map};
     ghost use Rattle.cmd_base.specs.Known.{IsKnown};

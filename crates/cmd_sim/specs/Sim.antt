@@ -100,7 +100,7 @@ abbrev pub spells_scan : List (List ℕ) → Bool
 spells_scan [] = false
 spells_scan (word ∷ rest) = bytes_eq word (codes "scan")
 
--- The first line begins a service, or a suite where it says a scan. Each later line is an event.
+-- The first line begins a service, or a suite where it spells a scan. Each later line is an event.
 abbrev pub said_by : Past → List ℕ → Result Said Why
 said_by Nothing line =
     if spells_scan (fields line) then stepping (new_suite 0 256) (suite_event_from {A = Unit {0}} (fields line))
@@ -112,7 +112,7 @@ said_by (OfSuite suite) line = stepping suite (suite_event_from {A = Unit {0}} (
 abbrev pub said : Past → List ℕ → Result Said Why
 said past line = if nat_lt 65536 (length line) then Err why.Line else said_by past line
 
--- Nothing but memory can be wanting at a line: it says an event, and one at a part that is not refused.
+-- Nothing but memory can be wanting at a line: it spells an event, and one at a part that is not refused.
 abbrev pub IsRight : {A : Type 0} → SuiteState → Result (SuiteEvent A) EventFault → Type 0
 IsRight suite (Err fault) = ⊥
 IsRight suite (Ok (Scan rows label)) = ⊤

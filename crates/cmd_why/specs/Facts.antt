@@ -85,7 +85,7 @@ abbrev pub leads_to : Content → Status → Bool
 leads_to content status =
     same_label (replay_of content).status.label status.label && ((replay_of content).status.pid == status.pid)
 
--- no process is reported of since supervise began
+-- no process is known of since supervise began
 abbrev pub has_not_run : Content → Bool
 has_not_run content = (content.folded == 0) && (content.base.status.pid == 0) && not (has Start content.entries)
 

@@ -98,7 +98,7 @@ signal_words byte =
 unfoldable pub signal_end : (byte : ℕ) → List ℕ
 signal_end byte = signal_words byte ++ codes "."
 
--- how a process ended: after its last signal; or with no control byte behind its start, where that start is reported
+-- how a process ended: after its last signal; or with no control byte behind its start, where that start is known
 unfoldable pub how_words : Option ℕ → (unasked : Bool) → List ℕ
 how_words (Some byte) unasked = codes " after " ++ signal_words byte
 how_words None unasked = note unasked (codes " without a control byte")
@@ -158,7 +158,7 @@ past_sentences running facts ending =
     ++ note facts.unrun (codes " It has not run since supervise began.")
 
 -- Starts. Five or more within 60 seconds are flapping. A trace that does not lead to the record, or does not reach
--- back 60 seconds, reports of so many at least.
+-- back 60 seconds, knows of so many at least.
 
 -- whether the trace has all starts of the last 60 seconds
 abbrev pub has_all : Facts → Bool

@@ -187,7 +187,7 @@ Reaches k folder reach.Unread past now = Extended past now (Reached folder None 
 Reaches k folder (reach.Bad cause) past now = ReachesBad folder cause past now
 Reaches k folder (reach.Standing loaded normally_up) past now = ReachesStanding folder loaded normally_up past now
 
--- The trace of a service was read and then the clock, once; how it stands is reported by its record, that trace and
+-- The trace of a service was read and then the clock, once; how it stands is said by its record, that trace and
 -- this reading; and how the process ended of which the trace says last, by the line of that. A timeline is drawn where
 -- it is asked for.
 pub record FindsStanding (k : Knowledge) (timeline : Bool) (folder : List ℕ) (loaded : Loaded) (normally_up : Bool)

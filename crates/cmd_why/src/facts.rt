@@ -41,7 +41,7 @@ pub struct Ended {
 #[derive(Clone, Copy, Debug, PartialEq, Eq)]
 pub struct Facts {
     /// Whether it leads to the process that the record says of, or to the same end of one. Else the record is of a
-    /// later moment, or of an earlier one, and only the starts of the trace are reported.
+    /// later moment, or of an earlier one, and only the starts of the trace are counted.
     pub leads: bool,
     /// How many starts there were in the last 60 seconds, as far as its entries say.
     pub starts: u64,
@@ -224,7 +224,7 @@ pub(crate) fn leads_to<A: Allocator>(content: &TraceText<A>, status: &View) -> b
     same_label(&view.label, &status.label) && view.pid == status.pid
 }
 
-/// Whether no process is reported of since supervise began.
+/// Whether no process is known of since supervise began.
 fn has_not_run<A: Allocator>(content: &TraceText<A>) -> bool
     ensures { result ≡ has_not_run content.now }
 {

@@ -22,7 +22,7 @@ use tai_status::{Label, Loaded, Phase, View, Want};
 ///
 /// - `DIR is up since TIME (S s), process N` where the record has a process, else `DIR is down since TIME (S s)`: TIME
 ///   is that of its label, and S whole seconds from there to the clock, 0 where it is still to come.
-/// - `, being started`, `, settling after its start`, `, resting after a failed start`: a record of 20 bytes reports
+/// - `, being started`, `, settling after its start`, `, resting after a failed start`: a record of 20 bytes says
 ///   that.
 /// - `, paused`: it is paused.
 /// - `, wanted up`: it is down, and is to be up. `, wanted down`, `, wanted once`: it is up, and is to be down, or is
@@ -42,7 +42,7 @@ use tai_status::{Label, Loaded, Phase, View, Want};
 /// - `It was brought down (d).`, `It was to run once (o).`: that is the last of `u`, `d` and `o` between the start of
 ///   the process that the last death ended and that death.
 /// - `Process N ran S s and ended.`: the last death ended that process.
-/// - `Its last start failed.`: no start is reported behind the last one that failed.
+/// - `Its last start failed.`: no start is known behind the last one that failed.
 /// - `It has not run since supervise began.`: nothing was folded, there is no process before the entries, and no start
 ///   among them.
 ///

@@ -26,7 +26,7 @@ pub type Bar = ArrayString<COLUMNS>;
 pub enum Shown {
     /// There is a process.
     Up,
-    /// There is one, and it was paused for a part of that time: when, a trace does not report.
+    /// There is one, and it was paused for a part of that time: when, a trace does not say.
     Paused,
     /// It settles after a start, or rests after one that failed.
     Attempt,
@@ -299,7 +299,7 @@ pub(crate) fn left_end<A: Allocator>(content: &TraceText<A>, now: &Label) -> Lab
 /// - `#`: there is a process. `.`: there is none.
 /// - `*`: it settles after a start, or rests after one that failed; each lasts a second.
 /// - `=`: the process was paused for a part of the time from one label to the next: a control byte has no label, and so
-///   when it came, a trace does not report.
+///   when it came, a trace does not say.
 /// - `?`: what stands is not known: the trace does not lead to the record, and this is behind its last label.
 /// - `+`: more than one of these.
 ///

@@ -2,7 +2,7 @@
 use Rattle.std.specs.Prelude.{◌≡◌, ⊤, ℕ, Bool, false, List, [], ◌∷◌, Option, Some, None}
 use Rattle.tai_status.specs.Counted.{Device}
 
--- The part that is read; the bytes of each part behind it, where they are reported; and whether it was heard, in the
+-- The part that is read; the bytes of each part behind it, where they are visible; and whether it was heard, in the
 -- part that is read, that the logs are to be rotated behind it.
 pub record Feed : Type 0 where
   pub device : Device
@@ -13,7 +13,7 @@ pub record Feed : Type 0 where
 abbrev pub in_one : Device → Feed
 in_one device = record { device = device; behind = None; rotates = false }
 
--- The first of the parts behind is that with these bytes, where it is reported, and the rest are behind it.
+-- The first of the parts behind is that with these bytes, where it is visible, and the rest are behind it.
 abbrev pub IsNext : (behind : Option (List (List ℕ))) (bytes : Option (List ℕ)) (rest : Option (List (List ℕ))) → Type 0
 IsNext None bytes rest = ⊤
 IsNext (Some []) bytes rest = ⊥

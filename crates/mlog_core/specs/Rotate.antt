@@ -12,7 +12,7 @@ use Rattle.mlog_files.specs.declared.tail.LogFault.{LogFault}
 use Rattle.mlog_files.specs.declared.tail.LogFault.TheVariants as log_fault
 use Rattle.mlog_core.specs.Run.{ReachesFront}
 
--- The steps of a rotation of the log that a plan asks for, by its files, where they are reported: a current file that
+-- The steps of a rotation of the log that a plan asks for, by its files, where they are visible: a current file that
 -- isn't empty is finished under the label that the reading gives, or the next one past the greatest in the names of old
 -- files.
 abbrev pub rotation : Option Plan → Tai64n → Option Files → List Step

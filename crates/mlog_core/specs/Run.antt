@@ -29,7 +29,7 @@ pub record World : Type 0 where
 abbrev pub world : Device → StoreState → Option (List Tai64n) → World
 world reader store readings = record { reader = reader; store = store; readings = readings }
 
--- where each log stood when it was opened: as its files are, where they are reported
+-- where each log stood when it was opened: as its files are, where they are visible
 abbrev pub AreFound : Visible → (ℕ → Standing) → Type 0
 AreFound visible stood = (log : ℕ) → IfSome (visible.files log) (λ files. stood log ≡ found files)
 

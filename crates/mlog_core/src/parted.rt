@@ -5,7 +5,7 @@ use std::io::Read;
 use tai_status::{DeviceFault, Input};
 
 /// The input of a logger. It comes in parts: behind each but the last the logs are to be rotated. Contracts see the
-/// part that is read, and what is behind it where that is reported.
+/// part that is read, and what is behind it where that is visible.
 pub trait PartedInput {
     ghost use Rattle.std.specs.Prelude.{◌≡◌, ◌≤◌, true, false, IfOk, OnOk, OnErr, length};
     ghost use Rattle.std.specs.Io.KnownBytes.{ReadConsumes};
@@ -27,7 +27,7 @@ pub trait PartedInput {
     /// Whether the logs are to be rotated behind the part, which is at its end. If so the next part is begun.
     fn next_part(&mut self) -> bool
         requires end { IsRead (feed self.old).device }
-        ensures visible { result ≡ (feed self.old).rotates }
+        ensures asked { result ≡ (feed self.old).rotates }
         ensures next { result ≡ true → OpensNext (feed self.old) (feed self.new) }
         ensures last { result ≡ false → feed self.new ≡ feed self.old };
 }

@@ -4,7 +4,7 @@ use Rattle.std.specs.Io.KnownBytes.{Appends}
 use Rattle.tai_status.specs.Counted.{Rose}
 use Rattle.mlog_files.specs.Files.{Files, Step, files_after, append_steps}
 
--- What a store reports, as far as it says it: the files of each log, the contents that each status file was given, in
+-- What a store shows, as far as it shows it: the files of each log, the contents that each status file was given, in
 -- order, and all alerts.
 pub record Visible : Type 0 where
   pub files : ℕ → Option Files
@@ -12,7 +12,7 @@ pub record Visible : Type 0 where
   pub alerts : Option (List ℕ)
 
 -- A store: how many logs and how many status files it has; the folders that it asked the system for, in order, where it
--- says that; how many of its calls failed; and what it says.
+-- shows that; how many of its calls failed; and what it shows.
 pub record StoreState : Type 0 where
   pub logs : ℕ
   pub status_files : ℕ
@@ -20,7 +20,7 @@ pub record StoreState : Type 0 where
   pub failures : ℕ
   pub visible : Visible
 
--- a store that says nothing, with so many logs and status files and failed calls
+-- a store that shows nothing, with so many logs and status files and failed calls
 abbrev pub shows_nothing : ℕ → ℕ → ℕ → StoreState
 shows_nothing logs status_files failures = record {
   logs = logs;
@@ -37,7 +37,7 @@ pub record Stays (old new : StoreState) : Type 0 where
   pub asked : new.asked ≡ old.asked
   pub steady : old.failures ≤ new.failures
 
--- Files that are reported went through these steps. A store may stop to report them, and doesn't begin again.
+-- Files that are visible went through these steps. A store may stop to show them, and doesn't begin again.
 abbrev pub Reaches : Option Files → Option Files → List Step → Type 0
 Reaches None None steps = ⊤
 Reaches None (Some new) steps = ⊥
@@ -79,7 +79,7 @@ pub record FailsAt (old new : StoreState) (log : ℕ) : Type 0 where
   pub nothing : Does old new log []
   pub rose : Rose old.failures new.failures
 
--- A status file that is reported was given these contents, one after another. It goes on being reported.
+-- A status file that is visible was given these contents, one after another. It goes on being visible.
 abbrev pub WasGiven : Option (List (List ℕ)) → Option (List (List ℕ)) → List (List ℕ) → Type 0
 WasGiven None None contents = ⊤
 WasGiven None (Some new) contents = ⊥

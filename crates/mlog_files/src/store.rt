@@ -6,7 +6,7 @@ ghost use Rattle.mlog_files.specs.Store.{Does, Fails};
 use tai_status::Label;
 use thiserror::Error;
 
-/// A store failed. Its count of failures reports of it.
+/// A store failed. Its count of failures shows it.
 #[derive(Clone, Copy, Debug, PartialEq, Eq, Error)]
 #[error("Store")]
 pub struct StoreFault;

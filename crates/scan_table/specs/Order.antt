@@ -34,7 +34,7 @@ numbers_fault table rows None = if is_exhausted table.slots table.next rows then
 abbrev pub scan_refusal : TableState → List Row → Option ScanFault
 scan_refusal table rows = numbers_fault table rows (order_fault rows)
 
--- what a result reports of a fault
+-- what a result says of a fault
 abbrev pub fault_of : {T : Type 0} → Result T ScanFault → Option ScanFault
 fault_of (Ok value) = None
 fault_of (Err why) = Some why

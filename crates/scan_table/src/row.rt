@@ -63,7 +63,7 @@ impl<A: Allocator> DirRow<A> {
     }
 }
 
-/// Reports the first place where the rows do not rise by name.
+/// Gives the first place where the rows do not rise by name.
 pub(crate) fn check_order<A: Allocator>(rows: &[DirRow<A>]) -> Result<(), ScanFault>
     ensures ok { OnOk result (AreRising rows.now) }
     ensures err { IfErr result (λ fault. IsOrderFault rows.now fault) }

@@ -194,7 +194,7 @@ impl<A: Allocator + Clone> ScanTable<A> {
         let _count = self.slots.len();
     }
 
-    /// Reports the table that a part has ended: whether it is there and had not ended. No other part changes.
+    /// Notes that a part has ended: whether it is there and had not ended. No other part changes.
     pub fn ended(&mut self, part: PartId) -> bool
         ensures running { result ≡ is_running self.old part }
         ensures table { self.new ≡ after_end self.old part }
@@ -229,7 +229,7 @@ impl<A: Allocator + Clone> ScanTable<A> {
     /// its name is refused. A row is eligible where it is a directory whose name is not empty and does not begin with a
     /// dot; a new slot is a pair, the service and its logger, where the row has a log and its name at most 255 bytes.
     ///
-    /// `Unsorted` and `Twice` report the first place where the names do not rise, and come first; then `Exhausted`,
+    /// `Unsorted` and `Twice` name the first place where the names do not rise, and come first; then `Exhausted`,
     /// where there are fewer numbers than the scan needs; `OutOfMemory` only where nothing else is wrong. At a fault
     /// the table is as it was.
     pub fn scan(&mut self, rows: &[DirRow<A>]) -> Result<ScanOut<A>, ScanFault>

@@ -66,7 +66,7 @@ IsCause refused why = refused ≡ Some why
 
 -- An event at a part
 
--- the table, reported that the part has ended where the event ends it
+-- the table, where it is noted that the part has ended where the event ends it
 abbrev pub table_noted : TableState → PartId → Event → Option Kept → TableState
 table_noted table id event None = table
 table_noted table id event (Some kept) = if has_ended (noted_if_taken kept event) then after_end table id else table

@@ -105,7 +105,7 @@ fn put<A: Allocator>(out: &mut Vec<StepOut<A>, A>, answer: StepOut<A>)
     let _ = out.push(answer);
 }
 
-/// Reports a table of a part's end, where it has ended.
+/// Notes a part's end in a table, where it has ended.
 fn note_end<A: Allocator + Clone>(table: &mut ScanTable<A>, id: PartId, ended: bool)
     ensures { table.new ≡ (if ended then after_end table.old id else table.old) }
 {

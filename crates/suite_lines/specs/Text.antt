@@ -52,7 +52,7 @@ row_text row = flags_text row ++ codes ":" ++ row.name
 abbrev pub is_graphic : ℕ → Bool
 is_graphic byte = nat_le 0x21 byte && nat_le byte 0x7e
 
--- A name that a line can report has at least one byte, all from `!` to `~`.
+-- A name that a line can spell has at least one byte, all from `!` to `~`.
 abbrev pub is_row_name : List ℕ → Bool
 is_row_name [] = false
 is_row_name (byte ∷ bytes) = list_all is_graphic (byte ∷ bytes)
@@ -64,7 +64,7 @@ pub record IsPart (part : PartId) : Type 0 where
   pub slot : part.slot < 2 ^ 64
   pub life : part.life < 2 ^ 64
 
--- A line can report the event: its numbers are in range, and its names are such as a line can report.
+-- A line can spell the event: its numbers are in range, and its names are such as a line can spell.
 abbrev pub IsSpellable : {A : Type 0} → SuiteEvent A → Type 0
 IsSpellable (Scan rows label) = IsLabel label × AllByRecursion (λ (row : Row). is_row_name row.name ≡ true) rows
 IsSpellable (At part event) = IsPart part × IsInRange event

@@ -94,7 +94,7 @@ fn parse_suite_event<A: Allocator + Clone>(
 /// | line | event |
 /// |---|---|
 /// | `scan LABEL ROW ..` | the folder was scanned, and held these rows, of which there may be none |
-/// | `at PART EVENT` | at this part happened what the line EVENT reports, as `sup_core::read_event` reads it |
+/// | `at PART EVENT` | at this part happened what the line EVENT spells, as `sup_core::read_event` reads it |
 ///
 /// PART is a slot's number, `main` or `log`, and a life's number, parted by dots. ROW is the four flags `d` (a
 /// directory), `l` (has a log), `n` (has a file `down`) and `m` (its log has one), each its letter or `-`, then a

@@ -25,7 +25,7 @@ abbrev pub is_up : Want → Bool
 is_up want.Up = true
 is_up other = false
 
--- what the full record of a machine reports
+-- what the full record of a machine says
 abbrev pub full_in : State → FullStatus
 full_in s = full_with s.status s.phase s.exiting
 

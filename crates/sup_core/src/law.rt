@@ -4,7 +4,7 @@ ghost use Rattle.sup_core.specs.History.{History, state_of};
 ghost use Rattle.sup_core.specs.Runs.{after, reopened, replies_to};
 
 /// A law of histories: two that leave a machine in one state go on alike. So a history may be cut anywhere, and what
-/// came before the cut is reported by the machine that stands there.
+/// came before the cut is shown by the machine that stands there.
 pub fn histories_of_one_state()
     ensures state { (p q : History) (events : List Event) → state_of p ≡ state_of q →
         state_of (after p events) ≡ state_of (after q events) }

@@ -2,7 +2,7 @@
 //!
 //! A `Machine` is where supervise stands with one service. `Machine::step` takes an event and answers what to ask of
 //! the system: signals, the status record, a start. Contracts speak of histories: `specs/History` says what a history
-//! reports, and `specs/Rules` what is taken and asked after it. Lines of text say events and answers.
+//! says, and `specs/Rules` what is taken and asked after it. Lines of text spell events and answers.
 #![tactic(auto)]
 
 mod asks;

@@ -1,4 +1,4 @@
-//! What types alone say of a value, reported to callers as clauses.
+//! What types alone say of a value, given to callers as clauses.
 //!
 //! The prover knows the range of a number, and what every label and every view is held to, where the fields are read;
 //! a caller knows it only from a clause. So each function here reads a value, gives it back, and says its range. They

@@ -24,7 +24,7 @@ content_history content = followed_by (Opened content.base) content.entries
 abbrev pub replay_of : Content → State
 replay_of content = state_of (content_history content)
 
--- What holds of all that a text can report: there are at most 65,536 entries, each is taken where it
+-- What holds of all that a text can hold: there are at most 65,536 entries, each is taken where it
 -- stands, the count stops at `2 ^ 63`, and numbers and labels are in range.
 pub record IsContent (content : Content) : Type 0 where
   pub state : IsState content.base
@@ -39,7 +39,7 @@ pub record IsContent (content : Content) : Type 0 where
 abbrev pub content_of : State → ℕ → List Event → Content
 content_of base folded entries = record { base = base; folded = folded; entries = entries }
 
--- What of `IsContent` the types of machines and events do not report by themselves.
+-- What of `IsContent` the types of machines and events do not say by themselves.
 pub record IsTraceText (content : Content) : Type 0 where
   pub count : content.folded ≤ 2 ^ 63
   pub limit : length content.entries ≤ 65536

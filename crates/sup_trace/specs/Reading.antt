@@ -73,7 +73,7 @@ until_of_text text =
 
 -- The lines
 
--- what the lines so far reported: nothing, the header, the base and some entries, or all
+-- what the lines so far said: nothing, the header, the base and some entries, or all
 pub data Heard : Type 0 where
   Nothing : Heard
   Header : Heard
@@ -153,7 +153,7 @@ line_result Header line = base_result (fields line)
 line_result (Entries content) line = later_result content (fields line)
 line_result (Whole content) line = Err kind.Line
 
--- all that was reported, or what was reported so far
+-- all that was said, or what was said so far
 abbrev pub heard_of : Bool → Content → Heard
 heard_of true content = Whole content
 heard_of false content = Entries content
@@ -162,7 +162,7 @@ heard_of false content = Entries content
 abbrev pub refusal : ℕ → TraceFaultKind → Result Content TraceFault
 refusal number why = Err (record { line = number; kind = why })
 
--- what the bytes after the last newline report: there are none, and all was reported
+-- what the bytes after the last newline say: there are none, and all was said
 abbrev pub at_end : ℕ → Heard → List ℕ → Result Content TraceFault
 at_end number (Whole content) [] = Ok content
 at_end number heard rest = refusal number kind.Line
@@ -238,7 +238,7 @@ pub record ReadsEntry (at number : ℕ) (heard : Heard) (parts : List (List ℕ)
   pub is : heard_along heard lines ≡ Ok (Entries content)
   pub place : at + 1 ≡ number + length lines
 
--- What is reported from here is reported from there: by the number of a line, what the lines before it reported, and
+-- What is read from here is read from there: by the number of a line, what the lines before it said, and
 -- the text that begins with it.
 abbrev pub SpellsAlike : (number : ℕ) (heard : Heard) (text : List ℕ) (later : ℕ) (more : Heard) (rest : List ℕ)
     → Type 0

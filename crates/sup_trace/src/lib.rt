@@ -1,7 +1,7 @@
 //! The last events of a service, and the machine before them: what is left of a history when the rest is forgotten.
 //!
 //! A [`Trace`] takes events as a machine does and keeps the last ones; the older ones are folded into its base. What it
-//! keeps is reported by a text ([`TraceText`]), which [`read_text`] reads again, and from which [`replay`] gives the
+//! keeps is held by a text ([`TraceText`]), which [`read_text`] reads again, and from which [`replay`] gives the
 //! machine, [`explain`] says what each entry did, and [`first_break`] finds the first entry of a kind. `specs/Trace`
 //! says what is kept after any events, in one piece.
 #![tactic(auto)]

@@ -36,7 +36,7 @@ impl<A: Allocator> Model for Reading<A> {
 
     ghost Value = { Content };
 
-    // The machine is reported by the others.
+    // The machine follows from the others.
     ghost view = { λ reading. content_of reading.base reading.folded reading.entries.items };
 
     ghost invariant = { λ reading.
@@ -88,7 +88,7 @@ impl<A: Allocator> Reading<A> {
         }
     }
 
-    /// What was reported, where it is what a text can report.
+    /// What was read, where it is what a text can hold.
     fn into_text(self) -> TraceText<A>
         requires { IsTraceText self }
         ensures { result ≡ self }

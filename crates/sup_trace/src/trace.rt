@@ -32,7 +32,7 @@ impl<A: Allocator> Model for Trace<A> {
 
     ghost Value = { Kept };
 
-    // The machine is reported by the others.
+    // The machine follows from the others.
     ghost view = { λ trace. kept_of trace.base trace.entries trace.folded };
 
     ghost invariant = { λ trace. IsKeptUp (kept_of trace.base trace.entries trace.folded) trace.machine };

@@ -18,7 +18,7 @@ pub record ConnectionState : Type 0 where
   pub taken : ℕ
   -- when it spoke last
   pub spoke : ℕ
-  -- whether an event reports of its bytes
+  -- whether an event announces its bytes
   pub watched : Bool
 
 -- a connection that begins: nothing of it is read

@@ -8,13 +8,13 @@ use Rattle.std.specs.Io.KnownBytes.{Consumes, Keeps, IsAtEnd}
 use Rattle.svc_door.specs.declared.byte_source.Heard.{Heard}
 use Rattle.svc_door.specs.declared.byte_source.Heard.TheVariants.{Bytes, Nothing, End, Fault}
 
--- what an error of a read reports: that it would wait is no fault, and one that was interrupted reports nothing
+-- what an error of a read says: that it would wait is no fault, and one that was interrupted says nothing
 abbrev pub heard_at : ErrorKind → Option Heard
 heard_at Interrupted = None
 heard_at WouldBlock = Some Nothing
 heard_at _ = Some Fault
 
--- what an answer of a read reports, where the buffer had room: no bytes are the end
+-- what an answer of a read says, where the buffer had room: no bytes are the end
 abbrev pub heard_of : Result ℕ Error → Option Heard
 heard_of (Ok count) = if count == 0 then Some End else Some (Bytes count)
 heard_of (Err fault) = heard_at (error_kind fault)

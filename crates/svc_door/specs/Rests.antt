@@ -15,7 +15,7 @@ sooner_of (Some one) (Some other) = Some (min one other)
 abbrev pub after : (time wait : ℕ) → ℕ
 after time wait = min (time + wait) (2 ^ 64 - 1)
 
--- A listener that gave no connection: it has none, and an event will report of the next; or the call was for nothing,
+-- A listener that gave no connection: it has none, and an event will announce the next; or the call was for nothing,
 -- and is made again; or there are no descriptors or no memory for it, and it is tried again after 100 ms.
 abbrev pub refused_until : ErrorKind → (now : ℕ) → Option ℕ
 refused_until WouldBlock now = None
@@ -29,7 +29,7 @@ spoke_at Full gave spoke now = now
 spoke_at Waits gave spoke now = if gave then now else spoke
 spoke_at Ended gave spoke now = if gave then now else spoke
 
--- the end of its silence; before that, after 100 ms, where no event reports of it
+-- the end of its silence; before that, after 100 ms, where no event announces it
 abbrev pub awaited_until : (watched : Bool) → (spoke now : ℕ) → ℕ
 awaited_until true spoke now = after spoke 5000
 awaited_until false spoke now = min (after spoke 5000) (after now 100)

@@ -35,7 +35,7 @@ pub struct Connection<G: ByteSource> {
     // How many bytes were read.
     taken: usize,
     spoke: u64,
-    // Whether an event reports of its bytes.
+    // Whether an event announces its bytes.
     watched: bool,
 }
 
@@ -64,7 +64,7 @@ impl<G: ByteSource> Connection<G> {
     ghost use Rattle.svc_door.specs.Rests.{spoke_at, looked_at};
     ghost use Rattle.svc_door.specs.declared.connection.Turn.TheVariants as turn;
 
-    /// A connection that begins now: nothing of it is read. `watched` says whether an event reports of its bytes.
+    /// A connection that begins now: nothing of it is read. `watched` says whether an event announces its bytes.
     pub fn new(source: G, watched: bool, now: u64) -> Connection<G>
         ensures { result ≡ beginning (G.left source) (G.said source) watched now }
     {

@@ -11,7 +11,7 @@ use std::thread::{Builder, JoinHandle, Threads};
 use std::time::{Clock, Duration};
 use std::{io, thread};
 
-/// How many events one poll reports of at most.
+/// How many events one poll gives at most.
 const EVENTS: usize = 256;
 
 /// How many milliseconds the thread rests where a poll failed.

@@ -38,7 +38,7 @@ impl<P: ByteSink + Drop> Part<P> {
         }
     }
 
-    /// Has the registry report both listeners.
+    /// Has the registry watch both listeners.
     pub fn register(&mut self, registry: &Registry, token: Token) -> std::io::Result<()>
         ensures number { self.new.number ≡ self.old.number }
     {

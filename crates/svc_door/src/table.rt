@@ -34,7 +34,7 @@ impl<P: ByteSink + Drop> Table<P> {
         }
     }
 
-    /// Has the registry report a part, and puts it into a slot. At a fault the slots are as they were.
+    /// Has the registry watch a part, and puts it into a slot. At a fault the slots are as they were.
     pub fn admit(&mut self, mut part: Part<P>, registry: &Registry) -> std::io::Result<()>
         ensures admitted { OnOk result (Admits self.old.parts self.new.parts part.number) }
         ensures refused { OnErr result ((slot : ℕ) → get self.new.parts slot ≡ get self.old.parts slot) }
@@ -75,7 +75,7 @@ impl<P: ByteSink + Drop> Table<P> {
         None
     }
 
-    /// An event reports of a token: its part is due now, where there is one, and room.
+    /// An event names a token: its part is due now, where there is one, and room.
     pub fn wake(&mut self, token: Token, now: u64)
         ensures open { AreOpen self.old.parts self.old.open.items → AreOpen self.new.parts self.new.open.items }
     {

@@ -1,4 +1,4 @@
--- What a world was reported and what it answered, as one list of calls, and what happened, as one list of events.
+-- What a world was asked and what it answered, as one list of calls, and what happened, as one list of events.
 use Rattle.std.specs.Prelude.{◌≡◌, ℕ, ◌+◌, ◌<◌, Bool, true, false, List, [], ◌∷◌, ◌++◌, map, Option, Some, None, ⊤}
 use Rattle.tai_status.specs.Label.{Tai64n}
 use Rattle.sup_core.specs.declared.asks.Ask.{Ask}

@@ -21,7 +21,7 @@ pub record Standing (I : Type 0) : Type 0 where
   pub events : List Event
   -- what was found and is not published yet
   pub pending : Pending
-  -- what the world was reported and what it answered, where it keeps that
+  -- what the world was asked and what it answered, where it keeps that
   pub calls : Option (List Call)
   -- where its control bytes come from: which mailbox, if any, what it gave, and how often it had none
   pub inbox : I

@@ -2,11 +2,11 @@
 use sup_core::{Ask, Event};
 use tai_status::Label;
 
-/// One call of a world, with its answer. Contracts report by lists of these what a world was reported and what it
+/// One call of a world, with its answer. Contracts say by lists of these what a world was asked and what it
 /// answered.
 #[derive(Clone, Copy, Debug, PartialEq, Eq)]
 pub enum Call {
-    /// It was reported this ask.
+    /// It was given this ask.
     Requested(Ask),
     /// It answered this start, failed start or death.
     Answered(Event),

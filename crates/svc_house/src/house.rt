@@ -53,7 +53,8 @@ fn publish_and_request<W: World, R: Wait>(
     ensures published { OnOk result (published writer.new ≡ published writer.old ++ event ∷ []) }
     ensures unpublished { OnErr result (published writer.new ≡ published writer.old) }
     ensures requested { OnOk result
-        (ExtendedWhileKept (W.calls world.old) (W.calls world.new) (requested (asks_of (history_of writer.old) event))) }
+        (ExtendedWhileKept (W.calls world.old) (W.calls world.new)
+        (requested (asks_of (history_of writer.old) event))) }
     ensures unrequested { OnErr result (W.calls world.new ≡ W.calls world.old) }
 {
     match writer.publish(rt, event)? {
@@ -78,7 +79,7 @@ impl<W: World, I: Inbox, G: Gate + Drop> House<W, I, G> {
     ghost use Rattle.svc_house.specs.Turn.{polls_of};
     ghost use Rattle.svc_house.specs.declared.pending.Pending.TheVariants as pending;
 
-    /// A service whose station is new. The world is reported `first`, in order, and nothing else: the asks of the
+    /// A service whose station is new. The world is asked `first`, in order, and nothing else: the asks of the
     /// machine's begin, for a service that begins.
     pub fn open(world: W, inbox: I, gate: G, writer: Writer, first: Asks) -> House<W, I, G>
         requires published { published writer ≡ [] }
@@ -105,7 +106,8 @@ impl<W: World, I: Inbox, G: Gate + Drop> House<W, I, G> {
     /// One turn. What is pending comes first. Else what the phase can take is looked for: while the service starts how
     /// that ended, while it settles or rests the clock, while it is down a control byte, and while it is up its death
     /// and then a control byte, so that one that dies at once still hears its letters. What was found is published, and
-    /// then its asks are reported, in order; where both were found the byte is published, and the death stays pending.
+    /// then the world is asked for what that wants, in order; where both were found the byte is published, and the
+    /// death stays pending.
     ///
     /// It never waits for something to happen: a turn that finds nothing is `Idle`. What can end that is a letter while
     /// the service is up or down, the world's answer while it starts or is up, and the time `until` while it settles or
@@ -130,7 +132,7 @@ impl<W: World, I: Inbox, G: Gate + Drop> House<W, I, G> {
         }
     }
 
-    // Looks for what the phase can take, and keeps it as pending. It reports the event that is next now.
+    // Looks for what the phase can take, and keeps it as pending. It answers the event that is next now.
     fn look<R: Wait>(&mut self, rt: &R) -> Option<Event>
         requires pending { self.old.pending ≡ pending.Empty }
         requires phase { is_gone (phase_in self.old) ≡ false }

@@ -1,7 +1,7 @@
-//! The loop of one service: what happens is published, and then the world is reported what to do.
+//! The loop of one service: what happens is published, and then the world is asked for what that wants.
 //!
 //! A `House` joins a machine that is published at a station (`svc_station`), the control bytes of an `Inbox`, and a
-//! `World` of processes, a status file and a clock. `House::turn` finds one event, publishes it and reports the world
+//! `World` of processes, a status file and a clock. `House::turn` finds one event, publishes it and asks of the world
 //! what the table of supervise asks. Contracts see a house as `Standing` (specs/Standing), and what one turn does as
 //! `IsTurn` (specs/Turn).
 //!

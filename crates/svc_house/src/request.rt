@@ -1,4 +1,4 @@
-//! How a world is reported what is asked.
+//! How what is asked reaches the world.
 ghost use Rattle.std.specs.Prelude.{◌≡◌, [], ◌∷◌, All};
 ghost use Rattle.svc_house.specs.declared.call.Call.{Call};
 ghost use Rattle.svc_house.specs.Calls.{ExtendedWhileKept, IsAsk, requested};
@@ -17,7 +17,7 @@ fn request_one<W: World>(world: &mut W, ask: &Ask)
     }
 }
 
-/// Reports the asks, in order.
+/// Passes the asks on, in order.
 pub(crate) fn request<W: World>(world: &mut W, asks: &[Ask])
     requires { All IsAsk asks.now }
     ensures { ExtendedWhileKept (W.calls world.old) (W.calls world.new) (requested asks.now) }

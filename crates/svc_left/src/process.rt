@@ -16,7 +16,7 @@ pub type BootId = [u8; 36];
 /// A line of at most 80 bytes.
 pub type ProcessLine = ArrayVec<u8, 80>;
 
-/// A process, reported from every other that ever ran: its number, and when it began.
+/// A process, distinguished from every other that ever ran: its number, and when it began.
 #[derive(Clone, Copy, Debug, PartialEq, Eq)]
 pub struct ProcessId {
     /// Its number.

@@ -15,11 +15,11 @@ module _ {T : Type 0} where
   abbrev pub note_home : Note T → TableId
   note_home n = n.mark.table_id
 
-  -- the history, as far as the end that reported it had seen it
+  -- the history, as far as the end that told it had seen it
   abbrev pub history_in : Note T → List (Letter T)
   history_in n = (view n.mark).seen
 
-  -- what was taken, as far as the end that reported it knew
+  -- what was taken, as far as the end that told it knew
   abbrev pub taken_in : Note T → List (Letter T)
   taken_in n = (view n.mark).taken
 
@@ -39,7 +39,7 @@ module _ {T A : Type 0} where
   abbrev pub seen_by : Sender T A → List (Letter T)
   seen_by s = (view s.mark).seen
 
-  -- of each note that it learnt, what that reported that was taken
+  -- of each note that it learnt, what that told that was taken
   abbrev pub heard_by : Sender T A → List (List (Letter T))
   heard_by s = (view s.mark).heard
 
@@ -62,7 +62,7 @@ module _ {T A : Type 0} where
   abbrev pub seen_at : Receiver T A → List (Letter T)
   seen_at r = (view r.mark).seen
 
-  -- of each note that it learnt, the history that it reported of
+  -- of each note that it learnt, the history that it told of
   abbrev pub heard_at : Receiver T A → List (List (Letter T))
   heard_at r = (view r.mark).heard
 

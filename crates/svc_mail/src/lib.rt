@@ -6,16 +6,16 @@
 //! letters in it are its row, in order and each once: `whole::every_letter_arrives` says so of every mailbox.
 //!
 //! `Full` and `None` say that the box was full, or empty, at one moment of the call, as far as this end can know: some
-//! history that fits what it posted or took, what it has seen and what it was reported ends there. An end that was
-//! reported nothing can know little of the others, so there are notes. `Sender::report` says what a sender has seen,
-//! its own letters among it; where the receiver has learnt that, `None` means that all those letters were taken.
-//! `Receiver::report` says what was taken; where a sender has learnt that, `Full` means that the box was full behind
-//! those letters. No note says that another sender has posted nothing since: where a mailbox has several senders, each
+//! history that fits what it posted or took, what it has seen and what it was told ends there. An end that was told
+//! nothing can know little of the others, so there are notes. `Sender::tell` tells what a sender has seen, its own
+//! letters among it; where the receiver has learnt that, `None` means that all those letters were taken.
+//! `Receiver::tell` tells what was taken; where a sender has learnt that, `Full` means that the box was full behind
+//! those letters. No note tells that another sender has posted nothing since: where a mailbox has several senders, each
 //! may believe that the others filled it.
 //!
-//! What no contract here says, and is only tested: that `take` answers a letter that lies there though no note reported
-//! of it, and that `post` succeeds where there is room. Nor that a waiting call returns (a post or a take that lasts
-//! for ever meets any clause, the second of an end as well as the first), nor in which order the letters of two senders
+//! What no contract here says, and is only tested: that `take` answers a letter that lies there though no note told of
+//! it, and that `post` succeeds where there is room. Nor that a waiting call returns (a post or a take that lasts for
+//! ever meets any clause, the second of an end as well as the first), nor in which order the letters of two senders
 //! stand to one another, beyond that it is the one order of the history.
 //!
 //! An item is plain data (`Copy`). Each end owns a share of the box, so the ends can be moved into other threads. What

@@ -1,4 +1,4 @@
-//! What one end of a mailbox reports another.
+//! What one end of a mailbox tells another.
 ghost use Rattle.std.specs.Prelude.{◌≡◌, []};
 ghost use Rattle.crossbeam_queue.specs.Passes.{view};
 ghost use Rattle.svc_mail.specs.Kept.{IsNoted};
@@ -6,7 +6,7 @@ ghost use Rattle.svc_mail.specs.Kept.{IsNoted};
 use crate::rule::{Mark, Queue, Told};
 use std::alloc::Allocator;
 
-/// What an end of a mailbox knew when it reported it. It has no bytes, and can be sent to where another end is.
+/// What an end of a mailbox knew when it told it. It has no bytes, and can be sent to where another end is.
 /// Contracts see its mailbox (`note_home`), the history as far as its teller had seen it (`history_in`), and what was
 /// taken, as far as its teller knew (`taken_in`).
 #[derive(Drop)]

@@ -60,8 +60,8 @@ impl<T: Copy, A: Allocator> Receiver<T, A> {
 
     /// The next letter of the mailbox's one history, after those that were taken. `None`, and nothing was taken, only
     /// if the mailbox was empty at one moment of the call, for all that the receiver knows: all letters that it has
-    /// seen, and all that a sender reported it of (`learn`), had been taken. Of letters that no one reported it of it
-    /// may believe that they are not posted yet. It takes no memory. It may wait, at any letter. After 2^62 letters it
+    /// seen, and all that a sender told it of (`learn`), had been taken. Of letters that no one told it of it may
+    /// believe that they are not posted yet. It takes no memory. It may wait, at any letter. After 2^62 letters it
     /// waits for ever.
     pub fn take<R: Wait>(&mut self, rt: &R) -> Option<Letter<T>>
         ensures same { IsSameReceiver self.old self.new }
@@ -86,7 +86,7 @@ impl<T: Copy, A: Allocator> Receiver<T, A> {
         }
     }
 
-    /// Says which letters were taken, and what the receiver has seen of the history.
+    /// Tells which letters were taken, and what the receiver has seen of the history.
     pub fn tell(&mut self) -> Note<T>
         ensures same { IsUnchangedReceiver self.old self.new }
         ensures home { note_home result ≡ receiver_home self.old }
@@ -96,7 +96,7 @@ impl<T: Copy, A: Allocator> Receiver<T, A> {
         Note::of(&self.queue, &mut self.mark)
     }
 
-    /// Learns what a sender reported: from now on `take` answers `None` only where all letters of that note were taken.
+    /// Learns what a sender told: from now on `take` answers `None` only where all letters of that note were taken.
     pub fn learn(&mut self, note: Note<T>)
         requires { note_home note ≡ receiver_home self.old }
         ensures same { IsSameReceiver self.old self.new }

@@ -101,7 +101,7 @@ impl<T> Join<Knows<T>> for Ended {
     ghost spent = { nobody };
 }
 
-/// An end says what it knows.
+/// An end tells what it knows.
 pub struct Told;
 
 impl<T> Split<Knows<T>> for Told {

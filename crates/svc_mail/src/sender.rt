@@ -84,7 +84,7 @@ impl<T: Copy, A: Allocator + Clone> Sender<T, A> {
 
     /// Posts an item, once, as the next letter of this sender. The item comes back, and nothing was posted, only if the
     /// mailbox was full at one moment of the call, for all that this sender knows: it knows its own letters and what
-    /// the receiver reported it, so a mailbox of one sender was full; of the other senders it knows no more than it has
+    /// the receiver told it, so a mailbox of one sender was full; of the other senders it knows no more than it has
     /// seen, and may believe that they filled it. It takes no memory. It may wait, at any letter. After 2^62 letters of
     /// this sender it waits for ever.
     pub fn post<R: Wait>(&mut self, rt: &R, item: T) -> Result<(), Full<T>>
@@ -115,7 +115,7 @@ impl<T: Copy, A: Allocator + Clone> Sender<T, A> {
         }
     }
 
-    /// Says what this sender has seen of the history: up to its own last letter, at the least.
+    /// Tells what this sender has seen of the history: up to its own last letter, at the least.
     pub fn tell(&mut self) -> Note<T>
         ensures same { IsUnchangedSender self.old self.new }
         ensures home { note_home result ≡ home self.old }
@@ -124,8 +124,8 @@ impl<T: Copy, A: Allocator + Clone> Sender<T, A> {
         Note::of(&self.queue, &mut self.mark)
     }
 
-    /// Learns what the receiver reported: from now on `post` answers `Full` only where the box held as many letters as
-    /// it has room for behind those that were taken by that note.
+    /// Learns what the receiver told: from now on `post` answers `Full` only where the box held as many letters as it
+    /// has room for behind those that were taken by that note.
     pub fn learn(&mut self, note: Note<T>)
         requires { note_home note ≡ home self.old }
         ensures same { IsSameSender self.old self.new }

@@ -17,7 +17,7 @@ pub record Passing : Type 0 where
   pub here : List ℕ
   -- the bytes that were taken and are not put
   pub kept : List ℕ
-  -- the bytes that this life's outlet reports, and how often it failed
+  -- the bytes that this life's outlet shows, and how often it failed
   pub shown : Option (List ℕ)
   pub failures : ℕ
 
@@ -25,7 +25,7 @@ pub record Passing : Type 0 where
 pub record IsRelay (s : Passing) : Type 0 where
   -- The bytes taken are those put into earlier lives, those put into this one, and those kept.
   pub taken : bytes_in (taken_by s.receiver) ≡ (s.earlier ++ s.here) ++ s.kept
-  -- What this life's outlet reports are the bytes put into this life.
+  -- What this life's outlet shows are the bytes put into this life.
   pub shown : IfSome s.shown (λ bytes. bytes ≡ s.here)
 
 -- a relay that begins: nothing is put or kept

@@ -2,7 +2,7 @@
 use std::io::Write;
 use tai_status::Output;
 
-/// A fault of an outlet. Its count of failures reports of it.
+/// A fault of an outlet. Its count of failures shows it.
 #[derive(Clone, Copy, Debug, PartialEq, Eq)]
 pub struct OutletFault;
 
@@ -28,7 +28,7 @@ pub trait Outlet {
         ensures failed { OnErr result (Rose (failures self.old) (failures self.new)) };
 }
 
-/// A counted writer is an outlet. It reports nothing of its bytes, since a writer over the machine knows of none.
+/// A counted writer is an outlet. It says nothing of its bytes, since a writer over the machine knows of none.
 impl<D: Write> Outlet for Output<D> {
     ghost failures = { λ output. output.faults };
 

@@ -112,7 +112,7 @@ impl Appender {
         })
     }
 
-    /// Adds an event, and says whether it did. It does not where the history is as long as it may be.
+    /// Adds an event, and tells whether it did. It does not where the history is as long as it may be.
     pub(crate) fn add(self, event: Event) -> (Appender, bool)
         ensures book { result.0.prefix.seen.book ≡ self.prefix.seen.book }
         ensures log { MatchBool result.1 (result.0.prefix.seen.log ≡ self.prefix.seen.log ++ event ∷ [])

@@ -6,7 +6,7 @@ abbrev pub is_watch_asked : (ends is_watched : Bool) → Bool
 is_watch_asked true is_watched = false
 is_watch_asked false is_watched = not is_watched
 
--- For how many milliseconds is waited at most: one that is to end does not wait; once outputs may be reported to, 20;
+-- For how many milliseconds is waited at most: one that is to end does not wait; once outputs may be asked to end, 20;
 -- and before that without an end, which is -1.
 abbrev pub wait_millis : (ends is_watched : Bool) → ℤ
 wait_millis true is_watched = pos 0

@@ -177,7 +177,7 @@ pub fn drain(input: &PipeReader) -> io::Result<u64> {
     io::copy(&mut input, &mut io::sink())
 }
 
-/// The end of a service's output that is read. It ends where nobody has the other end, and where it is reported to.
+/// The end of a service's output that is read. It ends where nobody has the other end, and where it is asked to.
 #[derive(Drop)]
 pub struct ServiceOutput {
     file: File,

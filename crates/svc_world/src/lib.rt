@@ -3,7 +3,7 @@
 //! `ChildWorld` keeps the rules of a service's world over the small trait `ChildSystem`, and is proved: no second copy
 //! of a service that still runs, no signal to a process that may be another's, each start and each death reported once,
 //! which process the service has is recorded at each start, and how it ended at each death, beside how many began and
-//! ended. So is how a signal is reported to the shell that sends it, over the small trait `ShellProcess`. Below these
+//! ended. So is how the shell that sends a signal is asked for it, over the small trait `ShellProcess`. Below these
 //! traits is the system's own layer, which says nothing to contracts: `ServiceFolder`, `SystemChildren` with their
 //! `ChildReaper`, `AdoptionWatch`, `SignalShell`.
 #![tactic(auto)]

@@ -1,4 +1,4 @@
-//! How a signal is reported to the shell that sends it.
+//! How the shell that sends a signal is asked for it.
 ghost use Rattle.std.specs.Prelude.{◌≡◌, ◌≤◌, length};
 ghost use Rattle.sup_core.specs.Text.{signal_name};
 ghost use Rattle.svc_world.specs.Commands.{signal_line};
@@ -21,7 +21,7 @@ pub(crate) trait ShellProcess {
 
     ghost calls: { Self → Option (List ShellCall) } = { λ _. None };
 
-    /// Reports the shell a line. A fault is that it did not take all of it.
+    /// Sends the shell a line. A fault is that it did not take all of it.
     fn send(&mut self, line: &str) -> io::Result<()>
         ensures calls { Extended (calls self.old) (calls self.new) (Sent line.now (is_ok result) ∷ []) };
 
@@ -34,7 +34,7 @@ pub(crate) trait ShellProcess {
         ensures calls { Extended (calls self.old) (calls self.new) (Started (is_ok result) ∷ []) };
 }
 
-/// The line that says the shell a signal.
+/// The line that asks the shell for a signal.
 fn signal_line(name: &str, pid: u32) -> ArrayString<LINE_BYTES>
     requires { length name.now ≤ 4 }
     ensures { result.bytes ≡ signal_line name.now pid }
@@ -47,7 +47,7 @@ fn signal_line(name: &str, pid: u32) -> ArrayString<LINE_BYTES>
     line
 }
 
-/// Reports a line to a shell. One that does not take it is ended, and another one is started and reported it, once.
+/// Sends a line to a shell. One that does not take it is ended, and another one is started and sent it, once.
 /// Where that fails too, nothing is sent.
 fn send_line<S: ShellProcess>(shell: &mut S, line: &str)
     ensures { SendsLine line.now (S.calls shell.old) (S.calls shell.new) }

@@ -16,7 +16,7 @@ abbrev pub IsLoaded : List ℕ → Loaded → Type 0
 IsLoaded bytes (Old status) = IsStatus status × IsRecord bytes status
 IsLoaded bytes (New full) = IsFull full × IsFullRecord bytes full
 
--- what either reports of the process and of what is wanted
+-- what either says of the process and of what is wanted
 abbrev pub status_in : Loaded → Status
 status_in (Old status) = status
 status_in (New full) = full.status
@@ -29,18 +29,18 @@ abbrev pub with_phase : Status → Bool → Option Phase → Result Loaded Recor
 with_phase status exiting (Some phase) = if_stands (full_of_parts status phase exiting)
 with_phase status exiting None = Err PhaseNumber
 
--- what the record of a status and two more bytes report
+-- what the record of a status and two more bytes say
 abbrev pub full_from : Result Status RecordFault → ℕ → ℕ → Result Loaded RecordFault
 full_from (Err fault) exiting phase = Err fault
 full_from (Ok status) exiting phase =
     if nat_lt 1 exiting then Err ExitingFlag else with_phase status (exiting == 1) (phase_from phase)
 
--- what the record of a status alone reports
+-- what the record of a status alone says
 abbrev pub old_from : Result Status RecordFault → Result Loaded RecordFault
 old_from (Err fault) = Err fault
 old_from (Ok status) = Ok (Old status)
 
--- what these bytes report; of another length than 18 and 20 they are no record
+-- what these bytes say; of another length than 18 and 20 they are no record
 unfoldable pub loaded_from : List ℕ → Result Loaded RecordFault
 loaded_from bytes =
     if length bytes == 20 then full_from (status_from (take 18 bytes)) (slice_index bytes 18) (slice_index bytes 19)

@@ -8,7 +8,7 @@ use std::marker::{Model, PhantomData};
 /// How often a device is read at most, and how often one write is tried.
 const MOST_READS: u64 = 1 << 48;
 
-/// A fault of a device. The count of its [`Counted`] reports of it.
+/// A fault of a device. The count of its [`Counted`] shows it.
 #[derive(Clone, Copy, Debug, PartialEq, Eq)]
 pub struct DeviceFault;
 

@@ -9,7 +9,7 @@ use std::marker::Model;
 /// What a full status record says of a service.
 #[derive(Clone, Copy, Debug, PartialEq, Eq)]
 pub struct Full {
-    /// What a record of 18 bytes reports.
+    /// What a record of 18 bytes says.
     pub view: View,
     /// Where supervise stands.
     pub phase: Phase,

@@ -21,7 +21,7 @@ impl Loaded {
     ghost use Rattle.std.specs.Prelude.{◌≡◌};
     ghost use Rattle.tai_status.specs.Loading.{status_in};
 
-    /// What either reports of the process and of what is wanted.
+    /// What either says of the process and of what is wanted.
     pub fn view(&self) -> View
         ensures { result ≡ status_in self.now }
     {
@@ -32,7 +32,7 @@ impl Loaded {
     }
 }
 
-/// What these bytes report, where they are a status record of 18 or of 20 bytes.
+/// What these bytes say, where they are a status record of 18 or of 20 bytes.
 pub fn decode_any(bytes: &[u8]) -> Result<Loaded, RecordFault>
     // What is read has this record.
     ensures found { IfOk result (λ loaded. IsLoaded bytes.now loaded) }

@@ -1,4 +1,4 @@
-//! The words of the command `trace`: a file, what to break at, and whether to report local times.
+//! The words of the command `trace`: a file, what to break at, and whether to show local times.
 //!
 //! [`parse_words`] reads them with `clap`, as the command line `FILE [--break SPEC] [--local]`. It is a crate of its
 //! own, so that no crate above it is checked with the code of a parser of command lines.
@@ -15,7 +15,7 @@ use clap::{Arg, ArgAction, ArgMatches, Command, Error};
 pub use laws::worked_lines;
 use std::alloc::Global;
 
-/// What the words of `trace` ask for: a file, what to break at, and whether to report local times.
+/// What the words of `trace` ask for: a file, what to break at, and whether to show local times.
 #[derive(Clone, Copy, Debug, PartialEq, Eq)]
 pub struct TraceWords<'a> {
     pub file: &'a str,

@@ -33,7 +33,7 @@ parts-preserved g c =
         record {
           ended = ended;
           runs = ran_part _ c.args.script.now here ended ran.runs ran.end ran.works ran.behind;
-          heard = sym c.next_part.ensures.visible ∙ visible;
+          heard = sym c.next_part.ensures.asked ∙ visible;
           opens = c.next_part.ensures.next visible;
           rotates = turned;
         },
@@ -63,7 +63,7 @@ returns-in-Err-rotate_all-clause-runs g c =
           c.fault_of.ensures.store c.fault_of.ensures.spent (record {
             ended = ended;
             runs = ran_part _ c.args.script.now here ended ran.runs ran.end ran.works ran.behind;
-            heard = sym c.next_part.ensures.visible ∙ visible;
+            heard = sym c.next_part.ensures.asked ∙ visible;
             opens = c.next_part.ensures.next visible;
             rotates = c.in-Err-rotate_all.ensures.stopped;
           });

@@ -1,5 +1,5 @@
 use Rattle.svc_station.proofs.Steps.{sees}
-use Rattle.svc_station.proofs.Content.{pending_shown}
+use Rattle.svc_station.proofs.Told.{pending_shown}
 use Rattle.svc_station.proofs.writer_state.show.Goals as goal
 
 pub publish_as-inner-requires : goal.publish_as-inner-requires

@@ -2,7 +2,7 @@ use Rattle.std.proofs.Common.{ap, ◌∙◌}
 use Rattle.sup_core.specs.History.{Opened, state_of}
 use Rattle.sup_core.specs.Runs.{followed_by}
 use Rattle.sup_trace.specs.Trace.{replay}
-use Rattle.svc_station.proofs.Content.{shown_state}
+use Rattle.svc_station.proofs.Told.{shown_state}
 use Rattle.svc_station.proofs.writer_state.WriterState.machine.Goals as goal
 
 pub returns : goal.returns

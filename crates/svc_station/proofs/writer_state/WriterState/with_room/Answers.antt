@@ -1,6 +1,6 @@
 use Rattle.std.proofs.Common.{[], ◌∷◌, ◌++◌, ap, sym, ◌∙◌}
 use Rattle.svc_station.proofs.Steps.{sees}
-use Rattle.svc_station.proofs.Content.{idle_shown}
+use Rattle.svc_station.proofs.Told.{idle_shown}
 use Rattle.svc_station.proofs.writer_state.WriterState.with_room.Goals as goal
 
 pub publish_as-inner-requires : goal.publish_as-inner-requires
