@@ -1,10 +1,11 @@
 -- What an earlier svscan left: its process, where this boot may be unknown, and a start that it did not record.
-use Rattle.std.specs.Prelude.{◌≡◌, ⊤, ℕ, Bool, true, false, if◌then◌else◌, List, Option, Some, None, IsSome}
+use Rattle.std.specs.Prelude.{◌≡◌, ⊤, ⊥, ℕ, Bool, true, false, if◌then◌else◌, List, Option, Some, None, IsSome}
 use Rattle.tai_status.specs.Record.{Status}
 use Rattle.tai_status.specs.declared.loading.Loaded.{Loaded}
 use Rattle.tai_status.specs.declared.loading.Loaded.TheVariants.{New}
 use Rattle.tai_status.specs.declared.phase.Phase.{Phase}
 use Rattle.tai_status.specs.declared.phase.Phase.TheVariants.{Starting}
+use Rattle.svc_world.specs.declared.folder.FileId.{FileId}
 use Rattle.svc_left.specs.Process.{IsFound}
 use Rattle.svc_left.specs.declared.process.ProcessId.{ProcessId}
 use Rattle.svc_left.specs.declared.process.Found.{Found}
@@ -20,6 +21,11 @@ abbrev pub IsOfBoot : (boot : Option (List ℕ)) → Found → Type 0
 IsOfBoot boot (Lives process) = boot ≡ Some process.boot
 IsOfBoot boot Gone = IsSome boot
 IsOfBoot boot Unknown = ⊤
+
+-- Both are there, and are one file.
+abbrev pub IsOneFile : (there here : Option FileId) → Type 0
+IsOneFile (Some there) (Some here) = there ≡ here
+IsOneFile there here = ⊥
 
 -- whether a start was asked for and not answered
 abbrev pub is_starting : Phase → Bool

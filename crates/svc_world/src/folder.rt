@@ -1,7 +1,7 @@
 //! The folder of a service on this system.
-ghost use Rattle.std.specs.Prelude.{◌≡◌, ◌<◌, ◌≤◌, length, option_copied, IfSome};
+ghost use Rattle.std.specs.Prelude.{◌≡◌, ◌<◌, ◌≤◌, ◌↔◌, IsTrue, length, option_copied, IfSome};
 ghost use Rattle.svc_world.specs.Commands.{process_in};
-ghost use Rattle.svc_world.specs.Left.{IsFoundIn, IsOfBoot, named, starting};
+ghost use Rattle.svc_world.specs.Left.{IsFoundIn, IsOfBoot, IsOneFile, named, starting};
 ghost use Rattle.tai_status.specs.Record.{status_record};
 ghost use Rattle.svc_left.specs.Process.{IsLiving};
 
@@ -56,12 +56,23 @@ struct FileId {
 }
 
 impl FileId {
-    /// That of a file of which this was found.
-    fn of(found: &Metadata) -> FileId {
-        FileId {
+    /// That of a file of which this was found. None where nothing was.
+    fn found(found: io::Result<Metadata>) -> Option<FileId> {
+        let found = found.ok()?;
+        Some(FileId {
             device: found.dev(),
             inode: found.ino(),
-        }
+        })
+    }
+}
+
+/// Whether both are there, and are one file.
+fn is_one_file(there: Option<FileId>, here: Option<FileId>) -> bool
+    ensures { IsTrue result ↔ IsOneFile there here }
+{
+    match (there, here) {
+        (Some(there), Some(here)) => there == here,
+        _ => false,
     }
 }
 
@@ -427,12 +438,8 @@ impl ServiceFolder {
 
     /// Whether a process runs in this folder.
     pub fn is_running(&self, pid: u32) -> bool {
-        match (
-            fs::metadata(&self.files, path_of_process(pid, "cwd").as_str()),
-            self.service.metadata(),
-        ) {
-            (Ok(there), Ok(here)) => FileId::of(&there) == FileId::of(&here),
-            _ => false,
-        }
+        let there = fs::metadata(&self.files, path_of_process(pid, "cwd").as_str());
+        let here = self.service.metadata();
+        is_one_file(FileId::found(there), FileId::found(here))
     }
 }
