@@ -10,6 +10,7 @@
 mod folder_services;
 mod limits;
 mod listing;
+mod losses;
 mod own_status;
 
 pub use folder_services::{FolderServices, Reply, Request, SystemHost, handle};

@@ -1,6 +1,7 @@
 use Rattle.std.proofs.Common.{◌≡◌, List, ap, ◌∙◌, subst, sym, refl, map, get_or, ◌++◌, ◌∷◌, []}
 use Rattle.std.specs.List.{All}
 use Rattle.std.proofs.lemmas.List.{map-append, take_more}
+use Rattle.std.proofs.lemmas.List.Elements.{All-get_or}
 use Rattle.scan_table.specs.declared.part.PartId.{PartId}
 use Rattle.scan_table.specs.declared.part.Role.TheVariants.{Main}
 use Rattle.cmd_svscan.specs.Leftovers.{AreRead, Reading, part_of}
@@ -39,3 +40,9 @@ loop-part-preserved g c =
       table = c.status.ensures.table ∙ at.table;
       there = still-somewhere ids middle new c.status.ensures.parts at.there;
     }
+
+pub loop-part-preserved-in_default : goal.loop-part-preserved-in_default
+loop-part-preserved-in_default g c =
+    let none : PartId = record { slot = 0; role = Main; life = 0 } in
+    absurd (All-get_or (IsSomewhere c.loop-part.host.parts) c.deref-part-items.result.now c.loop-part.part-index none
+    c.loop-part-test.true c.loop-part.invariant.there c.in_default.ensures.there)
