@@ -1,5 +1,5 @@
 -- Names that are listed one by one.
-use Rattle.std.proofs.Common.{◌≡◌, ℕ, ◌+◌, ◌-◌, ◌^◌, List, [], ◌∷◌, ◌++◌, map, refl, sym, ap, ◌∙◌, arith}
+use Rattle.std.proofs.Common.{◌≡◌, ℕ, ◌+◌, List, [], ◌∷◌, ◌++◌, map, refl, sym, ap, ◌∙◌, arith}
 use Rattle.std.proofs.lemmas.List.{map-append, take-append-drop}
 use Rattle.std.specs.Prelude.{min, take, drop, Result, Ok, Err}
 use mathlib.Core.List.{IsPrefix}

@@ -1,4 +1,4 @@
-use Rattle.std.proofs.Common.{◌≡◌, List, ap, ◌∙◌, subst, sym, refl, map, get_or, ◌++◌, ◌∷◌, []}
+use Rattle.std.proofs.Common.{List, ap, ◌∙◌, subst, sym, refl, map, get_or, ◌++◌, ◌∷◌, []}
 use Rattle.std.specs.List.{All}
 use Rattle.std.proofs.lemmas.List.{map-append, take_more}
 use Rattle.std.proofs.lemmas.List.Elements.{All-get_or}

@@ -1,4 +1,4 @@
-use Rattle.std.proofs.Common.{◌≡◌, List, ap, ◌∙◌, subst, refl}
+use Rattle.std.proofs.Common.{List, ap, ◌∙◌, subst, refl}
 use Rattle.std.proofs.lemmas.Result.{IfErr-weaker, IfOk-weaker}
 use mathlib.Core.List.{IsPrefix}
 use Rattle.scan_table.specs.Table.{TableState}
