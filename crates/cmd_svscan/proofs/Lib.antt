@@ -1,4 +1,2 @@
-pub mod Ordering
-pub mod Reporting
-pub mod Turning
+pub mod Leftovers
 pub mod ListedNames

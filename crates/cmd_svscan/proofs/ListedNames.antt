@@ -1,10 +1,9 @@
 -- Names that are listed one by one.
-use Rattle.std.proofs.Common.{◌≡◌, ℕ, ◌+◌, ◌-◌, ◌^◌, List, [], ◌∷◌, ◌++◌, map, refl, sym, ap, ◌∙◌, arith}
+use Rattle.std.proofs.Common.{◌≡◌, ℕ, ◌+◌, List, [], ◌∷◌, ◌++◌, map, refl, sym, ap, ◌∙◌, arith}
 use Rattle.std.proofs.lemmas.List.{map-append, take-append-drop}
-use Rattle.std.specs.Prelude.{min, codes, ◌&&◌, Bool, true, IfSome, Option, None, Some, take, drop, Result, Ok, Err}
-use Rattle.std.proofs.lemmas.List.{append-nil}
+use Rattle.std.specs.Prelude.{min, take, drop, Result, Ok, Err}
 use mathlib.Core.List.{IsPrefix}
-use Rattle.cmd_svscan.specs.Listing.{Standing, count_unread, entries_of, is_directory, is_there, read_of}
+use Rattle.cmd_svscan.specs.Listing.{count_unread, read_of}
 
 module _ {E F : Type 0} where
   read-more : (items : List (Result E F)) (entry : E) → read_of (items ++ Ok entry ∷ []) ≡ read_of items ++ entry ∷ []
@@ -39,26 +38,6 @@ module _ {E F : Type 0} where
 -- a count that stops at the greatest number
 pub count-up : (n most : ℕ) → min (min n most + 1) most ≡ min (n + 1) most
 count-up n most = omega arith
-
--- a row says what stands at the paths of its entry
-pub entry-said : (at : Option (List ℕ → Standing)) (name : List ℕ) (a b c d : Bool)
-    → IfSome at (λ at. a ≡ (true && is_directory (at (name ++ []))))
-    → IfSome at (λ at. b ≡ (a && is_directory (at (name ++ codes "/log"))))
-    → IfSome at (λ at. c ≡ (a && is_there (at (name ++ codes "/down"))))
-    → IfSome at (λ at. d ≡ (b && is_there (at (name ++ codes "/log/down"))))
-    → IfSome (entries_of at)
-    (λ said. record { is_dir = a; has_log = b; down = c; log_down = d } ≡ said name)
-entry-said None name a b c d p q r s = tt
-entry-said (Some at) name a b c d p q r s =
-    let dir : a ≡ is_directory (at name) = p ∙ ap (λ n. is_directory (at n)) (append-nil name) in
-    let log : b ≡ (is_directory (at name) && is_directory (at (name ++ codes "/log"))) =
-    q ∙ ap (λ x. x && is_directory (at (name ++ codes "/log"))) dir in
-    let down : c ≡ (is_directory (at name) && is_there (at (name ++ codes "/down"))) =
-    r ∙ ap (λ x. x && is_there (at (name ++ codes "/down"))) dir in
-    let log_down : d ≡ ((is_directory (at name) && is_directory (at (name ++ codes "/log")))
-    && is_there (at (name ++ codes "/log/down"))) =
-    s ∙ ap (λ x. x && is_there (at (name ++ codes "/log/down"))) log in
-    λ i. record { is_dir = dir i; has_log = log i; down = down i; log_down = log_down i }
 
 -- those so far begin all of them
 pub so-far : {A B : Type 0} (f : A → B) (xs : List A) (k : ℕ) (ys : List B) → ys ≡ map f (take k xs)

@@ -1,9 +1,5 @@
-pub mod Calls
-pub mod Descriptors
+pub mod Leftovers
 pub mod Listing
-pub mod Orders
+pub mod Losses
 pub mod OwnStatus
 pub mod Requests
-pub mod Rounds
-pub mod Words
-pub mod Losses

@@ -8,12 +8,16 @@ use Rattle.scan_table.specs.Table.{name_of, slot_at}
 use Rattle.svc_host.specs.declared.host.Unmade as host
 use Rattle.svc_host.specs.declared.part.Loss.{Loss}
 use Rattle.svc_maker.specs.Making.{part_name}
-use Rattle.cmd_svscan.specs.declared.service_set.Unmade.{Unmade}
-use Rattle.cmd_svscan.specs.declared.service_set.Untaken.{Untaken}
+use Rattle.svscan_rounds.specs.declared.service_set.Unmade.{Unmade}
+use Rattle.svscan_rounds.specs.declared.service_set.Untaken.{Untaken}
+
+-- the name of the service in a slot, where there is one
+abbrev pub name_at : List SlotState → (slot : ℕ) → List ℕ
+name_at slots slot = option_map_or name_of (slot_at slots slot) []
 
 -- the name by which a part is shown: that of the service in its slot, of a logger with `/log` behind it
 abbrev pub shown_name : List SlotState → PartId → List ℕ
-shown_name slots id = part_name (option_map_or name_of (slot_at slots id.slot) []) id.role
+shown_name slots id = part_name (name_at slots id.slot) id.role
 
 -- the control bytes that were not taken, by the parts that ended so
 abbrev pub untaken_in : List SlotState → List (PartId × Loss) → List Untaken

@@ -1,19 +1,14 @@
 //! The services of a folder of this system, which it keeps running.
-ghost use Rattle.std.specs.Prelude.{◌≡◌, map, string_bytes, IfOk, OnErr, OnOk};
-ghost use mathlib.Core.List.{IsPrefix};
-ghost use Rattle.svc_host.specs.Parts.{losses_in, without_loss};
-ghost use Rattle.cmd_svscan.specs.Listing.{needed};
-ghost use Rattle.cmd_svscan.specs.Losses.{shown_name, unmade_in, unmade_of, untaken_in, untraced_in};
+ghost use Rattle.std.specs.Prelude.{◌≡◌, map, string_bytes, IfOk};
+ghost use Rattle.svscan_rounds.specs.Needed.{needed};
 ghost use Rattle.cmd_svscan.specs.Requests.{IsReplyTo};
 
-use crate::descriptors::{allowed_descriptors, shortage};
+use crate::limits::allowed_descriptors;
 use crate::listing::{FolderNames, has_names, list_names, list_rows};
+use crate::losses::{remaining, take_losses, unlogged, unmade_in};
 use crate::own_status::own_status;
-use crate::service_set::{
-    Begun, ListFault, Listing, Remaining, RoundOut, ServiceSet, Unlogged, Unmade, Untaken,
-};
 use cmd_base::{Cause, SystemClock};
-use scan_table::{DirRow, PartId, Role, ScanFault};
+use scan_table::{DirRow, ScanFault};
 use std::alloc::{AllocError, Global};
 use std::fs::Files;
 use std::net::Net;
@@ -23,11 +18,14 @@ use std::thread::Threads;
 use std::time::{Clock, Duration};
 use std::{io, process, thread};
 use svc_door::Door;
-use svc_host::{Host, Loss, Maker};
+use svc_host::{Host, Maker};
 use svc_house::{Inbox, MailInbox};
-use svc_maker::{FolderHolder, FolderMaker, OwnFault, SystemParts, part_name};
+use svc_maker::{FolderHolder, FolderMaker, OwnFault, SystemParts};
 use svc_world::{AdoptionWatch, FolderFault};
-use tai_status::{Name, Names, TimeSource, encode_full};
+use svscan_rounds::{
+    Begun, ListFault, Listing, Remaining, RoundOut, ServiceSet, Unlogged, is_service_name, shortage,
+};
+use tai_status::{Names, TimeSource, encode_full};
 
 /// How long it rests between two rounds, in seconds, and how long one look at the end of all services takes.
 const REST_SECONDS: u64 = 5;
@@ -75,7 +73,8 @@ pub enum Reply {
     Left(Vec<Unlogged>),
 }
 
-/// Those of some names of which a scan needs rows: all but those of the services of which every part runs.
+/// Those of some names of which a scan needs rows (`others_need_no_row`): all but those that no service may have, and
+/// those of the services of which every part runs.
 fn needed<M: Maker + Drop, R: Threads + Wait + Clock + Copy + Drop + Send + 'static>(
     alloc: Global,
     host: &Host<M, R>,
@@ -86,7 +85,7 @@ fn needed<M: Maker + Drop, R: Threads + Wait + Clock + Copy + Drop + Send + 'sta
 {
     let mut found = Vec::new(alloc);
     for name in names {
-        if !host.is_whole(name.as_str()) {
+        if is_service_name(name.as_str()) && !host.is_whole(name.as_str()) {
             found.push(String::from_str(alloc, name.as_str())?)?;
         }
     }
@@ -171,112 +170,6 @@ fn list<R: Files + Threads + Wait + Clock + Copy + Drop + Send + 'static, M: Mak
         rows,
         unnamed,
     })
-}
-
-/// The name by which a part is shown.
-fn shown_name<M: Maker + Drop, R: Threads + Wait + Clock + Copy + Drop + Send + 'static>(
-    alloc: Global,
-    host: &Host<M, R>,
-    part: PartId,
-) -> Result<Name, AllocError>
-    ensures { IfOk result (λ name. name ≡ shown_name host.now.table.slots part) }
-{
-    let name = match host.name(part.slot) {
-        Some(name) => name.as_str(),
-        None => "",
-    };
-    Ok(Name::new(part_name(alloc, name, part.role)?))
-}
-
-/// The control bytes that were not taken, by the parts that ended so.
-fn untaken_in<M: Maker + Drop, R: Threads + Wait + Clock + Copy + Drop + Send + 'static>(
-    alloc: Global,
-    host: &Host<M, R>,
-    losses: &[(PartId, Loss)],
-) -> Result<Vec<Untaken>, AllocError>
-    ensures { IfOk result (λ untaken. untaken.items ≡ untaken_in host.now.table.slots losses.now) }
-{
-    let mut untaken = Vec::new(alloc);
-    for (part, loss) in losses {
-        if loss.untaken > 0 {
-            let name = shown_name(alloc, host, *part)?;
-            let count = loss.untaken;
-            untaken.push(Untaken { name, count })?;
-        }
-    }
-    Ok(untaken)
-}
-
-/// The parts whose last trace was not kept.
-fn untraced_in<M: Maker + Drop, R: Threads + Wait + Clock + Copy + Drop + Send + 'static>(
-    alloc: Global,
-    host: &Host<M, R>,
-    losses: &[(PartId, Loss)],
-) -> Result<Names, AllocError>
-    ensures { IfOk result (λ untraced. untraced ≡ untraced_in host.now.table.slots losses.now) }
-{
-    let mut untraced = Vec::new(alloc);
-    for (part, loss) in losses {
-        if loss.lacks_trace {
-            untraced.push(shown_name(alloc, host, *part)?)?;
-        }
-    }
-    Ok(Names::from_vec(untraced))
-}
-
-/// What was lost at the ends of parts since this was asked last. At want of memory it is asked for again.
-fn take_losses<M: Maker + Drop, R: Threads + Wait + Clock + Copy + Drop + Send + 'static>(
-    alloc: Global,
-    host: &mut Host<M, R>,
-) -> Result<(Vec<Untaken>, Names), AllocError>
-    ensures untaken { IfOk result (λ found.
-        found.0.items ≡ untaken_in host.old.table.slots (losses_in host.old.parts)) }
-    ensures untraced { IfOk result (λ found.
-        found.1 ≡ untraced_in host.old.table.slots (losses_in host.old.parts)) }
-    ensures once { OnOk result (host.new ≡ record host.old { parts = map without_loss host.old.parts }) }
-    ensures kept { OnErr result (host.new ≡ host.old) }
-{
-    let losses = host.losses()?;
-    let untaken = untaken_in(alloc, host, &losses)?;
-    let untraced = untraced_in(alloc, host, &losses)?;
-    host.forget_losses();
-    Ok((untaken, untraced))
-}
-
-/// A part that could not be made, by name.
-fn unmade_of<M: Maker + Drop, R: Threads + Wait + Clock + Copy + Drop + Send + 'static>(
-    alloc: Global,
-    host: &Host<M, R>,
-    one: &svc_host::Unmade,
-) -> Result<Unmade, AllocError>
-    ensures { IfOk result (λ unmade. unmade ≡ unmade_of host.now.table.slots one.now) }
-{
-    Ok(Unmade {
-        name: shown_name(alloc, host, one.part)?,
-        fault: one.fault,
-    })
-}
-
-/// The parts that could not be made, by name: as many as there is memory for, since the next round makes them or fails
-/// again.
-fn unmade_in<M: Maker + Drop, R: Threads + Wait + Clock + Copy + Drop + Send + 'static>(
-    alloc: Global,
-    host: &Host<M, R>,
-    failed: &[svc_host::Unmade],
-) -> Vec<Unmade>
-    ensures { IsPrefix result.items (unmade_in host.now.table.slots failed.now) }
-{
-    let mut all = Vec::new(alloc);
-    for one in failed {
-        let Ok(unmade) = unmade_of(alloc, host, one) else {
-            return all;
-        };
-        if all.reserve(1).is_err() {
-            return all;
-        }
-        all.push_reserved(unmade);
-    }
-    all
 }
 
 /// What a round did in which there was nothing to do.
@@ -376,25 +269,6 @@ fn next_byte<R: Wait>(rt: &R, inbox: &mut Option<MailInbox>) -> Option<u8> {
     inbox.as_mut()?.take(rt)
 }
 
-/// The processes of parts that run: as many as there is memory for.
-fn remaining<M: Maker + Drop, R: Threads + Wait + Clock + Copy + Drop + Send + 'static>(
-    alloc: Global,
-    host: &mut Host<M, R>,
-) -> Result<Vec<Remaining>, AllocError> {
-    let mut all = Vec::new(alloc);
-    for part in host.running_parts()? {
-        if let Some(view) = host.status(part) {
-            if view.pid > 0 {
-                all.push(Remaining {
-                    name: shown_name(alloc, host, part)?,
-                    pid: view.pid,
-                })?;
-            }
-        }
-    }
-    Ok(all)
-}
-
 /// Goes on with the end of all services, for five seconds at most. None: all have ended.
 fn end<M: Maker + Drop, R: Threads + Wait + Clock + Copy + Drop + Send + 'static>(
     rt: R,
@@ -414,34 +288,6 @@ fn end<M: Maker + Drop, R: Threads + Wait + Clock + Copy + Drop + Send + 'static
     Some(remaining(alloc, host).unwrap_or(Vec::new(alloc)))
 }
 
-/// What did not reach the loggers, by services: as much as there is memory for.
-fn unlogged<M: Maker + Drop, R: Threads + Wait + Clock + Copy + Drop + Send + 'static>(
-    rt: R,
-    alloc: Global,
-    host: &mut Host<M, R>,
-) -> Vec<Unlogged> {
-    let mut all = Vec::new(alloc);
-    for _ in rt.forever() {
-        let Some((slot, count)) = host.take_lost() else {
-            break;
-        };
-        if count == 0 {
-            continue;
-        }
-        let part = PartId {
-            slot,
-            role: Role::Main,
-            life: 0,
-        };
-        if let Ok(name) = shown_name(alloc, host, part) {
-            if all.push(Unlogged { name, count }).is_err() {
-                break;
-            }
-        }
-    }
-    all
-}
-
 /// The services are left, once what was read of their outputs is with their loggers, or five seconds are over.
 fn leave<M: FolderHolder + Drop, R: Threads + Wait + Clock + Copy + Drop + Send + 'static>(
     rt: R,
@@ -455,7 +301,9 @@ fn leave<M: FolderHolder + Drop, R: Threads + Wait + Clock + Copy + Drop + Send 
         }
         host.rest(Duration::from_millis(STEP_MILLIS));
     }
-    let all = unlogged(rt, alloc, host);
+    let all = match unlogged(&rt, alloc, host) {
+        Ok(all) | Err(all) => all,
+    };
     host.collect();
     host.keep_traces();
     let record = own_record(rt, 0);

@@ -4,13 +4,12 @@ ghost use Rattle.std.specs.Fs.{dir_entry_name};
 ghost use Rattle.std.specs.Iterator.{IsFinite};
 ghost use Rattle.cmd_svscan.specs.Listing.{IsWhyUnlisted, Lists};
 
-use crate::rows::{Folder, rows_of};
-use crate::service_set::ListFault;
 use scan_table::DirRow;
 use std::alloc::{AllocError, Allocator, Global};
 use std::fs::{DirEntry, Files};
 use std::os::unix::fs::MetadataExt;
 use std::{fs, io};
+use svscan_rounds::{Folder, ListFault, rows_of};
 use tai_status::Label;
 
 /// A folder on this system, by its path.

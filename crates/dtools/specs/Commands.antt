@@ -23,8 +23,8 @@ use Rattle.cmd_why.specs.Texts.{Knowledge}
 use Rattle.cmd_why.specs.Why.{WhyEnds}
 use Rattle.cmd_wait.specs.Steps.{Step, sight}
 use Rattle.cmd_wait.specs.Ends as waiting
-use Rattle.cmd_svscan.specs.Calls as handling
-use Rattle.cmd_svscan.specs.Rounds as svscan
+use Rattle.svscan_rounds.specs.Calls as handling
+use Rattle.svscan_rounds.specs.Rounds as svscan
 
 -- What a command may use: its devices; and the services that it asks, with its clock.
 pub record Equipment : Type 0 where

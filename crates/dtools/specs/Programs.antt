@@ -7,7 +7,7 @@ use Rattle.mlog_core.specs.Feed.{Feed}
 use Rattle.cmd_report.specs.MetricsEnds.{CountFiles}
 use Rattle.cmd_why.specs.Texts.{Knowledge}
 use Rattle.cmd_wait.specs.Steps.{Step}
-use Rattle.cmd_svscan.specs.Calls.{Call}
+use Rattle.svscan_rounds.specs.Calls.{Call}
 use Rattle.dtools.specs.Commands.{Equipment, no_word_report, PlainEnds, ZonedEnds, ChildEnds, LoggerEnds, ServiceEnds}
 use Rattle.dtools.specs.Commands.{ReasonEnds, PacedEnds, ScanEnds}
 

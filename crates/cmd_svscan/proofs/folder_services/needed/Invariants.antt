@@ -1,6 +1,6 @@
 use Rattle.std.proofs.Common.{◌≡◌, map, take}
 use Rattle.std.specs.Prelude.{string_bytes}
-use Rattle.cmd_svscan.specs.Listing.{needed}
+use Rattle.svscan_rounds.specs.Needed.{needed}
 use Rattle.cmd_svscan.proofs.folder_services.needed.Given as goal
 
 -- those found are the ones that are needed of the names so far

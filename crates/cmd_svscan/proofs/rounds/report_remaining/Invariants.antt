@@ -1,7 +1,0 @@
-use Rattle.std.proofs.Common.{map, take}
-use Rattle.cmd_svscan.specs.Rounds.{remaining_report, ReportsAll}
-use Rattle.cmd_svscan.proofs.rounds.report_remaining.Given as goal
-
--- those so far are reported
-abbrev pub invariant-loop-remaining : goal.invariant-loop-remaining
-invariant-loop-remaining g l = ReportsAll (map remaining_report (take l.remaining-index l.all)) l.fn.faults l.faults

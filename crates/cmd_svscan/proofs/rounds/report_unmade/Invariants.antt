@@ -1,7 +1,0 @@
-use Rattle.std.proofs.Common.{map, take}
-use Rattle.cmd_svscan.specs.Rounds.{unmade_report, ReportsAll}
-use Rattle.cmd_svscan.proofs.rounds.report_unmade.Given as goal
-
--- those so far are reported
-abbrev pub invariant-loop-unmade : goal.invariant-loop-unmade
-invariant-loop-unmade g l = ReportsAll (map unmade_report (take l.unmade-index l.all)) l.fn.faults l.faults

@@ -1,0 +1,244 @@
+//! What a round finds of the ends of parts and of those that could not be made, and what svscan's own end finds.
+ghost use Rattle.std.specs.Prelude.{◌≡◌, map, IfErr, IfOk, OnErr, OnOk};
+ghost use mathlib.Core.List.{IsPrefix};
+ghost use Rattle.svc_host.specs.Parts.{losses_in, running_ids, without_loss};
+ghost use Rattle.cmd_svscan.specs.Losses.{name_at, shown_name, unmade_in, unmade_of, untaken_in, untraced_in};
+ghost use Rattle.cmd_svscan.specs.Leftovers.{AreRead, AreTaken, FindsFirstUnlogged, FindsRemaining, FindsUnlogged};
+ghost use Rattle.cmd_svscan.specs.Leftovers.{part_of, remaining_in, unlogged_in};
+
+use scan_table::PartId;
+use std::alloc::{AllocError, Global};
+use std::sync::Wait;
+use std::thread::Threads;
+use std::time::Clock;
+use svc_host::{Host, Loss, Maker};
+use svc_maker::part_name;
+use svscan_rounds::{Remaining, Unlogged, Unmade, Untaken};
+use tai_status::{Name, Names, View};
+
+/// The name of the service in a slot: nothing, where there is none.
+fn name_at<M: Maker + Drop, R: Threads + Wait + Clock + Copy + Drop + Send + 'static>(
+    host: &Host<M, R>,
+    slot: u64,
+) -> &str
+    ensures { result.now ≡ name_at host.now.table.slots slot }
+{
+    match host.name(slot) {
+        Some(name) => name.as_str(),
+        None => "",
+    }
+}
+
+/// The name by which a part is shown.
+fn shown_name<M: Maker + Drop, R: Threads + Wait + Clock + Copy + Drop + Send + 'static>(
+    alloc: Global,
+    host: &Host<M, R>,
+    part: PartId,
+) -> Result<Name, AllocError>
+    ensures { IfOk result (λ name. name ≡ shown_name host.now.table.slots part) }
+{
+    Ok(Name::new(part_name(alloc, name_at(host, part.slot), part.role)?))
+}
+
+/// The control bytes that were not taken, by the parts that ended so.
+fn untaken_in<M: Maker + Drop, R: Threads + Wait + Clock + Copy + Drop + Send + 'static>(
+    alloc: Global,
+    host: &Host<M, R>,
+    losses: &[(PartId, Loss)],
+) -> Result<Vec<Untaken>, AllocError>
+    ensures { IfOk result (λ untaken. untaken.items ≡ untaken_in host.now.table.slots losses.now) }
+{
+    let mut untaken = Vec::new(alloc);
+    for (part, loss) in losses {
+        if loss.untaken > 0 {
+            let name = shown_name(alloc, host, *part)?;
+            let count = loss.untaken;
+            untaken.push(Untaken { name, count })?;
+        }
+    }
+    Ok(untaken)
+}
+
+/// The parts whose last trace was not kept.
+fn untraced_in<M: Maker + Drop, R: Threads + Wait + Clock + Copy + Drop + Send + 'static>(
+    alloc: Global,
+    host: &Host<M, R>,
+    losses: &[(PartId, Loss)],
+) -> Result<Names, AllocError>
+    ensures { IfOk result (λ untraced. untraced ≡ untraced_in host.now.table.slots losses.now) }
+{
+    let mut untraced = Vec::new(alloc);
+    for (part, loss) in losses {
+        if loss.lacks_trace {
+            untraced.push(shown_name(alloc, host, *part)?)?;
+        }
+    }
+    Ok(Names::from_vec(untraced))
+}
+
+/// What was lost at the ends of parts since this was asked last. At want of memory it is asked for again.
+pub(crate) fn take_losses<
+    M: Maker + Drop,
+    R: Threads + Wait + Clock + Copy + Drop + Send + 'static,
+>(alloc: Global, host: &mut Host<M, R>) -> Result<(Vec<Untaken>, Names), AllocError>
+    ensures untaken { IfOk result (λ found.
+        found.0.items ≡ untaken_in host.old.table.slots (losses_in host.old.parts)) }
+    ensures untraced { IfOk result (λ found.
+        found.1 ≡ untraced_in host.old.table.slots (losses_in host.old.parts)) }
+    ensures once { OnOk result (host.new ≡ record host.old { parts = map without_loss host.old.parts }) }
+    ensures kept { OnErr result (host.new ≡ host.old) }
+{
+    let losses = host.losses()?;
+    let untaken = untaken_in(alloc, host, &losses)?;
+    let untraced = untraced_in(alloc, host, &losses)?;
+    host.forget_losses();
+    Ok((untaken, untraced))
+}
+
+/// A part that could not be made, by name.
+fn unmade_of<M: Maker + Drop, R: Threads + Wait + Clock + Copy + Drop + Send + 'static>(
+    alloc: Global,
+    host: &Host<M, R>,
+    one: &svc_host::Unmade,
+) -> Result<Unmade, AllocError>
+    ensures { IfOk result (λ unmade. unmade ≡ unmade_of host.now.table.slots one.now) }
+{
+    Ok(Unmade {
+        name: shown_name(alloc, host, one.part)?,
+        fault: one.fault,
+    })
+}
+
+/// The parts that could not be made, by name: as many as there is memory for, since the next round makes them or fails
+/// again.
+pub(crate) fn unmade_in<M: Maker + Drop, R: Threads + Wait + Clock + Copy + Drop + Send + 'static>(
+    alloc: Global,
+    host: &Host<M, R>,
+    failed: &[svc_host::Unmade],
+) -> Vec<Unmade>
+    ensures { IsPrefix result.items (unmade_in host.now.table.slots failed.now) }
+{
+    let mut all = Vec::new(alloc);
+    for one in failed {
+        let Ok(unmade) = unmade_of(alloc, host, one) else {
+            return all;
+        };
+        if all.reserve(1).is_err() {
+            return all;
+        }
+        all.push_reserved(unmade);
+    }
+    all
+}
+
+/// The status of each part that runs, read one after the other.
+fn statuses<M: Maker + Drop, R: Threads + Wait + Clock + Copy + Drop + Send + 'static>(
+    alloc: Global,
+    host: &mut Host<M, R>,
+) -> Result<Vec<(PartId, View)>, AllocError>
+    ensures each { IfOk result (λ read. map part_of read.items ≡ running_ids host.old.parts) }
+    ensures read { IfOk result (λ read. AreRead read.items host.old.parts host.new.parts) }
+    ensures table { host.new.table ≡ host.old.table }
+{
+    let parts = host.running_parts()?;
+    let mut read = Vec::new(alloc);
+    for part in &parts {
+        let Some(view) = host.status(*part) else {
+            continue;
+        };
+        read.push((*part, view))?;
+    }
+    Ok(read)
+}
+
+/// The processes of parts, by what was read of each.
+fn remaining_in<M: Maker + Drop, R: Threads + Wait + Clock + Copy + Drop + Send + 'static>(
+    alloc: Global,
+    host: &Host<M, R>,
+    read: &[(PartId, View)],
+) -> Result<Vec<Remaining>, AllocError>
+    ensures { IfOk result (λ left. left.items ≡ remaining_in host.now.table.slots read.now) }
+{
+    let mut left = Vec::new(alloc);
+    for (part, view) in read {
+        if view.pid > 0 {
+            let name = shown_name(alloc, host, *part)?;
+            let pid = view.pid;
+            left.push(Remaining { name, pid })?;
+        }
+    }
+    Ok(left)
+}
+
+/// The processes of the parts that run.
+pub(crate) fn remaining<M: Maker + Drop, R: Threads + Wait + Clock + Copy + Drop + Send + 'static>(
+    alloc: Global,
+    host: &mut Host<M, R>,
+) -> Result<Vec<Remaining>, AllocError>
+    ensures { IfOk result (λ left. FindsRemaining host.old left.items host.new) }
+{
+    let read = statuses(alloc, host)?;
+    remaining_in(alloc, host, &read)
+}
+
+/// Of each pair its slot and how many bytes did not reach its logger, as the host reports them: of all, or of as many as
+/// there is memory for.
+fn take_all_lost<M: Maker + Drop, R: Threads + Wait + Clock + Copy + Drop + Send + 'static>(
+    rt: &R,
+    alloc: Global,
+    host: &mut Host<M, R>,
+) -> Vec<(u64, u64)>
+    ensures taken { AreTaken result.items host.old host.new }
+    ensures table { host.new.table ≡ host.old.table }
+{
+    let mut all = Vec::new(alloc);
+    for _ in rt.forever() {
+        if all.reserve(1).is_err() {
+            break;
+        }
+        let Some(lost) = host.take_lost() else {
+            break;
+        };
+        all.push_reserved(lost);
+    }
+    all
+}
+
+/// What did not reach the loggers, by services: or as much as there is memory for.
+fn unlogged_in<M: Maker + Drop, R: Threads + Wait + Clock + Copy + Drop + Send + 'static>(
+    alloc: Global,
+    host: &Host<M, R>,
+    lost: &[(u64, u64)],
+) -> Result<Vec<Unlogged>, Vec<Unlogged>>
+    ensures whole { IfOk result (λ all. all.items ≡ unlogged_in host.now.table.slots lost.now) }
+    ensures first { IfErr result (λ some. IsPrefix some.items (unlogged_in host.now.table.slots lost.now)) }
+{
+    let mut all = Vec::new(alloc);
+    for (slot, count) in lost {
+        let count = *count;
+        if count > 0 {
+            let Ok(name) = String::from_str(alloc, name_at(host, *slot)) else {
+                return Err(all);
+            };
+            if all.reserve(1).is_err() {
+                return Err(all);
+            }
+            let name = Name::new(name);
+            all.push_reserved(Unlogged { name, count });
+        }
+    }
+    Ok(all)
+}
+
+/// What did not reach the loggers, by services: or as much as there is memory for.
+pub(crate) fn unlogged<M: Maker + Drop, R: Threads + Wait + Clock + Copy + Drop + Send + 'static>(
+    rt: &R,
+    alloc: Global,
+    host: &mut Host<M, R>,
+) -> Result<Vec<Unlogged>, Vec<Unlogged>>
+    ensures whole { IfOk result (λ all. FindsUnlogged host.old all.items host.new) }
+    ensures first { IfErr result (λ some. FindsFirstUnlogged host.old some.items host.new) }
+{
+    let lost = take_all_lost(rt, alloc, host);
+    unlogged_in(alloc, host, &lost)
+}

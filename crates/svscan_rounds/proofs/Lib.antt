@@ -1,0 +1,4 @@
+pub mod Needless
+pub mod Ordering
+pub mod Reporting
+pub mod Turning

@@ -1,0 +1,291 @@
+-- What svscan does, as a list of rounds (cr.yp.to/daemontools/svscan.html).
+use Rattle.std.specs.Prelude.{◌≡◌, ⊤, ℕ, ◌+◌, ◌≤◌, ◌⊎◌, Bool, true, false, List, [], ◌∷◌, ◌++◌, map, length, flat_map}
+use Rattle.std.specs.Prelude.{codes, decimal, ◌==◌, if◌then◌else◌, All, Option, None, Some, IfSome, Ok, Err}
+use Rattle.tai_status.specs.Counted.{Device, Reports}
+use Rattle.scan_table.specs.Slots.{Row}
+use Rattle.scan_table.specs.declared.fault.ScanFault.{ScanFault}
+use Rattle.scan_table.specs.declared.fault.ScanFault.TheVariants.{Unsorted, Twice, Exhausted, OutOfMemory}
+use Rattle.cmd_base.specs.Usage.{usage_text}
+use Rattle.cmd_base.specs.Causes.{cause_words}
+use Rattle.cmd_base.specs.declared.cause.Cause.{Cause}
+use Rattle.svc_host.specs.declared.maker.PartFault.{PartFault}
+use Rattle.svc_host.specs.declared.maker.PartFault.TheVariants as part
+use Rattle.svscan_rounds.specs.declared.orders.Order.{Order}
+use Rattle.svscan_rounds.specs.declared.orders.Order.TheVariants as order
+use Rattle.svscan_rounds.specs.declared.service_set.Begun.{Begun}
+use Rattle.svscan_rounds.specs.declared.service_set.Begun.TheVariants.{Served, Unserved, Locked}
+use Rattle.svscan_rounds.specs.declared.service_set.ListFault.{ListFault}
+use Rattle.svscan_rounds.specs.declared.service_set.ListFault.TheVariants as list
+use Rattle.svscan_rounds.specs.declared.service_set.Listing.{Listing}
+use Rattle.svscan_rounds.specs.declared.service_set.Remaining.{Remaining}
+use Rattle.svscan_rounds.specs.declared.service_set.RoundOut.{RoundOut}
+use Rattle.svscan_rounds.specs.declared.service_set.Shortage.{Shortage}
+use Rattle.svscan_rounds.specs.declared.service_set.Unlogged.{Unlogged}
+use Rattle.svscan_rounds.specs.declared.service_set.Unmade.{Unmade}
+use Rattle.svscan_rounds.specs.declared.service_set.Untaken.{Untaken}
+use Rattle.svscan_rounds.specs.Calls.{Call, Began, Listed, Scanned, Heard, Ended, Left}
+use Rattle.svscan_rounds.specs.Orders.{Rest, Decides}
+use Rattle.tai_status.specs.Extended.{Extended}
+use Rattle.svscan_rounds.specs.Words.{Asks, AskNothing}
+
+-- What svscan works with: the calls that were made, and where it reports faults.
+pub record Effects : Type 0 where
+  pub calls : Option (List Call)
+  pub faults : Device
+
+abbrev pub effects : (calls : Option (List Call)) (faults : Device) → Effects
+effects calls faults = record { calls = calls; faults = faults }
+
+-- A round: the folder was not listed; it was, and its rows were scanned, with what could not be done; or the scan of
+-- its rows failed.
+pub data Round : Type 0 where
+  Unlisted : (fault : ListFault) → Round
+  Scan : (listing : Listing) → (out : RoundOut) → Round
+  Fails : (listing : Listing) → (fault : ScanFault) → Round
+
+-- Whether svscan goes on after a round: but for a scan that failed, and not for want of memory.
+abbrev pub GoesOn : Round → Type 0
+GoesOn (Unlisted fault) = ⊤
+GoesOn (Scan listing out) = ⊤
+GoesOn (Fails listing fault) = fault ≡ OutOfMemory
+
+-- Whether it goes on is the answer.
+abbrev pub Answers : (on : Bool) → Round → Type 0
+Answers true round = GoesOn round
+Answers false round = GoesOn round → ⊥
+
+-- the calls of a round
+abbrev pub calls_of : (folder : List ℕ) → Round → List Call
+calls_of folder (Unlisted fault) = Listed folder (Err fault) ∷ []
+calls_of folder (Scan listing out) = Listed folder (Ok listing) ∷ Scanned folder listing.rows.items (Ok out) ∷ []
+calls_of folder (Fails listing fault) =
+    Listed folder (Ok listing) ∷ Scanned folder listing.rows.items (Err fault) ∷ []
+
+-- Sayings
+
+abbrev pub kind_name : ScanFault → List ℕ
+kind_name (Unsorted place) = codes "Unsorted"
+kind_name (Twice place) = codes "Twice"
+kind_name Exhausted = codes "Exhausted"
+kind_name OutOfMemory = codes "OutOfMemory"
+
+-- what is reported of a folder that was not listed
+abbrev pub unlisted : ListFault → List ℕ
+unlisted list.Unlisted = codes "svscan: unable to list" ++ 10 ∷ []
+unlisted list.OutOfMemory = codes "svscan: OutOfMemory" ++ 10 ∷ []
+
+-- what is reported of a name
+abbrev pub name_report : (what : List ℕ) (name : List ℕ) → List ℕ
+name_report what name = codes "svscan: " ++ (name ++ what)
+
+abbrev pub too_many : List ℕ
+too_many = codes ": TooMany" ++ 10 ∷ []
+
+-- a part can't be supervised, for this cause
+abbrev pub unable_to_supervise : Cause → List ℕ
+unable_to_supervise cause = codes ": unable to supervise: " ++ (cause_words cause ++ 10 ∷ [])
+
+-- why a part was not made
+abbrev pub not_made : PartFault → List ℕ
+not_made part.Locked = codes ": unable to lock" ++ 10 ∷ []
+not_made (part.Refused cause) = unable_to_supervise cause
+
+abbrev pub unmade_report : Unmade → List ℕ
+unmade_report unmade = name_report (not_made unmade.fault) unmade.name
+
+-- so many control bytes were not taken
+abbrev pub not_taken : ℕ → List ℕ
+not_taken count = codes ": " ++ (decimal count ++ (codes " bytes were not taken" ++ 10 ∷ []))
+
+abbrev pub untaken_report : Untaken → List ℕ
+untaken_report untaken = name_report (not_taken untaken.count) untaken.name
+
+abbrev pub unable_to_trace : List ℕ
+unable_to_trace = codes ": unable to write the trace" ++ 10 ∷ []
+
+-- what is reported of what was lost, and of what a round could not do
+abbrev pub lines_of_out : RoundOut → List (List ℕ)
+lines_of_out out =
+    map untaken_report out.untaken.items
+    ++ (map (name_report unable_to_trace) out.untraced
+    ++ (map (name_report too_many) out.refused ++ map unmade_report out.unmade.items))
+
+-- so many names are not text
+abbrev pub not_text : ℕ → List ℕ
+not_text count = codes "svscan: " ++ (decimal count ++ (codes " names are not text" ++ 10 ∷ []))
+
+abbrev pub lines_of_unnamed : (count : ℕ) → List (List ℕ)
+lines_of_unnamed count = if count == 0 then [] else not_text count ∷ []
+
+-- too few descriptors are allowed
+abbrev pub too_few : Shortage → List ℕ
+too_few shortage =
+    codes "svscan: " ++ (decimal shortage.needed ++ (codes " descriptors are needed, "
+    ++ (decimal shortage.allowed ++ (codes " are allowed" ++ 10 ∷ []))))
+
+abbrev pub lines_of_shortage : Option Shortage → List (List ℕ)
+lines_of_shortage None = []
+lines_of_shortage (Some shortage) = too_few shortage ∷ []
+
+-- what is reported of what a folder has
+abbrev pub lines_of_listing : (unnamed : ℕ) → Option Shortage → List (List ℕ)
+lines_of_listing unnamed shortage = lines_of_unnamed unnamed ++ lines_of_shortage shortage
+
+abbrev pub lines_of_fault : ScanFault → List (List ℕ)
+lines_of_fault fault = (codes "svscan: " ++ (kind_name fault ++ 10 ∷ [])) ∷ []
+
+-- the lines that a round reports
+abbrev pub lines_of : Round → List (List ℕ)
+lines_of (Unlisted fault) = unlisted fault ∷ []
+lines_of (Scan listing out) = lines_of_listing listing.unnamed listing.shortage ++ lines_of_out out
+lines_of (Fails listing fault) = lines_of_listing listing.unnamed listing.shortage ++ lines_of_fault fault
+
+-- These lines were reported, one after the other.
+abbrev pub ReportsAll : List (List ℕ) → (old new : Device) → Type 0
+ReportsAll [] old new = new ≡ old
+ReportsAll (line ∷ lines) old new = (middle : Device) × (Reports old middle line × ReportsAll lines middle new)
+
+-- This round was made, and nothing else.
+pub record Makes (folder : List ℕ) (round : Round) (old new : Effects) : Type 0 where
+  pub calls : Extended old.calls new.calls (calls_of folder round)
+  pub reported : ReportsAll (lines_of round) old.faults new.faults
+
+-- A round was made, and this is whether svscan goes on.
+abbrev pub TakesRound : (folder : List ℕ) (on : Bool) (old new : Effects) → Type 0
+TakesRound folder on old new = (round : Round) × Answers on round × Makes folder round old new
+
+-- A round, and the rest behind it.
+pub record Turn : Type 0 where
+  pub round : Round
+  pub rest : Rest
+
+-- After it comes a further round.
+abbrev pub IsFollowed : Turn → Type 0
+IsFollowed turn = GoesOn turn.round × Decides turn.rest order.Round
+
+abbrev pub calls_of_rest : Rest → List Call
+calls_of_rest rest = map (λ byte. Heard (Some byte)) rest.passed ++ Heard rest.last ∷ []
+
+abbrev pub calls_of_turn : (folder : List ℕ) → Turn → List Call
+calls_of_turn folder turn = calls_of folder turn.round ++ calls_of_rest turn.rest
+
+abbrev pub lines_of_turn : Turn → List (List ℕ)
+lines_of_turn turn = lines_of turn.round
+
+-- The end
+
+-- a process of this number still runs
+abbrev pub still_runs : ℕ → List ℕ
+still_runs pid = codes ": process " ++ (decimal pid ++ (codes " still runs" ++ 10 ∷ []))
+
+abbrev pub remaining_report : Remaining → List ℕ
+remaining_report remaining = name_report (still_runs remaining.pid) remaining.name
+
+-- so many bytes were not logged
+abbrev pub not_logged : ℕ → List ℕ
+not_logged count = codes ": " ++ (decimal count ++ (codes " bytes were not logged" ++ 10 ∷ []))
+
+abbrev pub unlogged_report : Unlogged → List ℕ
+unlogged_report unlogged = name_report (not_logged unlogged.count) unlogged.name
+
+-- How a run closes behind its last round: all services are ended, and meanwhile these still ran each five seconds; or
+-- that was asked for in a rest; or svscan's own end was. In the end it leaves the services, and these bytes were not
+-- logged.
+pub data Close : Type 0 where
+  Ends : (left : List (List Remaining)) → (unlogged : List Unlogged) → Close
+  EndsAsAsked : (rest : Rest) → (left : List (List Remaining)) → (unlogged : List Unlogged) → Close
+  LeavesAsAsked : (rest : Rest) → (unlogged : List Unlogged) → Close
+
+abbrev pub calls_of_end : List (List Remaining) → List Unlogged → List Call
+calls_of_end left unlogged = map (λ some. Ended (Some some)) left ++ Ended None ∷ Left unlogged ∷ []
+
+abbrev pub calls_of_close : Close → List Call
+calls_of_close (Ends left unlogged) = calls_of_end left unlogged
+calls_of_close (EndsAsAsked rest left unlogged) = calls_of_rest rest ++ calls_of_end left unlogged
+calls_of_close (LeavesAsAsked rest unlogged) = calls_of_rest rest ++ Left unlogged ∷ []
+
+abbrev pub lines_of_end : List (List Remaining) → List Unlogged → List (List ℕ)
+lines_of_end left unlogged = flat_map (map remaining_report) left ++ map unlogged_report unlogged
+
+abbrev pub lines_of_close : Close → List (List ℕ)
+lines_of_close (Ends left unlogged) = lines_of_end left unlogged
+lines_of_close (EndsAsAsked rest left unlogged) = lines_of_end left unlogged
+lines_of_close (LeavesAsAsked rest unlogged) = map unlogged_report unlogged
+
+-- A rest was taken, after which this is next.
+pub record Rests (order : Order) (old new : Option (List Call)) : Type 0 where
+  pub rest : Rest
+  pub decides : Decides rest order
+  pub calls : Extended old new (calls_of_rest rest)
+
+-- The services were left.
+pub record Leaves (old new : Effects) : Type 0 where
+  pub unlogged : List Unlogged
+  pub calls : Extended old.calls new.calls (Left unlogged ∷ [])
+  pub reported : ReportsAll (map unlogged_report unlogged) old.faults new.faults
+
+-- All services ended, and then they were left.
+pub record EndsAll (old new : Effects) : Type 0 where
+  pub left : List (List Remaining)
+  pub unlogged : List Unlogged
+  pub calls : Extended old.calls new.calls (calls_of_end left unlogged)
+  pub reported : ReportsAll (lines_of_end left unlogged) old.faults new.faults
+
+-- How it ends with its last round, of so many in all: with status 0 after as many as were asked for, or as it was asked
+-- in the rest behind it; or with status 111, where that round doesn't go on.
+abbrev pub EndsBy : (limit : Option ℕ) (count : ℕ) (last : Round) (close : Close) (status : ℕ) → Type 0
+EndsBy limit count last (Ends left unlogged) status =
+    ((status ≡ 0) × GoesOn last × (limit ≡ Some count))
+    ⊎ ((status ≡ 111) × (GoesOn last → ⊥) × IfSome limit (λ rounds. count ≤ rounds))
+EndsBy limit count last (EndsAsAsked rest left unlogged) status =
+    (status ≡ 0) × GoesOn last × Decides rest order.End
+EndsBy limit count last (LeavesAsAsked rest unlogged) status =
+    (status ≡ 0) × GoesOn last × Decides rest order.Leave
+
+-- Rounds that go on, each followed by a rest, and then the last one and the close.
+pub record Runs (folder : List ℕ) (limit : Option ℕ) (status : ℕ) (old new : Effects) : Type 0 where
+  pub turns : List Turn
+  pub last : Round
+  pub close : Close
+  pub followed : All IsFollowed turns
+  pub calls : Extended old.calls new.calls
+      (flat_map (calls_of_turn folder) turns ++ (calls_of folder last ++ calls_of_close close))
+  pub reported : ReportsAll (flat_map lines_of_turn turns
+      ++ (lines_of last ++ lines_of_close close)) old.faults new.faults
+  pub ends : EndsBy limit (length turns + 1) last close status
+
+-- What is reported where svscan is to be served in a folder.
+abbrev pub lines_of_begun : (folder : List ℕ) → Begun → List (List ℕ)
+lines_of_begun folder Served = []
+lines_of_begun folder (Unserved cause) = name_report (unable_to_supervise cause) (codes ".svscan") ∷ []
+lines_of_begun folder Locked = (codes "svscan: unable to lock " ++ (folder ++ 10 ∷ [])) ∷ []
+
+-- It runs, unless another svscan has the folder.
+abbrev pub RunsUnlessLocked : Begun → (folder : List ℕ) (limit : Option ℕ) (status : ℕ) (old new : Effects) → Type 0
+RunsUnlessLocked Locked folder limit status old new = (status ≡ 111) × (new ≡ old)
+RunsUnlessLocked begun folder limit status old new = Runs folder limit status old new
+
+-- It begins, and runs.
+pub record BeginsAndRuns (folder : List ℕ) (limit : Option ℕ) (status : ℕ) (old new : Effects) : Type 0 where
+  pub begun : Begun
+  pub middle : Effects
+  pub calls : Extended old.calls middle.calls (Began folder begun ∷ [])
+  pub reported : ReportsAll (lines_of_begun folder begun) old.faults middle.faults
+  pub runs : RunsUnlessLocked begun folder limit status middle new
+
+-- Words that ask for nothing: the usage is reported, and nothing is asked of the system.
+pub record RefusesWords (words : List (List ℕ)) (status : ℕ) (old new : Effects) : Type 0 where
+  pub wrong : AskNothing words
+  pub status_is : status ≡ 100
+  pub unasked : new.calls ≡ old.calls
+  pub reported : Reports old.faults new.faults usage_text
+
+-- It runs as its words ask.
+pub record RunsWords (words : List (List ℕ)) (status : ℕ) (old new : Effects) : Type 0 where
+  pub folder : List ℕ
+  pub limit : Option ℕ
+  pub asks : Asks words folder limit
+  pub runs : BeginsAndRuns folder limit status old new
+
+abbrev pub SvscanEnds : (words : List (List ℕ)) (status : ℕ) (old new : Effects) → Type 0
+SvscanEnds words status old new = RefusesWords words status old new ⊎ RunsWords words status old new

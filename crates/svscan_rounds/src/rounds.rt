@@ -1,0 +1,424 @@
+//! The command `svscan`.
+ghost use Rattle.std.specs.Prelude.{◌≡◌, ◌<◌, ◌++◌, ◌∷◌, [], ℕ, map, true, false, IfSome};
+ghost use Rattle.tai_status.specs.Counted.{Reports};
+ghost use Rattle.tai_status.specs.Extended.{Extended};
+ghost use Rattle.svscan_rounds.specs.Rounds.{effects, kind_name, name_report, not_taken, unlisted, untaken_report};
+ghost use Rattle.svscan_rounds.specs.Rounds.{lines_of_listing, lines_of_out, lines_of_shortage, lines_of_unnamed};
+ghost use Rattle.svscan_rounds.specs.Rounds.{lines_of_begun, not_logged, remaining_report, still_runs, unlogged_report};
+ghost use Rattle.svscan_rounds.specs.Rounds.{not_made, not_text, too_few, unable_to_supervise, unmade_report};
+ghost use Rattle.svscan_rounds.specs.Rounds.{BeginsAndRuns, EndsAll, Leaves, Rests, Runs, SvscanEnds, TakesRound};
+ghost use Rattle.svscan_rounds.specs.Rounds.{ReportsAll};
+ghost use Rattle.svscan_rounds.specs.Words.{texts};
+
+use crate::orders::{Order, order_of};
+use crate::service_set::{
+    Begun, ListFault, Listing, Remaining, RoundOut, ServiceSet, Shortage, Unlogged, Unmade, Untaken,
+};
+use crate::words::read_words;
+use arrayvec::ArrayString;
+use cmd_base::{Cause, DONE, TROUBLE, print_fault, push_number, report, report_parts, usage};
+use scan_table::ScanFault;
+use std::io::Write;
+use std::sync::Wait;
+use svc_host::PartFault;
+use tai_status::{Name, Output};
+
+/// The name of a fault.
+fn kind(fault: ScanFault) -> &'static [u8]
+    ensures { result.now ≡ kind_name fault }
+{
+    match fault {
+        ScanFault::Unsorted(_) => b"Unsorted",
+        ScanFault::Twice(_) => b"Twice",
+        ScanFault::Exhausted => b"Exhausted",
+        ScanFault::OutOfMemory => b"OutOfMemory",
+    }
+}
+
+/// Reports names, a line for each.
+fn report_names<E: Write>(names: &[Name], what: &[u8], faults: &mut Output<E>)
+    ensures { ReportsAll (map (name_report what.now) names.now) faults.old faults.new }
+{
+    for name in names {
+        report_parts(faults, b"svscan: ", name.as_str().as_bytes(), what, DONE);
+    }
+}
+
+/// What is reported of so many control bytes, behind a part's name.
+fn not_taken(count: u64) -> ArrayString<64>
+    ensures { result.bytes ≡ not_taken count }
+{
+    let mut text = ArrayString::new();
+    text.push_str(": ");
+    push_number(&mut text, count);
+    text.push_str(" bytes were not taken\n");
+    text
+}
+
+/// Reports control bytes that were not taken, a line for each part.
+fn report_untaken<E: Write>(all: &[Untaken], faults: &mut Output<E>)
+    ensures { ReportsAll (map untaken_report all.now) faults.old faults.new }
+{
+    for untaken in all {
+        let text = not_taken(untaken.count);
+        let name = untaken.name.as_str();
+        report_parts(faults, b"svscan: ", name.as_bytes(), text.as_bytes(), DONE);
+    }
+}
+
+/// What is reported of a part that can't be supervised, behind its name.
+fn unable_to_supervise(cause: Cause) -> ArrayString<64>
+    ensures { result.bytes ≡ unable_to_supervise cause }
+{
+    let mut text = ArrayString::new();
+    text.push_str(": unable to supervise: ");
+    text.push_str(cause.words());
+    text.push_str("\n");
+    text
+}
+
+/// What is reported of a part that was not made, behind its name.
+fn not_made(fault: PartFault) -> ArrayString<64>
+    ensures { result.bytes ≡ not_made fault }
+{
+    match fault {
+        PartFault::Locked => {
+            let mut text = ArrayString::new();
+            text.push_str(": unable to lock\n");
+            text
+        }
+        PartFault::Refused(cause) => unable_to_supervise(cause),
+    }
+}
+
+/// Reports parts that were not made, a line for each.
+fn report_unmade<E: Write>(all: &[Unmade], faults: &mut Output<E>)
+    ensures { ReportsAll (map unmade_report all.now) faults.old faults.new }
+{
+    for unmade in all {
+        let text = not_made(unmade.fault);
+        let name = unmade.name.as_str();
+        report_parts(faults, b"svscan: ", name.as_bytes(), text.as_bytes(), DONE);
+    }
+}
+
+/// What is reported of so many names that are not text.
+fn not_text(count: u64) -> ArrayString<64>
+    ensures { result.bytes ≡ not_text count }
+{
+    let mut text = ArrayString::new();
+    text.push_str("svscan: ");
+    push_number(&mut text, count);
+    text.push_str(" names are not text\n");
+    text
+}
+
+/// Reports names that are not text.
+fn report_unnamed<E: Write>(count: u64, faults: &mut Output<E>)
+    ensures { ReportsAll (lines_of_unnamed count) faults.old faults.new }
+{
+    if count > 0 {
+        print_fault(faults, not_text(count).as_bytes());
+    }
+}
+
+/// What is reported where there are too few descriptors.
+fn too_few(shortage: Shortage) -> ArrayString<128>
+    ensures { result.bytes ≡ too_few shortage }
+{
+    let mut text = ArrayString::new();
+    text.push_str("svscan: ");
+    push_number(&mut text, shortage.needed);
+    text.push_str(" descriptors are needed, ");
+    push_number(&mut text, shortage.allowed);
+    text.push_str(" are allowed\n");
+    text
+}
+
+/// Reports that there are too few descriptors, where that is so.
+fn report_shortage<E: Write>(shortage: Option<Shortage>, faults: &mut Output<E>)
+    ensures { ReportsAll (lines_of_shortage shortage) faults.old faults.new }
+{
+    if let Some(shortage) = shortage {
+        print_fault(faults, too_few(shortage).as_bytes());
+    }
+}
+
+/// Reports what is amiss with what a folder has.
+fn report_listing<E: Write>(unnamed: u64, shortage: Option<Shortage>, faults: &mut Output<E>)
+    ensures { ReportsAll (lines_of_listing unnamed shortage) faults.old faults.new }
+{
+    report_unnamed(unnamed, faults);
+    report_shortage(shortage, faults);
+}
+
+/// Reports what was lost, and what a round could not do.
+fn report_out<E: Write>(out: &RoundOut, faults: &mut Output<E>)
+    ensures { ReportsAll (lines_of_out out.now) faults.old faults.new }
+{
+    report_untaken(&out.untaken, faults);
+    report_names(
+        out.untraced.as_slice(),
+        b": unable to write the trace\n",
+        faults,
+    );
+    report_names(out.refused.as_slice(), b": TooMany\n", faults);
+    report_unmade(&out.unmade, faults);
+}
+
+/// What is reported of a folder that was not listed.
+fn unlisted(fault: ListFault) -> &'static [u8]
+    ensures { result.now ≡ unlisted fault }
+{
+    match fault {
+        ListFault::Unlisted => b"svscan: unable to list\n",
+        ListFault::OutOfMemory => b"svscan: OutOfMemory\n",
+    }
+}
+
+/// One round: lists the folder, scans its rows, and says what could not be done. Answers whether svscan goes on.
+fn take_round<K: ServiceSet, E: Write>(
+    services: &mut K,
+    folder: &str,
+    faults: &mut Output<E>,
+) -> bool
+    requires ready { K.ready services.old }
+    ensures ready { K.ready services.new }
+    ensures round { TakesRound folder.now result
+        (effects (K.calls services.old) faults.old) (effects (K.calls services.new) faults.new) }
+{
+    let Listing {
+        rows,
+        unnamed,
+        shortage,
+    } = match services.list(folder) {
+        Ok(listing) => listing,
+        Err(fault) => {
+            print_fault(faults, unlisted(fault));
+            return true;
+        }
+    };
+    report_listing(unnamed, shortage, faults);
+    match services.round(folder, rows) {
+        Ok(out) => {
+            report_out(&out, faults);
+            true
+        }
+        Err(fault) => {
+            report_parts(faults, b"svscan: ", kind(fault), b"\n", TROUBLE);
+            fault == ScanFault::OutOfMemory
+        }
+    }
+}
+
+/// What is reported of a process that still runs, behind its part's name.
+fn still_runs(pid: u32) -> ArrayString<64>
+    ensures { result.bytes ≡ still_runs pid }
+{
+    let mut text = ArrayString::new();
+    text.push_str(": process ");
+    push_number(&mut text, u64::from(pid));
+    text.push_str(" still runs\n");
+    text
+}
+
+/// Reports processes that still run, a line for each.
+fn report_remaining<E: Write>(all: &[Remaining], faults: &mut Output<E>)
+    ensures { ReportsAll (map remaining_report all.now) faults.old faults.new }
+{
+    for remaining in all {
+        let text = still_runs(remaining.pid);
+        let name = remaining.name.as_str();
+        report_parts(faults, b"svscan: ", name.as_bytes(), text.as_bytes(), DONE);
+    }
+}
+
+/// What is reported of so many bytes that were not logged, behind a service's name.
+fn not_logged(count: u64) -> ArrayString<64>
+    ensures { result.bytes ≡ not_logged count }
+{
+    let mut text = ArrayString::new();
+    text.push_str(": ");
+    push_number(&mut text, count);
+    text.push_str(" bytes were not logged\n");
+    text
+}
+
+/// Reports bytes that were not logged, a line for each service.
+fn report_unlogged<E: Write>(all: &[Unlogged], faults: &mut Output<E>)
+    ensures { ReportsAll (map unlogged_report all.now) faults.old faults.new }
+{
+    for unlogged in all {
+        let text = not_logged(unlogged.count);
+        let name = unlogged.name.as_str();
+        report_parts(faults, b"svscan: ", name.as_bytes(), text.as_bytes(), DONE);
+    }
+}
+
+/// Rests until something is next.
+fn rest<R: Wait, K: ServiceSet>(rt: &R, services: &mut K) -> Order
+    requires ready { K.ready services.old }
+    ensures ready { K.ready services.new }
+    ensures rests { Rests result (K.calls services.old) (K.calls services.new) }
+{
+    for _ in rt.forever() {
+        match services.hear() {
+            Some(byte) => {
+                if let Some(order) = order_of(byte) {
+                    return order;
+                }
+            }
+            None => return Order::Round,
+        }
+    }
+    unreachable!()
+}
+
+/// The services are left, and what was not logged is reported.
+fn leave<K: ServiceSet, E: Write>(services: &mut K, faults: &mut Output<E>)
+    requires ready { K.ready services.old }
+    ensures ready { K.ready services.new }
+    ensures leaves { Leaves
+        (effects (K.calls services.old) faults.old) (effects (K.calls services.new) faults.new) }
+{
+    let unlogged = services.leave();
+    report_unlogged(&unlogged, faults);
+}
+
+/// All services end, in order. What still runs is reported each five seconds, and in the end what was not logged.
+fn end_all<R: Wait, K: ServiceSet, E: Write>(rt: &R, services: &mut K, faults: &mut Output<E>)
+    requires ready { K.ready services.old }
+    ensures ready { K.ready services.new }
+    ensures ends { EndsAll
+        (effects (K.calls services.old) faults.old) (effects (K.calls services.new) faults.new) }
+{
+    for _ in rt.forever() {
+        match services.end() {
+            Some(left) => report_remaining(&left, faults),
+            None => {
+                leave(services, faults);
+                return;
+            }
+        }
+    }
+    unreachable!()
+}
+
+/// Rounds, a rest between each two, and then the end of all services, or svscan's own.
+fn take_rounds<R: Wait, K: ServiceSet, E: Write>(
+    rt: &R,
+    services: &mut K,
+    folder: &str,
+    rounds: Option<u32>,
+    faults: &mut Output<E>,
+) -> u8
+    requires ready { K.ready services.old }
+    requires some { IfSome rounds (λ number. 0 < number) }
+    ensures { Runs folder.now rounds result
+        (effects (K.calls services.old) faults.old) (effects (K.calls services.new) faults.new) }
+{
+    let mut left = rounds;
+    for _ in rt.forever() {
+        if !take_round(services, folder, faults) {
+            end_all(rt, services, faults);
+            return TROUBLE;
+        }
+        if let Some(number) = left {
+            if number == 1 {
+                end_all(rt, services, faults);
+                return DONE;
+            }
+            left = Some(number - 1);
+        }
+        match rest(rt, services) {
+            Order::Round => {}
+            Order::End => {
+                end_all(rt, services, faults);
+                return DONE;
+            }
+            Order::Leave => {
+                leave(services, faults);
+                return DONE;
+            }
+        }
+    }
+    unreachable!()
+}
+
+/// Says whether svscan itself is served in a folder.
+fn report_begun<E: Write>(folder: &str, begun: Begun, faults: &mut Output<E>)
+    ensures { ReportsAll (lines_of_begun folder.now begun) faults.old faults.new }
+{
+    match begun {
+        Begun::Served => {}
+        Begun::Unserved(cause) => {
+            let text = unable_to_supervise(cause);
+            report_parts(faults, b"svscan: ", b".svscan", text.as_bytes(), DONE);
+        }
+        Begun::Locked => {
+            report_parts(
+                faults,
+                b"svscan: unable to lock ",
+                folder.as_bytes(),
+                b"\n",
+                DONE,
+            );
+        }
+    }
+}
+
+/// svscan is served in the folder, and makes its rounds, unless another svscan has the folder.
+fn begin_and_run<R: Wait, K: ServiceSet, E: Write>(
+    rt: &R,
+    services: &mut K,
+    folder: &str,
+    rounds: Option<u32>,
+    faults: &mut Output<E>,
+) -> u8
+    requires ready { K.ready services.old }
+    requires some { IfSome rounds (λ number. 0 < number) }
+    ensures { BeginsAndRuns folder.now rounds result
+        (effects (K.calls services.old) faults.old) (effects (K.calls services.new) faults.new) }
+{
+    let begun = services.begin(folder);
+    report_begun(folder, begun, faults);
+    match begun {
+        Begun::Locked => TROUBLE,
+        Begun::Served | Begun::Unserved(_) => take_rounds(rt, services, folder, rounds, faults),
+    }
+}
+
+/// The command `svscan [DIR [N]]`: keeps the services of DIR, or of the folder that it is in, running
+/// (<https://cr.yp.to/daemontools/svscan.html>). Each round lists the folder and scans its rows; five seconds lie
+/// between two rounds. It is served itself, in the folder `.svscan` there, and of its control bytes `a` asks for a
+/// round now, `x` for the end of all services, in order, and `q` for its own end, at which the services run on; the
+/// first of these two counts. With N, which is 1 to 4294967295 without leading zeros, it ends all services after N
+/// rounds; else it doesn't come back, unless by these two or a fault.
+///
+/// Reported on `faults`: `svscan: unable to lock DIR`, where another svscan has the folder; `svscan: .svscan: unable to
+/// supervise: CAUSE`, where it can't be served itself; `svscan: unable to list`, where the folder can't be read, and
+/// `svscan: OutOfMemory` of want of memory: the round does nothing more, and the next one tries again; `svscan: N names
+/// are not text` of names that get no service; `svscan: N descriptors are needed, M are allowed`, where the first
+/// listing has more services than that; `svscan: NAME: N bytes were not taken` of control bytes that came to a service
+/// which ended without them, and `svscan: NAME: unable to write the trace` of one whose last trace is not whole;
+/// `svscan: NAME: TooMany` of each name that gets no service, `svscan: NAME: unable to lock` of each that another
+/// svscan has, and `svscan: NAME: unable to supervise: CAUSE` of each other one that a round could not begin, where
+/// CAUSE is what the C library says of it; `svscan: KIND` of another fault of the scan, which ends
+/// all services; `svscan: NAME: process PID still runs`, each five seconds, of what does not end; `svscan: NAME: N
+/// bytes were not logged`, of lines that did not reach their logger. Answers the status: 0; 111 after such a fault, and
+/// where another svscan has the folder; 100 for wrong words: then nothing is asked of the system.
+pub fn run_svscan<R: Wait, K: ServiceSet, E: Write>(
+    rt: &R,
+    services: &mut K,
+    words: &[&str],
+    faults: &mut Output<E>,
+) -> u8
+    requires ready { K.ready services.old }
+    ensures ends { SvscanEnds (texts words.now) result
+        (effects (K.calls services.old) faults.old) (effects (K.calls services.new) faults.new) }
+{
+    match read_words(words) {
+        Some(options) => begin_and_run(rt, services, options.folder, options.rounds, faults),
+        None => usage(faults),
+    }
+}
