@@ -4,4 +4,4 @@
 pub(crate) const KIT: &str = "rattle-kit-13f logic dac8208d650f15bf";
 
 /// The sum of its sources, as packaging/source-sum says it.
-pub(crate) const SOURCE: &str = "8a3ada602fa5950c9bf7088fe5cc63e04d07206bc2a3ecc3e238e0e6047afa68";
+pub(crate) const SOURCE: &str = "904a8a7da70bf7d72f72597607c9d59d8c29e428de108c15bd0695479f22b6fe";
