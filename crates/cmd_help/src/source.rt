@@ -4,4 +4,4 @@
 pub(crate) const KIT: &str = "rattle-kit-13f logic dac8208d650f15bf";
 
 /// The sum of its sources, as packaging/source-sum says it.
-pub(crate) const SOURCE: &str = "904a8a7da70bf7d72f72597607c9d59d8c29e428de108c15bd0695479f22b6fe";
+pub(crate) const SOURCE: &str = "45b2caba1c3a1d8a229db6b80a47bdcd2a2fb93452d231aa27e75b0466ad339c";

@@ -1,4 +1,5 @@
-//! The command `svscan` on this system: it keeps the services of a folder running, in rounds that are five seconds apart.
+//! The command `svscan` on this system: it keeps the services of a folder running, in rounds that are five seconds
+//! apart.
 //!
 //! Its rounds are those of `svscan_rounds`, over a [`ServiceSet`], which is what svscan does to the system.
 //! [`FolderServices`] is the system's own, over the host of the services' threads; [`list_names`] and [`list_rows`] are

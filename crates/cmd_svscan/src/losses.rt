@@ -181,8 +181,8 @@ pub(crate) fn remaining<M: Maker + Drop, R: Threads + Wait + Clock + Copy + Drop
     remaining_in(alloc, host, &read)
 }
 
-/// Of each pair its slot and how many bytes did not reach its logger, as the host reports them: of all, or of as many as
-/// there is memory for.
+/// Of each pair its slot and how many bytes did not reach its logger, as the host reports them: of all, or of as many
+/// as there is memory for.
 fn take_all_lost<M: Maker + Drop, R: Threads + Wait + Clock + Copy + Drop + Send + 'static>(
     rt: &R,
     alloc: Global,

@@ -58,7 +58,8 @@ need_by slots ones row = need_where (is_refused_by slots ones row) row (slot_of 
 
 abbrev new_by : List SlotState → ℕ → List Row → List SlotState
 new_by slots next ones =
-    in_turn (need_by slots ones) (λ n row. new_slots_where (is_refused_by slots ones row) n row (slot_of slots row)) next
+    in_turn (need_by slots ones) (λ n row. new_slots_where (is_refused_by slots ones row) n row (slot_of slots row))
+    next
     ones
 
 abbrev again_by : List SlotState → ℕ → List Row → List PartId

@@ -1,7 +1,14 @@
 use Rattle.std.proofs.Common.{List, ℕ, map, ◌++◌, subst}
 use Rattle.svscan_rounds.specs.declared.service_set.Unmade.{Unmade}
 use Rattle.svscan_rounds.specs.declared.service_set.Untaken.{Untaken}
-use Rattle.svscan_rounds.specs.Rounds.{name_report, too_many, unable_to_trace, unmade_report, untaken_report, ReportsAll}
+use Rattle.svscan_rounds.specs.Rounds.{
+  name_report,
+  too_many,
+  unable_to_trace,
+  unmade_report,
+  untaken_report,
+  ReportsAll,
+}
 use Rattle.svscan_rounds.proofs.Reporting.{reports-then}
 use Rattle.svscan_rounds.proofs.rounds.report_out.Goals as goal
 

@@ -1,7 +1,16 @@
 use Rattle.std.proofs.Common.{◌≡◌, ℕ, ◌+◌, Option, Some, subst, ap, ◌∙◌, refl, Bool}
 use Rattle.svscan_rounds.specs.declared.orders.Order.{Order}
 use Rattle.svscan_rounds.specs.Rounds.{effects, Answers, Rests}
-use Rattle.svscan_rounds.proofs.Turning.{IsUnderWay, IsLeft, way_more, way_fails, way_done, way_left, way_none, way_report}
+use Rattle.svscan_rounds.proofs.Turning.{
+  IsUnderWay,
+  IsLeft,
+  way_more,
+  way_fails,
+  way_done,
+  way_left,
+  way_none,
+  way_report,
+}
 use Rattle.svscan_rounds.proofs.Turning.{less-some, less-none}
 use Rattle.svscan_rounds.proofs.rounds.take_rounds.Goals as goal
 use Rattle.svscan_rounds.proofs.rounds.take_rounds.Goals.{in-Some-left+else-number-eq1, in_default}
