@@ -4,4 +4,4 @@
 pub(crate) const KIT: &str = "rattle-kit-13f logic dac8208d650f15bf";
 
 /// The sum of its sources, as packaging/source-sum says it.
-pub(crate) const SOURCE: &str = "45b2caba1c3a1d8a229db6b80a47bdcd2a2fb93452d231aa27e75b0466ad339c";
+pub(crate) const SOURCE: &str = "4cabcd22e48bd20d24c7be1b2bb7b50ea912e92ac0809a8be90a6b3fa2894617";

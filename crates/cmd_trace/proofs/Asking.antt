@@ -22,7 +22,7 @@ pub ends_without_words : {W : Type 0} (text : W → List ℕ) (words : List W) (
 ends_without_words text [] ahead file_at status writer writes faults reports none is unwritten reported = record {
   wrong = asks_nothing [] no_word;
   unwritten = unwritten;
-  reported = content;
+  reported = reported;
   status_is = is;
 }
 ends_without_words text (word ∷ words) ahead file_at status writer writes faults reports none is unwritten reported =
