@@ -1,5 +1,4 @@
 //! In which order a turn looks at the gate, the world and the inbox.
-ghost use Rattle.std.specs.Prelude.{[]};
 
 use crate::station::{end_two, two_of as two_readers};
 use std::alloc::Global;
@@ -116,16 +115,16 @@ fn looks_of_three_turns<R: Wait + Abort>(rt: &R, alloc: Global) -> Option<u64> {
     };
     let (reader, other, readers) = two_readers(readers, &writer);
     let mut house = House::open(world, inbox, gate, writer, asks);
-    let mut is_refused = false;
-    for _ in 0..3u32 {
-        is_refused = house.turn(rt).is_err() || is_refused;
-    }
+    let turned = house.turn(rt).is_ok();
+    let turned = house.turn(rt).is_ok() && turned;
+    let turned = house.turn(rt).is_ok() && turned;
     let (_world, _inbox, writer, _pending) = house.take_apart();
     end_two(rt, writer, reader, other, readers);
-    if is_refused {
-        return None;
+    if turned {
+        Some(looks.load(Ordering::SeqCst))
+    } else {
+        None
     }
-    Some(looks.load(Ordering::SeqCst))
 }
 
 /// The gate is passed before the answer to a start is looked at, and a death is looked for before a letter.
