@@ -4,4 +4,4 @@
 pub(crate) const KIT: &str = "rattle-kit-13f logic dac8208d650f15bf";
 
 /// The sum of its sources, as packaging/source-sum says it.
-pub(crate) const SOURCE: &str = "4cabcd22e48bd20d24c7be1b2bb7b50ea912e92ac0809a8be90a6b3fa2894617";
+pub(crate) const SOURCE: &str = "047f1259f9f2e26bc96becfef09939a1ff942136e3f96c8c65ff00e8daa12954";
