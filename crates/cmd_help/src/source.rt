@@ -4,4 +4,4 @@
 pub(crate) const KIT: &str = "rattle-kit-13f logic dac8208d650f15bf";
 
 /// The sum of its sources, as packaging/source-sum says it.
-pub(crate) const SOURCE: &str = "047f1259f9f2e26bc96becfef09939a1ff942136e3f96c8c65ff00e8daa12954";
+pub(crate) const SOURCE: &str = "e0887871398d2610c365226429f7854a1c423abff30bd9c3ce9491bf5df493eb";

@@ -95,6 +95,9 @@ fn open_in_time<R: Wait>(
 }
 
 /// Reads a pair's output until it ends. A read that fails is tried again.
+///
+/// It has an intake's pieces on its stack, which so are no part of that before it is called.
+#[inline(never)]
 fn read_all<D: Read + Drop, R: Wait>(
     rt: &R,
     output: GrowingReader<D>,

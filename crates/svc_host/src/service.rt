@@ -120,6 +120,10 @@ fn rest<W: World, I: Inbox, G: Gate + Drop, R: Wait + Clock + Copy + Drop>(
 }
 
 /// Turns the loop of a service until it is gone.
+///
+/// It and what is called for the first start, each publication, each poll and each child are not inlined: so the stack
+/// of a thread is as deep as the deepest of them, and not as all together.
+#[inline(never)]
 fn run<W: World, I: Inbox, G: Gate + Drop, R: Wait + Clock + Copy + Drop>(
     rt: R,
     house: &mut House<W, I, G>,
@@ -143,6 +147,7 @@ fn run<W: World, I: Inbox, G: Gate + Drop, R: Wait + Clock + Copy + Drop>(
 
 /// Opens the house of a service whose station was opened as the service begins. The world is reported what is asked
 /// then.
+#[inline(never)]
 fn open<W: World + Drop, G: Gate + Drop>(
     world: W,
     receiver: Receiver<u8>,

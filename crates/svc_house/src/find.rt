@@ -29,6 +29,7 @@ fn byte_then_death(machine: &Machine, byte: u8, label: Label) -> Pending
 }
 
 /// Polls for what the machine can take in its phase.
+#[inline(never)]
 pub(crate) fn find<W: World, I: Inbox, G: Gate, R: Wait>(
     rt: &R,
     machine: &Machine,

@@ -231,6 +231,7 @@ impl<R> ChildSystem for SystemChildren<R>
 where
     R: Processes<Started = SystemProcess> + Wait + Clock + Copy + Drop,
 {
+    #[inline(never)]
     fn spawn(&mut self, begin: Begin) -> Option<u32> {
         self.death = DeathSource::None;
         match self.make_watched(begin) {

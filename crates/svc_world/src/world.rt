@@ -145,6 +145,7 @@ impl<C: ChildSystem + Drop> ChildWorld<C> {
     }
 
     // Records the process of a start that made a child, and counts it.
+    #[inline(never)]
     fn record_start(&mut self, child: Option<u32>)
         ensures { RecordsStart child self.old self.new }
     {
@@ -153,6 +154,7 @@ impl<C: ChildSystem + Drop> ChildWorld<C> {
     }
 
     // Records how the child ended whose death is reported, and counts it. Answers when it ended.
+    #[inline(never)]
     fn report_death(&mut self, exit: Exit) -> Label
         ensures label { result ≡ exit.label }
         ensures reports { ReportsDeath exit self.old self.new }
