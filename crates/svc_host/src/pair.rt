@@ -1,4 +1,5 @@
-//! The two threads that carry a pair's output to its logger. Until its first bytes they have no box, and no blocks.
+//! The two threads that carry a pair's output to its logger: one reads it, and begins the other, which puts it, at the first
+//! bytes. Until then there is no box, and no block.
 ghost use Rattle.std.specs.Prelude.{◌≡◌, ◌<◌, [], IfSome, IfErr, IfOk, None, ◌∷◌, OnOk};
 ghost use Rattle.svc_house.specs.Calls.{ExtendedWhileKept};
 ghost use Rattle.svc_host.specs.Calls.{AsksPair, MadePair};
@@ -8,8 +9,9 @@ use crate::ends::open_box;
 use crate::growing_reader::GrowingReader;
 use crate::maker::{Maker, Outlets, PartFault};
 use crate::rest::waited;
-use crate::shared::{NewReceiver, PairShared};
+use crate::shared::PairShared;
 use cmd_base::Cause;
+use core::thread::Anything;
 use std::alloc::Global;
 use std::io::Read;
 use std::sync::{Arc, Wait};
@@ -33,20 +35,28 @@ const AGAIN_MILLIS: u64 = 100;
 
 /// What the thread of an intake is given.
 #[derive(Drop)]
-struct Taking<D: Read + Drop> {
+struct Taking<D: Read + Drop, S: Drop> {
     alloc: Global,
     output: GrowingReader<D>,
     // How many pieces wait at most.
     capacity: usize,
     shared: Arc<PairShared, Global>,
+    putting: Putting<S>,
     ghost some: { 0 < capacity },
 }
 
-/// What the thread of a relay is given.
+/// What the thread of a relay is given, beside the receiver.
 #[derive(Drop)]
 struct Putting<S: Drop> {
     outlets: S,
     shared: Arc<PairShared, Global>,
+}
+
+/// The receiver of a pair's box, which took nothing.
+#[derive(Drop)]
+struct NewReceiver {
+    receiver: Receiver<Piece>,
+    ghost untaken: { taken_by receiver ≡ [] },
 }
 
 /// Rests before a call is tried again that failed.
@@ -130,40 +140,6 @@ fn read_all<D: Read + Drop, R: Wait>(
     }
 }
 
-/// What the thread of an intake does.
-fn take_in<D: Read + Drop, R: Wait>(rt: &R, task: Taking<D>) {
-    let Taking {
-        alloc,
-        mut output,
-        capacity,
-        shared,
-    } = task;
-    if !has_begun(rt, &mut output, &shared) {
-        shared.end();
-        return;
-    }
-    if let Some((sender, receiver)) = open_in_time(rt, alloc, capacity, &shared) {
-        shared.give(rt, NewReceiver { receiver });
-        read_all(rt, output, sender, &shared);
-    }
-}
-
-/// The receiver of a pair's box, once that is open, or none where the output ends without any bytes or the pair leaves.
-fn next_receiver<R: Wait>(rt: &R, shared: &PairShared) -> Option<NewReceiver> {
-    for _ in rt.forever() {
-        // Before it is sought, so that one that was given before that is found.
-        let is_last = shared.has_ended() || shared.leaves();
-        if let Some(receiver) = shared.take(rt) {
-            return Some(receiver);
-        }
-        if is_last {
-            return None;
-        }
-        shared.filled.wait(rt, None);
-    }
-    unreachable!()
-}
-
 /// The logger's next input, once there is one, or none where the pair leaves.
 fn next_outlet<O: Outlet + Drop, S: Outlets<O>, R: Wait>(
     rt: &R,
@@ -186,9 +162,6 @@ fn next_outlet<O: Outlet + Drop, S: Outlets<O>, R: Wait>(
 
 /// Puts a pair's output into its logger, from life to life, until the pair leaves or the output has ended and all of it
 /// is put. A write that fails is tried again, where the logger has no next input yet. The logger's input ends with it.
-///
-/// It has a relay's block on its stack, which so is no part of that before it is called.
-#[inline(never)]
 fn put_all<O: Outlet + Drop, S: Outlets<O> + Drop, R: Wait>(
     rt: &R,
     receiver: Receiver<Piece>,
@@ -226,13 +199,69 @@ fn put_all<O: Outlet + Drop, S: Outlets<O> + Drop, R: Wait>(
 }
 
 /// What the thread of a relay does.
-fn put_out<O: Outlet + Drop, S: Outlets<O> + Drop, R: Wait>(rt: &R, task: Putting<S>) {
-    let Putting { outlets, shared } = task;
-    match next_receiver(rt, &shared) {
-        Some(NewReceiver { receiver }) => put_all::<O, S, R>(rt, receiver, outlets, &shared),
-        None => drop(outlets),
-    }
+fn put_out<O: Outlet + Drop, S: Outlets<O> + Drop, R: Wait>(
+    rt: &R,
+    receiver: NewReceiver,
+    putting: Putting<S>,
+) {
+    let NewReceiver { receiver } = receiver;
+    let Putting { outlets, shared } = putting;
+    put_all::<O, S, R>(rt, receiver, outlets, &shared);
     shared.put();
+}
+
+/// Starts the thread of a relay, once there can be one. Whether it runs; else the pair leaves before.
+fn start_in_time<
+    O: Outlet + Drop + Send + 'static,
+    S: Outlets<O> + Drop + Send + 'static,
+    R: Threads + Wait + Copy + Drop + Send + 'static,
+>(rt: R, receiver: NewReceiver, putting: Putting<S>, shared: &PairShared) -> bool {
+    let mut work = move || put_out::<O, S, R>(&rt, receiver, putting);
+    for _ in rt.forever() {
+        let started = Builder::new()
+            .stack_size(STACK)
+            .spawn_with(&rt, Anything, work);
+        match started {
+            Ok(_thread) => return true,
+            Err(refused) => work = refused.value,
+        }
+        if shared.leaves() {
+            return false;
+        }
+        rest_before_again(&rt, &shared.emptied);
+    }
+    unreachable!()
+}
+
+/// What the thread of an intake does.
+fn take_in<
+    D: Read + Drop,
+    O: Outlet + Drop + Send + 'static,
+    S: Outlets<O> + Drop + Send + 'static,
+    R: Threads + Wait + Copy + Drop + Send + 'static,
+>(rt: R, task: Taking<D, S>) {
+    let Taking {
+        alloc,
+        mut output,
+        capacity,
+        shared,
+        putting,
+    } = task;
+    if !has_begun(&rt, &mut output, &shared) {
+        shared.end();
+        shared.put();
+        return;
+    }
+    let Some((sender, receiver)) = open_in_time(&rt, alloc, capacity, &shared) else {
+        shared.put();
+        return;
+    };
+    let receiver = NewReceiver { receiver };
+    if start_in_time::<O, S, R>(rt, receiver, putting, &shared) {
+        read_all(&rt, output, sender, &shared);
+    } else {
+        shared.put();
+    }
 }
 
 /// A pair whose threads run.
@@ -245,7 +274,7 @@ pub(crate) struct Pair {
 }
 
 impl Pair {
-    /// Starts the two threads of a pair, or none.
+    /// Starts the thread that reads a pair's output, or none.
     pub(crate) fn start<M: Maker, R: Threads + Wait + Copy + Drop + Send + 'static>(
         rt: R,
         alloc: Global,
@@ -269,34 +298,26 @@ impl Pair {
             output: GrowingReader::new(alloc, output)?,
             capacity,
             shared: Arc::try_clone(&shared)?,
+            putting: Putting {
+                outlets,
+                shared: Arc::try_clone(&shared)?,
+            },
         };
-        let putting = Putting {
-            outlets,
-            shared: Arc::try_clone(&shared)?,
-        };
-        let pair = Pair {
+        let reading = Builder::new().stack_size(STACK).spawn(
+            &rt,
+            move || take_in::<M::Output, M::Outlet, M::Outlets, R>(rt, taking),
+        );
+        if reading.is_err() {
+            return Err(PartFault::Refused(Cause::NoThread));
+        }
+        Ok(Pair {
             slot,
             shared,
             waits_since: None,
-        };
-        let writing = Builder::new().stack_size(STACK).spawn(
-            &rt,
-            move || put_out::<M::Outlet, M::Outlets, R>(&rt, putting),
-        );
-        if writing.is_err() {
-            return Err(PartFault::Refused(Cause::NoThread));
-        }
-        let reading = Builder::new()
-            .stack_size(STACK)
-            .spawn(&rt, move || take_in(&rt, taking));
-        if reading.is_err() {
-            pair.leave();
-            return Err(PartFault::Refused(Cause::NoThread));
-        }
-        Ok(pair)
+        })
     }
 
-    /// Both threads end.
+    /// Its threads end.
     pub(crate) fn leave(&self) {
         self.shared.leave();
     }

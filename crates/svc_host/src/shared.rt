@@ -1,13 +1,8 @@
 //! What threads of a host share.
-ghost use Rattle.std.specs.Prelude.{◌≡◌, []};
-ghost use Rattle.svc_mail.specs.Ends.{taken_by};
-
 use std::alloc::{AllocError, Global};
+use std::sync::Arc;
 use std::sync::atomic::{AtomicBool, AtomicU64, Ordering};
-use std::sync::{Arc, Mutex, Wait};
 use svc_house::{News, Notifier};
-use svc_mail::receiver::Receiver;
-use svc_relay::piece::Piece;
 
 /// How much has happened to the services of a host. Where this stands as it was, so do they.
 #[derive(Drop)]
@@ -85,22 +80,13 @@ impl PartShared {
     }
 }
 
-/// The receiver of a pair's box, which took nothing.
-#[derive(Drop)]
-pub(crate) struct NewReceiver {
-    pub(crate) receiver: Receiver<Piece>,
-    ghost untaken: { taken_by receiver ≡ [] },
-}
-
-/// What the two threads of a pair share with the host.
+/// What the threads of a pair share with the host.
 #[derive(Drop)]
 pub(crate) struct PairShared {
     /// Notified where there is something to put, or somewhere to put it.
     pub(crate) filled: Arc<Notifier, Global>,
     /// Notified where there is room again.
     pub(crate) emptied: Notifier,
-    // From the first bytes of the output until the thread that puts them takes it.
-    receiver: Mutex<Option<NewReceiver>>,
     leaves: AtomicBool,
     has_ended: AtomicBool,
     is_put: AtomicBool,
@@ -111,24 +97,13 @@ impl PairShared {
         Ok(PairShared {
             filled: Arc::new(alloc, Notifier::new())?,
             emptied: Notifier::new(),
-            receiver: Mutex::new(None),
             leaves: AtomicBool::new(false),
             has_ended: AtomicBool::new(false),
             is_put: AtomicBool::new(false),
         })
     }
 
-    /// The box of the pair is open.
-    pub(crate) fn give<R: Wait>(&self, rt: &R, receiver: NewReceiver) {
-        self.filled.notify(News::put(rt, &self.receiver, receiver));
-    }
-
-    /// The receiver of the box, once that is open: to the first who asks.
-    pub(crate) fn take<R: Wait>(&self, rt: &R) -> Option<NewReceiver> {
-        self.receiver.lock(rt).take()
-    }
-
-    /// Both threads are to end.
+    /// Its threads are to end.
     pub(crate) fn leave(&self) {
         let (first, second) = News::raise(&self.leaves).twice();
         self.filled.notify(first);

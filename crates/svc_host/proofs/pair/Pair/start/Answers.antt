@@ -8,8 +8,5 @@ returns-in_default-clause-failed g c = inl (extended-none _)
 pub returns-then-is_err-clause-failed : goal.returns-then-is_err-clause-failed
 returns-then-is_err-clause-failed g c = inr (inr c.in_ok-output.ensures.calls)
 
-pub returns-then-is_err-2-clause-failed : goal.returns-then-is_err-2-clause-failed
-returns-then-is_err-2-clause-failed g c = inr (inr c.in_ok-output.ensures.calls)
-
 pub returns-clause-asked : goal.returns-clause-asked
 returns-clause-asked g c = c.in_ok-output.ensures.calls
