@@ -8,7 +8,7 @@ import subprocess
 import sys
 import time
 
-program, room, count = sys.argv[1], sys.argv[2], int(sys.argv[3])
+program, room, count, starts = sys.argv[1], sys.argv[2], int(sys.argv[3]), sys.argv[4]
 
 
 class Suite:
@@ -27,6 +27,9 @@ SUITES = [
     Suite("runit", ["runsvdir"], ["runsvdir", "runsv"], ["sv", "-w", "0", "down"], "svlogd ./main"),
     Suite("s6", ["s6-svscan", "-c", "4000"], ["s6-svscan", "s6-supervise"], ["s6-svc", "-d"], "s6-log n100 s16777215 ./main"),
 ]
+
+# What one process reaches that only begins the children of pairs (starts.c), with one table of descriptors or several.
+LEAST = [Suite(f"starts {how}", [starts, how], ["starts"], [starts], SUITES[0].logger) for how in ("each", "apart")]
 
 
 def write_script(path, text):
@@ -170,8 +173,8 @@ def services(suite):
     end_all(suite)
 
 
-def pairs(suite):
-    """1,000 pairs: up, and what their supervisors take of memory."""
+def begin_pairs(suite):
+    """How long until 1,000 pairs are up."""
     folder = f"{room}/{suite.name}-pairs"
     names = make(folder, suite, True)
     begin = time.monotonic()
@@ -180,6 +183,11 @@ def pairs(suite):
         report(suite, f"{count} pairs are up", "ms", up(folder, names, begin))
     except TimeoutError:
         print(f"{suite.name}: not all pairs come up", flush=True)
+
+
+def pairs(suite):
+    """1,000 pairs: up, and what their supervisors take of memory."""
+    begin_pairs(suite)
     time.sleep(8)
     numbers = supervisors(suite)
     report(suite, "memory a pair", "KB", memory(numbers) / count)
@@ -238,10 +246,16 @@ def report(suite, what, unit, figure):
     print(f"{what:44} {suite.name:12} {figure:10.3f} {unit}", flush=True)
 
 
-for suite in SUITES:
+def begin_pairs_alone(suite):
+    """The same, of a program that does no more."""
+    begin_pairs(suite)
+    end_all(suite)
+
+
+for suite in SUITES + LEAST:
     if not suite.is_there():
         continue
-    for measure in (services, pairs, one_pair):
+    for measure in (begin_pairs_alone,) if suite in LEAST else (services, pairs, one_pair):
         try:
             measure(suite)
         except TimeoutError:

@@ -2,8 +2,9 @@
 # bench/svscan.sh [PROGRAM]: dtools' svscan beside daemontools', runit's and s6's own, in one run on one computer: how long
 # until 1,000 services are up, and 1,000 pairs of a service and its logger; what the supervisors take of memory, and of a
 # core while nothing happens; how long `down` takes, and a line from a service to its log; how many MB a second a pair
-# carries; and what a new svscan takes of a core that has adopted 1,000 services. Peers that are not installed are
-# installed where apt can do that, else left out. It needs python3, and a folder in memory. The program is built first.
+# carries; and what a new svscan takes of a core that has adopted 1,000 services. Last, what one process reaches that only
+# begins the children of 1,000 pairs (starts.c). Peers that are not installed are installed where apt can do that, else left
+# out. It needs python3, cc and a folder in memory. The program is built first.
 set -euo pipefail
 cd "$(dirname "$0")/.."
 program=$(realpath "${1:-crates/dtools/out/dtools}")
@@ -14,5 +15,7 @@ for peer in daemontools:svscan runit:runsvdir s6:s6-svscan; do
 done
 ulimit -n "$(ulimit -Hn)"
 folder=$(mktemp -d -p /dev/shm)
-trap 'rm -rf "$folder" 2>/dev/null || { sleep 1; rm -rf "$folder"; }' EXIT
-python3 bench/svscan.py "$program" "$folder" "${COUNT:-1000}"
+trap 'rm -rf "$folder" "$folder.bin" 2>/dev/null || { sleep 1; rm -rf "$folder"; }' EXIT
+mkdir "$folder.bin"
+cc -O2 -o "$folder.bin/starts" bench/starts.c
+python3 bench/svscan.py "$program" "$folder" "${COUNT:-1000}" "$folder.bin/starts"

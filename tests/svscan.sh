@@ -1779,6 +1779,44 @@ many() {
   is 'records' 1001 "$(find d -name status -size 20c | wc -l)"
 }
 
+# pairs FIRST LAST: pairs that rest, of services that sleep
+pairs() {
+  local number
+  for ((number = $1; number <= $2; number += 1)); do
+    mkdir -p "made/s$number/log/main"
+    sleeper made/.run
+    mv made/.run/run "made/s$number/run"
+    rmdir made/.run
+    logger "made/.run"
+    mv made/.run/run "made/s$number/log/run"
+    rmdir made/.run
+    mv "made/s$number" d
+  done
+}
+
+# pairs_run COUNT: so many services and loggers run, and were reported so
+pairs_run() { [ "$(find d -path '*/starts' -size +0 | wc -l)" = "$(($1 * 2))" ]; }
+
+# The proportional share of memory of a process, in KB.
+memory() { awk '/^Pss:/ { print $2 }' "/proc/$1/smaps_rollup"; }
+
+# What a pair that rests takes of svscan's memory: stacks, traces and mailboxes, and no buffer.
+resting() {
+  local before after
+  mkdir d made
+  pairs 1 10
+  start reported d
+  soon 'ten pairs run' 20 pairs_run 10
+  sleep 2
+  before=$(memory "$svscan")
+  pairs 11 60
+  svc -a d/.svscan
+  soon 'fifty more run' 30 pairs_run 60
+  sleep 2
+  after=$(memory "$svscan")
+  lies 'KB a pair' 40 130 "$(((after - before) / 50))"
+}
+
 # play SCENARIO: in a folder of its own
 play() {
   scenario=$1
@@ -1820,7 +1858,7 @@ play_all() {
 
 scenarios=(life modes_kept exits endings no_run links stubborn killed_service killed_svscan killed_early starved unwritten new_boot other_user earlier_record changes twice names silent
   connections no_supervise rounds untaken own refused last_words upgraded unread ordered first_process two_services child begins_anew shortage
-  descriptors_reported unchanged)
+  descriptors_reported unchanged resting)
 # These keep every processor busy, and have the machine for themselves.
 crowds=(killed_logger late_logger last_entries given_back many)
 shift

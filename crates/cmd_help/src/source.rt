@@ -4,4 +4,4 @@
 pub(crate) const KIT: &str = "rattle-kit-13f logic dac8208d650f15bf";
 
 /// The sum of its sources, as packaging/source-sum says it.
-pub(crate) const SOURCE: &str = "e0887871398d2610c365226429f7854a1c423abff30bd9c3ce9491bf5df493eb";
+pub(crate) const SOURCE: &str = "6a3f9f869b19f0d97f84961f092f41ba6bc149474df25e8f1fc37950963c42b0";
