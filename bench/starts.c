@@ -1,12 +1,17 @@
-/* What bench/svscan.sh sets beside the suites; it compiles this itself. It begins 1,000 pairs as one process can, with no
- * other work: no machine, no record, no trace, no relay.
+/* What bench/svscan.sh sets beside the suites; it compiles this itself. It begins 1,000 services or pairs as one process
+ * can.
  *
- * starts each FOLDER: holds for each pair in FOLDER what svscan holds, 14 descriptors: of the service and of its logger
- * the folder, the lock and two sockets, the FIFO and the pipe between them, and three copies. Four threads begin the
- * children by posix_spawn, as the library does that svscan is written with, each child with all descriptors closed.
+ * starts each FOLDER: holds for each service in FOLDER what svscan holds, 4 descriptors: the folder, the lock and two
+ * sockets; for a pair 14: the same of its logger, the FIFO and the pipe between them, and three copies. Four threads begin
+ * the children by posix_spawn, as the library does that svscan is written with, each child with all descriptors closed. It
+ * does no other work: no machine, no record, no trace, no relay.
  *
  * starts apart FOLDER: the same, but each of the four threads left the process's table of descriptors (unshare) while that
- * was empty, and opens what a child needs by its path. So no child begins with a copy of the long table. */
+ * was empty, and opens what a child needs by its path. So no child begins with a copy of the long table.
+ *
+ * starts whole FOLDER: the same as each, but each service has two threads, as svscan gives it: one that writes the record
+ * before the start, begins the child, and writes which process it is, how often it was started, and the record; and one
+ * that waits for the child. It has no machine, no trace, and keeps nothing. */
 #define _GNU_SOURCE
 #include <dirent.h>
 #include <errno.h>
@@ -23,17 +28,21 @@
 #include <sys/socket.h>
 #include <sys/stat.h>
 #include <sys/un.h>
+#include <sys/wait.h>
 #include <unistd.h>
 
 enum { THREADS = 4, MOST = 20000, COPIES = 3 };
 
 struct part {
 	char path[300];
-	int input, output;
+	int input, output, folder;
+	pid_t child;
+	pthread_mutex_t lock;
+	pthread_cond_t begun;
 };
 
 static struct part *parts;
-static int made, taken, apart;
+static int made, taken, apart, whole;
 static pthread_barrier_t ready;
 static pthread_mutex_t lock = PTHREAD_MUTEX_INITIALIZER;
 static pthread_cond_t more = PTHREAD_COND_INITIALIZER;
@@ -65,25 +74,44 @@ static void listen_at(const char *folder, const char *name) {
 }
 
 /* The folder, the lock and the sockets of a part. */
-static void hold(const char *folder) {
+static int hold(const char *folder) {
 	char room[400];
-	must(open(folder, O_RDONLY | O_CLOEXEC), folder);
+	int home = must(open(folder, O_RDONLY | O_CLOEXEC), folder);
 	if (mkdir(path(room, folder, "supervise"), 0700) && errno != EEXIST) must(-1, room);
 	int held = must(open(path(room, folder, "supervise/lock"), O_WRONLY | O_CREAT | O_APPEND | O_CLOEXEC, 0600), room);
 	must(flock(held, LOCK_EX | LOCK_NB), room);
 	listen_at(folder, "supervise/control");
 	listen_at(folder, "supervise/ok");
+	return home;
 }
 
-/* Hands a part to the threads that begin children. */
-static void give(const char *folder, int input, int output) {
+static void *serve(void *part);
+static void *reap(void *part);
+
+static void start(void *(*work)(void *), struct part *part) {
+	pthread_attr_t how;
+	pthread_t thread;
+	pthread_attr_init(&how);
+	pthread_attr_setstacksize(&how, 131072);
+	errno = pthread_create(&thread, &how, work, part);
+	if (errno) must(-1, "thread");
+}
+
+/* Hands a part to the threads that begin children, or to two of its own. */
+static void give(int home, const char *folder, int input, int output) {
 	pthread_mutex_lock(&lock);
-	snprintf(parts[made].path, sizeof parts[made].path, "%s", folder);
-	parts[made].input = input;
-	parts[made].output = output;
-	made++;
+	struct part *part = &parts[made++];
+	snprintf(part->path, sizeof part->path, "%s", folder);
+	part->folder = home;
+	part->input = input;
+	part->output = output;
 	pthread_cond_signal(&more);
 	pthread_mutex_unlock(&lock);
+	if (!whole) return;
+	pthread_mutex_init(&part->lock, NULL);
+	pthread_cond_init(&part->begun, NULL);
+	start(reap, part);
+	start(serve, part);
 }
 
 /* A descriptor of the first thread's table in that of this one. */
@@ -94,7 +122,7 @@ static int own(int descriptor, int flags) {
 	return must(open(room, flags | O_CLOEXEC), room);
 }
 
-static void begin(const struct part *part) {
+static pid_t begin(const struct part *part) {
 	posix_spawn_file_actions_t actions;
 	posix_spawnattr_t how;
 	sigset_t all;
@@ -115,6 +143,52 @@ static void begin(const struct part *part) {
 	posix_spawn_file_actions_destroy(&actions);
 	if (apart && input > 2) close(input);
 	if (apart && output > 2) close(output);
+	return pid;
+}
+
+/* Writes a file of a part: beside its place, and then into it. */
+static void put(const struct part *part, const char *name, const char *bytes, size_t count) {
+	char beside[100], place[100];
+	snprintf(beside, sizeof beside, "/proc/self/fd/%d/supervise/%s.new", part->folder, name);
+	snprintf(place, sizeof place, "/proc/self/fd/%d/supervise/%s", part->folder, name);
+	int file = must(open(beside, O_WRONLY | O_CREAT | O_TRUNC | O_CLOEXEC, 0600), beside);
+	must(fchmod(file, 0600), beside);
+	must(write(file, bytes, count), beside);
+	close(file);
+	must(rename(beside, place), place);
+}
+
+/* What the thread of a part does: the record, the child, which process it is, how often it was started, the record. */
+static void *serve(void *given) {
+	struct part *part = given;
+	char status[20] = {0}, line[600];
+	put(part, "status", status, sizeof status);
+	pid_t child = begin(part);
+	pthread_mutex_lock(&part->lock);
+	part->child = child;
+	pthread_cond_signal(&part->begun);
+	pthread_mutex_unlock(&part->lock);
+	snprintf(line, sizeof line, "/proc/%d/stat", (int)child);
+	int stat = must(open(line, O_RDONLY | O_CLOEXEC), line);
+	must(read(stat, line, 512), "stat");
+	close(stat);
+	put(part, "process", line, 48);
+	put(part, "counts", "1 0\n", 4);
+	put(part, "status", status, sizeof status);
+	sleep(1);
+	put(part, "status", status, sizeof status);
+	for (;;) pause();
+	return given;
+}
+
+/* What waits for the child of a part. */
+static void *reap(void *given) {
+	struct part *part = given;
+	pthread_mutex_lock(&part->lock);
+	while (!part->child) pthread_cond_wait(&part->begun, &part->lock);
+	pthread_mutex_unlock(&part->lock);
+	waitpid(part->child, NULL, 0);
+	return given;
 }
 
 static void *begin_all(void *none) {
@@ -140,26 +214,31 @@ int main(int count, char **words) {
 	int ends[2];
 	if (count != 3) return 100;
 	apart = !strcmp(words[1], "apart");
+	whole = !strcmp(words[1], "whole");
 	getrlimit(RLIMIT_NOFILE, &most);
 	most.rlim_cur = most.rlim_max;
 	setrlimit(RLIMIT_NOFILE, &most);
 	must(chdir(words[2]), words[2]);
 	parts = calloc(MOST, sizeof *parts);
 	pthread_barrier_init(&ready, NULL, THREADS + 1);
-	for (int i = 0; i < THREADS; i++) pthread_create(&thread, NULL, begin_all, NULL);
-	pthread_barrier_wait(&ready);
+	for (int i = 0; i < THREADS && !whole; i++) pthread_create(&thread, NULL, begin_all, NULL);
+	if (!whole) pthread_barrier_wait(&ready);
 	int found = must(scandir(".", &services, is_service, alphasort), words[2]);
 	for (int i = 0; i < found && i < MOST / 2; i++) {
 		const char *service = services[i]->d_name;
 		path(log, service, "log");
-		hold(service);
-		hold(log);
+		int home = hold(service);
+		if (access(log, F_OK)) {
+			give(home, service, 0, 1);
+			continue;
+		}
+		int log_home = hold(log);
 		if (mkfifo(path(room, service, "supervise/out"), 0600) && errno != EEXIST) must(-1, room);
 		int output = must(open(room, O_RDWR | O_CLOEXEC), room);
 		must(pipe2(ends, O_CLOEXEC), "pipe");
 		for (int j = 0; j < COPIES; j++) must(fcntl(output, F_DUPFD_CLOEXEC, 3), room);
-		give(service, 0, output);
-		give(log, ends[0], 1);
+		give(home, service, 0, output);
+		give(log_home, log, ends[0], 1);
 	}
 	for (;;) pause();
 }

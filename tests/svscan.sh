@@ -786,15 +786,21 @@ END
   is 'nothing was reported' '' "$(cat reported reported2)"
 }
 
-# A record of 18 bytes, as an earlier dtools left it, names a process that still runs.
+# record_earlier SERVICE PID: a record of 18 bytes, as an earlier dtools left it.
+record_earlier() {
+  local digits
+  digits=$(printf '%08x' "$2")
+  printf '\x40\0\0\0\x3a\x4f\xc8\x8a\0\0\0\0'"$(printf '\\x%s' "${digits:6:2}" "${digits:4:2}" "${digits:2:2}" "${digits:0:2}")"'\0u' \
+    >"$1/supervise/status"
+}
+
+# Such a record names a process that still runs.
 earlier_record() {
   sleeper d/web
   mkdir d/web/supervise
   (cd d/web && exec sleep 1000) &
-  local old=$! digits
-  digits=$(printf '%08x' "$old")
-  printf '\x40\0\0\0\x3a\x4f\xc8\x8a\0\0\0\0'"$(printf '\\x%s' "${digits:6:2}" "${digits:4:2}" "${digits:2:2}" "${digits:0:2}")"'\0u' \
-    >d/web/supervise/status
+  local old=$!
+  record_earlier d/web "$old"
   is 'it has 18 bytes' 18 "$(stat -c %s d/web/supervise/status)"
   start reported d
   soon 'it is reported' 8 holds "^svscan: web: process $old still runs$" reported
@@ -802,6 +808,34 @@ earlier_record() {
   is 'no second copy' 0 "$(count d/web/starts)"
   kill -KILL "$old"
   soon 'then it starts' 4 has_lines 1 d/web/starts
+}
+
+# Such a record names a process that runs elsewhere: in another folder of the same file system, and in one of another
+# file system that has the same number there. Neither is the service.
+elsewhere() {
+  sleeper d/near
+  mkdir d/far near far
+  local mounted=no
+  if mount -t tmpfs none d/far 2>/dev/null; then
+    echo "$PWD/d/far" >>"$room/$scenario.mounts"
+    if mount -t tmpfs none far 2>/dev/null; then
+      echo "$PWD/far" >>"$room/$scenario.mounts"
+      mounted=yes
+      is 'two folders of one number' "$(stat -c %i far)" "$(stat -c %i d/far)"
+    fi
+  fi
+  cp d/near/run d/far/run
+  mkdir d/near/supervise d/far/supervise
+  local each
+  for each in near far; do
+    (cd $each && exec sleep 20) &
+    record_earlier d/$each $!
+  done
+  start reported d
+  soon 'near: up' 5 is_settled d/near
+  soon 'far: up' 5 is_settled d/far
+  is 'nothing was reported' '' "$(cat reported)"
+  is 'each began once' '1 1' "$(count d/near/starts) $(count d/far/starts)"
 }
 
 # A logger that is down for a while.
@@ -1856,7 +1890,7 @@ play_all() {
   done
 }
 
-scenarios=(life modes_kept exits endings no_run links stubborn killed_service killed_svscan killed_early starved unwritten new_boot other_user earlier_record changes twice names silent
+scenarios=(life modes_kept exits endings no_run links stubborn killed_service killed_svscan killed_early starved unwritten new_boot other_user earlier_record elsewhere changes twice names silent
   connections no_supervise rounds untaken own refused last_words upgraded unread ordered first_process two_services child begins_anew shortage
   descriptors_reported unchanged resting)
 # These keep every processor busy, and have the machine for themselves.

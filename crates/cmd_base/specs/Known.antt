@@ -1,7 +1,8 @@
 -- What a command reads of the system around it, where the system says what it holds.
-use Rattle.std.specs.Prelude.{◌≡◌, ◌≢◌, ⊤, Option, Some, None}
+use Rattle.std.specs.Prelude.{◌≡◌, ◌≢◌, ⊤, ℕ, List, Option, Some, None}
 use Rattle.std.specs.IoError.{error_kind}
 use Rattle.std.specs.declared.io.Error.{Error}
+use Rattle.std.specs.declared.io.ErrorKind.{ErrorKind}
 use Rattle.std.specs.declared.io.ErrorKind.TheVariants.{OutOfMemory}
 
 -- What was read is what is there, where that is known.
@@ -12,3 +13,11 @@ IsKnown (Some known) read = read ≡ known
 -- A fault is want of memory, or what it is of is not known to be there.
 abbrev pub IsMissed : {X : Type 0} → Error → Option X → Type 0
 IsMissed fault known = error_kind fault ≢ OutOfMemory → known ≡ None
+
+-- What is known of the files at paths: the bytes that one holds, and what kind of error a read that fails gives.
+pub record KnownFiles : Type 0 where
+  pub bytes : List ℕ → Option (List ℕ)
+  pub fault : List ℕ → Option ErrorKind
+
+abbrev pub known_files : (bytes : List ℕ → Option (List ℕ)) (fault : List ℕ → Option ErrorKind) → KnownFiles
+known_files bytes fault = record { bytes = bytes; fault = fault }

@@ -4,4 +4,4 @@
 pub(crate) const KIT: &str = "rattle-kit-13f logic dac8208d650f15bf";
 
 /// The sum of its sources, as packaging/source-sum says it.
-pub(crate) const SOURCE: &str = "6a3f9f869b19f0d97f84961f092f41ba6bc149474df25e8f1fc37950963c42b0";
+pub(crate) const SOURCE: &str = "63a2ad3ebbdd6f8c822fc2f3b44425e9829f759d6a6399b3ab5e51f52795d9c0";

@@ -1,5 +1,5 @@
 //! The command `multilog`.
-ghost use Rattle.std.specs.Prelude.{◌≡◌, [], slice_get, unwrap_or, IfOk, IfErr};
+ghost use Rattle.std.specs.Prelude.{◌≡◌, ◌≢◌, [], slice_get, unwrap_or, IfOk, IfErr};
 ghost use Rattle.tai_status.specs.Counted.{Reports};
 ghost use Rattle.mlog_script.specs.Script.{texts};
 ghost use Rattle.cmd_multilog.specs.Opening.{folders_of};
@@ -37,6 +37,7 @@ fn bytes_of<'a, A: Allocator + Clone>(
 fn script_of<A: Allocator + Clone>(alloc: A, words: &[&[u8]]) -> Result<Script<A>, NoScript>
     ensures ok { IfOk result (λ script. IsSaidBy script (texts words.now)) }
     ensures err { IfErr result (λ why. IsRefusal why (texts words.now)) }
+    ensures refused { IfErr result (λ why. why ≢ NoScript.OutOfMemory) }
 {
     match Script::read(alloc, words) {
         Ok(script) => Ok(script),

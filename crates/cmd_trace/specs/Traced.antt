@@ -1,6 +1,6 @@
 -- What `trace` prints of the text of a trace, what its word after `--break` means, and what it says of its faults.
 use Rattle.std.specs.Prelude.{◌≡◌, ◌≢◌, ◌<◌, ◌^◌, ⊤, ℕ, ℤ, ◌⊎◌, Bool, true, false, List, [], ◌∷◌, ◌++◌, codes, decimal}
-use Rattle.std.specs.Prelude.{Option, Some, None, Err, option_map}
+use Rattle.std.specs.Prelude.{Option, Some, None, IfSome, Err, option_map}
 use Rattle.std.specs.Borrow.{Bor}
 use Rattle.std.specs.IoError.{error_kind}
 use Rattle.std.specs.declared.io.Error.{Error}
@@ -19,8 +19,10 @@ use Rattle.sup_trace.specs.Reading.{HasEntryAt, kind_name, content_from}
 use Rattle.sup_trace.specs.Explained.{explained}
 use Rattle.sup_trace.specs.Breaks.{IsFirstBreak, HasNoBreak}
 use Rattle.trace_words.specs.Words.{asked_of}
+use Rattle.trace_words.specs.declared.WordsFault.{WordsFault}
+use Rattle.trace_words.specs.declared.WordsFault.TheVariants as words
 use Rattle.cmd_base.specs.Printed.{printed}
-use Rattle.cmd_base.specs.Known.{IsKnown}
+use Rattle.cmd_base.specs.Known.{IsKnown, KnownFiles}
 use Rattle.cmd_base.specs.Usage.{usage_text}
 use Rattle.cmd_trace.specs.Local.{local_explanation}
 use Rattle.cmd_trace.specs.declared.fault.TraceTrouble.{TraceTrouble}
@@ -170,10 +172,12 @@ pub record EndsWithText (times : Times) (file : Option (List ℕ)) (at : Option 
   pub text_is : IsKnown file text
   pub ends : TextEnds times text at status writer writes faults reports
 
--- It is reported of a file that is not known to be there that it can't be read, and nothing is written.
-pub record ReportsUnread (file_at : List ℕ → Option (List ℕ)) (file : List ℕ) (status : ℕ)
-    (writer writes faults reports : Device) : Type 0 where
-  pub unknown : file_at file ≡ None
+-- It is reported of a file that is not known to be there that it can't be read, and nothing is written. A read of it
+-- is not known to want memory.
+pub record ReportsUnread (files : KnownFiles) (file : List ℕ) (status : ℕ) (writer writes faults reports : Device)
+    : Type 0 where
+  pub unknown : files.bytes file ≡ None
+  pub fault : IfSome (files.fault file) (λ kind. kind ≢ OutOfMemory)
   pub unwritten : writes ≡ writer
   pub reported : Reports faults reports (unread_text file)
   pub status_is : status ≡ 111
@@ -190,13 +194,19 @@ pub record ReportsStarved (status : ℕ) (writer writes faults reports : Device)
   pub reported : Reports faults reports (trouble_text trouble.OutOfMemory)
   pub status_is : status ≡ 111
 
+-- There was no memory for the file, of which no read is known to fail for another cause.
+pub record ReportsNoRoom (files : KnownFiles) (file : List ℕ) (status : ℕ) (writer writes faults reports : Device)
+    : Type 0 where
+  pub fault : IfSome (files.fault file) (λ kind. kind ≡ OutOfMemory)
+  pub starved : ReportsStarved status writer writes faults reports
+
 -- `trace` over this file and this break.
-abbrev pub FileEnds : (times : Times) (file_at : List ℕ → Option (List ℕ)) (file : List ℕ) (at : Option Break)
-    (status : ℕ) (writer writes faults reports : Device) → Type 0
-FileEnds times file_at file at status writer writes faults reports =
-    EndsWithText times (file_at file) at status writer writes faults reports
-    ⊎ (ReportsUnread file_at file status writer writes faults reports
-    ⊎ ReportsStarved status writer writes faults reports)
+abbrev pub FileEnds : (times : Times) (files : KnownFiles) (file : List ℕ) (at : Option Break) (status : ℕ)
+    (writer writes faults reports : Device) → Type 0
+FileEnds times files file at status writer writes faults reports =
+    EndsWithText times (files.bytes file) at status writer writes faults reports
+    ⊎ (ReportsUnread files file status writer writes faults reports
+    ⊎ ReportsNoRoom files file status writer writes faults reports)
 
 -- Words ask for nothing; nothing is written, and the usage is reported.
 pub record ReportsUsage (words : List (List ℕ)) (status : ℕ) (writer writes faults reports : Device) : Type 0 where
@@ -206,19 +216,29 @@ pub record ReportsUsage (words : List (List ℕ)) (status : ℕ) (writer writes 
   pub status_is : status ≡ 100
 
 -- What words ask for was done, or there was trouble with it.
-pub record DoesAsked (ahead : ℤ → ℤ) (file_at : List ℕ → Option (List ℕ)) (words : List (List ℕ)) (status : ℕ)
+pub record DoesAsked (ahead : ℤ → ℤ) (files : KnownFiles) (words : List (List ℕ)) (status : ℕ)
     (writer writes faults reports : Device) : Type 0 where
   pub file : List ℕ
   pub at : Option Break
   pub local : Bool
   pub asked : AskFor words file at local
-  pub ends : FileEnds (times_asked ahead local) file_at file at status writer writes faults reports
+  pub ends : FileEnds (times_asked ahead local) files file at status writer writes faults reports
+
+-- What is reported of words that were not read: the usage of wrong ones, else want of memory.
+abbrev pub words_text : WordsFault → List ℕ
+words_text words.Wrong = usage_text
+words_text words.OutOfMemory = trouble_text trouble.OutOfMemory
+
+-- the status of that
+abbrev pub words_status : WordsFault → ℕ
+words_status words.Wrong = 100
+words_status words.OutOfMemory = 111
 
 -- `trace`, by what its words ask for, where clocks are ahead of UTC by so much. No words ask for nothing.
-abbrev pub TraceEnds : (ahead : ℤ → ℤ) (file_at : List ℕ → Option (List ℕ)) (words : List (List ℕ)) (status : ℕ)
+abbrev pub TraceEnds : (ahead : ℤ → ℤ) (files : KnownFiles) (words : List (List ℕ)) (status : ℕ)
     (writer writes faults reports : Device) → Type 0
-TraceEnds ahead file_at [] status writer writes faults reports = ReportsUsage [] status writer writes faults reports
-TraceEnds ahead file_at (word ∷ words) status writer writes faults reports =
-    DoesAsked ahead file_at (word ∷ words) status writer writes faults reports
+TraceEnds ahead files [] status writer writes faults reports = ReportsUsage [] status writer writes faults reports
+TraceEnds ahead files (word ∷ words) status writer writes faults reports =
+    DoesAsked ahead files (word ∷ words) status writer writes faults reports
     ⊎ (ReportsUsage (word ∷ words) status writer writes faults reports
     ⊎ ReportsStarved status writer writes faults reports)

@@ -1,9 +1,10 @@
 //! The command `trace`.
 ghost use Rattle.std.specs.Prelude.{◌≡◌, None, OnOk, IfErr};
 ghost use Rattle.tai_status.specs.Counted.{Works, Reports};
+ghost use Rattle.cmd_base.specs.Known.{known_files};
 ghost use Rattle.cmd_local.specs.Ends.{texts};
 ghost use Rattle.cmd_trace.specs.Traced.{FileEnds, Shows, ReportsMissed, TextEnds, TraceCause, TraceEnds};
-ghost use Rattle.cmd_trace.specs.Traced.{times_asked, times_in, trouble_text, unread_text};
+ghost use Rattle.cmd_trace.specs.Traced.{times_asked, times_in, trouble_text, unread_text, words_status, words_text};
 
 use crate::break_word::read_spec;
 use crate::fault::TraceTrouble;
@@ -116,7 +117,8 @@ fn trace_file<R: FileSource, W: Write, E: Write, Z: Zone>(
     writer: &mut Output<W>,
     faults: &mut Output<E>,
 ) -> u8
-    ensures ends { FileEnds (times_in Z.ahead_at zone.entry) (R.file_at files.now) file.now at
+    ensures ends { FileEnds (times_in Z.ahead_at zone.entry)
+        (known_files (R.file_at files.now) (R.fault_at files.now)) file.now at
         result writer.old writer.new faults.old faults.new }
 {
     match files.read_file(alloc, file) {
@@ -150,6 +152,17 @@ fn report_unread<E: Write>(file: &str, faults: &mut Output<E>) -> u8
     )
 }
 
+/// Says why words are not read, and answers the status of that.
+fn report_words<E: Write>(fault: WordsFault, faults: &mut Output<E>) -> u8
+    ensures status { result ≡ words_status fault }
+    ensures reported { Reports faults.old faults.new (words_text fault) }
+{
+    match fault {
+        WordsFault::Wrong => usage(faults),
+        WordsFault::OutOfMemory => report_trouble(TraceTrouble::OutOfMemory, faults),
+    }
+}
+
 /// The zone, where local times are asked for.
 fn zone_asked<Z: Zone>(zone: &Z, local: bool) -> Option<&Z>
     ensures { times_in Z.ahead_at result ≡ times_asked (Z.ahead_at zone.now) local }
@@ -171,16 +184,15 @@ pub fn run_trace<R: FileSource, W: Write, E: Write, Z: Zone>(
     writer: &mut Output<W>,
     faults: &mut Output<E>,
 ) -> u8
-    ensures ends { TraceEnds (Z.ahead_at zone.now) (R.file_at files.now) (texts words.now) result
-        writer.old writer.new faults.old faults.new }
+    ensures ends { TraceEnds (Z.ahead_at zone.now) (known_files (R.file_at files.now) (R.fault_at files.now))
+        (texts words.now) result writer.old writer.new faults.old faults.new }
 {
     if words.is_empty() {
         return usage(faults);
     }
     let asked = match parse_words(alloc, words) {
         Ok(asked) => asked,
-        Err(WordsFault::Wrong) => return usage(faults),
-        Err(WordsFault::OutOfMemory) => return report_trouble(TraceTrouble::OutOfMemory, faults),
+        Err(fault) => return report_words(fault, faults),
     };
     match read_spec(asked.at) {
         Ok(at) => trace_file(

@@ -1,6 +1,7 @@
 -- How the program ends, by the name of the command and the words after it.
 use Rattle.std.specs.Prelude.{◌≡◌, ◌≢◌, ℕ, ℤ, List, [], ◌∷◌, ◌++◌, codes, Option}
 use Rattle.cmd_base.specs.Console.{Console}
+use Rattle.cmd_base.specs.Known.{KnownFiles}
 use Rattle.tai_status.specs.Counted.{Device}
 use Rattle.cmd_base.specs.Usage.{RefusesWords}
 use Rattle.cmd_sim.specs.Ends.{SimEnds}
@@ -77,7 +78,7 @@ pub record PlainEnds (name : List ℕ) (words : List (List ℕ)) (status : ℕ) 
 -- Those that know local times, by how many seconds clocks are ahead of UTC, at each second of Unix time; and the files
 -- that one of them reads, where they are known.
 pub record ZonedEnds (name : List ℕ) (words : List (List ℕ)) (status : ℕ) (ahead : ℤ → ℤ)
-    (files : List ℕ → Option (List ℕ)) (old new : Equipment) : Type 0 where
+    (files : KnownFiles) (old new : Equipment) : Type 0 where
   pub tai64nlocal : name ≡ codes "tai64nlocal" → LocalEnds ahead words status old.console new.console
   pub trace : name ≡ codes "trace" → TraceEnds ahead files words status old.console.writer new.console.writer
       old.console.faults new.console.faults

@@ -1,6 +1,7 @@
 -- How the program ends, by its words. The first names the command, and the words after it are its own.
 use Rattle.std.specs.Prelude.{◌≡◌, ℕ, ℤ, List, [], ◌∷◌, Option, ⊤}
 use Rattle.tai_status.specs.Counted.{Reports}
+use Rattle.cmd_base.specs.Known.{KnownFiles}
 use Rattle.cmd_envdir.specs.System.{Launch, SystemState}
 use Rattle.cmd_multilog.specs.Shelf.{Shelf}
 use Rattle.mlog_core.specs.Feed.{Feed}
@@ -23,7 +24,7 @@ abbrev pub PlainProgram : (words : List (List ℕ)) (status : ℕ) (old new : Eq
 PlainProgram [] status old new = NamesNothing status old new
 PlainProgram (name ∷ words) status old new = PlainEnds name words status old new
 
-abbrev pub ZonedProgram : (words : List (List ℕ)) (status : ℕ) (ahead : ℤ → ℤ) (files : List ℕ → Option (List ℕ))
+abbrev pub ZonedProgram : (words : List (List ℕ)) (status : ℕ) (ahead : ℤ → ℤ) (files : KnownFiles)
     (old new : Equipment) → Type 0
 ZonedProgram [] status ahead files old new = ⊤
 ZonedProgram (name ∷ words) status ahead files old new = ZonedEnds name words status ahead files old new

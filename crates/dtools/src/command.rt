@@ -1,5 +1,6 @@
 //! The table of the commands.
 ghost use Rattle.std.specs.Prelude.{◌≡◌, []};
+ghost use Rattle.cmd_base.specs.Known.{known_files};
 ghost use Rattle.cmd_envdir.specs.System.{texts};
 ghost use Rattle.cmd_why.specs.Texts.{knowledge};
 ghost use Rattle.tai_status.specs.Counted.{Reports};
@@ -60,8 +61,8 @@ where
     requires no_logs { store.old.logs ≡ [] }
     requires no_files { store.old.statuses ≡ [] }
     ensures plain { PlainEnds name.now (texts words.now) result devices.old devices.new }
-    ensures zoned { ZonedEnds name.now (texts words.now) result (Z.ahead_at zone.now) (R.file_at rt.now)
-        devices.old devices.new }
+    ensures zoned { ZonedEnds name.now (texts words.now) result (Z.ahead_at zone.now)
+        (known_files (R.file_at rt.now) (R.fault_at rt.now)) devices.old devices.new }
     ensures child { ChildEnds name.now (texts words.now) result (R.state rt.now)
         (L.calls launcher.old) (L.calls launcher.new) devices.old devices.new }
     ensures logs { LoggerEnds name.now (texts words.now) result store.old store.new
@@ -158,8 +159,8 @@ where
     requires no_logs { store.old.logs ≡ [] }
     requires no_files { store.old.statuses ≡ [] }
     ensures plain { PlainProgram (texts words.now) result devices.old devices.new }
-    ensures zoned { ZonedProgram (texts words.now) result (Z.ahead_at zone.now) (R.file_at rt.now)
-        devices.old devices.new }
+    ensures zoned { ZonedProgram (texts words.now) result (Z.ahead_at zone.now)
+        (known_files (R.file_at rt.now) (R.fault_at rt.now)) devices.old devices.new }
     ensures child { ChildProgram (texts words.now) result (R.state rt.now)
         (L.calls launcher.old) (L.calls launcher.new) devices.old devices.new }
     ensures logs { LoggerProgram (texts words.now) result store.old store.new

@@ -1,5 +1,5 @@
 -- When a connection is looked at again after a turn.
-use Rattle.std.specs.Prelude.{◌≡◌, ⊤, ℕ, nat_lt, Option, Some, None}
+use Rattle.std.specs.Prelude.{◌≡◌, ⊤, ℕ, nat_lt, Option, Some, None, IsSome, IsNone}
 use Rattle.svc_door.specs.Connection.{ConnectionState}
 use Rattle.svc_door.specs.Rests.{spoke_at, looked_at}
 use Rattle.svc_door.specs.declared.connection.Turn.{Turn}
@@ -15,3 +15,7 @@ abbrev pub LooksAgainAt : (old new : Option ConnectionState) (now due : ℕ) →
 LooksAgainAt None new now due = ⊤
 LooksAgainAt (Some old) None now due = ⊤
 LooksAgainAt (Some old) (Some new) now due = LooksAgain old new now due
+
+-- There was a connection, and it is over.
+abbrev pub HasClosed : (old new : Option ConnectionState) → Type 0
+HasClosed old new = IsSome old × IsNone new

@@ -23,8 +23,8 @@ pub struct Part<P: ByteSink> {
 }
 
 impl<P: ByteSink + Drop> Part<P> {
-    ghost use Rattle.std.specs.Prelude.{◌≡◌, ◌↔◌, ◌≤◌, IsTrue, IsNone, IsSome, IsSomeAnd};
-    ghost use Rattle.svc_door.specs.Looks.{LooksAgainAt};
+    ghost use Rattle.std.specs.Prelude.{◌≡◌, ◌↔◌, ◌≤◌, IsTrue, IsNone, IsSome, IsSomeAnd, Some};
+    ghost use Rattle.svc_door.specs.Looks.{LooksAgainAt, HasClosed};
 
     /// A part with no connection.
     pub fn new(number: u64, sink: P, control: UnixListener, ok: UnixListener) -> Part<P> {
@@ -64,9 +64,11 @@ impl<P: ByteSink + Drop> Part<P> {
 
     /// Accepts some connections to `ok`, which are closed, and goes on with the control connection, or begins with the
     /// next one: at most 4096 bytes of one. Says when it is to have the next turn.
-    /// While there is a connection it is due.
+    /// While there is a connection it is due; and at once where the one that it had is over.
     pub fn turn<R: Wait>(&mut self, rt: &R, registry: &Registry, token: Token, now: u64)
         ensures due { IsSome self.new.connection → IsSome self.new.due }
+        ensures next { HasClosed self.old.connection self.new.connection
+            → IsSomeAnd self.new.due (λ due. due ≤ now) }
     {
         let greeted = self.greet(now);
         let served = self.serve(rt, registry, token, now);
@@ -85,6 +87,7 @@ impl<P: ByteSink + Drop> Part<P> {
 
     fn serve<R: Wait>(&mut self, rt: &R, registry: &Registry, token: Token, now: u64) -> Option<u64>
         ensures due { IsSome self.new.connection → IsSome result }
+        ensures next { HasClosed self.old.connection self.new.connection → result ≡ Some now }
     {
         if self.connection.is_none() {
             match self.control.accept() {

@@ -1,5 +1,5 @@
-//! The two threads that carry a pair's output to its logger: one reads it, and begins the other, which puts it, at the first
-//! bytes. Until then there is no box, and no block.
+//! The two threads that carry a pair's output to its logger: one reads it, and begins the other, which puts it, at the
+//! first bytes. Until then there is no box, and no block.
 ghost use Rattle.std.specs.Prelude.{◌≡◌, ◌<◌, [], IfSome, IfErr, IfOk, None, ◌∷◌, OnOk};
 ghost use Rattle.svc_house.specs.Calls.{ExtendedWhileKept};
 ghost use Rattle.svc_host.specs.Calls.{AsksPair, MadePair};
