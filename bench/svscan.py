@@ -28,8 +28,12 @@ SUITES = [
     Suite("s6", ["s6-svscan", "-c", "4000"], ["s6-svscan", "s6-supervise"], ["s6-svc", "-d"], "s6-log n100 s16777215 ./main"),
 ]
 
-# What one process reaches that only begins the children of pairs (starts.c), with one table of descriptors or several.
-LEAST = [Suite(f"starts {how}", [starts, how], ["starts"], [starts], SUITES[0].logger) for how in ("each", "apart")]
+# What one process reaches that only begins the children (starts.c), with one table of descriptors or several; and one that
+# writes beside that what svscan writes of each.
+LEAST = [Suite(f"starts {how}", [starts, how], ["starts"], [starts], SUITES[0].logger) for how in ("each", "apart", "whole")]
+
+# How often all come up, the suites in turn.
+TURNS = 5
 
 
 def write_script(path, text):
@@ -144,13 +148,38 @@ def make(folder, suite, logged):
     return names
 
 
-def services(suite):
-    """1,000 services: up, memory, idle, down, and for dtools what adopting them takes."""
-    folder = f"{room}/{suite.name}-services"
-    names = make(folder, suite, False)
+def bring_up(suite, logged):
+    """A folder of which all is up, its services, and how many milliseconds that took."""
+    folder = f"{room}/{suite.name.replace(' ', '-')}-{'pairs' if logged else 'services'}"
+    names = make(folder, suite, logged)
     begin = time.monotonic()
     start(suite, folder)
-    report(suite, f"{count} services are up", "ms", up(folder, names, begin))
+    return folder, names, up(folder, names, begin)
+
+
+def bring_up_in_turn(suites, logged):
+    """How long until all is up: the median of some times, between the least and the most, the suites in turn."""
+    took = {suite.name: [] for suite in suites}
+    for _ in range(TURNS):
+        for suite in suites:
+            try:
+                took[suite.name].append(bring_up(suite, logged)[2])
+            except TimeoutError:
+                print(f"{suite.name}: not all came up within two minutes", flush=True)
+            time.sleep(1)
+            end_all(suite)
+            for folder in glob.glob(f"{room}/*"):
+                shutil.rmtree(folder, ignore_errors=True)
+    for suite in suites:
+        what = f"{count} {'pairs' if logged else 'services'} are up"
+        times = took[suite.name] or [float("nan")]
+        for figure, of in ((statistics.median(times), ""), (min(times), ", least"), (max(times), ", most")):
+            report(suite, what + of, "ms", figure)
+
+
+def services(suite):
+    """1,000 services: memory, idle, down, and for dtools what adopting them takes."""
+    folder, names, _ = bring_up(suite, False)
     time.sleep(8)
     numbers = supervisors(suite)
     report(suite, f"memory a service", "KB", memory(numbers) / count)
@@ -173,21 +202,9 @@ def services(suite):
     end_all(suite)
 
 
-def begin_pairs(suite):
-    """How long until 1,000 pairs are up."""
-    folder = f"{room}/{suite.name}-pairs"
-    names = make(folder, suite, True)
-    begin = time.monotonic()
-    start(suite, folder)
-    try:
-        report(suite, f"{count} pairs are up", "ms", up(folder, names, begin))
-    except TimeoutError:
-        print(f"{suite.name}: not all pairs come up", flush=True)
-
-
 def pairs(suite):
-    """1,000 pairs: up, and what their supervisors take of memory."""
-    begin_pairs(suite)
+    """1,000 pairs: what their supervisors take of memory, and of a core."""
+    bring_up(suite, True)
     time.sleep(8)
     numbers = supervisors(suite)
     report(suite, "memory a pair", "KB", memory(numbers) / count)
@@ -246,16 +263,11 @@ def report(suite, what, unit, figure):
     print(f"{what:44} {suite.name:12} {figure:10.3f} {unit}", flush=True)
 
 
-def begin_pairs_alone(suite):
-    """The same, of a program that does no more."""
-    begin_pairs(suite)
-    end_all(suite)
-
-
-for suite in SUITES + LEAST:
-    if not suite.is_there():
-        continue
-    for measure in (begin_pairs_alone,) if suite in LEAST else (services, pairs, one_pair):
+there = [suite for suite in SUITES if suite.is_there()]
+for logged in (False, True):
+    bring_up_in_turn(there + LEAST, logged)
+for suite in there:
+    for measure in (services, pairs, one_pair):
         try:
             measure(suite)
         except TimeoutError:

@@ -4,4 +4,4 @@
 pub(crate) const KIT: &str = "rattle-kit-13f logic dac8208d650f15bf";
 
 /// The sum of its sources, as packaging/source-sum says it.
-pub(crate) const SOURCE: &str = "63a2ad3ebbdd6f8c822fc2f3b44425e9829f759d6a6399b3ab5e51f52795d9c0";
+pub(crate) const SOURCE: &str = "74db430944e66d5e792c75c8268d5a0a19d30bdee59b897a746b82259e51b760";

@@ -1,10 +1,10 @@
 -- The first bad word, as a loop over words finds it.
-use Rattle.std.proofs.Common.{◌≡◌, ℕ, ◌+◌, ◌<◌, suc, refl, sym, ap, ◌∙◌, arith, List, [], ◌∷◌, ◌++◌, length, map, take}
+use Rattle.std.proofs.Common.{◌≡◌, ℕ, ◌+◌, ◌-◌, ◌<◌, suc, refl, sym, ap, ◌∙◌, arith, List, [], ◌∷◌, ◌++◌, length, map, take}
 use Rattle.std.proofs.Common.{drop, get_or, drop-cons, Option, Some, None, Result, Ok, Err, is_ok, ◌==◌, Bool, true}
 use Rattle.std.proofs.Common.{false}
 use Rattle.std.specs.List.{filter_map, cons_option}
 use Rattle.std.specs.Option.{option_map}
-use Rattle.std.proofs.lemmas.List.{map_more, map-append, take-append-drop, length-map, length-take-le}
+use Rattle.std.proofs.lemmas.List.{map_more, map-append, take-append-drop, take-map, length-map, length-take-le}
 use Rattle.std.proofs.lemmas.List.Elements.{filter_map-append}
 use Rattle.mlog_script.specs.Placed.{placed_behind}
 use Rattle.mlog_script.specs.Script.{Act, Stamp, said, fault_in, fault_of, fault_at, faults, first_fault}
@@ -98,3 +98,10 @@ pub says_at : {R : Type 0} (f : R → List ℕ) (words : List R) (k : ℕ) (d : 
 says_at f words k d within lawful =
     says (map f (take k words)) (map f (drop (suc k) words)) (f (get_or words k d))
     (ap faults (sym (words_at f words k d within)) ∙ lawful)
+
+-- What the words before a place say.
+pub said_before : {R : Type 0} (f : R → List ℕ) (words : List R) (k : ℕ)
+    → map said (map f (take k words)) ≡ take (k + 1 - 1) (map said (map f words))
+said_before f words k =
+    ap (map said) (sym (take-map f k words)) ∙ sym (take-map said k (map f words))
+    ∙ ap (λ n. take n (map said (map f words))) (let same : k ≡ k + 1 - 1 = omega arith in same)
