@@ -224,6 +224,11 @@ if command -v cc >/dev/null && cc -shared -fPIC -o calls.so "$calls" -ldl 2>/dev
   grep -a status noted >statuses
   is 'calls: status files' 0 "$(paste -sd ' ' statuses | sed -E 's/empty noted\.status\.new write noted\.status\.new( sync noted\.status\.new)? rename( over)? noted\.status\.new noted\.status ?//g' | wc -w)"
   is 'calls: there were status files' true "$([ "$(grep -c rename statuses)" -ge 10 ] && echo true)"
+  # A file that another one made in the last moment has the name of the next old log.
+  CALLS=again CALLS_MAKES=1 LD_PRELOAD=./calls.so timeout 20 "$program" multilog s4096 ./held <in 2>reported
+  is 'calls: a name that is there' '111 multilog: Store' "$? $(cat reported)"
+  is 'calls: it is not written over' kept "$(cat ./held/@*.s)"
+  is 'calls: no log is renamed' '' "$(grep '^rename' again)"
 fi
 # The installed multilog: at TERM the line in hand is read to its end and written, and what is behind it stays in the pipe.
 # started FOLDER PIPE: starts the wrapper, and waits until the logger has its lock; `shell` and `logger` are their numbers
