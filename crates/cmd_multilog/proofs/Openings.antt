@@ -14,7 +14,6 @@ use Rattle.cmd_multilog.specs.Shelf.{Shelf, IsBegunAt, OpensLog, AsksFor, AsksFo
 use Rattle.std.specs.Option.{option_map}
 use Rattle.mlog_script.specs.Script.{Act, Plan, log_plans}
 use Rattle.cmd_multilog.specs.declared.fault.OpenFault.{OpenFault}
-use Rattle.cmd_multilog.specs.declared.fault.OpenFault.TheVariants as why
 use Rattle.cmd_multilog.specs.Opening.{AllBegun, AllPlaced, Opens, IsFault, OneRefused, NoneRefused, OpensUpTo}
 use Rattle.cmd_multilog.specs.Opening.{folders_of}
 

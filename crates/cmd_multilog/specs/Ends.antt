@@ -1,5 +1,5 @@
 -- How `multilog` ends.
-use Rattle.std.specs.Prelude.{◌≡◌, ◌⊎◌, ⊤, ℕ, List, [], map, slice_get, unwrap_or, Option, Some, None, MatchOption, Ok}
+use Rattle.std.specs.Prelude.{◌≡◌, ◌⊎◌, ℕ, List, [], map, slice_get, unwrap_or, Option, Some, None, MatchOption, Ok}
 use Rattle.tai_status.specs.Label.{Tai64n}
 use Rattle.tai_status.specs.Counted.{Device, Reports}
 use Rattle.mlog_script.specs.Script.{Act, said, first_fault, file_paths}
@@ -36,7 +36,7 @@ IsSaidBy script words = map said words ≡ map (λ action. Ok action) script
 abbrev pub IsRefusal : NoScript → List (List ℕ) → Type 0
 IsRefusal (no.Refused fault) words =
     MatchOption (first_fault words) (fault.kind ≡ kind.OutOfMemory) (λ first. fault ≡ first)
-IsRefusal no.OutOfMemory words = ⊤
+IsRefusal no.OutOfMemory words = first_fault words ≡ None
 
 abbrev pub refusal_report : NoScript → List ℕ
 refusal_report (no.Refused fault) = script_report fault

@@ -1,5 +1,5 @@
 //! The command `multilog`.
-ghost use Rattle.std.specs.Prelude.{◌≡◌, ◌≢◌, [], slice_get, unwrap_or, IfOk, IfErr};
+ghost use Rattle.std.specs.Prelude.{◌≡◌, [], slice_get, unwrap_or, IfOk, IfErr};
 ghost use Rattle.tai_status.specs.Counted.{Reports};
 ghost use Rattle.mlog_script.specs.Script.{texts};
 ghost use Rattle.cmd_multilog.specs.Opening.{folders_of};
@@ -11,37 +11,21 @@ use crate::opening::open_all;
 use crate::store::FolderStore;
 use cmd_base::{DONE, TROUBLE, report, report_parts};
 use mlog_core::{PartedInput, run_parts};
-use mlog_script::Script;
-use std::alloc::{AllocError, Allocator};
+use mlog_script::{Script, check_words};
+use std::alloc::Allocator;
 use std::io::Write;
 use tai_status::{Output, TimeSource};
 
 /// What is reported of want of memory.
 const NO_MEMORY: &[u8] = b"multilog: OutOfMemory\n";
 
-/// The bytes of words.
-fn bytes_of<'a, A: Allocator + Clone>(
-    alloc: &A,
-    words: &[&'a str],
-) -> Result<Vec<&'a [u8], A>, AllocError>
-    ensures { IfOk result (λ all. texts all.items ≡ texts words.now) }
+/// Why words are no script, where there is no memory: the first bad word is reported, also then.
+fn starved(words: &[&str]) -> NoScript
+    ensures { IsRefusal result (texts words.now) }
 {
-    let mut all = Vec::new(alloc.clone()?);
-    for word in words {
-        all.push(word.as_bytes())?;
-    }
-    Ok(all)
-}
-
-/// Reads the words of a script, as bytes.
-fn script_of<A: Allocator + Clone>(alloc: A, words: &[&[u8]]) -> Result<Script<A>, NoScript>
-    ensures ok { IfOk result (λ script. IsSaidBy script (texts words.now)) }
-    ensures err { IfErr result (λ why. IsRefusal why (texts words.now)) }
-    ensures refused { IfErr result (λ why. why ≢ NoScript.OutOfMemory) }
-{
-    match Script::read(alloc, words) {
-        Ok(script) => Ok(script),
-        Err(fault) => Err(NoScript::Refused(fault)),
+    match check_words(words) {
+        Ok(()) => NoScript::OutOfMemory,
+        Err(fault) => NoScript::Refused(fault),
     }
 }
 
@@ -50,12 +34,12 @@ fn read_script<A: Allocator + Clone>(alloc: &A, words: &[&str]) -> Result<Script
     ensures ok { IfOk result (λ script. IsSaidBy script (texts words.now)) }
     ensures err { IfErr result (λ why. IsRefusal why (texts words.now)) }
 {
-    let Ok(all) = bytes_of(alloc, words) else {
-        return Err(NoScript::OutOfMemory);
+    let Ok(own) = alloc.clone() else {
+        return Err(starved(words));
     };
-    match alloc.clone() {
-        Ok(own) => script_of(own, &all),
-        Err(_) => Err(NoScript::OutOfMemory),
+    match Script::read(own, words) {
+        Ok(script) => Ok(script),
+        Err(fault) => Err(NoScript::Refused(fault)),
     }
 }
 
@@ -109,7 +93,7 @@ fn report_unopened<B: Allocator + Clone, E: Write>(
 /// (<https://cr.yp.to/daemontools/multilog.html>). No words are a lawful script. Behind each part of the input but the
 /// last the current files that aren't empty become old files. Answers the status: 0; 100 for words that are no script,
 /// where nothing is made or read; 111 where a log can't be opened, for a fault of the input or the store, where a log
-/// has no greater label, and for want of memory.
+/// has no greater label, and for want of memory, of the words only where none of them is bad.
 pub fn run_multilog<D, A, I, E, C>(
     alloc: A,
     store: &mut FolderStore<D, A>,

@@ -20,7 +20,7 @@ pub enum OpenFault {
 pub enum NoScript {
     /// A word is refused, or there is no memory for its action.
     Refused(ScriptFault),
-    /// There is no memory for the list of the words.
+    /// The allocator refused a copy of itself, and no word is bad.
     OutOfMemory,
 }
 

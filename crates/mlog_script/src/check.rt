@@ -1,19 +1,20 @@
 //! Which words are bad.
 ghost use Rattle.std.specs.Prelude.{◌≡◌, ◌<◌, ◌≤◌, [], length, IfErr, map, bytes_eq, IsOk, OnOk, MatchOption, Err};
 ghost use Rattle.std.specs.List.{list_any};
-ghost use Rattle.mlog_script.specs.Script.{texts, is_among, fault_of, faults, first_fault};
+ghost use Rattle.mlog_script.specs.Script.{is_among, fault_of, faults, first_fault};
 
 use crate::fault::{ScriptFault, ScriptFaultKind};
 use crate::word::{Said, read_word};
+use std::convert::AsSlice;
 
-/// Reports the first bad word of a script.
-pub(crate) fn check(words: &[&[u8]]) -> Result<(), ScriptFault>
-    ensures reported { MatchOption (first_fault (texts words.now)) (IsOk result) (λ fault. result ≡ Err fault) }
-    ensures lawful { OnOk result (faults (texts words.now) ≡ []) }
+/// Reports the first bad word of a script. It takes no memory.
+pub fn check_words<W: AsSlice<u8>>(words: &[W]) -> Result<(), ScriptFault>
+    ensures reported { MatchOption (first_fault (map W.items words.now)) (IsOk result) (λ fault. result ≡ Err fault) }
+    ensures lawful { OnOk result (faults (map W.items words.now) ≡ []) }
     ensures word { IfErr result (λ fault. (0 < fault.word) × (fault.word ≤ length words.now)) }
 {
     for (place, word) in words.iter().enumerate() {
-        if let Some(kind) = fault_of(&words[..place], word) {
+        if let Some(kind) = fault_of(&words[..place], word.as_slice()) {
             return Err(ScriptFault {
                 word: place + 1,
                 kind,
@@ -24,8 +25,8 @@ pub(crate) fn check(words: &[&[u8]]) -> Result<(), ScriptFault>
 }
 
 /// What is wrong with a word behind these.
-fn fault_of(before: &[&[u8]], word: &[u8]) -> Option<ScriptFaultKind>
-    ensures { result ≡ fault_of (texts before.now) word.now }
+fn fault_of<W: AsSlice<u8>>(before: &[W], word: &[u8]) -> Option<ScriptFaultKind>
+    ensures { result ≡ fault_of (map W.items before.now) word.now }
 {
     match read_word(word) {
         Ok(Said::Stamp) if !before.is_empty() => Some(ScriptFaultKind::StampNotFirst),
@@ -39,12 +40,12 @@ fn fault_of(before: &[&[u8]], word: &[u8]) -> Option<ScriptFaultKind>
 
 /// Whether a word stands among these.
 #[tactic(auto, unfolding(crate::specs::Script::is_among))]
-fn stands_among(words: &[&[u8]], word: &[u8]) -> bool
-    ensures { result ≡ is_among (texts words.now) word.now }
+fn stands_among<W: AsSlice<u8>>(words: &[W], word: &[u8]) -> bool
+    ensures { result ≡ is_among (map W.items words.now) word.now }
 {
     let mut rest = words;
     while let [other, tail @ ..] = rest {
-        if *other == word {
+        if other.as_slice() == word {
             return true;
         }
         rest = tail;

@@ -27,6 +27,7 @@ mod read;
 mod script;
 mod word;
 
+pub use check::check_words;
 pub use choices::Choices;
 pub use fault::{ScriptFault, ScriptFaultKind, kind_name};
 pub use plan::LogPlan;

@@ -1,20 +1,22 @@
 //! The actions of words that are not bad.
 ghost use Rattle.std.specs.Prelude.{◌≡◌, ◌<◌, ◌≤◌, ◌++◌, ◌∷◌, [], Ok, true, is_ok, length, map, IfOk, IfErr, OnOk};
 ghost use Rattle.std.specs.Prelude.{◌-◌, take, IsErr, IsOkUnless};
-ghost use Rattle.mlog_script.specs.Script.{texts, said, faults};
+ghost use Rattle.mlog_script.specs.Script.{said, faults};
 ghost use Rattle.mlog_script.specs.Action.{act, asked_by};
 
 use crate::action::Action;
 use crate::fault::{ScriptFault, ScriptFaultKind};
 use std::alloc::Allocator;
+use std::convert::AsSlice;
 
 /// The actions of words of which none is bad.
-pub(crate) fn read_actions<A: Allocator + Clone>(
+pub(crate) fn read_actions<A: Allocator + Clone, W: AsSlice<u8>>(
     alloc: A,
-    words: &[&[u8]],
+    words: &[W],
 ) -> Result<Vec<Action<A>, A>, ScriptFault>
-    requires { faults (texts words.now) ≡ [] }
-    ensures ok { IfOk result (λ actions. map said (texts words.now) ≡ map (λ action. Ok (act action)) actions.items) }
+    requires { faults (map W.items words.now) ≡ [] }
+    ensures ok { IfOk result (λ actions.
+        map said (map W.items words.now) ≡ map (λ action. Ok (act action)) actions.items) }
     ensures memory { IfErr result (λ fault. (fault.kind ≡ ScriptFaultKind.OutOfMemory) × (0 < fault.word)
         × (fault.word ≤ length words.now)) }
 {
@@ -24,20 +26,20 @@ pub(crate) fn read_actions<A: Allocator + Clone>(
 }
 
 /// Reads the actions of words, of which none is bad, up to the first for which there is no memory.
-fn add_all<A: Allocator + Clone>(
+fn add_all<A: Allocator + Clone, W: AsSlice<u8>>(
     actions: &mut Vec<Action<A>, A>,
-    words: &[&[u8]],
+    words: &[W],
 ) -> Result<(), ScriptFault>
-    requires lawful { faults (texts words.now) ≡ [] }
+    requires lawful { faults (map W.items words.now) ≡ [] }
     requires none { actions.old.items ≡ [] }
-    ensures ok { OnOk result (asked_by actions.new.items ≡ map said (texts words.now)) }
+    ensures ok { OnOk result (asked_by actions.new.items ≡ map said (map W.items words.now)) }
     ensures read { IfErr result (λ fault.
-        asked_by actions.new.items ≡ take (fault.word - 1) (map said (texts words.now))) }
+        asked_by actions.new.items ≡ take (fault.word - 1) (map said (map W.items words.now))) }
     ensures memory { IfErr result (λ fault. (fault.kind ≡ ScriptFaultKind.OutOfMemory) × (0 < fault.word)
         × (fault.word ≤ length words.now)) }
 {
     for (place, word) in words.iter().enumerate() {
-        if let Err(kind) = add(actions, word) {
+        if let Err(kind) = add(actions, word.as_slice()) {
             return Err(ScriptFault {
                 word: place + 1,
                 kind,

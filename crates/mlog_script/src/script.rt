@@ -1,18 +1,19 @@
 ghost use Rattle.std.specs.Prelude.{◌≡◌, ◌<◌, ◌≤◌, ◌↔◌, Ok, true, length, map, count_by, slice_get, option_copied};
 ghost use Rattle.std.specs.Prelude.{IfOk, IfErr, IsErrOf, IfSome, IsSome, MatchOption};
 ghost use Rattle.std.specs.List.{list_any, list_all};
-ghost use Rattle.mlog_script.specs.Script.{texts, said, first_fault, is_stamp, is_alert, is_pattern, is_log, is_file};
+ghost use Rattle.mlog_script.specs.Script.{said, first_fault, is_stamp, is_alert, is_pattern, is_log, is_file};
 ghost use Rattle.mlog_script.specs.Script.{is_within_limits, log_plans, file_paths};
 ghost use Rattle.mlog_script.specs.Named.{IsWantOfMemory};
 ghost use Rattle.mlog_script.specs.Selection.{stamps};
 ghost use Rattle.mlog_script.specs.Action.{act};
 
 use crate::action::Action;
-use crate::check::check;
+use crate::check::check_words;
 use crate::fault::{ScriptFault, ScriptFaultKind};
 use crate::plan::{LogPlan, file_path, log_plan};
 use crate::read::read_actions;
 use std::alloc::{Allocator, Global};
+use std::convert::AsSlice;
 use std::marker::Model;
 
 /// A script of multilog. Contracts see its actions, one for each word, in order.
@@ -44,14 +45,14 @@ impl<A: Allocator + Clone> Script<A> {
     /// The first bad word is reported, also where there is no memory. Else `OutOfMemory` comes only where the allocator
     /// refuses the memory for the action of the word that is reported, or for the list of the actions up to it. No
     /// words take none.
-    pub fn read(alloc: A, words: &[&[u8]]) -> Result<Script<A>, ScriptFault>
-        ensures ok { IfOk result (λ script. map said (texts words.now) ≡ map (λ action. Ok action) script) }
-        ensures refuses { MatchOption (first_fault (texts words.now))
+    pub fn read<W: AsSlice<u8>>(alloc: A, words: &[W]) -> Result<Script<A>, ScriptFault>
+        ensures ok { IfOk result (λ script. map said (map W.items words.now) ≡ map (λ action. Ok action) script) }
+        ensures refuses { MatchOption (first_fault (map W.items words.now))
             (IfErr result IsWantOfMemory) (λ fault. IsErrOf result fault) }
         ensures memory { IfErr result (λ fault. IsWantOfMemory fault
             → (0 < fault.word) × (fault.word ≤ length words.now)) }
     {
-        check(words)?;
+        check_words(words)?;
         let actions = read_actions(alloc, words)?;
         let stamps = any_stamp(&actions);
         let has_patterns = any_pattern(&actions);

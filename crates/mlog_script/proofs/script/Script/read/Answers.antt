@@ -4,7 +4,7 @@ use Rattle.std.proofs.lemmas.Simd.{map-map}
 use Rattle.mlog_script.specs.Script.{Act}
 use Rattle.mlog_script.specs.Action.{act}
 use Rattle.std.proofs.Common.{map}
-use Rattle.mlog_script.specs.Script.{texts, is_stamp, is_pattern}
+use Rattle.mlog_script.specs.Script.{is_stamp, is_pattern}
 use Rattle.mlog_script.proofs.Limits.{actions_within}
 use Rattle.mlog_script.proofs.Maps.{list_any-map}
 use Rattle.mlog_script.proofs.script.Script.read.Goals as goal
@@ -15,7 +15,7 @@ returns-clause-ok g c = c.in_ok-actions.ensures.ok
 
 pub invariant_of-result : goal.invariant_of-result
 invariant_of-result g c = (
-  actions_within (texts c.args.words.now) (map act c.in_ok-actions.actions.items)
+  actions_within (map g.W.AsSlice.items c.args.words.now) (map act c.in_ok-actions.actions.items)
       (c.in_ok-actions.ensures.ok ∙ sym (map-map (λ (action : Act). Ok action) act c.in_ok-actions.actions.items)),
   c.any_stamp-stamps.ensures ∙ sym (list_any-map is_stamp act c.deref.result.now)
       ∙ ap (λ (acts : List _). list_any is_stamp (map act acts)) c.deref.ensures.value,
