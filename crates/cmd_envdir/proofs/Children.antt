@@ -1,6 +1,6 @@
 -- The child of `envdir`: what a command says of variables, faults that are of no file, and names in byte order.
 use Rattle.std.proofs.Common.{◌≡◌, ℕ, suc, ◌+◌, ◌<◌, ◌||◌, Bool, true, false, List, [], ◌∷◌, drop, drop-cons, length}
-use Rattle.std.proofs.Common.{Option, Some, None, refl, sym, ap, ◌∙◌, ◌⊎◌, inl, inr, arith, subst, String}
+use Rattle.std.proofs.Common.{Option, Some, None, refl, sym, ap, ◌∙◌, inl, inr, arith, subst, String}
 use Rattle.std.proofs.lemmas.List.{length-map, get_or-map}
 use Rattle.std.specs.Prelude.{◌≢◌, bytes_eq, option_map, find, get_or, map, string_bytes, string_cmp, IsSorted}
 use Rattle.std.specs.Prelude.{if◌then◌else◌, Result, Err, MatchOption, IsOkUnless, IsErrOf}
@@ -16,10 +16,10 @@ use Rattle.cmd_envdir.specs.declared.fault.EnvdirFault.{EnvdirFault}
 use Rattle.cmd_envdir.specs.declared.fault.EnvdirFault.TheVariants as fault
 use Rattle.std.specs.IoError.{error_kind}
 use Rattle.std.specs.declared.io.Error.{Error}
-use Rattle.std.specs.declared.io.ErrorKind.TheVariants.{OutOfMemory}
+use Rattle.std.specs.declared.io.ErrorKind.{ErrorKind}
 use Rattle.cmd_base.specs.Known.{IsKnown, IsMissed}
 use Rattle.cmd_envdir.specs.Child.{said_of, AreInByteOrder}
-use Rattle.cmd_envdir.specs.Ends.{name_of, starved, IsFirstFault, WasRead}
+use Rattle.cmd_envdir.specs.Ends.{name_of, starved, IsFirstFault, IsWhyUnread, WasRead}
 use Rattle.cmd_envdir.specs.Sayings.{said_after_files, said_after_set}
 
 -- that a variable is taken away
@@ -184,40 +184,46 @@ wanted {T} files r refuses is =
     ] refl refuses
 
 -- a fault that is of no file
-pub of_no_file : (cause : EnvdirFault) → (cause ≡ fault.OutOfMemory) ⊎ (cause ≡ fault.Unread)
+pub of_no_file : (error : Error) (cause : EnvdirFault) → IsWhyUnread error cause
     → IsFirstFault cause [] × (name_of cause [] ≡ []) × (cause ≢ fault.NotRun)
-of_no_file fault.OutOfMemory h = (refl, refl, λ e. cc e)
-of_no_file fault.Unread h = (tt, refl, λ e. cc e)
-of_no_file fault.NotRun (inl h) = cc h
-of_no_file fault.NotRun (inr h) = cc h
-of_no_file (fault.NameHasEquals place) (inl h) = cc h
-of_no_file (fault.NameHasEquals place) (inr h) = cc h
-of_no_file (fault.NotText place) (inl h) = cc h
-of_no_file (fault.NotText place) (inr h) = cc h
+of_no_file error fault.OutOfMemory h = (refl, refl, λ e. cc e)
+of_no_file error fault.Unread h = (tt, refl, λ e. cc e)
+of_no_file error fault.NotRun (inl h) = cc h.1
+of_no_file error fault.NotRun (inr h) = cc h.1
+of_no_file error (fault.NameHasEquals place) (inl h) = cc h.1
+of_no_file error (fault.NameHasEquals place) (inr h) = cc h.1
+of_no_file error (fault.NotText place) (inl h) = cc h.1
+of_no_file error (fault.NotText place) (inr h) = cc h.1
 
 -- Folders
 
 -- a folder that is not read
-pub not_read : (error : Error) (cause : EnvdirFault) (folder : Option (List File)) (files : List File)
-    → (error_kind error ≡ OutOfMemory → cause ≡ fault.OutOfMemory)
-    → (cause ≡ fault.OutOfMemory) ⊎ (cause ≡ fault.Unread) → IsMissed error folder → WasRead cause folder files
-not_read error fault.OutOfMemory folder files memory either missed = tt
-not_read error fault.Unread folder files memory either missed = missed (λ is. let never = memory is in cc never)
-not_read error fault.NotRun folder files memory (inl h) missed = cc h
-not_read error fault.NotRun folder files memory (inr h) missed = cc h
-not_read error (fault.NameHasEquals place) folder files memory (inl h) missed = cc h
-not_read error (fault.NameHasEquals place) folder files memory (inr h) missed = cc h
-not_read error (fault.NotText place) folder files memory (inl h) missed = cc h
-not_read error (fault.NotText place) folder files memory (inr h) missed = cc h
+pub not_read : (error : Error) (cause : EnvdirFault) (folder : Option (List File)) (fails : Option ErrorKind)
+    (files : List File)
+    → IsWhyUnread error cause → IsMissed error folder → IsKnown fails (error_kind error)
+    → WasRead cause folder fails files
+not_read error fault.OutOfMemory folder None files why missed known = tt
+not_read error fault.OutOfMemory folder (Some kind) files (inl h) missed known = sym known ∙ h.0
+not_read error fault.OutOfMemory folder (Some kind) files (inr h) missed known = cc h.1
+not_read error fault.Unread folder fails files (inl h) missed known = cc h.1
+not_read error fault.Unread folder None files (inr h) missed known = (missed h.0, tt)
+not_read error fault.Unread folder (Some kind) files (inr h) missed known = (missed h.0, λ is. h.0 (known ∙ is))
+not_read error fault.NotRun folder fails files (inl h) missed known = cc h.1
+not_read error fault.NotRun folder fails files (inr h) missed known = cc h.1
+not_read error (fault.NameHasEquals place) folder fails files (inl h) missed known = cc h.1
+not_read error (fault.NameHasEquals place) folder fails files (inr h) missed known = cc h.1
+not_read error (fault.NotText place) folder fails files (inl h) missed known = cc h.1
+not_read error (fault.NotText place) folder fails files (inr h) missed known = cc h.1
 
 -- a folder that is read
-pub is_read : (cause : EnvdirFault) (folder : Option (List File)) (files : List File) → cause ≢ fault.Unread
-    → IsKnown folder files → WasRead cause folder files
-is_read fault.Unread folder files readable known = absurd (readable refl)
-is_read fault.OutOfMemory folder files readable known = tt
-is_read fault.NotRun folder files readable known = known
-is_read (fault.NameHasEquals place) folder files readable known = known
-is_read (fault.NotText place) folder files readable known = known
+pub is_read : (cause : EnvdirFault) (folder : Option (List File)) (fails : Option ErrorKind) (files : List File)
+    → cause ≢ fault.Unread → IsKnown folder files → fails ≡ None → WasRead cause folder fails files
+is_read fault.Unread folder fails files readable known whole = absurd (readable refl)
+is_read fault.OutOfMemory folder None files readable known whole = tt
+is_read fault.OutOfMemory folder (Some kind) files readable known whole = cc whole
+is_read fault.NotRun folder fails files readable known whole = known
+is_read (fault.NameHasEquals place) folder fails files readable known whole = known
+is_read (fault.NotText place) folder fails files readable known whole = known
 
 -- Names
 

@@ -1,6 +1,10 @@
 -- How `envdir` ends, and what it says.
 use Rattle.std.specs.Prelude.{◌≡◌, ◌≢◌, ◌⊎◌, ⊤, ℕ, bytes_eq, MatchBool, List, [], ◌∷◌, ◌++◌, codes, map}
-use Rattle.std.specs.Prelude.{slice_get, Option, Some, None}
+use Rattle.std.specs.Prelude.{slice_get, Option, Some, None, IfSome}
+use Rattle.std.specs.IoError.{error_kind}
+use Rattle.std.specs.declared.io.Error.{Error}
+use Rattle.std.specs.declared.io.ErrorKind.{ErrorKind}
+use Rattle.std.specs.declared.io.ErrorKind.TheVariants.{OutOfMemory}
 use Rattle.std.specs.Option.{option_map_or}
 use Rattle.env_title.specs.Env.{Binding}
 use Rattle.env_title.specs.Files.{File, env_after}
@@ -50,13 +54,20 @@ starved (Some (why.NameHasEquals place)) = fault.NameHasEquals place
 starved (Some (why.NotText place)) = fault.NotText place
 starved (Some why.OutOfMemory) = fault.OutOfMemory
 
--- What a fault says of a folder: it is not known to be there; or, where memory sufficed, its files are these.
-abbrev pub WasRead : EnvdirFault → Option (List File) → List File → Type 0
-WasRead fault.Unread folder files = folder ≡ None
-WasRead fault.OutOfMemory folder files = ⊤
-WasRead fault.NotRun folder files = IsKnown folder files
-WasRead (fault.NameHasEquals place) folder files = IsKnown folder files
-WasRead (fault.NotText place) folder files = IsKnown folder files
+-- Why a folder is not read: there was no memory, where the error says so; else it can't be read.
+abbrev pub IsWhyUnread : Error → EnvdirFault → Type 0
+IsWhyUnread error why =
+    ((error_kind error ≡ OutOfMemory) × (why ≡ fault.OutOfMemory))
+    ⊎ ((error_kind error ≢ OutOfMemory) × (why ≡ fault.Unread))
+
+-- What a fault says of a folder: it is not known to be there, and a read of it is not known to want memory; memory was
+-- wanted, and a read of it is not known to fail for another cause; or its files are these.
+abbrev pub WasRead : EnvdirFault → Option (List File) → Option ErrorKind → List File → Type 0
+WasRead fault.Unread folder fails files = (folder ≡ None) × IfSome fails (λ kind. kind ≢ OutOfMemory)
+WasRead fault.OutOfMemory folder fails files = IfSome fails (λ kind. kind ≡ OutOfMemory)
+WasRead fault.NotRun folder fails files = IsKnown folder files
+WasRead (fault.NameHasEquals place) folder fails files = IsKnown folder files
+WasRead (fault.NotText place) folder fails files = IsKnown folder files
 
 -- Ends
 
@@ -101,7 +112,7 @@ pub record EndsWithChild (system : SystemState) (dir : List ℕ) (child : Child)
 pub record ReportsWhy (system : SystemState) (dir program : List ℕ) (cause : EnvdirFault) (files : List File)
     (status : ℕ)
     (faults reports : Device) : Type 0 where
-  pub read : WasRead cause (system.folder dir) files
+  pub read : WasRead cause (system.folder dir) (system.folder_fault dir) files
   pub first : IsFirstFault cause files
   pub status_is : status ≡ 111
   pub reported_why : Reports faults reports (envdir_report dir program (name_of cause files) cause)

@@ -8,19 +8,22 @@ use Rattle.std.specs.Process.{command_program, command_args, command_var, clears
 use Rattle.std.specs.declared.process.command.Command.{Command}
 use Rattle.std.specs.declared.process.status.ExitStatus.{ExitStatus}
 use Rattle.std.specs.declared.io.Error.{Error}
+use Rattle.std.specs.declared.io.ErrorKind.{ErrorKind}
 use Rattle.env_title.specs.Env.{Binding, put}
 use Rattle.env_title.specs.Files.{File}
 use Rattle.tai_status.specs.Counted.{Device}
 use Rattle.cmd_base.specs.Known.{IsKnown}
 
--- The files of each folder, and the variables of the process, where they are known.
+-- The files of each folder, with what kind of error a read of one fails, and the variables of the process, where they
+-- are known.
 pub record SystemState : Type 0 where
   pub folder : List ℕ → Option (List File)
+  pub folder_fault : List ℕ → Option ErrorKind
   pub variables : Option (List Binding)
 
 -- Nothing of it is known.
 abbrev pub unknown_state : SystemState
-unknown_state = record { folder = λ dir. None; variables = None }
+unknown_state = record { folder = λ dir. None; folder_fault = λ dir. None; variables = None }
 
 -- Each of these files of a folder has the bytes of the file at its path, where those are known.
 abbrev pub AreHeld : (file_at : List ℕ → Option (List ℕ)) (dir : List ℕ) → List File → Type 0

@@ -1,6 +1,5 @@
 //! The command `envdir`.
 ghost use Rattle.std.specs.Prelude.{◌≡◌, ◌≢◌, ◌<◌, ◌⊎◌, None, length, IsOk, IfOk, IfErr};
-ghost use Rattle.std.specs.IoError.{error_kind};
 ghost use Rattle.env_title.specs.Files.{env_after};
 ghost use Rattle.env_title.specs.Faults.{first_fault};
 ghost use Rattle.tai_status.specs.Counted.{Reports};
@@ -10,6 +9,7 @@ ghost use Rattle.cmd_envdir.specs.Ends.{AskedEnds, ChildEnds, EndsWriting, Envdi
 ghost use Rattle.cmd_envdir.specs.Ends.{
   IsChangedBy,
   IsFirstFault,
+  IsWhyUnread,
   RunsChild,
   WordsEnd,
   envdir_report,
@@ -29,11 +29,9 @@ use std::alloc::Allocator;
 use std::io::{Error, ErrorKind, Write};
 use tai_status::Output;
 
-/// Why a folder is not read.
+/// Why a folder is not read. Memory is wanted only where its error says so.
 fn fault_of(error: Error) -> EnvdirFault
-    ensures memory { error_kind error ≡ ErrorKind.OutOfMemory → result ≡ EnvdirFault.OutOfMemory }
-    ensures other { error_kind error ≢ ErrorKind.OutOfMemory → result ≡ EnvdirFault.Unread }
-    ensures either { (result ≡ EnvdirFault.OutOfMemory) ⊎ (result ≡ EnvdirFault.Unread) }
+    ensures { IsWhyUnread error result }
 {
     if error.kind() == ErrorKind::OutOfMemory {
         return EnvdirFault::OutOfMemory;

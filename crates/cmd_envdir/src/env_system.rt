@@ -9,12 +9,14 @@ use std::io;
 
 /// The folders, and the variables of the process. Contracts see what they hold, where it says that.
 pub trait EnvSystem {
-    ghost use Rattle.std.specs.Prelude.{map};
+    ghost use Rattle.std.specs.Prelude.{◌≡◌, None, IsOk, map};
+    ghost use Rattle.std.specs.IoError.{error_kind};
     ghost use Rattle.cmd_base.specs.Known.{IsKnown, IsMissed};
     ghost use Rattle.cmd_envdir.specs.Child.{AreInByteOrder};
     ghost use Rattle.cmd_envdir.specs.System.{SystemState, unknown_state};
 
-    // the files of each folder, as `read_folder` gives them, and the variables of the process
+    // the files of each folder, as `read_folder` gives them, with what kind of error it fails, and the variables of the
+    // process
     ghost state: { Self → SystemState } = { λ _. unknown_state };
 
     /// The files of a folder, in byte order of their names, but for those whose names begin with a dot. A
@@ -26,7 +28,9 @@ pub trait EnvSystem {
     ) -> io::Result<Vec<FolderFile<A>, A>>
         ensures order { IfOk result (λ files. AreInByteOrder (map (λ file. file.name) files.items)) }
         ensures known { IfOk result (λ files. IsKnown ((state self.now).folder dir.now) files.items) }
-        ensures missing { IfErr result (λ fault. IsMissed fault ((state self.now).folder dir.now)) };
+        ensures missing { IfErr result (λ fault. IsMissed fault ((state self.now).folder dir.now)) }
+        ensures fault { IfErr result (λ fault. IsKnown ((state self.now).folder_fault dir.now) (error_kind fault)) }
+        ensures whole { IsOk result → (state self.now).folder_fault dir.now ≡ None };
 
     /// The variables of this process, but for those that are not text.
     fn variables<A: Allocator + Clone>(&self, alloc: &A) -> Result<Env<A>, AllocError>

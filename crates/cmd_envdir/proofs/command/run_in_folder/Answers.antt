@@ -8,15 +8,16 @@ use Rattle.cmd_envdir.proofs.command.run_in_folder.Goals as goal
 pub returns-in-Err : goal.returns-in-Err
 returns-in-Err g c =
     let cause = c.fault_of.result in
-    let of_none = of_no_file cause c.fault_of.ensures.either in
+    let of_none = of_no_file c.in-Err.error cause c.fault_of.ensures in
     let folder = (g.R.EnvSystem.state c.args.rt.now).folder c.args.dir.now in
+    let fails = (g.R.EnvSystem.state c.args.rt.now).folder_fault c.args.dir.now in
     record {
       ends = inr (record {
         cause = cause;
         files = [];
         why = record {
-          read = not_read c.in-Err.error cause folder [] c.fault_of.ensures.memory c.fault_of.ensures.either
-              c.in-Err.ensures.missing;
+          read = not_read c.in-Err.error cause folder fails [] c.fault_of.ensures c.in-Err.ensures.missing
+              c.in-Err.ensures.fault;
           first = of_none.0;
           status_is = c.report_fault.ensures.status;
           reported_why = subst (λ (name : List ℕ). Reports c.args.faults.now c.report_fault.new.faults
@@ -43,13 +44,14 @@ returns-in-Ok-run_with g c = record {
 pub returns : goal.returns
 returns g c =
     let folder = (g.R.EnvSystem.state c.args.rt.now).folder c.args.dir.now in
+    let fails = (g.R.EnvSystem.state c.args.rt.now).folder_fault c.args.dir.now in
     record {
       ends = inr (record {
         cause = c.in-Err-run_with.fault;
         files = c.deref-in-Err-run_with.result.now;
         why = record {
-          read = is_read c.in-Err-run_with.fault folder c.deref-in-Err-run_with.result.now (search rules)
-              (search rules);
+          read = is_read c.in-Err-run_with.fault folder fails c.deref-in-Err-run_with.result.now (search rules)
+              (search rules) (search rules);
           first = search rules;
           status_is = c.report_fault-in-Err-run_with.ensures.status;
           reported_why = subst (λ (name : List ℕ). Reports c.args.faults.now c.report_fault-in-Err-run_with.new.faults
