@@ -4,4 +4,4 @@
 pub(crate) const KIT: &str = "rattle-kit-13f logic dac8208d650f15bf";
 
 /// The sum of its sources, as packaging/source-sum says it.
-pub(crate) const SOURCE: &str = "74db430944e66d5e792c75c8268d5a0a19d30bdee59b897a746b82259e51b760";
+pub(crate) const SOURCE: &str = "897bfc9d2356c2533ac7235d715dcc9b26f91314005446aac95bfb0e642471e4";

@@ -58,7 +58,7 @@ impl<P: ByteSink + Drop> Table<P> {
         ensures none { IfNone result ((slot : ℕ) → get self.new.parts slot ≡ get self.old.parts slot) }
     {
         let slot = self.slot_of(number)?;
-        self.open.retain(|open| *open != slot);
+        self.open.retain(|other| *other != slot);
         Some(self.parts.try_remove(slot)?.into_sink())
     }
 

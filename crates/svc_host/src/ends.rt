@@ -59,7 +59,7 @@ pub(crate) fn open_mailbox(
 }
 
 /// What a part has before its maker is asked: what its thread shares with the host, in the hands of both, what that
-/// thread waits for, and a mailbox of which nothing was taken and to which the host posted nothing.
+/// thread waits for, and the ends of one mailbox, of which nothing was taken and to which the host posted nothing.
 #[derive(Drop)]
 pub(crate) struct PartEnds {
     pub(crate) shared: Arc<PartShared, Global>,
@@ -70,6 +70,8 @@ pub(crate) struct PartEnds {
     pub(crate) receiver: Receiver<u8>,
     ghost unposted: { posted (sender_in inside) ≡ [] },
     ghost untaken: { taken_by receiver ≡ [] },
+    ghost by_host: { home (sender_in inside) ≡ receiver_home receiver },
+    ghost by_door: { home (sender_in outside) ≡ receiver_home receiver },
 }
 
 impl PartEnds {

@@ -40,7 +40,6 @@ struct Taking<D: Read + Drop, S: Drop> {
     output: GrowingReader<D>,
     // How many pieces wait at most.
     capacity: usize,
-    shared: Arc<PairShared, Global>,
     putting: Putting<S>,
     ghost some: { 0 < capacity },
 }
@@ -233,33 +232,42 @@ fn start_in_time<
     unreachable!()
 }
 
-/// What the thread of an intake does.
+/// Reads a pair's output, and begins its relay at the first bytes. Whether a relay was begun; else there were no bytes,
+/// or the pair leaves, and the logger's input ends here.
+fn carry<
+    D: Read + Drop,
+    O: Outlet + Drop + Send + 'static,
+    S: Outlets<O> + Drop + Send + 'static,
+    R: Threads + Wait + Copy + Drop + Send + 'static,
+>(rt: R, task: Taking<D, S>, shared: &PairShared) -> bool {
+    let Taking {
+        alloc,
+        mut output,
+        capacity,
+        putting,
+    } = task;
+    if !has_begun(&rt, &mut output, shared) {
+        shared.end();
+        return false;
+    }
+    let Some((sender, receiver)) = open_in_time(&rt, alloc, capacity, shared) else {
+        return false;
+    };
+    let is_begun = start_in_time::<O, S, R>(rt, NewReceiver { receiver }, putting, shared);
+    if is_begun {
+        read_all(&rt, output, sender, shared);
+    }
+    is_begun
+}
+
+/// What the thread of an intake does. Where it begins no relay, nothing is left to put behind it.
 fn take_in<
     D: Read + Drop,
     O: Outlet + Drop + Send + 'static,
     S: Outlets<O> + Drop + Send + 'static,
     R: Threads + Wait + Copy + Drop + Send + 'static,
->(rt: R, task: Taking<D, S>) {
-    let Taking {
-        alloc,
-        mut output,
-        capacity,
-        shared,
-        putting,
-    } = task;
-    if !has_begun(&rt, &mut output, &shared) {
-        shared.end();
-        shared.put();
-        return;
-    }
-    let Some((sender, receiver)) = open_in_time(&rt, alloc, capacity, &shared) else {
-        shared.put();
-        return;
-    };
-    let receiver = NewReceiver { receiver };
-    if start_in_time::<O, S, R>(rt, receiver, putting, &shared) {
-        read_all(&rt, output, sender, &shared);
-    } else {
+>(rt: R, task: Taking<D, S>, shared: &PairShared) {
+    if !carry::<D, O, S, R>(rt, task, shared) {
         shared.put();
     }
 }
@@ -297,15 +305,15 @@ impl Pair {
             alloc,
             output: GrowingReader::new(alloc, output)?,
             capacity,
-            shared: Arc::try_clone(&shared)?,
             putting: Putting {
                 outlets,
                 shared: Arc::try_clone(&shared)?,
             },
         };
+        let own = Arc::try_clone(&shared)?;
         let reading = Builder::new().stack_size(STACK).spawn(
             &rt,
-            move || take_in::<M::Output, M::Outlet, M::Outlets, R>(rt, taking),
+            move || take_in::<M::Output, M::Outlet, M::Outlets, R>(rt, taking, &own),
         );
         if reading.is_err() {
             return Err(PartFault::Refused(Cause::NoThread));

@@ -90,7 +90,12 @@ impl<S: PartSystem + Drop> FolderMaker<S> {
         if self.kept.reserve(1).is_err() {
             return Err(MakeFault::NoRoom);
         }
-        match set_up(
+        let PartSetup {
+            folder,
+            world,
+            reaper,
+            opening,
+        } = set_up(
             &mut self.system,
             path,
             shown.as_str(),
@@ -98,25 +103,14 @@ impl<S: PartSystem + Drop> FolderMaker<S> {
             &self.pipes,
             sender,
             notifier,
-        ) {
-            Ok(
-                PartSetup {
-                    folder,
-                    world,
-                    reaper,
-                    opening,
-                },
-            ) => {
-                self.kept.push_reserved(KeptFolder { part, folder });
-                Ok(PartResources {
-                    world,
-                    gate: OpenGate,
-                    reaper,
-                    opening,
-                })
-            }
-            Err(fault) => Err(fault),
-        }
+        )?;
+        self.kept.push_reserved(KeptFolder { part, folder });
+        Ok(PartResources {
+            world,
+            gate: OpenGate,
+            reaper,
+            opening,
+        })
     }
 }
 
@@ -156,10 +150,8 @@ where
         ensures unmade { IfErr result (λ fault. FailsToMake name.now part fault self.old self.new) }
         ensures fresh { IfOk result (λ resources. answered (S.World.calls resources.world) ≡ []) }
     {
-        match self.try_part(name, part, sender, notifier) {
-            Ok(resources) => Ok(resources),
-            Err(fault) => Err(part_fault(fault)),
-        }
+        self.try_part(name, part, sender, notifier)
+            .map_err(part_fault)
     }
 
     /// The output of a pair's service and the pipe of its logger. Once both are made, those of an earlier time are let
