@@ -53,10 +53,11 @@ scan @400000000000000d00000000 d---:a dl--:b d---:c
 """
 
 
-def starves(*words, given=b"a line\n@4000000037c219bf2ef02e94 another\n"):
-    """Each growth of a command refused in turn."""
+def starves(*words, given=b"a line\n@4000000037c219bf2ef02e94 another\n", are_wrong=False):
+    """Each growth of a command refused in turn. Wrong words are reported, however little memory there is behind the program's own."""
     good = subprocess.run([program, *words], input=given, capture_output=True)
-    reported = re.compile(rb"(%s|dtools): ((word|line) \d+: )?OutOfMemory\n" % words[0].encode())
+    reporters = b"dtools" if are_wrong else words[0].encode() + b"|dtools"
+    reported = re.compile(rb"(%s): ((word|line) \d+: )?OutOfMemory\n" % reporters)
     wrong, number = [], 1
     while True:
         ran = faulted(f"malloc:{number}:12", "met", words, given)
@@ -260,6 +261,8 @@ def commands():
                   "svstat --metrics d/web d/db", "svc -u d/web d/db", "svc -W -u d/web", "svok d/web", "why d/web",
                   "wait -x -t 0 d/web", "envdir env true", "envdir --words env", "help svc"]:
         starves(*words.split())
+    for words in ["multilog s4096 n1 ./log", "multilog ./log t", "multilog ./log ./log", "svc -uy d/web"]:
+        starves(*words.split(), are_wrong=True)
     starves("sim", given=EVENTS)
     starves("sim", given=SCANS)
     for error, call in [(5, "read"), (5, "write"), (5, "open"), (5, "fsync"), (5, "rename"), (5, "flock"), (5, "getdents"),
