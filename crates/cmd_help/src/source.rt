@@ -4,4 +4,4 @@
 pub(crate) const KIT: &str = "rattle-kit-13f logic dac8208d650f15bf";
 
 /// The sum of its sources, as packaging/source-sum says it.
-pub(crate) const SOURCE: &str = "897bfc9d2356c2533ac7235d715dcc9b26f91314005446aac95bfb0e642471e4";
+pub(crate) const SOURCE: &str = "08baa475d34b5238b8680452ccef4fdf2bcd9e15012dab1ac75c14dc73e2021a";

@@ -1,6 +1,4 @@
 //! The services of a folder of this system, which it keeps running.
-ghost use Rattle.std.specs.Prelude.{◌≡◌, map, string_bytes, IfOk};
-ghost use Rattle.svscan_rounds.specs.Needed.{needed};
 ghost use Rattle.cmd_svscan.specs.Requests.{IsReplyTo};
 
 use crate::limits::allowed_descriptors;
@@ -18,12 +16,12 @@ use std::thread::Threads;
 use std::time::{Clock, Duration};
 use std::{io, process, thread};
 use svc_door::Door;
-use svc_host::{Host, Maker};
+use svc_host::{Host, HostOut, Maker};
 use svc_house::{Inbox, MailInbox};
 use svc_maker::{FolderHolder, FolderMaker, OwnFault, SystemParts};
 use svc_world::{AdoptionWatch, FolderFault};
 use svscan_rounds::{
-    Begun, ListFault, Listing, Remaining, RoundOut, ServiceSet, Unlogged, is_service_name, shortage,
+    Begun, ListFault, Listing, Remaining, RoundOut, ServiceSet, Unlogged, needed_names, shortage,
 };
 use tai_status::{Names, TimeSource, encode_full};
 
@@ -73,25 +71,6 @@ pub enum Reply {
     Left(Vec<Unlogged>),
 }
 
-/// Those of some names of which a scan needs rows (`others_need_no_row`): all but those that no service may have, and
-/// those of the services of which every part runs.
-fn needed<M: Maker + Drop, R: Threads + Wait + Clock + Copy + Drop + Send + 'static>(
-    alloc: Global,
-    host: &Host<M, R>,
-    names: &[String],
-) -> Result<Vec<String>, AllocError>
-    ensures { IfOk result (λ found.
-        map string_bytes found.items ≡ needed host.now.table.slots (map string_bytes names.now)) }
-{
-    let mut found = Vec::new(alloc);
-    for name in names {
-        if is_service_name(name.as_str()) && !host.is_whole(name.as_str()) {
-            found.push(String::from_str(alloc, name.as_str())?)?;
-        }
-    }
-    Ok(found)
-}
-
 /// The rows of these names of a folder of which a scan has need. Where it has need of none, that is noted with the
 /// activity that was read before.
 fn needed_rows<R: Files + Threads + Wait + Clock + Copy + Drop + Send + 'static, M: Maker + Drop>(
@@ -102,7 +81,7 @@ fn needed_rows<R: Files + Threads + Wait + Clock + Copy + Drop + Send + 'static,
     names: &[String],
     activity: u64,
 ) -> Result<Vec<DirRow>, ListFault> {
-    let Ok(names) = needed(alloc, &running.host, names) else {
+    let Ok(names) = needed_names(alloc, &running.host, names) else {
         return Err(ListFault::OutOfMemory);
     };
     running.whole_at = if names.is_empty() {
@@ -132,8 +111,9 @@ fn names_now<R: Files + Clock + Copy>(
 
 /// What a folder has, after the threads of what ended are joined: what ends from now on is the next round's. The traces
 /// of what runs are kept once a round. A folder that did not change is not listed again, and where nothing has happened
-/// to any service either since none was in need of a row, none is now, and the round is idle. A rest may begin.
-fn list<R: Files + Threads + Wait + Clock + Copy + Drop + Send + 'static, M: Maker + Drop>(
+/// to any service either since none was in need of a row, and none waits to be heard, the round is idle. A rest may
+/// begin.
+fn list<R: Files + Threads + Wait + Clock + Copy + Drop + Send + 'static, M: FolderHolder + Drop>(
     rt: &R,
     alloc: Global,
     running: &mut Option<Running<M, R>>,
@@ -152,7 +132,7 @@ fn list<R: Files + Threads + Wait + Clock + Copy + Drop + Send + 'static, M: Mak
     running.host.keep_traces();
     let is_first = running.names.is_none();
     let (names, has_them) = names_now(rt, alloc, folder, &mut running.names)?;
-    running.is_idle = is_quiet && has_them;
+    running.is_idle = is_quiet && has_them && !running.host.ask_maker(|maker| maker.any_waits());
     let rows = if running.is_idle {
         Ok(Vec::new(alloc))
     } else {
@@ -206,7 +186,8 @@ fn round<M: FolderHolder + Drop, R: Threads + Wait + Clock + Copy + Drop + Send 
     out
 }
 
-/// One scan of the rows of a folder, and what parts lost that ended before.
+/// One scan of the rows of a folder, and what parts lost that ended before. The parts that it begins get their sockets once
+/// all have begun, since each child copies and closes the descriptors that there are.
 fn scan<M: FolderHolder + Drop, R: Threads + Wait + Clock + Copy + Drop + Send + 'static>(
     rt: R,
     alloc: Global,
@@ -223,12 +204,16 @@ fn scan<M: FolderHolder + Drop, R: Threads + Wait + Clock + Copy + Drop + Send +
     }
     host.ask_maker(|maker| maker.prepare(rows));
     let label = SystemClock::new(rt).now();
-    let out = host.scan(rows, label)?;
+    let HostOut { scan, mut failed } = host.scan(rows, label)?;
+    host.ask_maker(|maker| maker.admit_all());
+    let refusals = host.ask_maker(|maker| maker.refusals());
+    // For want of memory they are reported in a later round.
+    let _ = failed.extend_from_slice(&refusals);
     Ok(RoundOut {
         untaken,
         untraced,
-        unmade: unmade_in(alloc, host, &out.failed),
-        refused: out.scan.refused,
+        unmade: unmade_in(alloc, host, &failed),
+        refused: scan.refused,
     })
 }
 
@@ -342,7 +327,7 @@ where
 {
     let door = Door::open(&rt, alloc)?;
     let adoptions = AdoptionWatch::open(&rt, alloc)?;
-    let system = SystemParts::new(rt, files, alloc, door, adoptions)?;
+    let system = SystemParts::new(rt, files, alloc, door, adoptions, allowed_descriptors())?;
     Ok(Running {
         host: Host::new(rt, alloc, FolderMaker::new(alloc, system), MAIL, TRACE)?,
         inbox: None,

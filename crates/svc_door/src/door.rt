@@ -1,7 +1,7 @@
 //! The door's thread, and the handle to it.
 use crate::byte_sink::ByteSink;
 use crate::part::Part;
-use crate::table::{Table, WAKER};
+use crate::table::{NotAdmitted, Table, WAKER};
 use mio::net::UnixListener;
 use mio::{Events, Poll, Registry, Waker};
 use std::alloc::Global;
@@ -57,7 +57,8 @@ impl<P: ByteSink + Send + Drop + 'static> Door<P> {
 
     /// Answers at the sockets of a part from now on. `number`, which no other part at the door has, names it.
     ///
-    /// At a fault, as want of memory, nothing of the part is at the door, and both listeners are closed.
+    /// At a fault, as want of memory, nothing of the part is at the door, both listeners are closed, and the sink is
+    /// given back.
     pub fn admit<R: Wait>(
         &self,
         rt: &R,
@@ -65,7 +66,7 @@ impl<P: ByteSink + Send + Drop + 'static> Door<P> {
         sink: P,
         control: UnixListener,
         ok: UnixListener,
-    ) -> io::Result<()> {
+    ) -> Result<(), NotAdmitted<P>> {
         let part = Part::new(number, sink, control, ok);
         self.shared
             .table

@@ -25,3 +25,4 @@ pub use byte_sink::ByteSink;
 pub use byte_source::{ByteSource, Heard};
 pub use connection::{Connection, Turn};
 pub use door::Door;
+pub use table::NotAdmitted;

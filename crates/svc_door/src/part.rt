@@ -41,13 +41,16 @@ impl<P: ByteSink + Drop> Part<P> {
     /// Has the registry watch both listeners.
     pub fn register(&mut self, registry: &Registry, token: Token) -> std::io::Result<()>
         ensures number { self.new.number ≡ self.old.number }
+        ensures sink { self.new.sink ≡ self.old.sink }
     {
         registry.register(&mut self.control, token, Interest::READABLE)?;
         registry.register(&mut self.ok, token, Interest::READABLE)
     }
 
     /// Its sink. Its listeners and its connection are closed.
-    pub fn into_sink(self) -> P {
+    pub fn into_sink(self) -> P
+        ensures { result ≡ self.sink }
+    {
         let Part { sink, .. } = self;
         sink
     }

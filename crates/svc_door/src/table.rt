@@ -1,6 +1,6 @@
 //! The parts at the door.
-ghost use Rattle.std.specs.Prelude.{◌≡◌, ℕ, Some, IfSome, IfNone, OnSome, OnOk, OnErr};
-ghost use Rattle.slab.specs.Slab.{get};
+ghost use Rattle.std.specs.Prelude.{◌≡◌, ℕ, Some, IfErr, IfSome, IfNone, OnSome, OnOk, OnErr};
+ghost use Rattle.slab.specs.Slab.{HasRoomFor, get};
 ghost use Rattle.svc_door.specs.Dues.{due_at, due_slots, soonest_due};
 ghost use Rattle.svc_door.specs.Slots.{Admits, AreOpen, Dismisses, number_at};
 
@@ -9,11 +9,21 @@ use crate::part::Part;
 use crate::rests::sooner;
 use mio::{Registry, Token};
 use slab::Slab;
-use std::alloc::{AllocError, Global};
+use std::alloc::Global;
+use std::io;
 use std::sync::Wait;
 
 /// The token of the door's own waker. A part has the number of its slot, which is less.
 pub const WAKER: Token = Token(usize::MAX);
+
+/// What is given back of a part that was not admitted.
+#[derive(Drop)]
+pub struct NotAdmitted<P: ByteSink> {
+    /// Where its control bytes were to be posted.
+    pub sink: P,
+    /// Why it was not admitted.
+    pub fault: io::Error,
+}
 
 /// The parts, each in a slot, and the slots of those that are to have a turn without an event.
 #[derive(Drop)]
@@ -34,11 +44,33 @@ impl<P: ByteSink + Drop> Table<P> {
         }
     }
 
-    /// Has the registry watch a part, and puts it into a slot. At a fault the slots are as they were.
-    pub fn admit(&mut self, mut part: Part<P>, registry: &Registry) -> std::io::Result<()>
+    /// Has the registry watch a part, and puts it into a slot. At a fault the slots are as they were, and the part's sink
+    /// is given back.
+    pub fn admit(&mut self, mut part: Part<P>, registry: &Registry) -> Result<(), NotAdmitted<P>>
         ensures admitted { OnOk result (Admits self.old.parts self.new.parts part.number) }
         ensures refused { OnErr result ((slot : ℕ) → get self.new.parts slot ≡ get self.old.parts slot) }
+        ensures sink { IfErr result (λ refused. refused.sink ≡ part.sink) }
         ensures open { self.new.open.items ≡ self.old.open.items }
+    {
+        match self.watch(&mut part, registry) {
+            Ok(()) => {
+                self.parts.insert_reserved(part);
+                Ok(())
+            }
+            Err(fault) => Err(NotAdmitted {
+                sink: part.into_sink(),
+                fault,
+            }),
+        }
+    }
+
+    // Has the registry watch a part, once there is room for it.
+    fn watch(&mut self, part: &mut Part<P>, registry: &Registry) -> io::Result<()>
+        ensures room { OnOk result (HasRoomFor self.new.parts 1) }
+        ensures parts { (slot : ℕ) → get self.new.parts slot ≡ get self.old.parts slot }
+        ensures open { self.new.open.items ≡ self.old.open.items }
+        ensures number { part.new.number ≡ part.old.number }
+        ensures sink { part.new.sink ≡ part.old.sink }
     {
         let lacking = self
             .parts
@@ -46,9 +78,8 @@ impl<P: ByteSink + Drop> Table<P> {
             .saturating_add(1)
             .saturating_sub(self.open.len());
         self.open.reserve(lacking)?;
-        part.register(registry, Token(self.parts.vacant_key()))?;
-        self.parts.insert(part).map_err(AllocError::from)?;
-        Ok(())
+        self.parts.reserve(1)?;
+        part.register(registry, Token(self.parts.vacant_key()))
     }
 
     /// Takes the part of a life out of its slot.

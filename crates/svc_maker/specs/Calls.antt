@@ -1,7 +1,7 @@
 -- What was asked of the system for the parts of services, and what came of it.
 use Rattle.std.specs.Prelude.{ℕ, Bool, List, [], ◌∷◌, Option, Result}
 use Rattle.std.specs.Borrow.{Bor}
-use Rattle.std.specs.Option.{option_copied}
+use Rattle.std.specs.Option.{option_copied, option_map}
 use Rattle.std.specs.Result.{result_err}
 use Rattle.std.specs.declared.io.PipeReader.{PipeReader}
 use Rattle.std.specs.declared.fs.File.{File}
@@ -12,6 +12,7 @@ use Rattle.svc_world.specs.declared.output.OutputEnds.{OutputEnds}
 use Rattle.svc_world.specs.declared.flow.LoggerInput.{LoggerInput}
 use Rattle.svc_left.specs.declared.opening.Left.{Left}
 use Rattle.svc_world.specs.declared.folder.FolderFault.{FolderFault}
+use Rattle.svc_maker.specs.declared.part_system.NotAdmitted.{NotAdmitted}
 
 -- One call, with its answer: what the outputs of the services of these rows of a folder lacked was made, as far as it
 -- could be; a pipe was to be made, and these are its two ends, or this came of it; the output of the
@@ -44,3 +45,7 @@ abbrev pub MakesWorld : {A : Type 0} → (old new : Option (List Call)) (path na
 MakesWorld old new path name left input output made =
     ExtendedWhileKept old new
     (MadeWorld path name left (option_copied input) (option_copied output) (result_err made) ∷ [])
+
+-- why a part was not admitted, where it was not
+abbrev pub why_refused : {A : Type 0} → Result A NotAdmitted → Option Cause
+why_refused admitted = option_map (λ (refused : NotAdmitted). refused.cause) (result_err admitted)

@@ -1,3 +1,4 @@
+pub mod Admission
 pub mod Calls
 pub mod Pipes
 pub mod Making

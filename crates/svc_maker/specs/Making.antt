@@ -1,5 +1,5 @@
 -- The parts of services over folders, and what each call of their maker does.
-use Rattle.std.specs.Prelude.{◌≡◌, ◌≢◌, ◌<◌, ◌⊎◌, ⊤, ℕ, Bool, true, false, List, [], ◌∷◌, ◌++◌, codes, length}
+use Rattle.std.specs.Prelude.{◌≡◌, ◌≢◌, ◌<◌, ◌⊎◌, ℕ, Bool, true, false, List, [], ◌∷◌, ◌++◌, codes, length}
 use Rattle.std.specs.Prelude.{◌-◌, ◌^◌, remove, slice_index_or, Option, Some, None, MatchOption, Result, Ok, Err}
 use Rattle.std.specs.Prelude.{MatchResult, option_map}
 use Rattle.std.specs.Result.{result_err, result_ok}
@@ -33,10 +33,17 @@ use Rattle.svc_maker.specs.declared.pipes.PairPipes.{PairPipes}
 use Rattle.svc_maker.specs.declared.set_up.MakeFault.{MakeFault}
 use Rattle.svc_maker.specs.declared.set_up.MakeFault.TheVariants as why
 
--- A part that stands, and the path by which its folder was opened.
+-- A part that stands: the path by which its folder was opened, whether it waits to be admitted to the door, and why it
+-- was refused there last, where it was.
 pub record KeptPart : Type 0 where
   pub part : PartId
   pub path : List ℕ
+  pub waits : Bool
+  pub refused : Option Cause
+
+-- a part that was set up in the folder at a path: it is to be admitted
+abbrev pub waiting : PartId → (path : List ℕ) → KeptPart
+waiting part path = record { part = part; path = path; waits = true; refused = None }
 
 -- What a maker knows: what it asked of the system, where that is kept; the path of the folder that is scanned; the
 -- parts that stand, in the order of their making; the pipes of the slots that are pairs; and the path of the folder in
@@ -63,21 +70,19 @@ part_name name role = name ++ behind role
 abbrev pub part_path : (folder name : List ℕ) → Role → List ℕ
 part_path folder name role = folder ++ (47 ∷ part_name name role)
 
--- What a part is set up with: the path of its folder, the name by which it is reported, its number at the door, and the
--- ends of pipes that its children have as standard input and output.
+-- What a part is set up with: the path of its folder, the name by which it is reported, and the ends of pipes that its
+-- children have as standard input and output.
 pub record Plan : Type 0 where
   pub path : List ℕ
   pub name : List ℕ
-  pub number : ℕ
   pub input : Option PipeReader
   pub output : Option File
 
--- a part is admitted under the number of its life, and its children have the pipes of its slot
+-- the children of a part have the pipes of its slot
 abbrev pub plan_at : (path name : List ℕ) → PartId → List PairPipes → Plan
 plan_at path name part pipes = record {
   path = path;
   name = name;
-  number = part.life;
   input = input_of part.role (pipes_of part.slot pipes);
   output = output_of part.role (pipes_of part.slot pipes);
 }
@@ -93,23 +98,18 @@ world_made plan left fault =
     Opened plan.path None ∷ FoundLeft plan.path left
     ∷ MadeWorld plan.path plan.name left plan.input plan.output fault ∷ []
 
--- How a part is set up by a plan: its folder is opened, what an earlier svscan left there is found, its world is made
--- with that, and it is admitted to the door. It begins as what was found says. Where one of these fails, the next is
--- not tried; one that was not admitted is dismissed, with its sockets; and for want of memory none is tried at all.
+-- How a part is set up by a plan: its folder is opened, what an earlier svscan left there is found, and its world is made
+-- with that. It begins as what was found says. Where one of these fails, the next is not tried; and for want of memory
+-- none is tried at all.
 abbrev pub IsSetUp : Option MakeFault → Option Opening → Plan → (old new : Option (List Call)) → Type 0
 IsSetUp None opening plan old new =
     (left : Left) × (opening ≡ Some (opening_left left))
-    × ExtendedWhileKept old new (world_made plan left None ++ Admitted plan.number plan.path None ∷ [])
+    × ExtendedWhileKept old new (world_made plan left None)
 IsSetUp (Some why.NoRoom) opening plan old new = (opening ≡ None) × ExtendedWhileKept old new []
 IsSetUp (Some (why.Unopened fault)) opening plan old new =
     (opening ≡ None) × ExtendedWhileKept old new (Opened plan.path (Some fault) ∷ [])
 IsSetUp (Some (why.NoWorld cause)) opening plan old new =
     (opening ≡ None) × ((left : Left) × ExtendedWhileKept old new (world_made plan left (Some cause)))
-IsSetUp (Some (why.NotAdmitted cause)) opening plan old new =
-    (opening ≡ None)
-    × ((left : Left) × ExtendedWhileKept old new
-    (world_made plan left None
-    ++ Admitted plan.number plan.path (Some cause) ∷ Dismissed plan.number plan.path ∷ []))
 
 -- the same of what setting up answers, by the plan for these
 abbrev pub SetsUpAt : {A : Type 0} → Result A MakeFault → (opening : A → Opening) → (path name : List ℕ) → PartId
@@ -128,16 +128,15 @@ part_fault why.NoRoom = part.Refused NoMemory
 part_fault (why.Unopened Locked) = part.Locked
 part_fault (why.Unopened (NotOpened cause)) = part.Refused cause
 part_fault (why.NoWorld cause) = part.Refused cause
-part_fault (why.NotAdmitted cause) = part.Refused cause
 
--- A part of the service of this name was set up or failed, in the folder of its role. It stands where it was set up,
--- and begins as what was found there says; nothing else changed.
+-- A part of the service of this name was set up or failed, in the folder of its role. It stands where it was set up, is
+-- to be admitted, and begins as what was found there says; nothing else changed.
 pub record SetsUp (name : List ℕ) (part : PartId) (fault : Option MakeFault) (opening : Option Opening)
     (old new : Making) : Type 0 where
   pub is_set_up : IsSetUp fault opening (plan_of old name part) old.calls new.calls
   pub stands : new ≡ record old {
     calls = new.calls;
-    kept = kept_after fault (record { part = part; path = part_path old.folder name part.role }) old.kept;
+    kept = kept_after fault (waiting part (part_path old.folder name part.role)) old.kept;
   }
 
 -- A part was made: it was set up, stands, and begins so.

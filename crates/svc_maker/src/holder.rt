@@ -2,7 +2,7 @@
 use cmd_base::Cause;
 use scan_table::DirRow;
 use std::alloc::AllocError;
-use svc_host::Maker;
+use svc_host::{Maker, Unmade};
 use svc_house::ControlSender;
 use svc_world::FolderFault;
 
@@ -23,6 +23,15 @@ pub trait FolderHolder: Maker {
 
     /// What the outputs of the services of these rows lack is made, all at once, as far as it can be.
     fn prepare(&mut self, rows: &[DirRow]);
+
+    /// Admits the parts that wait for it to the door, as far as it can: from then on they are heard.
+    fn admit_all(&mut self);
+
+    /// Whether a part waits to be admitted.
+    fn any_waits(&mut self) -> bool;
+
+    /// The parts that could not be admitted, and why: as many as there is memory for.
+    fn refusals(&mut self) -> Vec<Unmade>;
 
     /// Has svscan itself served in the folder at a path, with this status record: by `sender` its control bytes come.
     fn serve_own(

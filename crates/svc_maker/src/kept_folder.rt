@@ -1,9 +1,16 @@
 //! The parts whose folders are kept.
 ghost use Rattle.std.specs.Prelude.{◌≡◌, ◌<◌, MatchOption};
+ghost use mathlib.Core.List.{IsPrefix};
+ghost use Rattle.svc_maker.specs.Admission.{AdmitsEach, refusals};
 ghost use Rattle.svc_maker.specs.Making.{IsNowhere, IsPlace};
 
+use crate::part_system::{NotAdmitted, PartSystem};
+use cmd_base::Cause;
 use scan_table::PartId;
+use std::alloc::Global;
 use std::marker::Model;
+use svc_host::{PartFault, Unmade};
+use svc_house::ControlSender;
 
 /// The folder of a part, open and locked. Contracts see the path by which it was opened (`path`).
 pub trait LockedFolder {
@@ -17,14 +24,72 @@ pub trait LockedFolder {
 pub(crate) struct KeptFolder<F: LockedFolder + Drop> {
     pub(crate) part: PartId,
     pub(crate) folder: F,
+    // By it control bytes are to come, while the part waits to be admitted to the door.
+    sender: Option<ControlSender>,
+    // Why it was refused there last.
+    refused: Option<Cause>,
 }
 
 impl<F: LockedFolder + Drop> Model for KeptFolder<F> {
+    ghost use Rattle.std.specs.Prelude.{is_some};
     ghost use Rattle.svc_maker.specs.Making.{KeptPart};
 
     ghost Value = { KeptPart };
 
-    ghost view = { λ kept. record { part = kept.part; path = F.path kept.folder } };
+    ghost view = { λ kept. record {
+      part = kept.part;
+      path = F.path kept.folder;
+      waits = is_some kept.sender;
+      refused = kept.refused;
+    } };
+}
+
+impl<F: LockedFolder + Drop> KeptFolder<F> {
+    ghost use Rattle.std.specs.Prelude.{◌≡◌, Some, None, true, is_some};
+    ghost use Rattle.svc_maker.specs.Admission.{Admits};
+
+    /// A part that waits to be admitted to the door. By `sender` its control bytes are to come.
+    pub(crate) fn new(part: PartId, folder: F, sender: ControlSender) -> KeptFolder<F>
+        ensures { result ≡ record { part = part; path = F.path folder; waits = true; refused = None } }
+    {
+        KeptFolder {
+            part,
+            folder,
+            sender: Some(sender),
+            refused: None,
+        }
+    }
+
+    /// Whether it waits to be admitted to the door.
+    pub(crate) fn waits(&self) -> bool
+        ensures { result ≡ self.now.waits }
+    {
+        self.sender.is_some()
+    }
+
+    /// Why it was refused there last.
+    pub(crate) fn refused(&self) -> Option<Cause>
+        ensures { result ≡ self.now.refused }
+    {
+        self.refused
+    }
+
+    /// Admits it to the door of a system, where it waits for that.
+    pub(crate) fn admit<S: PartSystem<Folder = F>>(&mut self, system: &mut S)
+        ensures { Admits self.old self.new (S.calls system.old) (S.calls system.new) }
+    {
+        let Some(sender) = self.sender.take() else {
+            return;
+        };
+        match system.admit(self.part.life, &self.folder, sender) {
+            Ok(()) => self.refused = None,
+            Err(NotAdmitted { sender, cause }) => {
+                system.dismiss(self.part.life, &self.folder);
+                self.sender = Some(sender);
+                self.refused = Some(cause);
+            }
+        }
+    }
 }
 
 /// The place of a part.
@@ -41,4 +106,36 @@ pub(crate) fn place_of<F: LockedFolder + Drop>(
         }
     }
     None
+}
+
+/// Admits each of these parts that waits to the door of a system.
+pub(crate) fn admit_each<S: PartSystem>(kept: &mut [KeptFolder<S::Folder>], system: &mut S)
+    ensures { AdmitsEach kept.old kept.new (S.calls system.old) (S.calls system.new) }
+{
+    for place in 0..kept.len() {
+        kept[place].admit(system);
+    }
+}
+
+/// The parts that were refused at the door: as many as there is memory for.
+pub(crate) fn refusals_in<F: LockedFolder + Drop>(
+    alloc: Global,
+    kept: &[KeptFolder<F>],
+) -> Vec<Unmade>
+    ensures { IsPrefix result.items (refusals kept.now) }
+{
+    let mut all = Vec::new(alloc);
+    for one in kept {
+        if let Some(cause) = one.refused() {
+            if all.reserve(1).is_err() {
+                return all;
+            }
+            let fault = PartFault::Refused(cause);
+            all.push_reserved(Unmade {
+                part: one.part,
+                fault,
+            });
+        }
+    }
+    all
 }

@@ -1,10 +1,10 @@
 //! The resources of the parts of services, over real folders.
 //!
-//! A `FolderMaker` opens the folder of each part of a host (`svc_host`), makes its world (`svc_world`) and admits it to
-//! the door (`svc_door`), and for a pair it makes the two pipes between a service and its logger. Contracts see it as
-//! `Making` (specs/Making), over the small trait `PartSystem`: a part stands exactly where its folder was opened and
-//! locked, its world made and it was admitted; what fails on the way is taken back; a part that ends is dismissed,
-//! once. Below that trait is the system's own layer, `SystemParts`, which says nothing to contracts.
+//! A `FolderMaker` opens the folder of each part of a host (`svc_host`) and makes its world (`svc_world`), admits the
+//! parts of a round to the door (`svc_door`) once all have begun, and for a pair it makes the two pipes between a
+//! service and its logger. Contracts see it as `Making` (specs/Making), over the small trait `PartSystem`: a part stands
+//! exactly where its folder was opened and locked, and its world made; what fails on the way is taken back; a part that
+//! waits is admitted, or refused and asked for again; a part that ends is dismissed, once. Below that trait is the system's own layer, `SystemParts`, which says nothing to contracts.
 //!
 //! What no contract here says, and is only tested: what the system does at each call, and that a lock is free once its
 //! folder is let go.
@@ -22,7 +22,7 @@ mod system;
 pub use holder::{FolderHolder, OwnFault};
 pub use kept_folder::LockedFolder;
 pub use maker::FolderMaker;
-pub use part_system::PartSystem;
+pub use part_system::{NotAdmitted, PartSystem};
 pub use pipes::PairOutlets;
 pub use reaper::PartReaper;
 pub use set_up::part_name;

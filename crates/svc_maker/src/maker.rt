@@ -6,7 +6,7 @@ ghost use Rattle.svc_house.specs.Calls.{ExtendedWhileKept};
 ghost use Rattle.svc_maker.specs.Making.{EndsPart, KeepsTrace, MakesPair, MakesPart, Making, SetsUp};
 
 use crate::holder::{FolderHolder, OwnFault};
-use crate::kept_folder::{KeptFolder, LockedFolder, place_of};
+use crate::kept_folder::{KeptFolder, LockedFolder, admit_each, place_of, refusals_in};
 use crate::part_system::PartSystem;
 use crate::pipes::{PairOutlets, PairPipes, leave_pipes, pipes_of};
 use crate::set_up::{MakeFault, PartSetup, part_fault, part_name, part_path, set_up};
@@ -15,7 +15,7 @@ use scan_table::{DirRow, PartId};
 use std::alloc::{AllocError, Global};
 use std::marker::Model;
 use std::sync::Arc;
-use svc_host::{Maker, PartFault, PartResources};
+use svc_host::{Maker, PartFault, PartResources, Unmade};
 use svc_house::{ControlSender, Notifier, OpenGate};
 use svc_world::{LoggerInput, OutputEnds, ServiceOutput, drain, is_read};
 use tai_status::Output;
@@ -101,10 +101,10 @@ impl<S: PartSystem + Drop> FolderMaker<S> {
             shown.as_str(),
             part,
             &self.pipes,
-            sender,
             notifier,
         )?;
-        self.kept.push_reserved(KeptFolder { part, folder });
+        self.kept
+            .push_reserved(KeptFolder::new(part, folder, sender));
         Ok(PartResources {
             world,
             gate: OpenGate,
@@ -136,8 +136,8 @@ where
 
     type Outlets = PairOutlets;
 
-    /// A part stands exactly where its folder was opened and locked, its world made, and it was admitted to the door.
-    /// It begins as what an earlier svscan left in that folder says.
+    /// A part stands exactly where its folder was opened and locked, and its world made; then it waits to be admitted to
+    /// the door. It begins as what an earlier svscan left in that folder says.
     /// The children of a pair have its pipes, once `pair` made them for the slot.
     fn part(
         &mut self,
@@ -267,6 +267,8 @@ where
 {
     ghost use Rattle.std.specs.Prelude.{◌≡◌, [], OnOk, OnErr, string_bytes};
     ghost use Rattle.std.specs.Result.{result_err};
+    ghost use mathlib.Core.List.{IsPrefix};
+    ghost use Rattle.svc_maker.specs.Admission.{AdmitsAll, any_waits, refusals};
     ghost use Rattle.svc_maker.specs.Making.{LeavesOwn, Prepares, ServesOwn};
 
     /// The folders of services are sought in this folder from now on. At want of memory they are sought where they
@@ -287,6 +289,28 @@ where
         self.system.prepare(self.folder.as_str(), rows);
     }
 
+    /// Each part that waits is asked for once, in the order of their making. One that is refused is dismissed, with its
+    /// sockets, and waits on.
+    fn admit_all(&mut self)
+        ensures { AdmitsAll self.old self.new }
+    {
+        admit_each(&mut self.kept, &mut self.system);
+    }
+
+    fn any_waits(&mut self) -> bool
+        ensures same { self.new ≡ self.old }
+        ensures waits { result ≡ any_waits self.old.kept }
+    {
+        self.kept.iter().any(|kept| kept.waits())
+    }
+
+    fn refusals(&mut self) -> Vec<Unmade>
+        ensures same { self.new ≡ self.old }
+        ensures refusals { IsPrefix result.items (refusals self.old.kept) }
+    {
+        refusals_in(self.alloc, &self.kept)
+    }
+
     /// svscan itself is served exactly where its folder was opened and locked, its record was written, and it was
     /// admitted.
     fn serve_own(
@@ -302,9 +326,9 @@ where
             Err(fault) => return Err(OwnFault::Unopened(fault)),
         };
         self.system.record(&folder, bytes);
-        if let Err(cause) = self.system.admit(OWN_NUMBER, &folder, sender) {
+        if let Err(refused) = self.system.admit(OWN_NUMBER, &folder, sender) {
             self.system.dismiss(OWN_NUMBER, &folder);
-            return Err(OwnFault::NotAdmitted(cause));
+            return Err(OwnFault::NotAdmitted(refused.cause));
         }
         self.own = Some(folder);
         Ok(())

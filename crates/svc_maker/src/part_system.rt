@@ -11,18 +11,27 @@ use svc_house::{ControlSender, Notifier, World};
 use svc_left::Left;
 use svc_world::{Flow, FolderFault, LoggerInput, OutputEnds};
 
+/// What is given back of a part that was not admitted to the door.
+#[derive(Drop)]
+pub struct NotAdmitted {
+    /// By it its control bytes were to come.
+    pub sender: ControlSender,
+    /// Why it was not admitted.
+    pub cause: Cause,
+}
+
 /// What the operating system does for the parts of services. Contracts see the calls with their answers, in order
 /// (`calls`), where they are kept. They may stop to be kept, as where there is no memory for more, and are not kept
 /// again.
 pub trait PartSystem {
     ghost use Rattle.std.specs.Prelude.{◌≡◌, Option, Some, None, List, [], ◌∷◌};
     ghost use Rattle.std.specs.Prelude.{string_bytes, IfOk, IfErr, OnOk};
-    ghost use Rattle.std.specs.Result.{result_err};
     ghost use Rattle.svc_host.specs.Answers.{answered};
     ghost use Rattle.svc_house.specs.Calls.{ExtendedWhileKept};
     ghost use Rattle.svc_left.specs.Process.{IsLiving};
     ghost use Rattle.svc_maker.specs.Calls.{Call, MadePipe, OpenedOutput, Opened, FoundLeft, Admitted, Dismissed};
     ghost use Rattle.svc_maker.specs.Calls.{KeptTrace, MakesWorld, OpenedOwn, Prepared, Recorded, WatchedOutputs};
+    ghost use Rattle.svc_maker.specs.Calls.{why_refused};
 
     ghost calls: { Self → Option (List Call) } = { λ _. None };
 
@@ -101,9 +110,10 @@ pub trait PartSystem {
         number: u64,
         folder: &Self::Folder,
         sender: ControlSender,
-    ) -> Result<(), Cause>
+    ) -> Result<(), NotAdmitted>
         ensures calls { ExtendedWhileKept (calls self.old) (calls self.new)
-            (Admitted number (Self.Folder.path folder.now) (result_err result) ∷ []) };
+            (Admitted number (Self.Folder.path folder.now) (why_refused result) ∷ []) }
+        ensures sender { IfErr result (λ refused. refused.sender ≡ sender) };
 
     /// Dismisses a part from the door, where it is there, and removes the sockets of its folder.
     fn dismiss(&mut self, number: u64, folder: &Self::Folder)

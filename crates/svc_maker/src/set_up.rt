@@ -13,7 +13,7 @@ use scan_table::{PartId, Role};
 use std::alloc::{AllocError, Global};
 use std::sync::Arc;
 use svc_host::PartFault;
-use svc_house::{ControlSender, Notifier};
+use svc_house::Notifier;
 use svc_left::Opening;
 use svc_world::FolderFault;
 
@@ -26,8 +26,6 @@ pub(crate) enum MakeFault {
     Unopened(FolderFault),
     /// Its world was not made.
     NoWorld(Cause),
-    /// It was not admitted to the door.
-    NotAdmitted(Cause),
 }
 
 /// Why a part was not made, as its host is reported.
@@ -37,9 +35,8 @@ pub(crate) fn part_fault(fault: MakeFault) -> PartFault
     match fault {
         MakeFault::NoRoom => PartFault::Refused(Cause::NoMemory),
         MakeFault::Unopened(FolderFault::Locked) => PartFault::Locked,
-        MakeFault::Unopened(FolderFault::NotOpened(cause))
-        | MakeFault::NoWorld(cause)
-        | MakeFault::NotAdmitted(cause) => PartFault::Refused(cause),
+        MakeFault::Unopened(FolderFault::NotOpened(cause)) | MakeFault::NoWorld(cause) =>
+            PartFault::Refused(cause),
     }
 }
 
@@ -81,15 +78,13 @@ pub(crate) fn part_path(alloc: Global, folder: &str, name: &str) -> Result<Strin
     Ok(text)
 }
 
-/// Sets a part up: its folder is opened, what an earlier svscan left there is found, its world is made, and it is
-/// admitted to the door.
+/// Sets a part up: its folder is opened, what an earlier svscan left there is found, and its world is made.
 pub(crate) fn set_up<S: PartSystem>(
     system: &mut S,
     path: String,
     name: &str,
     part: PartId,
     pipes: &[PairPipes],
-    sender: ControlSender,
     notifier: Arc<Notifier, Global>,
 ) -> Result<PartSetup<S>, MakeFault>
     ensures sets_up { SetsUpAt result (λ setup. setup.opening) (string_bytes path) name.now part pipes.now
@@ -110,10 +105,6 @@ pub(crate) fn set_up<S: PartSystem>(
         Ok(made) => made,
         Err(cause) => return Err(MakeFault::NoWorld(cause)),
     };
-    if let Err(cause) = system.admit(part.life, &folder, sender) {
-        system.dismiss(part.life, &folder);
-        return Err(MakeFault::NotAdmitted(cause));
-    }
     Ok(PartSetup {
         folder,
         world,

@@ -2,16 +2,18 @@
 ghost use Rattle.std.specs.Prelude.{◌≡◌, string_bytes, IfOk};
 
 use crate::kept_folder::LockedFolder;
-use crate::part_system::PartSystem;
+use crate::part_system::{NotAdmitted, PartSystem};
 use crate::reaper::PartReaper;
 use crate::set_up::part_path;
 use cmd_base::{Cause, SystemClock};
+use mio::net::UnixListener;
 use scan_table::DirRow;
 use std::alloc::{AllocError, Global};
 use std::fs::{File, Files};
 use std::io;
 use std::io::{PipeReader, PipeWriter};
 use std::net::Net;
+use std::os::fd::AsRawFd;
 use std::process::{Processes, SystemProcess};
 use std::snapshot::Snapshot;
 use std::sync::{Arc, Wait};
@@ -24,6 +26,9 @@ use svc_world::{
     ServiceFolder, SignalShell, Streams, SystemChildren, boot_id, open_output, prepare_outputs,
 };
 use tai_status::TimeSource;
+
+/// How many sockets a part has.
+const SOCKETS: u64 = 2;
 
 /// The folder of a service on this system, with its lock.
 #[derive(Drop)]
@@ -53,6 +58,10 @@ where
     shell: Arc<SignalShell<R>, Global>,
     door: Door<ControlSender>,
     adoptions: AdoptionWatch,
+    // How many descriptors this process may have, and how many parts were opened in this round, at whose end they get
+    // their sockets.
+    allowed: u64,
+    waiting: u64,
     // At its end once the other end is let go: then outputs look after their flows.
     watch: Arc<PipeReader, Global>,
     unwatched: Option<PipeWriter>,
@@ -62,14 +71,15 @@ impl<R> SystemParts<R>
 where
     R: Files + Net + Processes<Started = SystemProcess> + Wait + Clock + Copy + Drop,
 {
-    /// With a door at which parts are called, and what looks after the processes that are adopted. Its shell for
-    /// signals is started.
+    /// With a door at which parts are called, what looks after the processes that are adopted, and as many descriptors as
+    /// this process may have. Its shell for signals is started.
     pub fn new(
         runtime: R,
         files: HostRuntime,
         alloc: Global,
         door: Door<ControlSender>,
         adoptions: AdoptionWatch,
+        allowed: u64,
     ) -> io::Result<SystemParts<R>> {
         let (watch, unwatched) = io::pipe(&runtime)?;
         Ok(SystemParts {
@@ -81,6 +91,8 @@ where
             shell: Arc::new(alloc, SignalShell::new(runtime, alloc))?,
             door,
             adoptions,
+            allowed,
+            waiting: 0,
             watch: Arc::new(alloc, watch)?,
             unwatched: Some(unwatched),
         })
@@ -132,16 +144,17 @@ where
         prepare_outputs(&self.runtime, &self.files, self.alloc, &folders)
     }
 
-    // Admits a part to the door, where there is one.
-    fn try_admit(
-        &self,
-        number: u64,
-        folder: &ServiceFolder,
-        sender: ControlSender,
-    ) -> io::Result<()> {
-        let control = folder.control(&self.runtime)?;
-        let ok = folder.ok(&self.runtime)?;
-        self.door.admit(&self.runtime, number, sender, control, ok)
+    // Whether there are too few descriptors for the sockets of all that waits for them, and of one more part. The lowest
+    // free descriptor has as its number how many are taken at least.
+    fn lacks_descriptors(&self) -> io::Result<bool> {
+        let lowest = u64::from(self.watch.try_clone()?.as_raw_fd().unsigned_abs());
+        let sockets = SOCKETS.saturating_mul(self.waiting.saturating_add(1));
+        Ok(lowest.saturating_add(sockets) > self.allowed)
+    }
+
+    // The sockets of a folder: `control` and `ok`.
+    fn sockets(&self, folder: &ServiceFolder) -> io::Result<(UnixListener, UnixListener)> {
+        Ok((folder.control(&self.runtime)?, folder.ok(&self.runtime)?))
     }
 }
 
@@ -169,6 +182,7 @@ where
     type Reaper = PartReaper;
 
     fn prepare(&mut self, folder: &str, rows: &[DirRow]) {
+        self.waiting = 0;
         let _ = self.try_prepare(folder, rows);
     }
 
@@ -184,6 +198,10 @@ where
 
     fn open(&mut self, path: String) -> Result<OpenFolder, FolderFault> {
         let folder = ServiceFolder::open(self.files, path.as_str())?;
+        if self.lacks_descriptors()? {
+            return Err(FolderFault::NotOpened(Cause::NoDescriptor));
+        }
+        self.waiting = self.waiting.saturating_add(1);
         self.keep(folder, &path)
     }
 
@@ -236,8 +254,21 @@ where
         number: u64,
         folder: &OpenFolder,
         sender: ControlSender,
-    ) -> Result<(), Cause> {
-        Ok(self.try_admit(number, &folder.folder, sender)?)
+    ) -> Result<(), NotAdmitted> {
+        let (control, ok) = match self.sockets(&folder.folder) {
+            Ok(sockets) => sockets,
+            Err(fault) => {
+                let cause = Cause::from(fault);
+                return Err(NotAdmitted { sender, cause });
+            }
+        };
+        match self.door.admit(&self.runtime, number, sender, control, ok) {
+            Ok(()) => Ok(()),
+            Err(refused) => Err(NotAdmitted {
+                sender: refused.sink,
+                cause: Cause::from(refused.fault),
+            }),
+        }
     }
 
     fn dismiss(&mut self, number: u64, folder: &OpenFolder) {

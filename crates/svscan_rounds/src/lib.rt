@@ -2,7 +2,7 @@
 //!
 //! [`run_svscan`] makes the rounds over any [`ServiceSet`], which is what svscan does to the system. [`rows_of`] makes
 //! the rows of a folder, in the byte order of their names, and [`shortage`] says whether there are too few descriptors
-//! for the services of rows. [`is_service_name`] says which names a scan passes over.
+//! for the services of rows. [`needed_names`] says of which names a scan has need.
 #![tactic(auto)]
 
 mod descriptors;
@@ -14,7 +14,7 @@ mod service_set;
 mod words;
 
 pub use descriptors::shortage;
-pub use needed::{is_service_name, others_need_no_row};
+pub use needed::{needed_names, others_need_no_row};
 pub use orders::Order;
 pub use rounds::run_svscan;
 pub use rows::{Entry, Folder, rows_of};

@@ -402,8 +402,8 @@ fn begin_and_run<R: Wait, K: ServiceSet, E: Write>(
 /// listing has more services than that; `svscan: NAME: N bytes were not taken` of control bytes that came to a service
 /// which ended without them, and `svscan: NAME: unable to write the trace` of one whose last trace is not whole;
 /// `svscan: NAME: TooMany` of each name that gets no service, `svscan: NAME: unable to lock` of each that another
-/// svscan has, and `svscan: NAME: unable to supervise: CAUSE` of each other one that a round could not begin, where
-/// CAUSE is what the C library says of it; `svscan: KIND` of another fault of the scan, which ends
+/// svscan has, and `svscan: NAME: unable to supervise: CAUSE` of each other one that a round could not begin, or that
+/// runs without its sockets, where CAUSE is what the C library says of it; `svscan: KIND` of another fault of the scan, which ends
 /// all services; `svscan: NAME: process PID still runs`, each five seconds, of what does not end; `svscan: NAME: N
 /// bytes were not logged`, of lines that did not reach their logger. Answers the status: 0; 111 after such a fault, and
 /// where another svscan has the folder; 100 for wrong words: then nothing is asked of the system.

@@ -40,7 +40,7 @@ pub struct Untaken {
     pub count: u64,
 }
 
-/// A part that a round could not make.
+/// A part that a round could not make, or that runs and could not be given its sockets.
 #[derive(Drop)]
 pub struct Unmade {
     /// The part: the name of its service, for a logger with `/log` behind it.
@@ -58,7 +58,7 @@ pub struct RoundOut {
     pub untraced: Names,
     /// The names that get no service since there are too many.
     pub refused: Names,
-    /// The parts that could not be made.
+    /// The parts that could not be made, and those that run without their sockets.
     pub unmade: Vec<Unmade>,
 }
 

@@ -1,7 +1,7 @@
 use Rattle.std.proofs.Common.{◌≡◌, map, take}
 use Rattle.std.specs.Prelude.{string_bytes}
 use Rattle.svscan_rounds.specs.Needed.{needed}
-use Rattle.cmd_svscan.proofs.folder_services.needed.Given as goal
+use Rattle.svscan_rounds.proofs.needed.needed_names.Given as goal
 
 -- those found are the ones that are needed of the names so far
 abbrev pub invariant-loop-name : goal.invariant-loop-name

@@ -1,0 +1,10 @@
+use Rattle.std.proofs.Common.{◌≡◌, length}
+use Rattle.svc_maker.proofs.Admitting.{AdmitsFirst}
+use Rattle.svc_maker.proofs.kept_folder.admit_each.Given as goal
+
+-- the parts so far were to be admitted
+abbrev pub invariant-loop-place : goal.invariant-loop-place
+invariant-loop-place g l = record {
+  admitted : AdmitsFirst l.place l.fn.kept l.kept (g.S.PartSystem.calls l.fn.system) (g.S.PartSystem.calls l.system);
+  count : length l.kept ≡ length l.fn.kept;
+}
