@@ -11,7 +11,8 @@
  *
  * starts whole FOLDER: the same as each, but each service has two threads, as svscan gives it: one that writes the record
  * before the start, begins the child, and writes which process it is, how often it was started, and the record; and one
- * that waits for the child. It has no machine, no trace, and keeps nothing. */
+ * that waits for the child. As svscan does, it makes the sockets once all services were given to their threads. It has no
+ * machine, no trace, and keeps nothing. */
 #define _GNU_SOURCE
 #include <dirent.h>
 #include <errno.h>
@@ -73,16 +74,20 @@ static void listen_at(const char *folder, const char *name) {
 	must(listen(listener, 128), room);
 }
 
-/* The folder, the lock and the sockets of a part. */
+/* The folder and the lock of a part. */
 static int hold(const char *folder) {
 	char room[400];
 	int home = must(open(folder, O_RDONLY | O_CLOEXEC), folder);
 	if (mkdir(path(room, folder, "supervise"), 0700) && errno != EEXIST) must(-1, room);
 	int held = must(open(path(room, folder, "supervise/lock"), O_WRONLY | O_CREAT | O_APPEND | O_CLOEXEC, 0600), room);
 	must(flock(held, LOCK_EX | LOCK_NB), room);
+	return home;
+}
+
+/* Its sockets. */
+static void listen_in(const char *folder) {
 	listen_at(folder, "supervise/control");
 	listen_at(folder, "supervise/ok");
-	return home;
 }
 
 static void *serve(void *part);
@@ -228,17 +233,24 @@ int main(int count, char **words) {
 		const char *service = services[i]->d_name;
 		path(log, service, "log");
 		int home = hold(service);
+		if (!whole) listen_in(service);
 		if (access(log, F_OK)) {
 			give(home, service, 0, 1);
 			continue;
 		}
 		int log_home = hold(log);
+		if (!whole) listen_in(log);
 		if (mkfifo(path(room, service, "supervise/out"), 0600) && errno != EEXIST) must(-1, room);
 		int output = must(open(room, O_RDWR | O_CLOEXEC), room);
 		must(pipe2(ends, O_CLOEXEC), "pipe");
 		for (int j = 0; j < COPIES; j++) must(fcntl(output, F_DUPFD_CLOEXEC, 3), room);
 		give(home, service, 0, output);
 		give(log_home, log, ends[0], 1);
+	}
+	for (int i = 0; whole && i < found && i < MOST / 2; i++) {
+		path(log, services[i]->d_name, "log");
+		listen_in(services[i]->d_name);
+		if (!access(log, F_OK)) listen_in(log);
 	}
 	for (;;) pause();
 }

@@ -1190,6 +1190,32 @@ svscan: web: unable to supervise: Permission denied' "$(cat denied)"
   fi
 }
 
+# A service whose sockets can't be made runs, and is heard once they can be.
+unheard() {
+  sleeper d/web
+  sleeper d/other
+  mkdir -p d/web/supervise/ok/in_its_place
+  start reported d
+  soon 'another one is served' 5 is_served d/other
+  soon 'it runs' 5 is_up d/web
+  sleep 6
+  is 'it is not served' 100 "$(is_served d/web; echo $?)"
+  so 'nor has it the other socket' test ! -e d/web/supervise/control
+  is 'it is reported, and no other' 1 "$(sort -u reported | grep -c '^svscan: web: unable to supervise: ..*')"
+  lies 'once a round' 2 3 "$(count reported)"
+  local process reported
+  process=$(process d/web)
+  rm -r d/web/supervise/ok
+  soon 'it is served' 8 is_served d/web
+  is 'the same process' "$process" "$(process d/web)"
+  is 'it began once' 1 "$(count d/web/starts)"
+  svc -d d/web
+  soon 'it obeys' 5 is_put_down d/web
+  reported=$(count reported)
+  sleep 6
+  is 'it is reported no more' "$reported" "$(count reported)"
+}
+
 # So many rounds, and the end of all; words that are refused; a folder that is not there.
 rounds() {
   sleeper d/web
@@ -1707,6 +1733,9 @@ shortage() {
   is 'those that are not served are reported' '' "$(for each in d/s{1..20}; do
     is_served "$each" || holds "^svscan: ${each##*/}: unable to supervise: Too many open files$" reported || echo "$each"
   done)"
+  is 'none runs that is not served' '' "$(for each in d/s{1..20}; do
+    is_served "$each" || { [ -e "$each/starts" ] && echo "$each"; }
+  done)"
   local before after
   before=$(ticks "$svscan")
   sleep 5
@@ -1891,7 +1920,7 @@ play_all() {
 }
 
 scenarios=(life modes_kept exits endings no_run links stubborn killed_service killed_svscan killed_early starved unwritten new_boot other_user earlier_record elsewhere changes twice names silent
-  connections no_supervise rounds untaken own refused last_words upgraded unread ordered first_process two_services child begins_anew shortage
+  connections no_supervise unheard rounds untaken own refused last_words upgraded unread ordered first_process two_services child begins_anew shortage
   descriptors_reported unchanged resting)
 # These keep every processor busy, and have the machine for themselves.
 crowds=(killed_logger late_logger last_entries given_back many)

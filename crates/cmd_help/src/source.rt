@@ -4,4 +4,4 @@
 pub(crate) const KIT: &str = "rattle-kit-13f logic dac8208d650f15bf";
 
 /// The sum of its sources, as packaging/source-sum says it.
-pub(crate) const SOURCE: &str = "08baa475d34b5238b8680452ccef4fdf2bcd9e15012dab1ac75c14dc73e2021a";
+pub(crate) const SOURCE: &str = "e0a3eefbe53f06d06ac1d9bad5d47ed29577fc40b9d590c754790613b305dacd";

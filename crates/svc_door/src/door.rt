@@ -35,6 +35,8 @@ pub struct Door<P: ByteSink> {
 }
 
 impl<P: ByteSink + Send + Drop + 'static> Door<P> {
+    ghost use Rattle.std.specs.Prelude.{◌≡◌, IfErr};
+
     /// Opens a door with no part, and starts its thread.
     pub fn open<R>(rt: &R, alloc: Global) -> io::Result<Door<P>>
     where
@@ -66,7 +68,9 @@ impl<P: ByteSink + Send + Drop + 'static> Door<P> {
         sink: P,
         control: UnixListener,
         ok: UnixListener,
-    ) -> Result<(), NotAdmitted<P>> {
+    ) -> Result<(), NotAdmitted<P>>
+        ensures sink { IfErr result (λ refused. refused.sink ≡ sink) }
+    {
         let part = Part::new(number, sink, control, ok);
         self.shared
             .table

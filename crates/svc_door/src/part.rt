@@ -27,7 +27,9 @@ impl<P: ByteSink + Drop> Part<P> {
     ghost use Rattle.svc_door.specs.Looks.{LooksAgainAt, HasClosed};
 
     /// A part with no connection.
-    pub fn new(number: u64, sink: P, control: UnixListener, ok: UnixListener) -> Part<P> {
+    pub fn new(number: u64, sink: P, control: UnixListener, ok: UnixListener) -> Part<P>
+        ensures { result.sink ≡ sink }
+    {
         Part {
             number,
             due: None,
