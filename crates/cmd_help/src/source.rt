@@ -4,4 +4,4 @@
 pub(crate) const KIT: &str = "rattle-kit-13f logic dac8208d650f15bf";
 
 /// The sum of its sources, as packaging/source-sum says it.
-pub(crate) const SOURCE: &str = "e0a3eefbe53f06d06ac1d9bad5d47ed29577fc40b9d590c754790613b305dacd";
+pub(crate) const SOURCE: &str = "6b78bab449f9956ef4cc7914f5215c14f9c6ce86058bcc571d6bc55ef51fd9df";

@@ -1,4 +1,5 @@
 //! The services of a folder of this system, which it keeps running.
+ghost use Rattle.std.specs.Prelude.{◌≡◌};
 ghost use Rattle.cmd_svscan.specs.Requests.{IsReplyTo};
 
 use crate::limits::allowed_descriptors;
@@ -7,7 +8,7 @@ use crate::losses::{remaining, take_losses, unlogged, unmade_in};
 use crate::own_status::own_status;
 use cmd_base::{Cause, SystemClock};
 use scan_table::{DirRow, ScanFault};
-use std::alloc::{AllocError, Global};
+use std::alloc::Global;
 use std::fs::Files;
 use std::net::Net;
 use std::process::{Processes, SystemProcess};
