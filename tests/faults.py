@@ -180,7 +180,11 @@ def supervised(fault, cycles):
         if not until(60, lambda: svscan.poll() is not None or is_so()):
             wrong.append(f"{what}: {running()} run, {len(started(here + '/d/db'))} starts")
 
-    becomes("up", lambda: running() == [1, 1, 1] and lines())
+    def are_served():
+        return all(subprocess.run([program, "svok", folder]).returncode == 0 for folder in folders)
+
+    # A service whose sockets could not be made runs, and is served from the next round on.
+    becomes("up", lambda: running() == [1, 1, 1] and lines() and are_served())
     if svscan.poll() is None:
         # A record that could not be written stays as it was until the next one is. So the services go down and up again
         # until the fault has come, and once more. Growths are too many for that.

@@ -1715,7 +1715,14 @@ are_ready() {
   [ "$(find d -name ready | wc -l)" = "$1" ]
 }
 
-# Few descriptors: svscan goes on with what it has.
+all_that_run_are_served() {
+  local each
+  for each in d/s{1..20}; do
+    is_served "$each" || [ ! -e "$each/starts" ] || return 1
+  done
+}
+
+# Few descriptors: svscan goes on with what it has, and what runs is heard, if not at once.
 shortage() {
   local each
   sleeper d/s1
@@ -1733,9 +1740,7 @@ shortage() {
   is 'those that are not served are reported' '' "$(for each in d/s{1..20}; do
     is_served "$each" || holds "^svscan: ${each##*/}: unable to supervise: Too many open files$" reported || echo "$each"
   done)"
-  is 'none runs that is not served' '' "$(for each in d/s{1..20}; do
-    is_served "$each" || { [ -e "$each/starts" ] && echo "$each"; }
-  done)"
+  soon 'none runs that is not served' 12 all_that_run_are_served
   local before after
   before=$(ticks "$svscan")
   sleep 5
