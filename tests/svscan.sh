@@ -1715,14 +1715,7 @@ are_ready() {
   [ "$(find d -name ready | wc -l)" = "$1" ]
 }
 
-all_that_run_are_served() {
-  local each
-  for each in d/s{1..20}; do
-    is_served "$each" || [ ! -e "$each/starts" ] || return 1
-  done
-}
-
-# Few descriptors: svscan goes on with what it has, and what runs is heard, if not at once.
+# Few descriptors: svscan goes on with what it has, and begins no service for whose sockets none would be left.
 shortage() {
   local each
   sleeper d/s1
@@ -1740,7 +1733,7 @@ shortage() {
   is 'those that are not served are reported' '' "$(for each in d/s{1..20}; do
     is_served "$each" || holds "^svscan: ${each##*/}: unable to supervise: Too many open files$" reported || echo "$each"
   done)"
-  soon 'none runs that is not served' 12 all_that_run_are_served
+  lies 'no more are begun than there are descriptors for' 1 12 "$(find d -name starts | wc -l)"
   local before after
   before=$(ticks "$svscan")
   sleep 5
