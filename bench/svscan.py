@@ -264,8 +264,8 @@ def report(suite, what, unit, figure):
 
 
 there = [suite for suite in SUITES if suite.is_there()]
-for logged in (False, True):
-    bring_up_in_turn(there + LEAST, logged)
+for are_pairs in (False, True):
+    bring_up_in_turn(there + LEAST, are_pairs)
 for suite in there:
     for measure in (services, pairs, one_pair):
         try:
