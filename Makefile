@@ -42,9 +42,7 @@ test:
 	.ci/run
 
 check:
-	for script in cases system multilog commands svscan survive faults install manual package; do \
-	  env --default-signal=HUP,INT,QUIT tests/$$script.sh $(PROGRAM) || exit 1; \
-	done
+	tests/all.sh $(PROGRAM)
 
 package tarball:
 	packaging/build $(PROGRAM) packages
