@@ -329,7 +329,7 @@ def commands():
     starves("trace", "d/web/supervise/trace", silent=True, says=b"trace: line 3: OutOfMemory\n")
     for given in [EVENTS, SCANS, AGAIN]:
         starves("sim", given=given)
-    starves("sim", given=FULL, last=100)
+    starves("sim", given=FULL, last=20)
     unread("multilog", "e", "-*", "+* *", "=unread/status", "./unread/log")
     unread("readproctitle", "." * 40, first=True)
     unread("sim", given=EVENTS, first=True)

@@ -1,8 +1,8 @@
 #!/usr/bin/env bash
 # What is read and what is refused of status records, traces and `sim`'s lines, over more input than worked scripts can hold:
 # each byte of a record in each of its values, each length, each front of a trace's text, the longest line, a thousand
-# services, and each script of tests/cases that `sim` answers, a byte a read. Runs the program that the first word names. python3 says what must come,
-# by the rules of docs/FORMATS.md.
+# services, and each script of tests/cases that `sim` answers, a byte a read. Runs the program that the first word names.
+# python3 says what must come, by the rules of docs/FORMATS.md.
 command -v python3 >/dev/null || { echo 'input: python3 is missing'; exit 1; }
 tests=$(realpath "$(dirname "$0")")
 # A file system in memory, where there is one: this makes thirty thousand files.
