@@ -1,7 +1,9 @@
 #!/usr/bin/env bash
 # The rules of multilog's page in numbers, whatever the devices give: reads of 1, 7, 1000 and 4096 bytes, writes of three, a
-# write that takes nothing or fails, a clock that stands. Runs the program that the first word names by way of a library
-# between it and the system (devices.c, faults.c), where there is a C compiler. The wanted values are worked by hand.
+# write that takes nothing or fails, a clock that stands. And what sim, tai64n, readproctitle and trace leave where they are
+# interrupted, or a read or a write of theirs fails: each byte's write in turn. Runs the program that the first word names by
+# way of libraries between it and the system (devices.c, faults.c), where there is a C compiler. The wanted values are worked
+# by hand.
 tests=$(dirname "$(realpath "$0")")
 command -v cc >/dev/null || { echo 'devices: cc is missing'; exit 0; }
 # A file system in memory, where there is one: multilog has its files written to the disk.
@@ -19,6 +21,15 @@ over() {
   mkdir work
   # shellcheck disable=SC2086
   reported=$(cd work && timeout 60 env LD_PRELOAD="$room/$library.so" CLOCK=0 $settings "$program" multilog "$@" 2>&1 <../in)
+  status=$?
+}
+# by SETTINGS WORDS..: the program over the file `in`, by way of both libraries, with these variables. What it prints is left
+# in out, what it says in reported, its status in status.
+by() {
+  local settings=$1 both=$room/devices.so:$room/faults.so
+  shift
+  # shellcheck disable=SC2086
+  reported=$(timeout 60 env LD_PRELOAD="$both" FAULT_MET=met $settings "$program" "$@" 2>&1 >out <in)
   status=$?
 }
 # so many `a`, and then this
@@ -66,6 +77,16 @@ for most in 1 7 1000 4096; do
   { as 2095 '\n'; as 2095 '\n'; } >in
   over devices $reads s4096 n2 ./log
   is 'a name is given once' '@400000000000000a00000001.s 2096 current 0 ' "$(files log)"
+  rm -rf work
+  mkdir -p work/found work/after
+  as 5000 '' >work/found/current
+  echo a >in
+  by "CLOCK=0 $reads" multilog s4096 n2 ./work/found
+  is 'more than fills a file' "$first 5000 current 2 " "$(files found)"
+  : >work/after/@400000000000000b00000000.s
+  as 2095 '\n' >in
+  by "CLOCK=0 $reads" multilog s4096 n2 ./work/after
+  is 'a name past the greatest' '@400000000000000b00000001.s 2096 current 0 ' "$(files after)"
   # 244 files are finished, of which nine are kept.
   as 1000000 '\n' >in
   over devices $reads s4096 ./log
@@ -82,6 +103,19 @@ for settings in 'WRITE_STOPS=2' 'WRITE_STOPS=2 WRITE_ERROR=5' 'WRITE_STOPS=2 WRI
   over devices "WRITE_MOST=3 $settings" ./log
   is "three bytes, then $settings" '111 multilog: Store abc' "$status $reported $(cat work/log/current)"
 done
+for settings in 'WRITE_STOPS=1' 'WRITE_STOPS=1 WRITE_ERROR=5'; do
+  over devices "$settings" ./log
+  is "nothing, by $settings" '111 multilog: Store current 0 ' "$status $reported $(files log)"
+done
+as 2095 '\nx' >in
+over devices 'WRITE_MOST=3 INTERRUPTED=1' s4096 n2 ./log
+is 'three bytes a write: files' "0  $first 2096 current 2 " "$status $reported $(files log)"
+over devices 'WRITE_TO=2 WRITE_MOST=3 INTERRUPTED=1' e
+is 'three bytes a write: alerts' "0 $(as 200 '\nx')" "$status $reported"
+over faults 'FAULT=write:1:5 FAULT_MET=met' e
+is 'an alert that fails' '111 multilog: Store' "$status $reported"
+over faults 'FAULT=rename:1:5 FAULT_MET=met' =st
+is 'a status file that fails' '111 multilog: Store none' "$status $reported $([ -e work/st ] || echo none)"
 as 2095 '\n' >in
 over faults "FAULT=rename:1:5 FAULT_MET=met" s4096 n2 ./log
 is 'a file that is not finished' '111 multilog: Store current 2096 ' "$status $reported $(files log | tr -d '\0')"
@@ -93,5 +127,69 @@ printf 'x\nab' >in
 over faults "FAULT=read:2:5 FAULT_MET=met" ./log
 is 'a read that fails' '111 multilog: Read x' "$status $reported $(head -n 1 work/log/current)"
 is 'and a front of the rest' yes "$(printf 'x\nab\n' | head -c "$(size work/log/current)" | cmp - work/log/current && echo yes)"
+for row in '1 5' '7 2'; do
+  rm -rf work
+  by "READ_MOST=${row% *} FAULT=read:${row#* }:5" multilog ./work
+  is "a read of ${row% *} that fails" '111 multilog: Read x' "$status $reported $(head -n 1 work/current)"
+done
+
+# fronts COUNT SAID WORDS..: the write of the first, the second, .. of so many bytes takes nothing, or fails: those before it
+# were printed, and this is said. Where all are written, they are those of the file `wanted`.
+fronts() {
+  local count=$1 said=$2 written right=0 settings='WRITE_TO=1 WRITE_MOST=1 INTERRUPTED=1'
+  shift 2
+  by "$settings" "$@"
+  is 'a byte a write' "0  $count bytes same" "$status $reported $(size out) bytes $(cmp wanted out && echo same)"
+  for written in $(seq 0 $((count - 1))); do
+    by "$settings WRITE_STOPS=$((written + 1)) WRITE_ERROR=$((written % 2 * 5))" "$@"
+    [ "$status $reported $(size out)" = "111 $said $written" ] && cmp -s <(head -c "$written" wanted) out && right=$((right + 1))
+  done
+  is 'fronts where a write fails' "$count" "$right"
+}
+scenario=sim
+cp "$tests/cases/sim_service" in
+cp "$tests/cases/sim_service.stdout" wanted
+fronts 335 'sim: write fault' sim
+by 'READ_MOST=1 INTERRUPTED=1' sim
+is 'a byte a read' '0  same' "$status $reported $(cmp wanted out && echo same)"
+by "READ_MOST=1 FAULT=read:$(($(size in) + 1)):5" sim
+is 'a read that fails' '111 sim: read fault same' "$status $reported $(cmp wanted out && echo same)"
+by 'READ_MOST=1 FAULT=read:36:5' sim
+is 'a read that fails behind a line' '111 sim: read fault same' "$status $reported $(head -n 1 wanted | cmp - out && echo same)"
+scenario=readproctitle
+printf abc >in
+echo ...bc >wanted
+fronts 6 'readproctitle: write fault' readproctitle 12345
+by 'READ_MOST=1 INTERRUPTED=1' readproctitle 12345
+is 'a byte a read' '0  ...bc' "$status $reported $(cat out)"
+by 'READ_MOST=1 FAULT=read:4:5' readproctitle 12345
+is 'a read that fails' '111 readproctitle: read fault 0' "$status $reported $(size out)"
+scenario=trace
+cp "$tests/cases/trace_explained" text
+cp "$tests/cases/trace_explained.stdout" wanted
+fronts 135 'trace: write fault' trace text
+
+# The clock at the greatest second of all.
+scenario=tai64n
+printf 'a\n' >in
+printf '@7fffffffffffffff00000000 a\n' >wanted
+export CLOCK=4611686018427387893
+fronts 28 'tai64n: Write' tai64n
+by 'READ_MOST=1 INTERRUPTED=1 FAULT=read:3:5' tai64n
+is 'a read that fails' '111 tai64n: Read same' "$status $reported $(cmp wanted out && echo same)"
+unset CLOCK
+# A line is stamped at its first byte, with one look at the clock, and what a read gave is written before the next: the first
+# line after one read; the second after three reads, two writes and one look, or in the same read after one look.
+printf 'a\nb' >in
+by 'WRITE_TO=1 CLOCK_COUNTS=1 READ_MOST=1 INTERRUPTED=1' tai64n
+is 'a byte a read' "$(printf '@400000000000000b00000000 a\n@40000000000027e500000000 b.')" "$(cat out; echo .)"
+by 'WRITE_TO=1 CLOCK_COUNTS=1' tai64n
+is 'one read' "$(printf '@400000000000000b00000000 a\n@400000000000271b00000000 b.')" "$(cat out; echo .)"
+scenario='nothing to write'
+: >in
+for command in sim tai64n; do
+  by 'WRITE_TO=1 WRITE_STOPS=1 WRITE_ERROR=5' $command
+  is "$command" '0 ' "$status $reported"
+done
 scenario=
 counts devices

@@ -51,14 +51,40 @@ at 0.main.1 clock @400000000000000c00000000
 at 0.main.1 byte d
 scan @400000000000000d00000000 d---:a dl--:b d---:c
 """
+# A name for which there is no slot.
+FULL = b"scan @400000000000000a00000000" + b"".join(b" d-n-:d%04d" % number for number in range(1000)) + b"\n"
+FULL += FULL[:-1] + b" d-n-:d1000\n"
+# One part is begun again, one service dropped, one started.
+AGAIN = b"""scan @400000000000000a00000000 dlnm:p d-n-:q
+at 0.log.2 byte x
+at 3.main.4 byte x
+scan @400000000000000b00000000 dlnm:p d-n-:r
+"""
 
 
-def starves(*words, given=b"a line\n@4000000037c219bf2ef02e94 another\n", are_wrong=False):
-    """Each growth of a command refused in turn. Wrong words are reported, however little memory there is behind the program's own."""
+def growths(words, given):
+    """How many growths a run asks for."""
+    met, unmet = 0, 1 << 20
+    while unmet - met > 1:
+        number = (met + unmet) // 2
+        faulted(f"malloc:{number}:12", "met", words, given)
+        if os.path.exists("met"):
+            os.remove("met")
+            met = number
+        else:
+            unmet = number
+    return met
+
+
+def starves(*words, given=b"a line\n@4000000037c219bf2ef02e94 another\n", are_wrong=False, silent=False, says=None, last=None):
+    """Each growth of a command refused in turn. Wrong words are reported, however little memory there is behind the program's own.
+    A silent command prints nothing where it reports that. What it `says` is reported at one of the growths. Where there are many
+    growths, the `last` so many are refused."""
     good = subprocess.run([program, *words], input=given, capture_output=True)
     reporters = b"dtools" if are_wrong else words[0].encode() + b"|dtools"
     reported = re.compile(rb"(%s): ((word|line) \d+: )?OutOfMemory\n" % reporters)
-    wrong, number = [], 1
+    first = max(1, growths(words, given) - last + 1) if last else 1
+    wrong, number, reports = [], first, set()
     while True:
         ran = faulted(f"malloc:{number}:12", "met", words, given)
         if not os.path.exists("met"):
@@ -67,11 +93,43 @@ def starves(*words, given=b"a line\n@4000000037c219bf2ef02e94 another\n", are_wr
         if ran is None:
             wrong.append(f"growth {number}: no end")
             break
-        is_reported = ran.returncode == 111 and reported.fullmatch(ran.stderr) and plain(good.stdout).startswith(plain(ran.stdout))
+        front = b"" if silent else plain(good.stdout)
+        is_reported = ran.returncode == 111 and reported.fullmatch(ran.stderr) and front.startswith(plain(ran.stdout))
+        reports.add(ran.stderr)
         if not is_reported and seen(ran) != seen(good):
             wrong.append(f"growth {number}: status {ran.returncode}, {ran.stdout} {ran.stderr}")
         number += 1
-    check("each growth refused: " + " ".join(words), wrong, number - 1)
+    if says and says not in reports:
+        wrong.append(f"nowhere {says}, but {reports}")
+    check("each growth refused: " + " ".join(words), wrong, number - first)
+
+
+def unread(*words, given=b"a line\n", first=False):
+    """Each growth refused in turn. Where that is reported as want of memory nothing of the input was read, nothing is printed, and
+    no file has a byte. Or so where the command itself reports that for the first time."""
+    said = words[0].encode() + b": OutOfMemory\n" if first else b"OutOfMemory\n"
+    wrong, number, count = [], 1, 0
+    while not wrong:
+        shutil.rmtree("unread", ignore_errors=True)
+        os.mkdir("unread")
+        around = dict(os.environ, FAULT=f"malloc:{number}:12", FAULT_MET="met", LD_PRELOAD=room + "/faults.so")
+        with open("input", "wb+") as file:
+            file.write(given)
+            file.seek(0)
+            ran = subprocess.run([program, *words], stdin=file, capture_output=True, env=around, timeout=120)
+            read_bytes = os.lseek(file.fileno(), 0, os.SEEK_CUR)
+        if not os.path.exists("met"):
+            break
+        os.remove("met")
+        if ran.stderr.endswith(said) and not (first and count):
+            count += 1
+            written = sum(os.path.getsize(f"{folder}/{name}") for folder, _, names in os.walk("unread") for name in names)
+            if (read_bytes, written, ran.stdout, ran.stderr.count(b"\n")) != (0, 0, b"", 1):
+                wrong.append(f"growth {number}: {read_bytes} read, {written} written, {ran.stdout} {ran.stderr}")
+        number += 1
+    if not wrong and read_bytes != len(given):
+        wrong.append("where all is granted the input is not read")
+    check("unread: " + " ".join(words), wrong, count)
 
 
 def logs(error, call):
@@ -260,15 +318,21 @@ def commands():
     open("env/A", "w").write("x y")
     open("env/B", "w").write("it's")
     run("svscan", "d", "1")
-    for words in ["tai64n", "tai64nlocal", "readproctitle " + "." * 40, "sim table", "trace d/web/supervise/trace",
-                  "trace d/web/supervise/trace --break phase:gone", "svstat d/web d/db nowhere", "svstat --json d/web d/db",
-                  "svstat --metrics d/web d/db", "svc -u d/web d/db", "svc -W -u d/web", "svok d/web", "why d/web",
+    for words in ["tai64n", "tai64nlocal", "sim table", "trace d/web/supervise/trace --break phase:gone",
+                  "svstat d/web d/db nowhere", "svstat --json d/web d/db", "svstat --metrics d/web d/db", "svc -u d/web d/db",
+                  "svc -W -u d/web", "svc -du -t -- -x d/web", "svok d/web", "why d/web",
                   "wait -x -t 0 d/web", "envdir env true", "envdir --words env", "help svc"]:
         starves(*words.split())
     for words in ["multilog s4096 n1 ./log", "multilog ./log t", "multilog ./log ./log", "svc -uy d/web"]:
         starves(*words.split(), are_wrong=True)
-    starves("sim", given=EVENTS)
-    starves("sim", given=SCANS)
+    starves("readproctitle", "." * 40, silent=True)
+    starves("trace", "d/web/supervise/trace", silent=True, says=b"trace: line 3: OutOfMemory\n")
+    for given in [EVENTS, SCANS, AGAIN]:
+        starves("sim", given=given)
+    starves("sim", given=FULL, last=20)
+    unread("multilog", "e", "-*", "+* *", "=unread/status", "./unread/log")
+    unread("readproctitle", "." * 40, first=True)
+    unread("sim", given=EVENTS, first=True)
     for error, call in [(5, "read"), (5, "write"), (5, "open"), (5, "fsync"), (5, "rename"), (5, "flock"), (5, "getdents"),
                         (28, "mkdir"), (28, "write"), (28, "open"), (24, "open"), (12, "malloc")]:
         logs(error, call)

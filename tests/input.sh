@@ -1,8 +1,8 @@
 #!/usr/bin/env bash
 # What is read and what is refused of status records, traces and `sim`'s lines, over more input than worked scripts can hold:
-# each byte of a record in each of its values, each length, each front of a trace's text, the longest line, and each script
-# of tests/cases that `sim` answers, a byte a read. Runs the program that the first word names. python3 says what must come,
-# by the rules of docs/FORMATS.md.
+# each byte of a record in each of its values, each length, each front of a trace's text, the longest line, a thousand
+# services, and each script of tests/cases that `sim` answers, a byte a read. Runs the program that the first word names.
+# python3 says what must come, by the rules of docs/FORMATS.md.
 command -v python3 >/dev/null || { echo 'input: python3 is missing'; exit 1; }
 tests=$(realpath "$(dirname "$0")")
 # A file system in memory, where there is one: this makes thirty thousand files.
@@ -145,6 +145,35 @@ for row in '65535 UnknownEvent' '65536 UnknownEvent' '65537 Line' '200000 Line';
   echo >>line
   is "a line of ${row% *} and its newline" "sim: line 1: ${row#* } 100" "$("$program" sim <line 2>&1) $?"
 done
+
+# A thousand services: one more is refused, at each scan; where one has ended it is begun anew, or goes and makes room.
+# scan LABEL NAMES..: the line of a scan that finds directories of these names, each with a file down
+scan() {
+  printf 'scan @%s00000000' "$1"
+  shift
+  printf ' d-n-:%s' "$@"
+  echo
+}
+# lives LABEL FROM TO: what begins in every second number, down
+lives() {
+  local at
+  for at in $(seq "$2" 2 "$3"); do echo "$at.main.$((at + 1)) took record:${1}000000000000000000640004 -> down"; done
+}
+first=400000000000000a then=400000000000000d
+{ scan $first d{0000..1000}; echo 'at 0.main.1 byte x'; } >thousand
+{
+  echo 'scan: 1000 started, 0 restarted, 0 dropped, 1 refused'
+  lives $first 0 1998
+  echo 'd1000 refused TooMany'
+  echo "0.main.1 took record:${first}000000000000000000640105 -> gone"
+} >answers
+is 'a thousand services, one more refused' "$(cat answers <(echo "scan: 0 started, 1 restarted, 0 dropped, 1 refused
+0.main.2000 took record:${then}000000000000000000640004 -> down
+d1000 refused TooMany"))" "$({ cat thousand; scan $then d{0000..1000}; } | "$program" sim 2>&1)"
+is 'a thousand services, one gone' "$(cat answers <(echo "scan: 1 started, 0 restarted, 1 dropped, 0 refused
+0 dropped
+2000.main.2001 took record:${then}000000000000000000640004 -> down"))" \
+  "$({ cat thousand; scan $then d{0001..1000}; } | "$program" sim 2>&1)"
 
 # A byte a read, where a C compiler is.
 if command -v cc >/dev/null; then

@@ -42,6 +42,11 @@ for row in '100|word 1: SizeRange|s4095' '100|word 1: CountRange|n1' '100|word 2
   # shellcheck disable=SC2086
   ended "refused: $words" "$status" "multilog: $reported" $words
 done
+for row in '|UnknownAction' '=|UnknownAction' 'ee|UnknownAction' 's|BadNumber' 's4096x|BadNumber' 's+5000|BadNumber' \
+  's16777216|SizeRange' 's99999999999999999999|SizeRange' 'n4294967296|CountRange' '!x|Processor' '+a**|Pattern'; do
+  ended "refused: '${row%|*}'" 100 "multilog: word 1: ${row#*|}" "${row%|*}" ./no
+done
+ended 'the first bad word' 100 'multilog: word 2: StampNotFirst' e t '!'
 is 'refused: still none' no "$([ -e no ] && echo yes || echo no)"
 
 # No words; empty input; modes.
@@ -68,6 +73,27 @@ is 'stamped: label' 1 "$(grep -c -E '^@[0-9a-f]{24} fatal: x$' stamped/current)"
 { head -c 999 /dev/zero | tr '\0' a; echo b; head -c 1000 /dev/zero | tr '\0' a; echo b; } >in
 ended 'first 1000 bytes' 0 '' '-*' '+*b' ./front
 is 'first 1000 bytes' 1001 "$(size front/current)"
+
+# A pattern, a line that it matches, and one that it doesn't.
+for row in '||a' 'a*b|axxb|abb' 'a*b|ab|a' '*ab*|xab|aab' '* fatal: *|log fatal: full|my log fatal: full'; do
+  IFS='|' read -r pattern matched other <<<"$row"
+  printf '%s\n' "$other" "$matched" "$other" >in
+  rm -rf chosen
+  ended "pattern '$pattern'" 0 '' '-*' "+$pattern" ./chosen
+  is "pattern '$pattern'" "$matched|" "$(tr '\n' '|' <chosen/current)"
+done
+
+# The last pattern before an action that matches decides.
+printf 'yyy\nyxy\n' >in
+ended 'choices' 0 yxy ./choice1 '-*' ./choice2 '+*x*' ./choice3 e =choice4
+is 'choices: logs' 'yyy yxy||yxy' "$(xargs <choice1/current)|$(xargs <choice2/current)|$(xargs <choice3/current)"
+is 'choices: status file' yxy "$(head -n 1 choice4)"
+
+# Size and number of a log are those of the words before it: 99999 and 10 where there are none.
+as 1103000 >in
+ended 'sizes' 0 '' ./size1 s04096 n5 ./size2
+is 'sizes: none' '9 99999 3012' "$(olds size1) $(stat -c %s size1/@* | sort -u) $(size size1/current)"
+is 'sizes: a zero before' '4 4096 1177' "$(olds size2) $(stat -c %s size2/@* | sort -u) $(size size2/current)"
 
 # A status file; alerts.
 as 1000 >in
@@ -133,7 +159,7 @@ is 'names: others stay' 'yes yes yes' "$(for f in @aaaaaaaaaaaaaaaaaaaaaaaa @sho
 mkdir spent
 : >spent/@7fffffffffffffff3b9ac9ff.s
 ended 'labels spent' 111 'multilog: LabelsSpent' s4096 ./spent
-is 'labels spent: appended' 2096 "$(size spent/current)"
+is 'labels spent: appended' '2096 1' "$(size spent/current) $(olds spent)"
 
 # Folders that can't be opened: the first is reported, and those before it are opened, no more.
 : >file

@@ -245,6 +245,8 @@ stat 'gone' "${label}0000000000640105" 's: down SECONDS_SINCE seconds, normally 
 : >s/down
 stat 'starting: down file' "${label}0000000000750000" 's: down SECONDS_SINCE seconds, want up, starting'
 stat 'settling: down file' "${label}6712000000750001" 's: up (pid 4711) SECONDS_SINCE seconds, normally down, settling'
+stat 'phase up, exiting: down file' "${label}6712000001640103" \
+  's: up (pid 4711) SECONDS_SINCE seconds, normally down, paused, want down, exiting'
 rm s/down
 for row in "Length|" "Length|${label}6712000000" "Length|${label}67120000007500" "Length|$(printf '41%.0s' $(seq 300))" \
   "BadLabel|400000003a4fc88a3b9aca00671200000075" "PausedFlag|${label}671200000275" \

@@ -34,6 +34,24 @@ is 'environment' $'x y|none||p\nq|none|40000|under' "$(cat out)"
 FIRST=1 NOTTEXT=$'\xff' ended 'other variables' 0 '' "$program" envdir d sh -c 'echo "$FIRST $NOTTEXT"'
 is 'other variables' $'1 \xff' "$(cat out)"
 
+# Entries of the environment that no variable of a shell can be, and one that is longer than most.
+if command -v cc >/dev/null; then
+  head -c 1000 /dev/zero | tr '\0' L >long
+  cat >entries.c <<'END'
+#include <unistd.h>
+int main(int count, char **words) {
+  char *entries[] = {"A=old", "B=1=2", "C=\xff", "=D", "E", words[1], NULL};
+  return count < 3 ? 1 : execve(words[2], words + 2, entries);
+}
+END
+  cc -o entries entries.c || exit 1
+  mkdir one
+  printf new >one/A
+  ended 'entries' 0 '' ./entries "F=$(cat long)" "$program" envdir one "$(command -v env)" -0
+  is 'entries' "$(printf '%s\n' A=new B=1=2 $'C=\xff' =D E "F=$(cat long)" | LC_ALL=C sort | md5sum)" \
+    "$(tr '\0' '\n' <out | LC_ALL=C sort | md5sum)"
+fi
+
 # The child: started once, sought in the changed PATH, its status.
 ended 'once' 0 '' "$program" envdir d sh -c 'echo started >>starts'
 is 'once' started "$(cat starts)"
