@@ -1,10 +1,8 @@
-//! Devices and memory for the tests: a reader that gives little, a writer that holds little, memory that runs out.
+//! A reader and memory for the tests: a reader that gives little, memory that runs out.
 #![tactic(auto)]
 
 mod scarce;
 mod slow;
-mod tight;
 
-pub use scarce::{Scarce, check, refuse_in_turn};
+pub use scarce::Scarce;
 pub use slow::Slow;
-pub use tight::Tight;
