@@ -4,4 +4,3 @@ pub mod Goings
 pub mod Counting
 pub mod Putting
 mod Cutting
-mod Kept

@@ -6,4 +6,3 @@ pub mod Named
 pub mod Store
 pub mod Tails
 pub mod Laws
-pub mod Memory
