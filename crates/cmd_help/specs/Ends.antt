@@ -1,9 +1,11 @@
 -- How `help` and `version` end.
-use Rattle.std.specs.Prelude.{◌≡◌, ◌⊎◌, ℕ, List, [], ◌∷◌, ◌++◌, codes}
+use Rattle.std.specs.Prelude.{◌≡◌, ◌⊎◌, ℕ, List, [], ◌∷◌, ◌++◌, codes, Option, Some, None}
 use Rattle.tai_status.specs.Counted.{Device, Fails, Reports, Works, Wrote, WroteFront}
 use Rattle.cmd_base.specs.Printed.{printed}
 use Rattle.cmd_base.specs.Usage.{usage_text}
-use Rattle.cmd_help.specs.Pages.{IsPageOf, overview}
+use Rattle.cmd_help.specs.Commands.{command_named}
+use Rattle.cmd_help.specs.Pages.{overview, page}
+use Rattle.cmd_help.specs.declared.command.Command.{Command}
 use Rattle.cmd_help.specs.declared.source.TheConstants.{KIT, SOURCE}
 
 -- A text was printed, and nothing is reported.
@@ -37,22 +39,16 @@ help_report = codes "help: write fault" ++ 10 ∷ []
 abbrev pub version_report : List ℕ
 version_report = codes "version: write fault" ++ 10 ∷ []
 
--- A page is printed. An empty one is of a word that names no command, which is refused.
-abbrev pub PrintsPage : (page : List ℕ) (status : ℕ) (old new faults reports : Device) → Type 0
-PrintsPage [] status old new faults reports = Refuses status old new faults reports
-PrintsPage (byte ∷ bytes) status old new faults reports = Prints (byte ∷ bytes) help_report status old new faults
-    reports
+-- The page of a command is printed; where a word named none, it is refused.
+abbrev pub PageEnds : Option Command → (status : ℕ) (old new faults reports : Device) → Type 0
+PageEnds None status old new faults reports = Refuses status old new faults reports
+PageEnds (Some command) status old new faults reports = Prints (page command) help_report status old new faults reports
 
-pub record ShowsPage (name : List ℕ) (status : ℕ) (old new faults reports : Device) : Type 0 where
-  pub page : List ℕ
-  pub is : IsPageOf name page
-  pub prints : PrintsPage page status old new faults reports
-
--- `help`, by its words: none, the overview; one, the page of that command
+-- `help`, by its words: none, the overview; one, the page of the command that it names
 abbrev pub HelpEnds : (words : List (List ℕ)) (status : ℕ) (old new faults reports : Device) → Type 0
 HelpEnds [] status old new faults reports = Prints overview help_report status old new faults reports
-HelpEnds (name ∷ []) status old new faults reports = ShowsPage name status old new faults reports
-HelpEnds (name ∷ other ∷ words) status old new faults reports = Refuses status old new faults reports
+HelpEnds (word ∷ []) status old new faults reports = PageEnds (command_named word) status old new faults reports
+HelpEnds (word ∷ other ∷ words) status old new faults reports = Refuses status old new faults reports
 
 -- what `version` prints: which dtools this is, the line of the kit that built it, and the sum of its sources
 abbrev pub version_text : List ℕ

@@ -1,6 +1,8 @@
 -- What `help` prints.
-use Rattle.std.specs.Prelude.{◌≡◌, ◌≢◌, ℕ, List, [], ◌∷◌, ◌++◌, codes}
+use Rattle.std.specs.Prelude.{ℕ, List, [], ◌∷◌, ◌++◌, codes}
 use Rattle.cmd_base.specs.Printed.{printed}
+use Rattle.cmd_help.specs.declared.command.Command.{Command}
+use Rattle.cmd_help.specs.declared.command.Command.TheVariants as command
 
 -- the commands, a line each
 abbrev pub overview : List ℕ
@@ -22,50 +24,24 @@ overview = printed (
     codes "  help COMMAND   shows the words of a command; man dtools-COMMAND has the rest" ∷
     codes "  version        says which dtools this is" ∷ [])
 
--- A word of which `help` has nothing.
-abbrev pub HasNoPage : List ℕ → Type 0
-HasNoPage name = (name ≢ codes "svscan")
-    × (name ≢ codes "svc")
-    × (name ≢ codes "svstat")
-    × (name ≢ codes "svok")
-    × (name ≢ codes "multilog")
-    × (name ≢ codes "tai64n")
-    × (name ≢ codes "envdir")
-    × (name ≢ codes "readproctitle")
-    × (name ≢ codes "sim")
-    × (name ≢ codes "trace")
-    × (name ≢ codes "tai64nlocal")
-    × (name ≢ codes "why")
-    × (name ≢ codes "wait")
-    × (name ≢ codes "help")
-    × (name ≢ codes "version")
-
--- What `help` prints of the command of this name: which words it takes. Of no command it is nothing.
-pub record IsPageOf (name page : List ℕ) : Type 0 where
-  pub svscan : name ≡ codes "svscan"
-      → page ≡ codes "dtools svscan [DIR [ROUNDS]], over the working directory where no DIR is given" ++ 10 ∷ []
-  pub svc : name ≡ codes "svc"
-      → page
-      ≡ codes "dtools svc [-W] [-udopchaitkx12q] SERVICE.., with u up, d down, o once, x exit, and signals" ++ 10 ∷ []
-  pub svstat : name ≡ codes "svstat" → page ≡ codes "dtools svstat [--json | --metrics] SERVICE.." ++ 10 ∷ []
-  pub svok : name ≡ codes "svok" → page ≡ codes "dtools svok SERVICE" ++ 10 ∷ []
-  pub multilog : name ≡ codes "multilog"
-      → page ≡ codes "dtools multilog ACTION.., of t, -PATTERN, +PATTERN, e, =FILE, sSIZE, nNUMBER, folders" ++ 10 ∷ []
-  pub tai64n : name ≡ codes "tai64n" → page ≡ codes "dtools tai64n" ++ 10 ∷ []
-  pub tai64nlocal : name ≡ codes "tai64nlocal" → page ≡ codes "dtools tai64nlocal" ++ 10 ∷ []
-  pub envdir : name ≡ codes "envdir"
-      → page ≡ codes "dtools envdir DIR PROGRAM WORDS.., or dtools envdir --words DIR" ++ 10 ∷ []
-  pub readproctitle : name ≡ codes "readproctitle"
-      → page ≡ codes "dtools readproctitle WORD.., of which the last is as long as the title" ++ 10 ∷ []
-  pub sim : name ≡ codes "sim"
-      → page ≡ codes "dtools sim, with a script on standard input, or dtools sim table" ++ 10 ∷ []
-  pub trace : name ≡ codes "trace"
-      → page
-      ≡ codes "dtools trace FILE [--break SPEC] [--local], where SPEC is byte:C, phase:PHASE or signal:NAME" ++ 10 ∷ []
-  pub why : name ≡ codes "why" → page ≡ codes "dtools why [--timeline] SERVICE.." ++ 10 ∷ []
-  pub wait : name ≡ codes "wait"
-      → page
-      ≡ codes "dtools wait [-u|-d|-x] [-t SECONDS] SERVICE.., with u up, d down, x no longer supervised" ++ 10 ∷ []
-  pub help : name ≡ codes "help" → page ≡ codes "dtools help [COMMAND]" ++ 10 ∷ []
-  pub version : name ≡ codes "version" → page ≡ codes "dtools version" ++ 10 ∷ []
-  pub unknown : HasNoPage name → page ≡ []
+-- what `help` prints of a command: which words it takes
+abbrev pub page : Command → List ℕ
+page command.Svscan = codes "dtools svscan [DIR [ROUNDS]], over the working directory where no DIR is given" ++ 10 ∷ []
+page command.Svc =
+    codes "dtools svc [-W] [-udopchaitkx12q] SERVICE.., with u up, d down, o once, x exit, and signals" ++ 10 ∷ []
+page command.Svstat = codes "dtools svstat [--json | --metrics] SERVICE.." ++ 10 ∷ []
+page command.Svok = codes "dtools svok SERVICE" ++ 10 ∷ []
+page command.Wait =
+    codes "dtools wait [-u|-d|-x] [-t SECONDS] SERVICE.., with u up, d down, x no longer supervised" ++ 10 ∷ []
+page command.Multilog =
+    codes "dtools multilog ACTION.., of t, -PATTERN, +PATTERN, e, =FILE, sSIZE, nNUMBER, folders" ++ 10 ∷ []
+page command.Tai64n = codes "dtools tai64n" ++ 10 ∷ []
+page command.Tai64nlocal = codes "dtools tai64nlocal" ++ 10 ∷ []
+page command.Envdir = codes "dtools envdir DIR PROGRAM WORDS.., or dtools envdir --words DIR" ++ 10 ∷ []
+page command.Readproctitle = codes "dtools readproctitle WORD.., of which the last is as long as the title" ++ 10 ∷ []
+page command.Sim = codes "dtools sim, with a script on standard input, or dtools sim table" ++ 10 ∷ []
+page command.Trace =
+    codes "dtools trace FILE [--break SPEC] [--local], where SPEC is byte:C, phase:PHASE or signal:NAME" ++ 10 ∷ []
+page command.Why = codes "dtools why [--timeline] SERVICE.." ++ 10 ∷ []
+page command.Help = codes "dtools help [COMMAND]" ++ 10 ∷ []
+page command.Version = codes "dtools version" ++ 10 ∷ []

@@ -1,83 +1,49 @@
-//! The commands themselves.
-ghost use Rattle.std.specs.Prelude.{◌≡◌, map};
-ghost use Rattle.cmd_help.specs.Ends.{HelpEnds, Prints, PrintsPage, VersionEnds, version_text};
+//! The commands, and the words that name them.
+ghost use Rattle.std.specs.Prelude.{◌≡◌};
+ghost use Rattle.cmd_help.specs.Commands.{command_named};
 
-use crate::pages::{overview, page_of};
-use crate::source::{KIT, SOURCE};
-use arrayvec::ArrayString;
-use cmd_base::{DONE, TROUBLE, report, usage};
-use std::io::Write;
-use tai_status::Output;
-
-/// Prints a text, or says that the writer failed.
-fn print<W: Write, E: Write>(
-    text: &[u8],
-    reported: &[u8],
-    writer: &mut Output<W>,
-    faults: &mut Output<E>,
-) -> u8
-    ensures prints { Prints text.now reported.now result writer.old writer.new faults.old faults.new }
-{
-    match writer.write_all(text) {
-        Ok(()) => DONE,
-        Err(_) => report(faults, reported, TROUBLE),
-    }
+/// A command of this program.
+#[derive(Clone, Copy, Debug, PartialEq, Eq)]
+pub enum Command {
+    Svscan,
+    Svc,
+    Svstat,
+    Svok,
+    Wait,
+    Multilog,
+    Tai64n,
+    Tai64nlocal,
+    Envdir,
+    Readproctitle,
+    Sim,
+    Trace,
+    Why,
+    Help,
+    Version,
 }
 
-/// Prints a page of the help. An empty one is of a word that names no command.
-fn print_page<W: Write, E: Write>(page: &[u8], writer: &mut Output<W>, faults: &mut Output<E>) -> u8
-    ensures prints { PrintsPage page.now result writer.old writer.new faults.old faults.new }
-{
-    match page {
-        [] => usage(faults),
-        _ => print(page, b"help: write fault\n", writer, faults),
-    }
-}
-
-/// The command `help`: prints which commands there are, or with the name of one which words that takes. Answers the
-/// status: 0; 100 for a word that names no command, and for more words; 111 for a fault of the writer.
-pub fn run_help<W: Write, E: Write>(
-    words: &[&str],
-    writer: &mut Output<W>,
-    faults: &mut Output<E>,
-) -> u8
-    ensures ends { HelpEnds (map (λ word. word.now) words.now) result writer.old writer.new faults.old faults.new }
-{
-    match words {
-        [] => print(overview(), b"help: write fault\n", writer, faults),
-        [name] => print_page(page_of(name), writer, faults),
-        _ => usage(faults),
-    }
-}
-
-/// What `version` prints: which dtools this is, by which kit it was built, and from which sources.
-fn version_text() -> ArrayString<192>
-    ensures { result.bytes ≡ version_text }
-{
-    let mut text = ArrayString::new();
-    text.push_str("dtools 2.0.0\nkit ");
-    text.push_str(KIT);
-    text.push_str("\nsource ");
-    text.push_str(SOURCE);
-    text.push_str("\n");
-    text
-}
-
-/// The command `version`: prints the version of this program, the line of the kit that built it, and the sum of the
-/// sources that it was built from, each on a line. Answers the status: 0; 100 for any word; 111 for a fault of the
-/// writer.
-pub fn run_version<W: Write, E: Write>(
-    words: &[&str],
-    writer: &mut Output<W>,
-    faults: &mut Output<E>,
-) -> u8
-    ensures ends { VersionEnds (map (λ word. word.now) words.now) result writer.old writer.new faults.old faults.new }
-{
-    match words {
-        [] => {
-            let text = version_text();
-            print(text.as_bytes(), b"version: write fault\n", writer, faults)
+impl Command {
+    /// The command that a word names. `--help` and `--version` name two as well.
+    pub fn named(word: &str) -> Option<Command>
+        ensures { result ≡ command_named word.now }
+    {
+        match word {
+            "svscan" => Some(Command::Svscan),
+            "svc" => Some(Command::Svc),
+            "svstat" => Some(Command::Svstat),
+            "svok" => Some(Command::Svok),
+            "wait" => Some(Command::Wait),
+            "multilog" => Some(Command::Multilog),
+            "tai64n" => Some(Command::Tai64n),
+            "tai64nlocal" => Some(Command::Tai64nlocal),
+            "envdir" => Some(Command::Envdir),
+            "readproctitle" => Some(Command::Readproctitle),
+            "sim" => Some(Command::Sim),
+            "trace" => Some(Command::Trace),
+            "why" => Some(Command::Why),
+            "help" | "--help" => Some(Command::Help),
+            "version" | "--version" => Some(Command::Version),
+            _ => None,
         }
-        _ => usage(faults),
     }
 }

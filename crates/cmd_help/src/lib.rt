@@ -2,8 +2,10 @@
 #![tactic(auto)]
 
 mod command;
+mod help;
 mod pages;
 mod source;
 
-pub use command::{run_help, run_version};
+pub use command::Command;
+pub use help::{run_help, run_version};
 pub use pages::{overview, page_of};

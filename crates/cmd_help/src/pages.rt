@@ -1,6 +1,8 @@
 //! What `help` prints.
 ghost use Rattle.std.specs.Prelude.{◌≡◌};
-ghost use Rattle.cmd_help.specs.Pages.{IsPageOf, overview};
+ghost use Rattle.cmd_help.specs.Pages.{overview, page};
+
+use crate::command::Command;
 
 /// What `help` prints without a word: the commands, a line each.
 pub fn overview() -> &'static [u8]
@@ -25,36 +27,37 @@ pub fn overview() -> &'static [u8]
 "
 }
 
-/// What `help` prints of the command of this name: which words it takes. Of no command it is nothing.
-pub fn page_of(name: &str) -> &'static [u8]
-    ensures page { IsPageOf name.now result.now }
+/// What `help` prints of a command: which words it takes.
+pub fn page_of(command: Command) -> &'static [u8]
+    ensures page { result.now ≡ page command }
 {
-    match name {
-        "svscan" =>
-            b"dtools svscan [DIR [ROUNDS]], over the working directory where no DIR is given\n",
-        "svc" => {
+    match command {
+        Command::Svscan => {
+            b"dtools svscan [DIR [ROUNDS]], over the working directory where no DIR is given\n"
+        }
+        Command::Svc => {
             b"dtools svc [-W] [-udopchaitkx12q] SERVICE.., with u up, d down, o once, x exit, and signals\n"
         }
-        "svstat" => b"dtools svstat [--json | --metrics] SERVICE..\n",
-        "svok" => b"dtools svok SERVICE\n",
-        "multilog" => {
-            b"dtools multilog ACTION.., of t, -PATTERN, +PATTERN, e, =FILE, sSIZE, nNUMBER, folders\n"
-        }
-        "tai64n" => b"dtools tai64n\n",
-        "tai64nlocal" => b"dtools tai64nlocal\n",
-        "envdir" => b"dtools envdir DIR PROGRAM WORDS.., or dtools envdir --words DIR\n",
-        "readproctitle" =>
-            b"dtools readproctitle WORD.., of which the last is as long as the title\n",
-        "sim" => b"dtools sim, with a script on standard input, or dtools sim table\n",
-        "trace" => {
-            b"dtools trace FILE [--break SPEC] [--local], where SPEC is byte:C, phase:PHASE or signal:NAME\n"
-        }
-        "why" => b"dtools why [--timeline] SERVICE..\n",
-        "wait" => {
+        Command::Svstat => b"dtools svstat [--json | --metrics] SERVICE..\n",
+        Command::Svok => b"dtools svok SERVICE\n",
+        Command::Wait => {
             b"dtools wait [-u|-d|-x] [-t SECONDS] SERVICE.., with u up, d down, x no longer supervised\n"
         }
-        "help" => b"dtools help [COMMAND]\n",
-        "version" => b"dtools version\n",
-        _ => b"",
+        Command::Multilog => {
+            b"dtools multilog ACTION.., of t, -PATTERN, +PATTERN, e, =FILE, sSIZE, nNUMBER, folders\n"
+        }
+        Command::Tai64n => b"dtools tai64n\n",
+        Command::Tai64nlocal => b"dtools tai64nlocal\n",
+        Command::Envdir => b"dtools envdir DIR PROGRAM WORDS.., or dtools envdir --words DIR\n",
+        Command::Readproctitle => {
+            b"dtools readproctitle WORD.., of which the last is as long as the title\n"
+        }
+        Command::Sim => b"dtools sim, with a script on standard input, or dtools sim table\n",
+        Command::Trace => {
+            b"dtools trace FILE [--break SPEC] [--local], where SPEC is byte:C, phase:PHASE or signal:NAME\n"
+        }
+        Command::Why => b"dtools why [--timeline] SERVICE..\n",
+        Command::Help => b"dtools help [COMMAND]\n",
+        Command::Version => b"dtools version\n",
     }
 }
