@@ -17,10 +17,10 @@ for name in devices faults; do cc -O1 -shared -fPIC -o $name.so "$tests/$name.c"
 over() {
   local library=$1 settings=$2
   shift 2
-  rm -rf work
-  mkdir work
+  rm -rf tried
+  mkdir tried
   # shellcheck disable=SC2086
-  reported=$(cd work && timeout 60 env LD_PRELOAD="$room/$library.so" CLOCK=0 $settings "$program" multilog "$@" 2>&1 <../in)
+  reported=$(cd tried && timeout 60 env LD_PRELOAD="$room/$library.so" CLOCK=0 $settings "$program" multilog "$@" 2>&1 <../in)
   status=$?
 }
 # by SETTINGS WORDS..: the program over the file `in`, by way of both libraries, with these variables. What it prints is left
@@ -39,7 +39,7 @@ as() {
 }
 size() { stat -c %s "$1"; }
 # The files of a log, but for its lock: name and size of each.
-files() { (cd "work/$1" && stat -c '%n %s' @* current 2>/dev/null | tr '\n' ' '); }
+files() { (cd "tried/$1" && stat -c '%n %s' @* current 2>/dev/null | tr '\n' ' '); }
 first=@400000000000000a00000000.s
 
 for most in 1 7 1000 4096; do
@@ -50,11 +50,11 @@ for most in 1 7 1000 4096; do
   is 'empty input' "0  current 0 " "$status $reported $(files log)"
   printf 'fatal: x' >in
   over devices $reads t '-*' '+* fatal: *' ./log
-  is 'a stamped line' "$(printf '@400000000000000a00000000 fatal: x\n.')" "$(cat work/log/current && echo .)"
+  is 'a stamped line' "$(printf '@400000000000000a00000000 fatal: x\n.')" "$(cat tried/log/current && echo .)"
   for count in 1000 1001; do
     as "$count" '\n' >in
     over devices $reads =st
-    is "status of $count bytes" same "$(as 1000 '\n' | cmp - work/st 2>&1 && echo same)"
+    is "status of $count bytes" same "$(as 1000 '\n' | cmp - tried/st 2>&1 && echo same)"
   done
   as 999 'b\n' >in
   over devices $reads '-*' '+*b' ./log
@@ -77,15 +77,15 @@ for most in 1 7 1000 4096; do
   { as 2095 '\n'; as 2095 '\n'; } >in
   over devices $reads s4096 n2 ./log
   is 'a name is given once' '@400000000000000a00000001.s 2096 current 0 ' "$(files log)"
-  rm -rf work
-  mkdir -p work/found work/after
-  as 5000 '' >work/found/current
+  rm -rf tried
+  mkdir -p tried/found tried/after
+  as 5000 '' >tried/found/current
   echo a >in
-  by "CLOCK=0 $reads" multilog s4096 n2 ./work/found
+  by "CLOCK=0 $reads" multilog s4096 n2 ./tried/found
   is 'more than fills a file' "$first 5000 current 2 " "$(files found)"
-  : >work/after/@400000000000000b00000000.s
+  : >tried/after/@400000000000000b00000000.s
   as 2095 '\n' >in
-  by "CLOCK=0 $reads" multilog s4096 n2 ./work/after
+  by "CLOCK=0 $reads" multilog s4096 n2 ./tried/after
   is 'a name past the greatest' '@400000000000000b00000001.s 2096 current 0 ' "$(files after)"
   # 244 files are finished, of which nine are kept.
   as 1000000 '\n' >in
@@ -98,10 +98,10 @@ done
 scenario='devices that fail'
 echo abcdef >in
 over devices WRITE_MOST=3 ./log
-is 'three bytes a write' '0 abcdef' "$status $(cat work/log/current)"
+is 'three bytes a write' '0 abcdef' "$status $(cat tried/log/current)"
 for settings in 'WRITE_STOPS=2' 'WRITE_STOPS=2 WRITE_ERROR=5' 'WRITE_STOPS=2 WRITE_ERROR=28'; do
   over devices "WRITE_MOST=3 $settings" ./log
-  is "three bytes, then $settings" '111 multilog: Store abc' "$status $reported $(cat work/log/current)"
+  is "three bytes, then $settings" '111 multilog: Store abc' "$status $reported $(cat tried/log/current)"
 done
 for settings in 'WRITE_STOPS=1' 'WRITE_STOPS=1 WRITE_ERROR=5'; do
   over devices "$settings" ./log
@@ -115,22 +115,22 @@ is 'three bytes a write: alerts' "0 $(as 200 '\nx')" "$status $reported"
 over faults 'FAULT=write:1:5 FAULT_MET=met' e
 is 'an alert that fails' '111 multilog: Store' "$status $reported"
 over faults 'FAULT=rename:1:5 FAULT_MET=met' =st
-is 'a status file that fails' '111 multilog: Store none' "$status $reported $([ -e work/st ] || echo none)"
+is 'a status file that fails' '111 multilog: Store none' "$status $reported $([ -e tried/st ] || echo none)"
 as 2095 '\n' >in
 over faults "FAULT=rename:1:5 FAULT_MET=met" s4096 n2 ./log
 is 'a file that is not finished' '111 multilog: Store current 2096 ' "$status $reported $(files log | tr -d '\0')"
 { as 2095 '\n'; as 2095 '\n'; } >in
 over faults "FAULT=unlink:1:5 FAULT_MET=met" s4096 n2 ./log
 is 'an old file that stays' '111 multilog: Store 2 x 2096 current 0 ' \
-  "$status $reported $(find work/log -name '@*' -size 2096c | wc -l) x 2096 current $(size work/log/current) "
+  "$status $reported $(find tried/log -name '@*' -size 2096c | wc -l) x 2096 current $(size tried/log/current) "
 printf 'x\nab' >in
 over faults "FAULT=read:2:5 FAULT_MET=met" ./log
-is 'a read that fails' '111 multilog: Read x' "$status $reported $(head -n 1 work/log/current)"
-is 'and a front of the rest' yes "$(printf 'x\nab\n' | head -c "$(size work/log/current)" | cmp - work/log/current && echo yes)"
+is 'a read that fails' '111 multilog: Read x' "$status $reported $(head -n 1 tried/log/current)"
+is 'and a front of the rest' yes "$(printf 'x\nab\n' | head -c "$(size tried/log/current)" | cmp - tried/log/current && echo yes)"
 for row in '1 5' '7 2'; do
-  rm -rf work
-  by "READ_MOST=${row% *} FAULT=read:${row#* }:5" multilog ./work
-  is "a read of ${row% *} that fails" '111 multilog: Read x' "$status $reported $(head -n 1 work/current)"
+  rm -rf tried
+  by "READ_MOST=${row% *} FAULT=read:${row#* }:5" multilog ./tried
+  is "a read of ${row% *} that fails" '111 multilog: Read x' "$status $reported $(head -n 1 tried/current)"
 done
 
 # fronts COUNT SAID WORDS..: the write of the first, the second, .. of so many bytes takes nothing, or fails: those before it

@@ -1,5 +1,6 @@
 -- The first bad word, as a loop over words finds it.
-use Rattle.std.proofs.Common.{◌≡◌, ℕ, ◌+◌, ◌-◌, ◌<◌, suc, refl, sym, ap, ◌∙◌, arith, List, [], ◌∷◌, ◌++◌, length, map, take}
+use Rattle.std.proofs.Common.{◌≡◌, ℕ, ◌+◌, ◌-◌, ◌<◌, suc, refl, sym, ap, ◌∙◌, arith}
+use Rattle.std.proofs.Common.{List, [], ◌∷◌, ◌++◌, length, map, take}
 use Rattle.std.proofs.Common.{drop, get_or, drop-cons, Option, Some, None, Result, Ok, Err, is_ok, ◌==◌, Bool, true}
 use Rattle.std.proofs.Common.{false}
 use Rattle.std.specs.List.{filter_map, cons_option}
