@@ -9,6 +9,7 @@ mod localising;
 mod system;
 mod zone;
 
+pub use civil::nine_digits;
 pub use local_zone::LocalZone;
 pub use localising::{LocalFault, run_tai64nlocal};
 pub use system::system_zone;

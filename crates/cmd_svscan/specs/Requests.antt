@@ -14,3 +14,8 @@ IsReplyTo request.Hear (reply.Heard byte) = ⊤
 IsReplyTo request.End (reply.Ended left) = ⊤
 IsReplyTo request.Leave (reply.Left unlogged) = ⊤
 IsReplyTo request reply = ⊥
+
+-- What has this for its calls' results has to each request the reply of its kind.
+abbrev pub RepliesInKind : {F : Type 0} → (post : F → Request → Reply → Type 0) → Type 0
+RepliesInKind {F = F} post =
+    (state : F) (request : Request) (reply : Reply) → post state request reply → IsReplyTo request reply

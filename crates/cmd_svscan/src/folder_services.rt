@@ -187,8 +187,8 @@ fn round<M: FolderHolder + Drop, R: Threads + Wait + Clock + Copy + Drop + Send 
     out
 }
 
-/// One scan of the rows of a folder, and what parts lost that ended before. The parts that it begins get their sockets once
-/// all have begun, since each child copies and closes the descriptors that there are.
+/// One scan of the rows of a folder, and what parts lost that ended before. The parts that it begins get their sockets
+/// once all have begun, since each child copies and closes the descriptors that there are.
 fn scan<M: FolderHolder + Drop, R: Threads + Wait + Clock + Copy + Drop + Send + 'static>(
     rt: R,
     alloc: Global,
@@ -431,6 +431,37 @@ fn try_leave<M: FolderHolder + Drop, R: Threads + Wait + Clock + Copy + Drop + S
     }
 }
 
+/// Does what is requested of services whose host was made, or could not be.
+fn reply_to<M, R>(
+    rt: R,
+    files: HostRuntime,
+    alloc: Global,
+    running: &mut Option<Running<M, R>>,
+    request: Request,
+) -> Reply
+where
+    M: FolderHolder + Drop,
+    R: Files + Threads + Wait + Clock + Copy + Drop + Send + 'static,
+    ensures { IsReplyTo request result }
+{
+    match request {
+        Request::Begin(folder) => Reply::Begun(try_begin(
+            rt,
+            files,
+            alloc,
+            running,
+            folder.as_str(),
+        )),
+        Request::List(folder) => Reply::Rows(list(&rt, alloc, running, folder.as_str())),
+        Request::Round { folder, rows } => {
+            Reply::Round(round(rt, alloc, running, folder.as_str(), &rows))
+        }
+        Request::Hear => Reply::Heard(hear_or_sleep(rt, running)),
+        Request::End => Reply::Ended(try_end(rt, alloc, running)),
+        Request::Leave => Reply::Left(try_leave(rt, alloc, running)),
+    }
+}
+
 /// Does what is requested. The host is made at the beginning, or where that fails at the first listing for which it can
 /// be.
 pub fn handle<R>(
@@ -445,22 +476,10 @@ where
     R: Threads + Wait + Clock + Copy + Send + Sync + Drop + 'static,
     ensures { IsReplyTo request result }
 {
-    match request {
-        Request::Begin(folder) => {
-            open(rt, files, alloc, running);
-            Reply::Begun(try_begin(rt, files, alloc, running, folder.as_str()))
-        }
-        Request::List(folder) => {
-            open(rt, files, alloc, running);
-            Reply::Rows(list(&rt, alloc, running, folder.as_str()))
-        }
-        Request::Round { folder, rows } => {
-            Reply::Round(round(rt, alloc, running, folder.as_str(), &rows))
-        }
-        Request::Hear => Reply::Heard(hear_or_sleep(rt, running)),
-        Request::End => Reply::Ended(try_end(rt, alloc, running)),
-        Request::Leave => Reply::Left(try_leave(rt, alloc, running)),
+    if let Request::Begin(_) | Request::List(_) = &request {
+        open(rt, files, alloc, running);
     }
+    reply_to(rt, files, alloc, running, request)
 }
 
 /// Keeps the services of a folder of this system running, by requests to what has their host. It reports contracts
@@ -474,7 +493,8 @@ pub struct FolderServices<F: FnMut(Request) -> Reply + Drop> {
 }
 
 impl<F: FnMut(Request) -> Reply + Drop> FolderServices<F> {
-    /// What keeps services running by requests to this, which may always be called.
+    /// What keeps services running by requests to this, which may always be called, and has to each request the reply
+    /// of its kind.
     pub fn new(alloc: Global, handle: F) -> FolderServices<F>
         ensures { result.handle ≡ handle }
     {
@@ -483,7 +503,10 @@ impl<F: FnMut(Request) -> Reply + Drop> FolderServices<F> {
 }
 
 impl<F: FnMut(Request) -> Reply + Drop> ServiceSet for FolderServices<F> {
-    ghost ready = { λ services. F.IsAlwaysCallable services.handle };
+    ghost use Rattle.cmd_svscan.specs.Requests.{RepliesInKind};
+
+    // It may always be called, and its replies are of the requests' kinds.
+    ghost ready = { λ services. F.IsAlwaysCallable services.handle × RepliesInKind F.post };
 
     fn begin(&mut self, folder: &str) -> Begun {
         let Ok(folder) = String::from_str(self.alloc, folder) else {
@@ -491,7 +514,7 @@ impl<F: FnMut(Request) -> Reply + Drop> ServiceSet for FolderServices<F> {
         };
         match (self.handle)(Request::Begin(folder)) {
             Reply::Begun(begun) => begun,
-            _ => Begun::Unserved(Cause::Other),
+            _ => unreachable!(),
         }
     }
 
@@ -501,7 +524,7 @@ impl<F: FnMut(Request) -> Reply + Drop> ServiceSet for FolderServices<F> {
         };
         match (self.handle)(Request::List(folder)) {
             Reply::Rows(listing) => listing,
-            _ => Err(ListFault::Unlisted),
+            _ => unreachable!(),
         }
     }
 
@@ -511,28 +534,28 @@ impl<F: FnMut(Request) -> Reply + Drop> ServiceSet for FolderServices<F> {
         };
         match (self.handle)(Request::Round { folder, rows }) {
             Reply::Round(out) => out,
-            _ => Err(ScanFault::OutOfMemory),
+            _ => unreachable!(),
         }
     }
 
     fn hear(&mut self) -> Option<u8> {
         match (self.handle)(Request::Hear) {
             Reply::Heard(byte) => byte,
-            _ => None,
+            _ => unreachable!(),
         }
     }
 
     fn end(&mut self) -> Option<Vec<Remaining>> {
         match (self.handle)(Request::End) {
             Reply::Ended(left) => left,
-            _ => None,
+            _ => unreachable!(),
         }
     }
 
     fn leave(&mut self) -> Vec<Unlogged> {
         match (self.handle)(Request::Leave) {
             Reply::Left(unlogged) => unlogged,
-            _ => Vec::new(self.alloc),
+            _ => unreachable!(),
         }
     }
 }

@@ -1,5 +1,6 @@
 -- Words that ask `trace` for nothing.
-use Rattle.std.proofs.Common.{◌≡◌, ◌<◌, ◌∙◌, List, ℕ, Bool, [], ◌∷◌, length, map, Option, Some, None, sym, subst, arith, inl}
+use Rattle.std.proofs.Common.{◌≡◌, ◌<◌, ◌∙◌, List, ℕ, Bool, [], ◌∷◌, length, map, Option, Some, None}
+use Rattle.std.proofs.Common.{sym, subst, arith, inl}
 use Rattle.std.specs.Prelude.{ℤ, IfSome}
 use Rattle.std.specs.declared.io.ErrorKind.{ErrorKind}
 use Rattle.sup_trace.specs.declared.breaks.Break.{Break}

@@ -4,6 +4,7 @@ use Rattle.std.specs.Prelude.{Option, Some, None, IfSome, Err, option_map}
 use Rattle.std.specs.Borrow.{Bor}
 use Rattle.std.specs.IoError.{error_kind}
 use Rattle.std.specs.declared.io.Error.{Error}
+use Rattle.std.specs.declared.io.ErrorKind.{ErrorKind}
 use Rattle.std.specs.declared.io.ErrorKind.TheVariants.{OutOfMemory}
 use Rattle.tai_status.specs.Counted.{Device, Fails, Works, Wrote, WroteFront, Reports}
 use Rattle.tai_status.specs.Phase.{phase_name}
@@ -22,7 +23,7 @@ use Rattle.trace_words.specs.Words.{asked_of}
 use Rattle.trace_words.specs.declared.WordsFault.{WordsFault}
 use Rattle.trace_words.specs.declared.WordsFault.TheVariants as words
 use Rattle.cmd_base.specs.Printed.{printed}
-use Rattle.cmd_base.specs.Known.{IsKnown, KnownFiles}
+use Rattle.cmd_base.specs.Known.{IsKnown, KnownFiles, known_files}
 use Rattle.cmd_base.specs.Usage.{usage_text}
 use Rattle.cmd_trace.specs.Local.{local_explanation}
 use Rattle.cmd_trace.specs.declared.fault.TraceTrouble.{TraceTrouble}
@@ -199,6 +200,11 @@ pub record ReportsNoRoom (files : KnownFiles) (file : List ℕ) (status : ℕ) (
     : Type 0 where
   pub fault : IfSome (files.fault file) (λ kind. kind ≡ OutOfMemory)
   pub starved : ReportsStarved status writer writes faults reports
+
+-- what is known of the files that these are
+abbrev pub known_in : {F : Type 0} → (file_at : F → List ℕ → Option (List ℕ))
+    (fault_at : F → List ℕ → Option ErrorKind) (files : F) → KnownFiles
+known_in file_at fault_at files = known_files (file_at files) (fault_at files)
 
 -- `trace` over this file and this break.
 abbrev pub FileEnds : (times : Times) (files : KnownFiles) (file : List ℕ) (at : Option Break) (status : ℕ)

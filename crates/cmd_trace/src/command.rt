@@ -1,10 +1,10 @@
 //! The command `trace`.
 ghost use Rattle.std.specs.Prelude.{◌≡◌, None, OnOk, IfErr};
 ghost use Rattle.tai_status.specs.Counted.{Works, Reports};
-ghost use Rattle.cmd_base.specs.Known.{known_files};
 ghost use Rattle.cmd_local.specs.Ends.{texts};
 ghost use Rattle.cmd_trace.specs.Traced.{FileEnds, Shows, ReportsMissed, TextEnds, TraceCause, TraceEnds};
-ghost use Rattle.cmd_trace.specs.Traced.{times_asked, times_in, trouble_text, unread_text, words_status, words_text};
+ghost use Rattle.cmd_trace.specs.Traced.{known_in, times_asked, times_in, trouble_text, unread_text};
+ghost use Rattle.cmd_trace.specs.Traced.{words_status, words_text};
 
 use crate::break_word::read_spec;
 use crate::fault::TraceTrouble;
@@ -117,8 +117,7 @@ fn trace_file<R: FileSource, W: Write, E: Write, Z: Zone>(
     writer: &mut Output<W>,
     faults: &mut Output<E>,
 ) -> u8
-    ensures ends { FileEnds (times_in Z.ahead_at zone.entry)
-        (known_files (R.file_at files.now) (R.fault_at files.now)) file.now at
+    ensures ends { FileEnds (times_in Z.ahead_at zone.entry) (known_in R.file_at R.fault_at files.now) file.now at
         result writer.old writer.new faults.old faults.new }
 {
     match files.read_file(alloc, file) {
@@ -184,8 +183,8 @@ pub fn run_trace<R: FileSource, W: Write, E: Write, Z: Zone>(
     writer: &mut Output<W>,
     faults: &mut Output<E>,
 ) -> u8
-    ensures ends { TraceEnds (Z.ahead_at zone.now) (known_files (R.file_at files.now) (R.fault_at files.now))
-        (texts words.now) result writer.old writer.new faults.old faults.new }
+    ensures ends { TraceEnds (Z.ahead_at zone.now) (known_in R.file_at R.fault_at files.now) (texts words.now)
+        result writer.old writer.new faults.old faults.new }
 {
     if words.is_empty() {
         return usage(faults);

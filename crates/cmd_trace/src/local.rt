@@ -1,14 +1,13 @@
 //! What `trace --local` prints of a trace: local times in place of labels, and words in place of the digits of records.
 ghost use Rattle.std.specs.Prelude.{◌≡◌, ◌<◌, ◌++◌, ◌∷◌, [], decimal, IfOk, OnOk};
 ghost use Rattle.cmd_base.specs.Printed.{printed};
-ghost use Rattle.cmd_local.specs.Digits.{digit, nine_digits};
 ghost use Rattle.sup_core.specs.History.{History, state_of};
 ghost use Rattle.sup_core.specs.Rules.{IsEvent, next};
 ghost use Rattle.cmd_trace.specs.Local.{AddsEntry, answer_words, ask_words, asks_words, event_words, exiting_words};
 ghost use Rattle.cmd_trace.specs.Local.{line_words, local_explanation, local_lines, local_state, paused_words};
 ghost use Rattle.cmd_trace.specs.Local.{process_words, record_words, reply_words, time_words, want_words};
 
-use cmd_local::{Zone, local_time};
+use cmd_local::{Zone, local_time, nine_digits};
 use itoa::Buffer;
 use std::alloc::{AllocError, Allocator};
 use sup_core::{Ask, Event, Machine, Reply, event_text, phase_name, sig_name};
@@ -278,31 +277,6 @@ fn push_time<A: Allocator, Z: Zone>(
         }
         None => out.extend_from_slice(&text(label)),
     }
-}
-
-/// Nanoseconds as nine digits.
-fn nine_digits(number: u32) -> [u8; 9]
-    ensures { result ≡ nine_digits number }
-{
-    [
-        digit(100_000_000, number),
-        digit(10_000_000, number),
-        digit(1_000_000, number),
-        digit(100_000, number),
-        digit(10_000, number),
-        digit(1_000, number),
-        digit(100, number),
-        digit(10, number),
-        digit(1, number),
-    ]
-}
-
-/// The digit of a number at the place of a unit.
-fn digit(unit: u32, number: u32) -> u8
-    requires { 0 < unit }
-    ensures { result ≡ digit unit number }
-{
-    b'0' + (number / unit % 10) as u8
 }
 
 /// Writes the line on a machine.

@@ -1,9 +1,10 @@
--- How the program ends, by the name of the command and the words after it.
-use Rattle.std.specs.Prelude.{◌≡◌, ◌≢◌, ℕ, ℤ, List, [], ◌∷◌, ◌++◌, codes, Option}
+-- What each command does with the words behind its name, in parts, each with what no other command touches; and what a
+-- command leaves alone.
+use Rattle.std.specs.Prelude.{◌≡◌, ⊤, ℕ, ℤ, List, Bool, true, false, Option}
 use Rattle.cmd_base.specs.Console.{Console}
 use Rattle.cmd_base.specs.Known.{KnownFiles}
-use Rattle.tai_status.specs.Counted.{Device}
-use Rattle.cmd_base.specs.Usage.{RefusesWords}
+use Rattle.cmd_help.specs.declared.command.Command.{Command}
+use Rattle.cmd_help.specs.declared.command.Command.TheVariants as command
 use Rattle.cmd_sim.specs.Ends.{SimEnds}
 use Rattle.cmd_trace.specs.Traced.{TraceEnds}
 use Rattle.cmd_filters.specs.Stamped.{StampsEnd}
@@ -32,120 +33,116 @@ pub record Equipment : Type 0 where
   pub console : Console
   pub sight : Sight
 
--- A word that names no command.
-abbrev pub NamesNoCommand : List ℕ → Type 0
-NamesNoCommand word = (word ≢ codes "sim") × (word ≢ codes "tai64n") × (word ≢ codes "tai64nlocal")
-    × (word ≢ codes "readproctitle") × (word ≢ codes "envdir") × (word ≢ codes "trace") × (word ≢ codes "multilog")
-    × (word ≢ codes "svc") × (word ≢ codes "svstat") × (word ≢ codes "svok") × (word ≢ codes "svscan")
-    × (word ≢ codes "why") × (word ≢ codes "wait") × (word ≢ codes "help") × (word ≢ codes "--help")
-    × (word ≢ codes "version") × (word ≢ codes "--version")
-
--- A command that asks no service.
-abbrev pub AsksNoService : List ℕ → Type 0
-AsksNoService name = (name ≢ codes "svc") × (name ≢ codes "svstat") × (name ≢ codes "svok") × (name ≢ codes "why")
-    × (name ≢ codes "wait")
-
--- A command that reads no clock.
-abbrev pub ReadsNoClock : List ℕ → Type 0
-ReadsNoClock name =
-    (name ≢ codes "tai64n") × (name ≢ codes "multilog") × (name ≢ codes "svstat") × (name ≢ codes "why")
-
--- What a command that only prints is to do.
-abbrev pub End : Type 1
-End = (words : List (List ℕ)) (status : ℕ) (old new faults reports : Device) → Type 0
-
--- A command that only prints ended so, and read nothing.
-abbrev pub Prints : End → (words : List (List ℕ)) (status : ℕ) (old new : Console) → Type 0
-Prints end words status old new =
-    end words status old.writer new.writer old.faults new.faults × (new.reader ≡ old.reader)
-
--- The command of this name was given these words, and ended as it promises; in parts, each with what no other command
--- touches.
-
--- Those that only read and print. Only `tai64n`, `multilog`, `svstat` and `why` read the clock.
-pub record PlainEnds (name : List ℕ) (words : List (List ℕ)) (status : ℕ) (old new : Equipment) : Type 0 where
-  pub unknown : NamesNoCommand name → RefusesWords status old.console new.console
-  pub sim : name ≡ codes "sim" → SimEnds words status old.console new.console
-  pub tai64n : name ≡ codes "tai64n"
-      → StampsEnd words status old.sight.readings new.sight.readings old.console new.console
-  pub readproctitle : name ≡ codes "readproctitle" → TitleEnds words status old.console new.console
-  pub help : name ≡ codes "help" → Prints HelpEnds words status old.console new.console
-  pub help_option : name ≡ codes "--help" → Prints HelpEnds words status old.console new.console
-  pub version : name ≡ codes "version" → Prints VersionEnds words status old.console new.console
-  pub version_option : name ≡ codes "--version" → Prints VersionEnds words status old.console new.console
-  pub clock : ReadsNoClock name → new.sight.readings ≡ old.sight.readings
+-- Those that need nothing else.
+abbrev pub PlainEnds : Command → (words : List (List ℕ)) (status : ℕ) (old new : Equipment) → Type 0
+PlainEnds command.Sim words status old new = SimEnds words status old.console new.console
+PlainEnds command.Tai64n words status old new =
+    StampsEnd words status old.sight.readings new.sight.readings old.console new.console
+PlainEnds command.Readproctitle words status old new = TitleEnds words status old.console new.console
+PlainEnds command.Help words status old new =
+    HelpEnds words status old.console.writer new.console.writer old.console.faults new.console.faults
+PlainEnds command.Version words status old new =
+    VersionEnds words status old.console.writer new.console.writer old.console.faults new.console.faults
+PlainEnds other words status old new = ⊤
 
 -- Those that know local times, by how many seconds clocks are ahead of UTC, at each second of Unix time; and the files
 -- that one of them reads, where they are known.
-pub record ZonedEnds (name : List ℕ) (words : List (List ℕ)) (status : ℕ) (ahead : ℤ → ℤ)
-    (files : KnownFiles) (old new : Equipment) : Type 0 where
-  pub tai64nlocal : name ≡ codes "tai64nlocal" → LocalEnds ahead words status old.console new.console
-  pub trace : name ≡ codes "trace" → TraceEnds ahead files words status old.console.writer new.console.writer
-      old.console.faults new.console.faults
-  pub unread : name ≡ codes "trace" → new.console.reader ≡ old.console.reader
+abbrev pub ZonedEnds : Command → (words : List (List ℕ)) (status : ℕ) (ahead : ℤ → ℤ) (files : KnownFiles)
+    (old new : Equipment) → Type 0
+ZonedEnds command.Tai64nlocal words status ahead files old new = LocalEnds ahead words status old.console new.console
+ZonedEnds command.Trace words status ahead files old new =
+    TraceEnds ahead files words status old.console.writer new.console.writer old.console.faults new.console.faults
+ZonedEnds other words status ahead files old new = ⊤
 
 -- Only `envdir` hands over commands to start, by the folders and the variables of the system.
-pub record ChildEnds (name : List ℕ) (words : List (List ℕ)) (status : ℕ) (system : SystemState)
-    (past now : Option (List Launch)) (old new : Equipment) : Type 0 where
-  pub starts : name ≡ codes "envdir"
-      → EnvdirStarts system words status past now old.console.faults new.console.faults
-  pub writes : name ≡ codes "envdir" → EnvdirWrites system words status
-      (outputs old.console.writer old.console.faults) (outputs new.console.writer new.console.faults)
-  pub unread : name ≡ codes "envdir" → new.console.reader ≡ old.console.reader
-  pub others : name ≢ codes "envdir" → now ≡ past
+abbrev pub ChildEnds : Command → (words : List (List ℕ)) (status : ℕ) (system : SystemState)
+    (past now : Option (List Launch)) (old new : Equipment) → Type 0
+ChildEnds command.Envdir words status system past now old new =
+    EnvdirStarts system words status past now old.console.faults new.console.faults
+    × EnvdirWrites system words status (outputs old.console.writer old.console.faults)
+    (outputs new.console.writer new.console.faults)
+ChildEnds other words status system past now old new = now ≡ past
 
 -- Only `multilog` keeps logs, in its store, and reads the input of a logger.
-pub record LoggerEnds (name : List ℕ) (words : List (List ℕ)) (status : ℕ) (shelf shelves : Shelf) (feed feeds : Feed)
-    (old new : Equipment) : Type 0 where
-  pub ends : name ≡ codes "multilog" → MultilogEnds words status
-      (stage shelf feed old.sight.readings old.console.faults)
-      (stage shelves feeds new.sight.readings new.console.faults)
-  pub silent : name ≡ codes "multilog"
-      → (new.console.reader ≡ old.console.reader) × (new.console.writer ≡ old.console.writer)
-  pub logs : name ≢ codes "multilog" → shelves ≡ shelf
-  pub lines : name ≢ codes "multilog" → feeds ≡ feed
+abbrev pub LoggerEnds : Command → (words : List (List ℕ)) (status : ℕ) (shelf shelves : Shelf) (feed feeds : Feed)
+    (old new : Equipment) → Type 0
+LoggerEnds command.Multilog words status shelf shelves feed feeds old new =
+    MultilogEnds words status (stage shelf feed old.sight.readings old.console.faults)
+    (stage shelves feeds new.sight.readings new.console.faults)
+LoggerEnds other words status shelf shelves feed feeds old new = (shelves ≡ shelf) × (feeds ≡ feed)
 
--- Only `svc`, `svstat`, `svok`, `why` and `wait` ask services. Here are three, and the files of their counts, where
--- they are known.
-pub record ServiceEnds (name : List ℕ) (words : List (List ℕ)) (status : ℕ) (counts : CountFiles) (old new : Equipment)
-    : Type 0 where
-  pub svc : name ≡ codes "svc"
-      → SvcEnds words status (effects old.sight.calls old.console.faults) (effects new.sight.calls new.console.faults)
-  pub svc_silent : name ≡ codes "svc"
-      → (new.console.reader ≡ old.console.reader) × (new.console.writer ≡ old.console.writer)
-  pub svstat : name ≡ codes "svstat" → ReportEnds counts words status old.sight new.sight
-      old.console.writer new.console.writer old.console.faults new.console.faults
-  pub svstat_unread : name ≡ codes "svstat" → new.console.reader ≡ old.console.reader
-  pub svok : name ≡ codes "svok" → SvokEnds words status old.sight.calls new.sight.calls
-  pub svok_silent : name ≡ codes "svok" → new.console ≡ old.console
-  pub others : AsksNoService name → new.sight.calls ≡ old.sight.calls
+-- Those that ask services, of which here are three, and the files of services' counts, where they are known.
+abbrev pub ServiceEnds : Command → (words : List (List ℕ)) (status : ℕ) (counts : CountFiles) (old new : Equipment)
+    → Type 0
+ServiceEnds command.Svc words status counts old new =
+    SvcEnds words status (effects old.sight.calls old.console.faults) (effects new.sight.calls new.console.faults)
+ServiceEnds command.Svstat words status counts old new =
+    ReportEnds counts words status old.sight new.sight old.console.writer new.console.writer old.console.faults
+    new.console.faults
+ServiceEnds command.Svok words status counts old new =
+    SvokEnds words status old.sight.calls new.sight.calls × (new.console ≡ old.console)
+ServiceEnds other words status counts old new = ⊤
 
 -- `why`, and what is known of the files of services, and of local times.
-pub record ReasonEnds (name : List ℕ) (words : List (List ℕ)) (status : ℕ) (known : Knowledge) (old new : Equipment)
-    : Type 0 where
-  pub ends : name ≡ codes "why" → WhyEnds known words status old.sight new.sight old.console.writer new.console.writer
-      old.console.faults new.console.faults
-  pub unread : name ≡ codes "why" → new.console.reader ≡ old.console.reader
+abbrev pub ReasonEnds : Command → (words : List (List ℕ)) (status : ℕ) (known : Knowledge) (old new : Equipment)
+    → Type 0
+ReasonEnds command.Why words status known old new =
+    WhyEnds known words status old.sight new.sight old.console.writer new.console.writer old.console.faults
+    new.console.faults
+ReasonEnds other words status known old new = ⊤
 
 -- Only `wait` has a pace, whose steps these are.
-pub record PacedEnds (name : List ℕ) (words : List (List ℕ)) (status : ℕ) (steps taken : Option (List Step))
-    (old new : Equipment) : Type 0 where
-  pub ends : name ≡ codes "wait" → waiting.EndsByWords words status
-      (waiting.scene (sight old.sight.calls steps) old.console.faults)
-      (waiting.scene (sight new.sight.calls taken) new.console.faults)
-  pub silent : name ≡ codes "wait"
-      → (new.console.reader ≡ old.console.reader) × (new.console.writer ≡ old.console.writer)
-  pub others : name ≢ codes "wait" → taken ≡ steps
+abbrev pub PacedEnds : Command → (words : List (List ℕ)) (status : ℕ) (steps taken : Option (List Step))
+    (old new : Equipment) → Type 0
+PacedEnds command.Wait words status steps taken old new =
+    waiting.EndsByWords words status (waiting.scene (sight old.sight.calls steps) old.console.faults)
+    (waiting.scene (sight new.sight.calls taken) new.console.faults)
+PacedEnds other words status steps taken old new = taken ≡ steps
 
 -- Only `svscan` keeps the services of a folder running, of which it asks this.
-pub record ScanEnds (name : List ℕ) (words : List (List ℕ)) (status : ℕ) (past now : Option (List handling.Call))
-    (old new : Equipment) : Type 0 where
-  pub ends : name ≡ codes "svscan" → svscan.SvscanEnds words status (svscan.effects past old.console.faults)
-      (svscan.effects now new.console.faults)
-  pub silent : name ≡ codes "svscan"
-      → (new.console.reader ≡ old.console.reader) × (new.console.writer ≡ old.console.writer)
-  pub others : name ≢ codes "svscan" → now ≡ past
+abbrev pub ScanEnds : Command → (words : List (List ℕ)) (status : ℕ) (past now : Option (List handling.Call))
+    (old new : Equipment) → Type 0
+ScanEnds command.Svscan words status past now old new =
+    svscan.SvscanEnds words status (svscan.effects past old.console.faults) (svscan.effects now new.console.faults)
+ScanEnds other words status past now old new = now ≡ past
 
--- what is reported where there is no word
-abbrev pub no_word_report : List ℕ
-no_word_report = codes "dtools: usage" ++ 10 ∷ codes "dtools help lists the commands" ++ 10 ∷ []
+-- the commands that read the standard input: a logger has an input of its own
+abbrev pub reads_input : Command → Bool
+reads_input command.Sim = true
+reads_input command.Tai64n = true
+reads_input command.Tai64nlocal = true
+reads_input command.Readproctitle = true
+reads_input other = false
+
+-- the commands that print
+abbrev pub prints : Command → Bool
+prints command.Multilog = false
+prints command.Svc = false
+prints command.Svok = false
+prints command.Wait = false
+prints command.Svscan = false
+prints other = true
+
+-- the commands that ask services
+abbrev pub asks_services : Command → Bool
+asks_services command.Svc = true
+asks_services command.Svstat = true
+asks_services command.Svok = true
+asks_services command.Why = true
+asks_services command.Wait = true
+asks_services other = false
+
+-- the commands that read the clock
+abbrev pub reads_clock : Command → Bool
+reads_clock command.Tai64n = true
+reads_clock command.Multilog = true
+reads_clock command.Svstat = true
+reads_clock command.Why = true
+reads_clock other = false
+
+-- What a command is not handed is as it was.
+pub record Leaves (of : Command) (old new : Equipment) : Type 0 where
+  pub unread : reads_input of ≡ false → new.console.reader ≡ old.console.reader
+  pub unwritten : prints of ≡ false → new.console.writer ≡ old.console.writer
+  pub unasked : asks_services of ≡ false → new.sight.calls ≡ old.sight.calls
+  pub untimed : reads_clock of ≡ false → new.sight.readings ≡ old.sight.readings

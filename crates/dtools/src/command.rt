@@ -4,16 +4,16 @@ ghost use Rattle.cmd_base.specs.Known.{known_files};
 ghost use Rattle.cmd_envdir.specs.System.{texts};
 ghost use Rattle.cmd_why.specs.Texts.{knowledge};
 ghost use Rattle.tai_status.specs.Counted.{Reports};
-ghost use Rattle.dtools.specs.Commands.{ChildEnds, LoggerEnds, PacedEnds, PlainEnds, ReasonEnds, ScanEnds, ServiceEnds};
-ghost use Rattle.dtools.specs.Commands.{ZonedEnds, no_word_report};
-ghost use Rattle.dtools.specs.Programs.{ChildProgram, LoggerProgram, PacedProgram, PlainProgram, ReasonProgram};
-ghost use Rattle.dtools.specs.Programs.{ScanProgram, ServiceProgram, ZonedProgram};
+ghost use Rattle.dtools.specs.Commands.{ChildEnds, Leaves, LoggerEnds, PacedEnds, PlainEnds, ReasonEnds, ScanEnds};
+ghost use Rattle.dtools.specs.Commands.{ServiceEnds, ZonedEnds};
+ghost use Rattle.dtools.specs.Programs.{ChildProgram, LeftAlone, LoggerProgram, PacedProgram, PlainProgram};
+ghost use Rattle.dtools.specs.Programs.{ReasonProgram, ScanProgram, ServiceProgram, ZonedProgram, no_word_report};
 
 use crate::devices::Devices;
 use cmd_base::{FileSource, REFUSED, report, usage};
 use cmd_envdir::{EnvSystem, Launcher, run_envdir};
 use cmd_filters::{run_readproctitle, run_tai64n};
-use cmd_help::{run_help, run_version};
+use cmd_help::{Command, run_help, run_version};
 use cmd_local::{Zone, run_tai64nlocal};
 use cmd_multilog::{FolderStore, LogSystem, run_multilog};
 use cmd_report::{CountFiles, run_report};
@@ -28,8 +28,7 @@ use std::io::{Read, Write};
 use std::sync::Wait;
 use tai_status::{Output, TimeSource};
 
-/// Runs the command of this name over words, and answers its status. A logger has an input of its own. A name of no
-/// command is `dtools: usage`, 100.
+/// Runs a command over the words behind its name, and answers its status. A logger has an input of its own.
 fn run_command<R, L, K, I, S, P, V, T, Z, D, W, E, C>(
     rt: &R,
     launcher: &mut L,
@@ -39,7 +38,7 @@ fn run_command<R, L, K, I, S, P, V, T, Z, D, W, E, C>(
     waiting: &V,
     pace: &mut T,
     zone: &Z,
-    name: &str,
+    command: Command,
     words: &[&str],
     devices: &mut Devices<D, W, E, S, C>,
 ) -> u8
@@ -60,20 +59,21 @@ where
     requires ready { P.ready service_set.old }
     requires no_logs { store.old.logs ≡ [] }
     requires no_files { store.old.statuses ≡ [] }
-    ensures plain { PlainEnds name.now (texts words.now) result devices.old devices.new }
-    ensures zoned { ZonedEnds name.now (texts words.now) result (Z.ahead_at zone.now)
+    ensures leaves { Leaves command devices.old devices.new }
+    ensures plain { PlainEnds command (texts words.now) result devices.old devices.new }
+    ensures zoned { ZonedEnds command (texts words.now) result (Z.ahead_at zone.now)
         (known_files (R.file_at rt.now) (R.fault_at rt.now)) devices.old devices.new }
-    ensures child { ChildEnds name.now (texts words.now) result (R.state rt.now)
+    ensures child { ChildEnds command (texts words.now) result (R.state rt.now)
         (L.calls launcher.old) (L.calls launcher.new) devices.old devices.new }
-    ensures logs { LoggerEnds name.now (texts words.now) result store.old store.new
+    ensures logs { LoggerEnds command (texts words.now) result store.old store.new
         (I.feed lines.old) (I.feed lines.new) devices.old devices.new }
-    ensures services { ServiceEnds name.now (texts words.now) result (R.counts_at rt.now)
+    ensures services { ServiceEnds command (texts words.now) result (R.counts_at rt.now)
         devices.old devices.new }
-    ensures why { ReasonEnds name.now (texts words.now) result (knowledge (R.texts rt.now) (Z.text_at zone.now))
+    ensures why { ReasonEnds command (texts words.now) result (knowledge (R.texts rt.now) (Z.text_at zone.now))
         devices.old devices.new }
-    ensures wait { PacedEnds name.now (texts words.now) result (T.steps pace.old) (T.steps pace.new)
+    ensures wait { PacedEnds command (texts words.now) result (T.steps pace.old) (T.steps pace.new)
         devices.old devices.new }
-    ensures scan { ScanEnds name.now (texts words.now) result
+    ensures scan { ScanEnds command (texts words.now) result
         (P.calls service_set.old) (P.calls service_set.new) devices.old devices.new }
 {
     let Devices {
@@ -82,35 +82,40 @@ where
         faults,
         observer,
     } = devices;
-    match name {
-        "sim" => return run_sim(rt.alloc(), words, reader, writer, faults),
-        "tai64n" => return run_tai64n(words, reader, writer, faults, &mut observer.clock),
-        "tai64nlocal" => return run_tai64nlocal(zone, words, reader, writer, faults),
-        "readproctitle" => return run_readproctitle(rt.alloc(), words, reader, writer, faults),
-        "multilog" => {
+    match command {
+        Command::Sim => return run_sim(rt.alloc(), words, reader, writer, faults),
+        Command::Tai64n => return run_tai64n(words, reader, writer, faults, &mut observer.clock),
+        Command::Tai64nlocal => return run_tai64nlocal(zone, words, reader, writer, faults),
+        Command::Readproctitle => return run_readproctitle(
+            rt.alloc(),
+            words,
+            reader,
+            writer,
+            faults,
+        ),
+        Command::Multilog => {
             let clock = &mut observer.clock;
             return run_multilog(rt.alloc(), store, words, lines, faults, clock);
         }
-        "svc" => return run_svc(rt.alloc(), &mut observer.services, words, faults),
-        "svstat" => return run_report(rt.alloc(), observer, rt, words, writer, faults),
-        "svok" => return run_svok(&mut observer.services, words),
-        "why" => {
+        Command::Svc => return run_svc(rt.alloc(), &mut observer.services, words, faults),
+        Command::Svstat => return run_report(rt.alloc(), observer, rt, words, writer, faults),
+        Command::Svok => return run_svok(&mut observer.services, words),
+        Command::Why => {
             let evidence = ServiceEvidence {
                 files: rt,
                 times: zone,
             };
             return run_why(rt.alloc(), observer, &evidence, words, writer, faults);
         }
-        "wait" => {
+        Command::Wait => {
             let services = &mut observer.services;
             return run_wait(waiting, rt.alloc(), services, pace, words, faults);
         }
-        "svscan" => return run_svscan(waiting, service_set, words, faults),
-        "envdir" => return run_envdir(rt, launcher, rt.alloc(), words, writer, faults),
-        "trace" => return run_trace(rt, rt.alloc(), zone, words, writer, faults),
-        "help" | "--help" => return run_help(words, writer, faults),
-        "version" | "--version" => return run_version(words, writer, faults),
-        _ => return usage(faults),
+        Command::Svscan => return run_svscan(waiting, service_set, words, faults),
+        Command::Envdir => return run_envdir(rt, launcher, rt.alloc(), words, writer, faults),
+        Command::Trace => return run_trace(rt, rt.alloc(), zone, words, writer, faults),
+        Command::Help => return run_help(words, writer, faults),
+        Command::Version => return run_version(words, writer, faults),
     }
 }
 
@@ -158,6 +163,7 @@ where
     requires ready { P.ready service_set.old }
     requires no_logs { store.old.logs ≡ [] }
     requires no_files { store.old.statuses ≡ [] }
+    ensures leaves { LeftAlone (texts words.now) devices.old devices.new }
     ensures plain { PlainProgram (texts words.now) result devices.old devices.new }
     ensures zoned { ZonedProgram (texts words.now) result (Z.ahead_at zone.now)
         (known_files (R.file_at rt.now) (R.fault_at rt.now)) devices.old devices.new }
@@ -175,19 +181,22 @@ where
         (P.calls service_set.old) (P.calls service_set.new) devices.old devices.new }
 {
     match words {
-        [name, words @ ..] => run_command(
-            rt,
-            launcher,
-            store,
-            lines,
-            service_set,
-            waiting,
-            pace,
-            zone,
-            name,
-            words,
-            devices,
-        ),
+        [word, words @ ..] => match Command::named(word) {
+            Some(command) => run_command(
+                rt,
+                launcher,
+                store,
+                lines,
+                service_set,
+                waiting,
+                pace,
+                zone,
+                command,
+                words,
+                devices,
+            ),
+            None => usage(&mut devices.faults),
+        },
         [] => refuse_no_word(&mut devices.faults),
     }
 }

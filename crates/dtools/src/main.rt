@@ -2,6 +2,8 @@
 //! Its first word is the command.
 #![tactic(auto)]
 
+ghost use Rattle.cmd_svscan.specs.Requests.{IsReplyTo};
+
 mod command;
 mod devices;
 
@@ -12,7 +14,7 @@ use cmd_multilog::{
     FolderStore, LineClock, LineLabels, Stoppable, SystemInput, SystemLogs, stop_channel,
 };
 use cmd_svc::{Observer, Services, SystemServices};
-use cmd_svscan::{FolderServices, Request, ServiceSet, SystemHost, handle};
+use cmd_svscan::{FolderServices, Reply, Request, ServiceSet, SystemHost, handle};
 use cmd_wait::SystemPace;
 use command::run;
 use devices::Devices;
@@ -43,7 +45,9 @@ fn main(rt: HostRuntime) -> ExitCode {
     };
     let alloc = rt.alloc();
     let mut host: Option<SystemHost<HostRuntime>> = None;
-    let handling = |request: Request| handle(rt, rt, alloc, &mut host, request);
+    let handling = |request: Request| -> Reply
+        ensures { IsReplyTo request result }
+    { handle(rt, rt, alloc, &mut host, request) };
     let mut service_set = FolderServices::new(alloc, handling);
     ExitCode::from(run_arguments(&rt, &rt, &mut lines, &mut service_set, &mut devices))
 }

@@ -44,8 +44,8 @@ impl<P: ByteSink + Drop> Table<P> {
         }
     }
 
-    /// Has the registry watch a part, and puts it into a slot. At a fault the slots are as they were, and the part's sink
-    /// is given back.
+    /// Has the registry watch a part, and puts it into a slot. At a fault the slots are as they were, and the part's
+    /// sink is given back.
     pub fn admit(&mut self, mut part: Part<P>, registry: &Registry) -> Result<(), NotAdmitted<P>>
         ensures admitted { OnOk result (Admits self.old.parts self.new.parts part.number) }
         ensures refused { OnErr result ((slot : ℕ) → get self.new.parts slot ≡ get self.old.parts slot) }

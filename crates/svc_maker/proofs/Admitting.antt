@@ -40,10 +40,10 @@ admits-next zero (kept ∷ old) new calls calls_now calls_next d next less first
       (refl, refl),
     )
 admits-next (suc count) (kept ∷ old) [] calls calls_now calls_next d next less first admitted = absurd first
-admits-next (suc count) (kept ∷ old) (now ∷ new) calls calls_now calls_next d next less (middle, one, first) admitted = (
-  middle,
+admits-next (suc count) (kept ∷ old) (now ∷ new) calls calls_now calls_next d next less (then, one, first) admitted = (
+  then,
   one,
-  admits-next count old new middle calls_now calls_next d next (omega (arith, less)) first admitted,
+  admits-next count old new then calls_now calls_next d next (omega (arith, less)) first admitted,
 )
 
 -- all of them
@@ -71,4 +71,5 @@ so-far kept index all is = (
 pub admits-waiting : (old new : KeptPart) (calls calls_now : Option (List Call)) → old.waits ≡ true
     → Asks old new calls calls_now → Admits old new calls calls_now
 admits-waiting old new calls calls_now waits asks =
-    subst (λ (w : Bool). MatchBool w (Asks old new calls calls_now) ((new ≡ old) × (calls_now ≡ calls))) (sym waits) asks
+    subst (λ (w : Bool). MatchBool w (Asks old new calls calls_now) ((new ≡ old) × (calls_now ≡ calls))) (sym waits)
+    asks

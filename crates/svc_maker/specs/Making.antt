@@ -98,9 +98,9 @@ world_made plan left fault =
     Opened plan.path None ∷ FoundLeft plan.path left
     ∷ MadeWorld plan.path plan.name left plan.input plan.output fault ∷ []
 
--- How a part is set up by a plan: its folder is opened, what an earlier svscan left there is found, and its world is made
--- with that. It begins as what was found says. Where one of these fails, the next is not tried; and for want of memory
--- none is tried at all.
+-- How a part is set up by a plan: its folder is opened, what an earlier svscan left there is found, and its world is
+-- made with that. It begins as what was found says. Where one of these fails, the next is not tried; and for want of
+-- memory none is tried at all.
 abbrev pub IsSetUp : Option MakeFault → Option Opening → Plan → (old new : Option (List Call)) → Type 0
 IsSetUp None opening plan old new =
     (left : Left) × (opening ≡ Some (opening_left left))

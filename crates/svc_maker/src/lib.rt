@@ -2,9 +2,10 @@
 //!
 //! A `FolderMaker` opens the folder of each part of a host (`svc_host`) and makes its world (`svc_world`), admits the
 //! parts of a round to the door (`svc_door`) once all have begun, and for a pair it makes the two pipes between a
-//! service and its logger. Contracts see it as `Making` (specs/Making), over the small trait `PartSystem`: a part stands
-//! exactly where its folder was opened and locked, and its world made; what fails on the way is taken back; a part that
-//! waits is admitted, or refused and asked for again; a part that ends is dismissed, once. Below that trait is the system's own layer, `SystemParts`, which says nothing to contracts.
+//! service and its logger. Contracts see it as `Making` (specs/Making), over the small trait `PartSystem`: a part
+//! stands exactly where its folder was opened and locked, and its world made; what fails on the way is taken back; a
+//! part that waits is admitted, or refused and asked for again; a part that ends is dismissed, once. Below that trait
+//! is the system's own layer, `SystemParts`, which says nothing to contracts.
 //!
 //! What no contract here says, and is only tested: what the system does at each call, and that a lock is free once its
 //! folder is let go.

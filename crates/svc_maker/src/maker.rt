@@ -136,9 +136,9 @@ where
 
     type Outlets = PairOutlets;
 
-    /// A part stands exactly where its folder was opened and locked, and its world made; then it waits to be admitted to
-    /// the door. It begins as what an earlier svscan left in that folder says.
-    /// The children of a pair have its pipes, once `pair` made them for the slot.
+    /// A part stands exactly where its folder was opened and locked, and its world made; then it waits to be admitted
+    /// to the door. It begins as what an earlier svscan left in that folder says. The children of a pair have its
+    /// pipes, once `pair` made them for the slot.
     fn part(
         &mut self,
         name: &str,

@@ -71,8 +71,8 @@ impl<R> SystemParts<R>
 where
     R: Files + Net + Processes<Started = SystemProcess> + Wait + Clock + Copy + Drop,
 {
-    /// With a door at which parts are called, what looks after the processes that are adopted, and as many descriptors as
-    /// this process may have. Its shell for signals is started.
+    /// With a door at which parts are called, what looks after the processes that are adopted, and as many descriptors
+    /// as this process may have. Its shell for signals is started.
     pub fn new(
         runtime: R,
         files: HostRuntime,
@@ -144,8 +144,8 @@ where
         prepare_outputs(&self.runtime, &self.files, self.alloc, &folders)
     }
 
-    // Whether there are too few descriptors for the sockets of all that waits for them, and of one more part. The lowest
-    // free descriptor has as its number how many are taken at least.
+    // Whether there are too few descriptors for the sockets of all that waits for them, and of one more part. The
+    // lowest free descriptor has as its number how many are taken at least.
     fn lacks_descriptors(&self) -> io::Result<bool> {
         let lowest = u64::from(self.watch.try_clone()?.as_raw_fd().unsigned_abs());
         let sockets = SOCKETS.saturating_mul(self.waiting.saturating_add(1));

@@ -403,10 +403,10 @@ fn begin_and_run<R: Wait, K: ServiceSet, E: Write>(
 /// which ended without them, and `svscan: NAME: unable to write the trace` of one whose last trace is not whole;
 /// `svscan: NAME: TooMany` of each name that gets no service, `svscan: NAME: unable to lock` of each that another
 /// svscan has, and `svscan: NAME: unable to supervise: CAUSE` of each other one that a round could not begin, or that
-/// runs without its sockets, where CAUSE is what the C library says of it; `svscan: KIND` of another fault of the scan, which ends
-/// all services; `svscan: NAME: process PID still runs`, each five seconds, of what does not end; `svscan: NAME: N
-/// bytes were not logged`, of lines that did not reach their logger. Answers the status: 0; 111 after such a fault, and
-/// where another svscan has the folder; 100 for wrong words: then nothing is asked of the system.
+/// runs without its sockets, where CAUSE is what the C library says of it; `svscan: KIND` of another fault of the scan,
+/// which ends all services; `svscan: NAME: process PID still runs`, each five seconds, of what does not end; `svscan:
+/// NAME: N bytes were not logged`, of lines that did not reach their logger. Answers the status: 0; 111 after such a
+/// fault, and where another svscan has the folder; 100 for wrong words: then nothing is asked of the system.
 pub fn run_svscan<R: Wait, K: ServiceSet, E: Write>(
     rt: &R,
     services: &mut K,
