@@ -4,3 +4,4 @@ pub mod Goings
 pub mod Counting
 pub mod Putting
 mod Cutting
+mod Kept

@@ -6,3 +6,4 @@ pub mod Named
 pub mod Store
 pub mod Tails
 pub mod Laws
+pub mod Memory

@@ -4,11 +4,15 @@
 
 mod cut;
 mod laws;
+mod memory;
+mod memory_store;
 mod named;
 mod store;
 mod tail;
 
 pub use laws::steps_of_a_text;
+pub use memory::{LogFiles, OldFile};
+pub use memory_store::{Content, MemoryStore, StatusFile};
 pub use named::{label_in, later_of};
 pub use store::{LogStore, StoreFault};
 pub use tail::{LogFault, Tail};

@@ -8,6 +8,7 @@ use tai_status::{Label, read_text};
 const LABEL: usize = 25;
 
 // The bytes of a name in which a label may stand.
+#[tactic(auto, using(crate::proofs::Kept::short_name))]
 fn front(name: &[u8]) -> &[u8]
     ensures { result.now ≡ take 25 name.now }
 {

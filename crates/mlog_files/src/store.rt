@@ -11,8 +11,8 @@ use thiserror::Error;
 #[error("Store")]
 pub struct StoreFault;
 
-/// The files of logs, by the number of the log, status files, by their number, and where alerts go. A call that fails
-/// changed nothing. No call asks the system for a folder.
+/// The files of logs, by the number of the log, status files, by their number, and where alerts go: over folders, or in
+/// memory. A call that fails changed nothing. No call asks the system for a folder.
 pub trait LogStore {
     ghost use Rattle.std.specs.Prelude.{◌≡◌, ◌<◌, ◌∷◌, [], length, IfOk, IfSome, OnOk, OnErr};
     ghost use Rattle.mlog_files.specs.Files.{Finish, Remove};
