@@ -4,4 +4,4 @@
 pub(crate) const KIT: &str = "rattle-kit-13f logic dac8208d650f15bf";
 
 /// The sum of its sources, as packaging/source-sum says it.
-pub(crate) const SOURCE: &str = "2b3060f2b8c28ee05ef4e230a0c64fc5cde9babe1fc6b4cf7708ad1e96eff562";
+pub(crate) const SOURCE: &str = "748ac7f6ac77419d02896c7f25cd00b80428b1e77a1d7b92eaf03a45037295f3";
