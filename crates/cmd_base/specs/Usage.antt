@@ -1,15 +1,17 @@
 -- What a command reports of wrong words.
-use Rattle.std.specs.Prelude.{◌≡◌, ℕ, List, [], ◌∷◌, ◌++◌, codes}
+use Rattle.std.specs.Prelude.{◌≡◌, ℕ, List, ◌∷◌, ◌++◌, codes}
 use Rattle.tai_status.specs.Counted.{Reports}
 use Rattle.cmd_base.specs.Console.{Console}
+use Rattle.cmd_base.specs.Pages.{page}
+use Rattle.cmd_base.specs.declared.command.Command.{Command}
 
--- what is reported of wrong words
-abbrev pub usage_text : List ℕ
-usage_text = codes "dtools: usage" ++ 10 ∷ []
+-- what is reported of words that a command does not take: a line that is the same for each, and the page of the command
+abbrev pub usage_text : Command → List ℕ
+usage_text command = codes "dtools: usage" ++ 10 ∷ page command
 
--- Words are wrong: nothing is read or written, the usage is reported, and the status is 100.
-pub record RefusesWords (status : ℕ) (old new : Console) : Type 0 where
+-- Words are wrong: nothing is read or written, the usage of the command is reported, and the status is 100.
+pub record RefusesWords (command : Command) (status : ℕ) (old new : Console) : Type 0 where
   pub status_is : status ≡ 100
   pub unread : new.reader ≡ old.reader
   pub unwritten : new.writer ≡ old.writer
-  pub reported : Reports old.faults new.faults usage_text
+  pub reported : Reports old.faults new.faults (usage_text command)

@@ -1,17 +1,20 @@
-//! What every command stands on: how it reports a fault and with which status it ends, the files that it
-//! reads, the status file of a service among them, and the system's clock.
+//! What every command uses: the table of the commands with their pages, how a command reports a fault and with which
+//! status it exits, the files that it reads (a service's status file among them), and the system's clock.
 #![tactic(auto)]
 
-mod cause;
 mod clock;
+mod command;
 mod files;
+mod pages;
 mod reporting;
 mod status;
 
-pub use cause::Cause;
 pub use clock::SystemClock;
+pub use command::Command;
 pub use files::FileSource;
+pub use pages::page_of;
 pub use reporting::{
-    DONE, REFUSED, TROUBLE, print_fault, push_number, report, report_parts, usage,
+    DONE, REFUSED, TROUBLE, cause_note, print_fault, push_number, report, report_device,
+    report_parts, usage,
 };
 pub use status::{StatusFront, path_by_descriptor, read_status_front};

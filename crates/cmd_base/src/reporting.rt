@@ -1,13 +1,16 @@
 //! How a command reports its faults, and with which status it ends.
 ghost use Rattle.std.specs.Prelude.{◌≡◌, ◌+◌, ◌≤◌, ◌++◌, decimal, OnOk, OnErr};
 ghost use Rattle.arrayvec.specs.ArrayString.{array_string_len};
-ghost use Rattle.tai_status.specs.Counted.{Fails, Reports, Wrote, WroteFront};
+ghost use Rattle.tai_status.specs.Causes.{cause_note};
+ghost use Rattle.tai_status.specs.Counted.{Fails, Reports, Wrote, WroteFront, device_note};
 ghost use Rattle.cmd_base.specs.Usage.{usage_text};
 
+use crate::command::Command;
+use crate::pages::page_of;
 use arrayvec::ArrayString;
 use itoa::Buffer;
 use std::io::Write;
-use tai_status::{Block, DeviceFault, Output};
+use tai_status::{Block, Cause, DeviceFault, Output};
 
 /// The status of a command that did what it was asked.
 pub const DONE: u8 = 0;
@@ -15,10 +18,10 @@ pub const DONE: u8 = 0;
 /// The status of wrong words, and of input that is refused.
 pub const REFUSED: u8 = 100;
 
-/// The status of trouble: want of memory, or a fault of a device or a file.
+/// The status of trouble: out of memory, or a fault of a device or a file.
 pub const TROUBLE: u8 = 111;
 
-/// Prints a text where faults go. That the fault writer failed is passed over.
+/// Prints a text where faults go. A fault of that writer is ignored.
 pub fn print_fault<E: Write>(faults: &mut Output<E>, text: &[u8])
     ensures { Reports faults.old faults.new text.now }
 {
@@ -28,7 +31,7 @@ pub fn print_fault<E: Write>(faults: &mut Output<E>, text: &[u8])
     }
 }
 
-/// Reports a fault, and answers the status of that.
+/// Reports a fault, and returns its status.
 pub fn report<E: Write>(faults: &mut Output<E>, text: &[u8], status: u8) -> u8
     ensures status { result ≡ status }
     ensures reported { Reports faults.old faults.new text.now }
@@ -37,8 +40,8 @@ pub fn report<E: Write>(faults: &mut Output<E>, text: &[u8], status: u8) -> u8
     status
 }
 
-/// Reports a fault in three parts, as one write where they are short, and answers the status of that.
-/// That the fault writer failed is passed over.
+/// Reports a fault in three parts, as one write if they are short, and returns its status. A fault of that writer is
+/// ignored.
 pub fn report_parts<E: Write>(
     faults: &mut Output<E>,
     first: &[u8],
@@ -73,12 +76,50 @@ fn write_parts<W: Write>(
     line.flush(writer)
 }
 
-/// Reports that the words are wrong, and answers the status of that.
-pub fn usage<E: Write>(faults: &mut Output<E>) -> u8
-    ensures status { result ≡ 100 }
-    ensures reported { Reports faults.old faults.new usage_text }
+/// The end of a line that says why something was refused: `: `, the words of the cause, and the newline.
+pub fn cause_note(cause: Cause) -> ArrayString<64>
+    ensures { result.bytes ≡ cause_note cause }
 {
-    report(faults, b"dtools: usage\n", REFUSED)
+    let mut note = ArrayString::new();
+    note.push_str(": ");
+    note.push_str(cause.words());
+    note.push_str("\n");
+    note
+}
+
+/// The end of a line that says that a device failed.
+fn device_note(cause: Option<Cause>) -> ArrayString<64>
+    ensures { result.bytes ≡ device_note cause }
+{
+    if let Some(cause) = cause {
+        return cause_note(cause);
+    }
+    let mut note = ArrayString::new();
+    note.push_str("\n");
+    note
+}
+
+/// Reports that a device failed, with the cause of its last fault, and returns the status of that. The name of the
+/// command comes with its `: `.
+pub fn report_device<E: Write>(
+    faults: &mut Output<E>,
+    command: &[u8],
+    what: &[u8],
+    cause: Option<Cause>,
+) -> u8
+    ensures status { result ≡ 111 }
+    ensures reported { Reports faults.old faults.new (command.now ++ (what.now ++ device_note cause)) }
+{
+    let note = device_note(cause);
+    report_parts(faults, command, what, note.as_bytes(), TROUBLE)
+}
+
+/// Reports that a command does not take these words, with its page, and returns the status of that.
+pub fn usage<E: Write>(faults: &mut Output<E>, command: Command) -> u8
+    ensures status { result ≡ 100 }
+    ensures reported { Reports faults.old faults.new (usage_text command) }
+{
+    report_parts(faults, b"dtools: usage", b"\n", page_of(command), REFUSED)
 }
 
 /// Writes a number at the end of a text.

@@ -14,12 +14,8 @@ use Rattle.env_title.specs.declared.fault.EnvFault.TheVariants as why
 use Rattle.env_title.proofs.Faulty.{never_memory}
 use Rattle.cmd_envdir.specs.declared.fault.EnvdirFault.{EnvdirFault}
 use Rattle.cmd_envdir.specs.declared.fault.EnvdirFault.TheVariants as fault
-use Rattle.std.specs.IoError.{error_kind}
-use Rattle.std.specs.declared.io.Error.{Error}
-use Rattle.std.specs.declared.io.ErrorKind.{ErrorKind}
-use Rattle.cmd_base.specs.Known.{IsKnown, IsMissed}
-use Rattle.cmd_envdir.specs.Child.{said_of, AreInByteOrder}
-use Rattle.cmd_envdir.specs.Ends.{name_of, starved, IsFirstFault, IsWhyUnread, WasRead}
+use Rattle.cmd_envdir.specs.Child.{said_of, AreInByteOrder, IsBeforeStart, IsOfStart}
+use Rattle.cmd_envdir.specs.Ends.{starved, IsFirstFault}
 use Rattle.cmd_envdir.specs.Sayings.{said_after_files, said_after_set}
 
 -- that a variable is taken away
@@ -59,7 +55,7 @@ taken_further files i file before after all within is taken others so name =
     ∙ ap (λ rest. said_after_files rest name (before name)) (sym (cut files i file within is))
     ∙ so name
 
-bytes_eq-sym : (xs ys : List ℕ) → bytes_eq xs ys ≡ bytes_eq ys xs
+pub bytes_eq-sym : (xs ys : List ℕ) → bytes_eq xs ys ≡ bytes_eq ys xs
 bytes_eq-sym xs ys =
     elim (bytes_eq xs ys) as (λ b. bytes_eq xs ys ≡ b → b ≡ bytes_eq ys xs) [
       | true ↦ λ same. sym ((bytes_eq-Decides ys xs).1 (sym ((bytes_eq-Decides xs ys).0 same)))
@@ -159,16 +155,14 @@ pub starved_first : (files : List File) (reported : EnvdirFault) → reported �
 starved_first files reported is =
     subst (λ (w : EnvdirFault). IsFirstFault w files) (sym is) (starved_at files (first_fault files) refl)
 
-starved_by : (o : Option EnvFault) → (starved o ≢ fault.Unread) × (starved o ≢ fault.NotRun)
-starved_by None = (λ e. cc e, λ e. cc e)
-starved_by (Some (why.NameHasEquals place)) = (λ e. cc e, λ e. cc e)
-starved_by (Some (why.NotText place)) = (λ e. cc e, λ e. cc e)
-starved_by (Some why.OutOfMemory) = (λ e. cc e, λ e. cc e)
+starved_by : (o : Option EnvFault) → IsBeforeStart (starved o)
+starved_by None = tt
+starved_by (Some (why.NameHasEquals place)) = tt
+starved_by (Some (why.NotText place)) = tt
+starved_by (Some why.OutOfMemory) = tt
 
-pub starved_neither : (reported : EnvdirFault) (o : Option EnvFault) → reported ≡ starved o
-    → (reported ≢ fault.Unread) × (reported ≢ fault.NotRun)
-starved_neither reported o is =
-    subst (λ (w : EnvdirFault). (w ≢ fault.Unread) × (w ≢ fault.NotRun)) (sym is) (starved_by o)
+pub starved_before : (reported : EnvdirFault) (o : Option EnvFault) → reported ≡ starved o → IsBeforeStart reported
+starved_before reported o is = subst (λ (w : EnvdirFault). IsBeforeStart w) (sym is) (starved_by o)
 
 -- Memory is wanted only where no file has a fault.
 pub wanted : {T : Type 0} (files : List File) (r : Result T EnvFault)
@@ -183,47 +177,13 @@ wanted {T} files r refuses is =
           absurd (never_memory files (bad ∙ ap {B = Option EnvFault} (λ (w : EnvFault). Some w) (sym same)))
     ] refl refuses
 
--- a fault that is of no file
-pub of_no_file : (error : Error) (cause : EnvdirFault) → IsWhyUnread error cause
-    → IsFirstFault cause [] × (name_of cause [] ≡ []) × (cause ≢ fault.NotRun)
-of_no_file error fault.OutOfMemory h = (refl, refl, λ e. cc e)
-of_no_file error fault.Unread h = (tt, refl, λ e. cc e)
-of_no_file error fault.NotRun (inl h) = cc h.1
-of_no_file error fault.NotRun (inr h) = cc h.1
-of_no_file error (fault.NameHasEquals place) (inl h) = cc h.1
-of_no_file error (fault.NameHasEquals place) (inr h) = cc h.1
-of_no_file error (fault.NotText place) (inl h) = cc h.1
-of_no_file error (fault.NotText place) (inr h) = cc h.1
-
--- Folders
-
--- a folder that is not read
-pub not_read : (error : Error) (cause : EnvdirFault) (folder : Option (List File)) (fails : Option ErrorKind)
-    (files : List File)
-    → IsWhyUnread error cause → IsMissed error folder → IsKnown fails (error_kind error)
-    → WasRead cause folder fails files
-not_read error fault.OutOfMemory folder None files why missed known = tt
-not_read error fault.OutOfMemory folder (Some kind) files (inl h) missed known = sym known ∙ h.0
-not_read error fault.OutOfMemory folder (Some kind) files (inr h) missed known = cc h.1
-not_read error fault.Unread folder fails files (inl h) missed known = cc h.1
-not_read error fault.Unread folder None files (inr h) missed known = (missed h.0, tt)
-not_read error fault.Unread folder (Some kind) files (inr h) missed known = (missed h.0, λ is. h.0 (known ∙ is))
-not_read error fault.NotRun folder fails files (inl h) missed known = cc h.1
-not_read error fault.NotRun folder fails files (inr h) missed known = cc h.1
-not_read error (fault.NameHasEquals place) folder fails files (inl h) missed known = cc h.1
-not_read error (fault.NameHasEquals place) folder fails files (inr h) missed known = cc h.1
-not_read error (fault.NotText place) folder fails files (inl h) missed known = cc h.1
-not_read error (fault.NotText place) folder fails files (inr h) missed known = cc h.1
-
--- a folder that is read
-pub is_read : (cause : EnvdirFault) (folder : Option (List File)) (fails : Option ErrorKind) (files : List File)
-    → cause ≢ fault.Unread → IsKnown folder files → fails ≡ None → WasRead cause folder fails files
-is_read fault.Unread folder fails files readable known whole = absurd (readable refl)
-is_read fault.OutOfMemory folder None files readable known whole = tt
-is_read fault.OutOfMemory folder (Some kind) files readable known whole = cc whole
-is_read fault.NotRun folder fails files readable known whole = known
-is_read (fault.NameHasEquals place) folder fails files readable known whole = known
-is_read (fault.NotText place) folder fails files readable known whole = known
+-- a fault of a start is the first of files that have none
+pub start_first : (files : List File) (reported : EnvdirFault) → IsOfStart reported → first_fault files ≡ None
+    → IsFirstFault reported files
+start_first files fault.OutOfMemory of_start good = good
+start_first files (fault.NotRun cause) of_start good = good
+start_first files (fault.NameHasEquals place) of_start good = absurd of_start
+start_first files (fault.NotText place) of_start good = absurd of_start
 
 -- Names
 

@@ -1,5 +1,5 @@
 pub mod Children
 pub mod Quoting
-pub mod Making
 pub mod Puts
 pub mod Listing
+pub mod Making

@@ -1,23 +1,24 @@
 -- The child of `envdir`: what it is started with, and its status
 -- (by the envdir page of daemontools, cr.yp.to/daemontools/envdir.html).
-use Rattle.std.specs.Prelude.{◌≡◌, ◌⊎◌, ℕ, ℤ, pos, Bool, true, false, List, [], ◌∷◌, Option, Some, None}
+use Rattle.std.specs.Prelude.{◌≡◌, ◌⊎◌, ⊤, ℕ, ℤ, pos, Bool, true, false, List, [], ◌∷◌, Option, Some, None}
 use Rattle.std.specs.Prelude.{MatchResult}
 use Rattle.std.specs.Prelude.{IsSorted}
 use Rattle.std.specs.Cmp.Lexicographic.{slice_cmp}
 use Rattle.std.specs.Ordering.{nat_cmp}
 use Rattle.std.specs.Process.{exit_code}
-use Rattle.std.specs.IoError.{error_kind}
+use Rattle.std.specs.IoError.{error_kind, raw_os_error}
 use Rattle.std.specs.declared.io.Error.{Error}
 use Rattle.std.specs.declared.io.ErrorKind.TheVariants.{OutOfMemory}
 use Rattle.std.specs.Prelude.{◌≢◌}
 use Rattle.env_title.specs.Env.{Binding, value_of}
 use Rattle.env_title.specs.Files.{File, has_file}
 use Rattle.cmd_envdir.specs.System.{Child, Start, Launch}
+use Rattle.tai_status.specs.Causes.{cause_of}
 use Rattle.tai_status.specs.Extended.{Extended}
 use Rattle.cmd_envdir.specs.declared.fault.EnvdirFault.{EnvdirFault}
 use Rattle.cmd_envdir.specs.declared.fault.EnvdirFault.TheVariants as fault
 
--- Names stand in byte order: none is less than the one before it.
+-- Names are in byte order: none is less than the one before it.
 abbrev pub AreInByteOrder : List (List ℕ) → Type 0
 AreInByteOrder names = IsSorted (slice_cmp nat_cmp) names
 
@@ -41,10 +42,24 @@ status_of_child None = 111
 status_of_child (Some (pos code)) = code
 status_of_child (Some _) = 111
 
--- why a child could not be started: there was no memory, or it can't be run
+-- why a child could not be started: it is out of memory, or the child can't be run, for the cause that the error names
 pub record IsCauseOf (error : Error) (cause : EnvdirFault) : Type 0 where
   pub memory : error_kind error ≡ OutOfMemory → cause ≡ fault.OutOfMemory
-  pub other : error_kind error ≢ OutOfMemory → cause ≡ fault.NotRun
+  pub other : error_kind error ≢ OutOfMemory → cause ≡ fault.NotRun (cause_of (raw_os_error error) (error_kind error))
+
+-- A fault that comes when a command is handed over, and so is of no file.
+abbrev pub IsOfStart : EnvdirFault → Type 0
+IsOfStart fault.OutOfMemory = ⊤
+IsOfStart (fault.NotRun cause) = ⊤
+IsOfStart (fault.NameHasEquals place) = ⊥
+IsOfStart (fault.NotText place) = ⊥
+
+-- A fault that comes before a command is handed over.
+abbrev pub IsBeforeStart : EnvdirFault → Type 0
+IsBeforeStart fault.OutOfMemory = ⊤
+IsBeforeStart (fault.NotRun cause) = ⊥
+IsBeforeStart (fault.NameHasEquals place) = ⊤
+IsBeforeStart (fault.NotText place) = ⊤
 
 -- One command was handed over, the one that starts this child in this environment. The child was started and ended with
 -- this status.
@@ -63,7 +78,7 @@ pub record FailsToStart (past now : Option (List Launch)) (child : Child) (files
   pub start : StartsChild launch.start child files env
   pub failed : MatchResult launch.ended (λ ended. ⊥) (λ error. IsCauseOf error cause)
 
--- The child was not started, for this cause: there was no memory for the command, or it failed.
+-- The child was not started, for this cause: it is out of memory for the command, or the command failed.
 abbrev pub StartsNone : (past now : Option (List Launch)) (child : Child) (files : List File) (env : List Binding)
     (cause : EnvdirFault) → Type 0
 StartsNone past now child files env cause =

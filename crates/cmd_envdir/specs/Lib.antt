@@ -2,7 +2,8 @@ pub mod System
 pub mod Listing
 pub mod Child
 pub mod Shell
-pub mod Words
+pub mod Script
+pub mod Names
 pub mod Quoting
 pub mod Ends
 pub mod Sayings

@@ -1,6 +1,6 @@
 -- What `envdir` reads of the system, and the commands that it hands over.
-use Rattle.std.specs.Prelude.{ℕ, nat_lt, ◌==◌, ◌&&◌, Bool, if◌then◌else◌, List, ◌∷◌, ◌++◌, length, All, map}
-use Rattle.std.specs.Prelude.{Option, None, Result}
+use Rattle.std.specs.Prelude.{◌≡◌, ◌≢◌, ℕ, nat_lt, ◌==◌, ◌&&◌, Bool, if◌then◌else◌, List, ◌∷◌, ◌++◌, length, All, map}
+use Rattle.std.specs.Prelude.{Option, Some, None, IfSome, Result}
 use Rattle.std.specs.List.{position_or_len, before_first, after_first}
 use Rattle.std.specs.Str.{is_utf8}
 use Rattle.std.specs.Borrow.{Bor}
@@ -8,22 +8,44 @@ use Rattle.std.specs.Process.{command_program, command_args, command_var, clears
 use Rattle.std.specs.declared.process.command.Command.{Command}
 use Rattle.std.specs.declared.process.status.ExitStatus.{ExitStatus}
 use Rattle.std.specs.declared.io.Error.{Error}
-use Rattle.std.specs.declared.io.ErrorKind.{ErrorKind}
 use Rattle.env_title.specs.Env.{Binding, put}
 use Rattle.env_title.specs.Files.{File}
 use Rattle.tai_status.specs.Counted.{Device}
+use Rattle.tai_status.specs.declared.cause.Cause.{Cause}
+use Rattle.tai_status.specs.declared.cause.Cause.TheVariants as cause
 use Rattle.cmd_base.specs.Known.{IsKnown}
 
--- The files of each folder, with what kind of error a read of one fails, and the variables of the process, where they
--- are known.
+-- Why a folder is not read: the path of the file that can't be read, or none if it is the folder itself; and the cause.
+pub record Unread : Type 0 where
+  pub file : Option (List ℕ)
+  pub cause : Cause
+
+-- the path that can't be read
+abbrev pub unread_path : (dir : List ℕ) (file : Option (List ℕ)) → List ℕ
+unread_path dir None = dir
+unread_path dir (Some path) = path
+
+-- It is out of memory, or what is not read is not known to be there.
+abbrev pub IsUnread : {X : Type 0} → Unread → (known : Option X) → Type 0
+IsUnread unread known = unread.cause ≢ cause.NoMemory → known ≡ None
+
+-- The path of a file that can't be read is the one of a name in the folder, and what the file holds is not known; or it
+-- is out of memory.
+abbrev pub NamesFile : (file_at : List ℕ → Option (List ℕ)) (dir : List ℕ) → Unread → Type 0
+NamesFile file_at dir unread =
+    IfSome unread.file (λ path. ((name : List ℕ) × (path ≡ dir ++ 47 ∷ name)) × IsUnread unread (file_at path))
+
+-- The files of each folder, the fault with which a read of one fails, the variables of the process, and those that
+-- another process was given, by the path of the file that has them, if they are known.
 pub record SystemState : Type 0 where
   pub folder : List ℕ → Option (List File)
-  pub folder_fault : List ℕ → Option ErrorKind
+  pub folder_fault : List ℕ → Option Unread
   pub variables : Option (List Binding)
+  pub given : List ℕ → Option (List Binding)
 
 -- Nothing of it is known.
 abbrev pub unknown_state : SystemState
-unknown_state = record { folder = λ dir. None; folder_fault = λ dir. None; variables = None }
+unknown_state = record { folder = λ dir. None; folder_fault = λ dir. None; variables = None; given = λ path. None }
 
 -- Each of these files of a folder has the bytes of the file at its path, where those are known.
 abbrev pub AreHeld : (file_at : List ℕ → Option (List ℕ)) (dir : List ℕ) → List File → Type 0

@@ -1,9 +1,9 @@
 //! The child of `envdir`.
-ghost use Rattle.std.specs.Prelude.{◌≡◌, ◌⊎◌, ◌++◌, ◌∷◌, [], ℕ, List, false, IfOk, IfErr, OnOk};
+ghost use Rattle.std.specs.Prelude.{◌≡◌, ◌++◌, ◌∷◌, [], ℕ, List, false, IfOk, IfErr, OnOk};
 ghost use Rattle.std.specs.Process.{command_args, command_program, command_var, clears_env, exit_code, SameEnv};
 ghost use Rattle.std.specs.Process.{SameProgramAndArgs};
 ghost use Rattle.cmd_envdir.specs.System.{start_of, texts};
-ghost use Rattle.cmd_envdir.specs.Child.{IsCauseOf, StartsChild, StartsNone, StartsOne, status_of_child};
+ghost use Rattle.cmd_envdir.specs.Child.{IsCauseOf, IsOfStart, StartsChild, StartsNone, StartsOne, status_of_child};
 ghost use Rattle.cmd_envdir.specs.Sayings.{said_after_files, said_after_set};
 
 use crate::fault::EnvdirFault;
@@ -14,6 +14,7 @@ use std::alloc::{AllocError, Allocator};
 use std::io::{Error, ErrorKind};
 use std::marker::Model;
 use std::process::{Command, ExitStatus};
+use tai_status::Cause;
 
 /// A program and its arguments.
 #[derive(Drop)]
@@ -110,7 +111,7 @@ fn child_command<A: Allocator + Clone>(
     Ok(command)
 }
 
-/// The status that says how a child ended: its exit status, or 111 where a signal ended it.
+/// The status that says how a child ended: its exit status, or 111 if a signal ended it.
 fn child_status(status: ExitStatus) -> u8
     ensures { result ≡ status_of_child (exit_code status) }
 {
@@ -120,19 +121,19 @@ fn child_status(status: ExitStatus) -> u8
     }
 }
 
-/// Why a command could not be started.
+/// Why a command could not be started. The system's cause is kept.
 fn start_fault(error: Error) -> EnvdirFault
     ensures cause { IsCauseOf error result }
-    ensures either { (result ≡ EnvdirFault.OutOfMemory) ⊎ (result ≡ EnvdirFault.NotRun) }
+    ensures of_start { IsOfStart result }
 {
     if error.kind() == ErrorKind::OutOfMemory {
         return EnvdirFault::OutOfMemory;
     }
-    EnvdirFault::NotRun
+    EnvdirFault::NotRun(Cause::of(&error))
 }
 
 /// Starts a program with arguments, in an environment that files have made, and waits for its end.
-/// Answers its status, or 111 where a signal ended it. The program is sought in the `PATH` of that
+/// Returns its status, or 111 if a signal ended it. The program is sought in the `PATH` of that
 /// environment.
 pub fn run_child<L: Launcher, A: Allocator + Clone>(
     launcher: &mut L,
@@ -145,7 +146,7 @@ pub fn run_child<L: Launcher, A: Allocator + Clone>(
         program.now files.now variables.now status) }
     ensures none { IfErr result (λ cause. StartsNone (L.calls launcher.old) (L.calls launcher.new)
         program.now files.now variables.now cause) }
-    ensures either { IfErr result (λ cause. (cause ≡ EnvdirFault.OutOfMemory) ⊎ (cause ≡ EnvdirFault.NotRun)) }
+    ensures of_start { IfErr result (λ cause. IsOfStart cause) }
 {
     let Ok(mut command) = child_command(alloc, program, files, variables) else {
         return Err(EnvdirFault::OutOfMemory);

@@ -1,45 +1,42 @@
 //! The command `envdir`.
-ghost use Rattle.std.specs.Prelude.{◌≡◌, ◌≢◌, ◌<◌, ◌⊎◌, None, length, IsOk, IfOk, IfErr};
+ghost use Rattle.std.specs.Prelude.{◌≡◌, ◌++◌, ◌<◌, None, length, option_copied, IsOk, IfOk, IfErr};
+ghost use Rattle.cmd_base.specs.Known.{IsKnown};
 ghost use Rattle.env_title.specs.Files.{env_after};
 ghost use Rattle.env_title.specs.Faults.{first_fault};
+ghost use Rattle.tai_status.specs.Causes.{cause_note};
 ghost use Rattle.tai_status.specs.Counted.{Reports};
 ghost use Rattle.cmd_envdir.specs.System.{outputs, texts};
-ghost use Rattle.cmd_envdir.specs.Words.{ReadsAsWordsOf};
+ghost use Rattle.cmd_envdir.specs.Script.{ReadsAsScriptOf};
+ghost use Rattle.cmd_envdir.specs.Child.{IsBeforeStart};
 ghost use Rattle.cmd_envdir.specs.Ends.{AskedEnds, ChildEnds, EndsWriting, EnvdirStarts, EnvdirWrites, HasNoChild};
 ghost use Rattle.cmd_envdir.specs.Ends.{
   IsChangedBy,
   IsFirstFault,
-  IsWhyUnread,
+  IsScriptFor,
+  ReportsUnread,
   RunsChild,
-  WordsEnd,
+  ScriptEnds,
   envdir_report,
+  given_by,
+  memory_report,
   name_of,
   starved,
+  unwritten_report,
 };
 
 use crate::child::{Program, run_child};
 use crate::env_system::EnvSystem;
-use crate::fault::EnvdirFault;
+use crate::fault::{EnvdirFault, FolderFault};
 use crate::folder::{FolderFile, env_files, fault_in, name_at};
 use crate::launcher::Launcher;
-use crate::words::shell_text;
-use cmd_base::{DONE, TROUBLE, report, report_parts, usage};
+use crate::script::shell_text;
+use cmd_base::{Command, DONE, TROUBLE, cause_note, report, report_device, report_parts, usage};
 use env_title::{Env, EnvFault, EnvFile, apply, first_fault};
-use std::alloc::Allocator;
-use std::io::{Error, ErrorKind, Write};
-use tai_status::Output;
+use std::alloc::{AllocError, Allocator};
+use std::io::Write;
+use tai_status::{Cause, Output};
 
-/// Why a folder is not read. Memory is wanted only where its error says so.
-fn fault_of(error: Error) -> EnvdirFault
-    ensures { IsWhyUnread error result }
-{
-    if error.kind() == ErrorKind::OutOfMemory {
-        return EnvdirFault::OutOfMemory;
-    }
-    EnvdirFault::Unread
-}
-
-/// What is reported where there is no memory: what is wrong with the first file that can't be applied, where one can't.
+/// What is reported if it is out of memory: what is wrong with the first file that can't be applied, if there is one.
 fn starved(first: Option<EnvFault>) -> EnvdirFault
     ensures { result ≡ starved first }
 {
@@ -59,7 +56,7 @@ fn applied<A: Allocator + Clone>(
     ensures ok { IfOk result (λ after. after ≡ env_after files.now before.now) }
     ensures good { IsOk result → first_fault files.now ≡ None }
     ensures first { IfErr result (λ why. IsFirstFault why files.now) }
-    ensures neither { IfErr result (λ why. (why ≢ EnvdirFault.Unread) × (why ≢ EnvdirFault.NotRun)) }
+    ensures before { IfErr result (λ why. IsBeforeStart why) }
 {
     let Ok(own) = alloc.clone() else {
         return Err(starved(first_fault(files)));
@@ -80,7 +77,7 @@ fn changed_env<R: EnvSystem, A: Allocator + Clone>(
 ) -> Result<Env<A>, EnvdirFault>
     ensures ok { IfOk result (λ after. IsChangedBy files.now (R.state rt.now) after) }
     ensures first { IfErr result (λ why. IsFirstFault why files.now) }
-    ensures neither { IfErr result (λ why. (why ≢ EnvdirFault.Unread) × (why ≢ EnvdirFault.NotRun)) }
+    ensures before { IfErr result (λ why. IsBeforeStart why) }
 {
     match rt.variables(alloc) {
         Ok(before) => applied(alloc, files, &before),
@@ -88,7 +85,7 @@ fn changed_env<R: EnvSystem, A: Allocator + Clone>(
     }
 }
 
-/// Runs a child in the environment that the files of a folder make of this one. Answers its status.
+/// Runs a child in the environment that the files of a folder make of this one. Returns its status.
 fn run_with<R: EnvSystem, L: Launcher, A: Allocator + Clone>(
     rt: &R,
     launcher: &mut L,
@@ -101,7 +98,6 @@ fn run_with<R: EnvSystem, L: Launcher, A: Allocator + Clone>(
     ensures none { IfErr result (λ why. HasNoChild (R.state rt.now) (L.calls launcher.old) (L.calls launcher.new)
         program.now folder.now why) }
     ensures first { IfErr result (λ why. IsFirstFault why folder.now) }
-    ensures read { IfErr result (λ why. why ≢ EnvdirFault.Unread) }
 {
     let Ok(files) = env_files(alloc, folder) else {
         return Err(starved(fault_in(folder)));
@@ -116,29 +112,66 @@ fn run_with<R: EnvSystem, L: Launcher, A: Allocator + Clone>(
     }
 }
 
-/// The words by which `env` makes the environment of the files of a folder, as a shell reads them.
-fn folder_words<A: Allocator + Clone>(
+/// The commands by which a shell that was given these variables makes the environment of the files of a folder, and
+/// runs these words.
+fn script_over<A: Allocator + Clone>(
     alloc: &A,
     folder: &[FolderFile<A>],
+    before: &Env<A>,
+    program: &[&str],
 ) -> Result<Vec<u8, A>, EnvdirFault>
-    ensures ok { IfOk result (λ text. ReadsAsWordsOf folder.now text.items) }
+    ensures ok { IfOk result (λ text. ReadsAsScriptOf folder.now before.now (texts program.now) text.items) }
     ensures good { IsOk result → first_fault folder.now ≡ None }
     ensures first { IfErr result (λ why. IsFirstFault why folder.now) }
-    ensures neither { IfErr result (λ why. (why ≢ EnvdirFault.Unread) × (why ≢ EnvdirFault.NotRun)) }
+    ensures before { IfErr result (λ why. IsBeforeStart why) }
 {
     let Ok(files) = env_files(alloc, folder) else {
         return Err(starved(fault_in(folder)));
     };
-    let Ok(own) = alloc.clone() else {
-        return Err(starved(fault_in(folder)));
-    };
-    match applied(alloc, &files, &Env::new(own)) {
-        Ok(set) => shell_text(alloc, &files, &set).map_err(|_| EnvdirFault::OutOfMemory),
+    match applied(alloc, &files, before) {
+        Ok(after) => {
+            shell_text(alloc, &files, &after, program).map_err(|_| EnvdirFault::OutOfMemory)
+        }
         Err(fault) => Err(fault),
     }
 }
 
-/// The name of the file that is refused, empty where none is.
+/// The variables of this process, or those in the file at a path.
+fn variables_of<R: EnvSystem, A: Allocator + Clone>(
+    rt: &R,
+    alloc: &A,
+    path: Option<&str>,
+) -> Result<Env<A>, AllocError>
+    ensures known { IfOk result (λ variables. IsKnown
+        (given_by (R.state rt.now) (option_copied path.entry)) variables) }
+{
+    match path {
+        Some(path) => rt.given_variables(alloc, path),
+        None => rt.variables(alloc),
+    }
+}
+
+/// The commands over those variables.
+fn folder_script<R: EnvSystem, A: Allocator + Clone>(
+    rt: &R,
+    alloc: &A,
+    folder: &[FolderFile<A>],
+    path: Option<&str>,
+    program: &[&str],
+) -> Result<Vec<u8, A>, EnvdirFault>
+    ensures ok { IfOk result (λ text. IsScriptFor (R.state rt.now) (option_copied path.entry)
+        folder.now (texts program.now) text.items) }
+    ensures good { IsOk result → first_fault folder.now ≡ None }
+    ensures first { IfErr result (λ why. IsFirstFault why folder.now) }
+    ensures before { IfErr result (λ why. IsBeforeStart why) }
+{
+    match variables_of(rt, alloc, path) {
+        Ok(before) => script_over(alloc, folder, &before, program),
+        Err(_) => Err(starved(fault_in(folder))),
+    }
+}
+
+/// The name of the file that is refused, empty if none is.
 fn refused_name<A: Allocator>(fault: EnvdirFault, folder: &[FolderFile<A>]) -> &str
     ensures { result.now ≡ name_of fault folder.now }
 {
@@ -148,33 +181,53 @@ fn refused_name<A: Allocator>(fault: EnvdirFault, folder: &[FolderFile<A>]) -> &
     }
 }
 
-/// Reports a fault, and answers its status.
+/// Reports that it is out of memory, and returns the status of that.
+fn report_memory<E: Write>(faults: &mut Output<E>) -> u8
+    ensures status { result ≡ 111 }
+    ensures reported { Reports faults.old faults.new memory_report }
+{
+    report(faults, b"envdir: OutOfMemory\n", TROUBLE)
+}
+
+/// Reports what can't be done with something of this name, and why, and returns the status of that.
+fn report_unable<E: Write>(what: &[u8], name: &str, cause: Cause, faults: &mut Output<E>) -> u8
+    ensures status { result ≡ 111 }
+    ensures reported { Reports faults.old faults.new (what.now ++ (name.now ++ cause_note cause)) }
+{
+    let note = cause_note(cause);
+    report_parts(faults, what, name.as_bytes(), note.as_bytes(), TROUBLE)
+}
+
+/// Reports why a folder is not read, and returns the status of that.
+fn report_unread<A: Allocator, E: Write>(
+    unread: &FolderFault<A>,
+    dir: &str,
+    faults: &mut Output<E>,
+) -> u8
+    ensures status { result ≡ 111 }
+    ensures reported { ReportsUnread dir.now unread.now faults.old faults.new }
+{
+    let cause = unread.cause();
+    if cause == Cause::NoMemory {
+        return report_memory(faults);
+    }
+    report_unable(b"envdir: unable to read ", unread.path(dir), cause, faults)
+}
+
+/// Reports why the files of a folder do nothing, and returns the status of that.
 fn report_fault<E: Write>(
     fault: EnvdirFault,
-    dir: &str,
     program: &str,
     name: &str,
     faults: &mut Output<E>,
 ) -> u8
     ensures status { result ≡ 111 }
-    ensures reported { Reports faults.old faults.new
-        (envdir_report dir.now program.now name.now fault) }
+    ensures reported { Reports faults.old faults.new (envdir_report program.now name.now fault) }
 {
     match fault {
-        EnvdirFault::Unread => report_parts(
-            faults,
-            b"envdir: unable to read ",
-            dir.as_bytes(),
-            b"\n",
-            TROUBLE,
-        ),
-        EnvdirFault::NotRun => report_parts(
-            faults,
-            b"envdir: unable to run ",
-            program.as_bytes(),
-            b"\n",
-            TROUBLE,
-        ),
+        EnvdirFault::NotRun(cause) => {
+            report_unable(b"envdir: unable to run ", program, cause, faults)
+        }
         EnvdirFault::NameHasEquals(_) => report_parts(
             faults,
             b"envdir: ",
@@ -191,11 +244,11 @@ fn report_fault<E: Write>(
                 TROUBLE,
             )
         }
-        EnvdirFault::OutOfMemory => report(faults, b"envdir: OutOfMemory\n", TROUBLE),
+        EnvdirFault::OutOfMemory => report_memory(faults),
     }
 }
 
-/// Runs a program in the environment that the files of a folder make of this one, and answers its status; or says why
+/// Runs a program in the environment that the files of a folder make of this one, and returns its status; or says why
 /// there is none.
 fn run_in_folder<R: EnvSystem, L: Launcher, A: Allocator + Clone, E: Write>(
     rt: &R,
@@ -210,49 +263,60 @@ fn run_in_folder<R: EnvSystem, L: Launcher, A: Allocator + Clone, E: Write>(
 {
     let folder = match rt.read_folder(alloc, dir) {
         Ok(folder) => folder,
-        Err(error) => return report_fault(fault_of(error), dir, program.name, "", faults),
+        Err(unread) => return report_unread(&unread, dir, faults),
     };
     match run_with(rt, launcher, alloc, &folder, program) {
         Ok(status) => status,
         Err(fault) => {
             let refused = refused_name(fault, &folder);
-            report_fault(fault, dir, program.name, refused, faults)
+            report_fault(fault, program.name, refused, faults)
         }
     }
 }
 
-/// Writes a text, and answers the status of that.
+/// Reports that the writer failed, and why, and returns the status of that.
+fn report_unwritten<W: Write, E: Write>(writer: &Output<W>, faults: &mut Output<E>) -> u8
+    ensures status { result ≡ 111 }
+    ensures reported { Reports faults.old faults.new (unwritten_report writer.now) }
+{
+    report_device(faults, b"envdir: ", b"write fault", writer.cause())
+}
+
+/// Writes a text, and returns the status of that.
 fn write_text<W: Write, E: Write>(text: &[u8], writer: &mut Output<W>, faults: &mut Output<E>) -> u8
     ensures ends { EndsWriting text.now result (outputs writer.old faults.old) (outputs writer.new faults.new) }
 {
     match writer.write_all(text) {
         Ok(()) => DONE,
-        Err(_) => report(faults, b"envdir: write fault\n", TROUBLE),
+        Err(_) => report_unwritten(writer, faults),
     }
 }
 
-/// Writes the words by which `env` makes the environment of the files of a folder; or says why there are none.
-fn write_words<R: EnvSystem, A: Allocator + Clone, W: Write, E: Write>(
+/// Writes the commands by which a shell makes the environment of the files of a folder, and runs these words; or
+/// reports why there are none.
+fn write_script<R: EnvSystem, A: Allocator + Clone, W: Write, E: Write>(
     rt: &R,
     alloc: &A,
     dir: &str,
+    path: Option<&str>,
+    program: &[&str],
     writer: &mut Output<W>,
     faults: &mut Output<E>,
 ) -> u8
-    ensures ends { WordsEnd (R.state rt.now) dir.now result
+    ensures ends { ScriptEnds (R.state rt.now) dir.now (option_copied path.entry) (texts program.now) result
         (outputs writer.old faults.old) (outputs writer.new faults.new) }
 {
     let folder = match rt.read_folder(alloc, dir) {
         Ok(folder) => folder,
-        Err(error) => return report_fault(fault_of(error), dir, "", "", faults),
+        Err(unread) => return report_unread(&unread, dir, faults),
     };
-    match folder_words(alloc, &folder) {
+    match folder_script(rt, alloc, &folder, path, program) {
         Ok(text) => write_text(text.as_slice(), writer, faults),
-        Err(fault) => report_fault(fault, dir, "", refused_name(fault, &folder), faults),
+        Err(fault) => report_fault(fault, "", refused_name(fault, &folder), faults),
     }
 }
 
-/// Writes the words of the folder that is the only word behind `--words`.
+/// Writes the commands for the words after `--shell`: a folder, the path of variables, and a program with its words.
 fn write_asked<R: EnvSystem, A: Allocator + Clone, W: Write, E: Write>(
     rt: &R,
     alloc: &A,
@@ -264,20 +328,25 @@ fn write_asked<R: EnvSystem, A: Allocator + Clone, W: Write, E: Write>(
         (outputs writer.old faults.old) (outputs writer.new faults.new) }
 {
     match words {
-        [dir] => write_words(rt, alloc, dir, writer, faults),
-        _ => usage(faults),
+        [] => usage(faults, Command::Envdir),
+        [dir] => write_script(rt, alloc, dir, None, &[], writer, faults),
+        [dir, path, program @ ..] => {
+            write_script(rt, alloc, dir, Some(path), program, writer, faults)
+        }
     }
 }
 
 /// The command `envdir`: starts the program of its second word, with the words after it, in an
 /// environment that the files of the folder of its first word have changed, and waits for its end
-/// (<https://cr.yp.to/daemontools/envdir.html>). The program is sought in the changed `PATH`. Answers the
-/// status of the child, where a signal ended it 111; 100 for less than two words; 111 where the folder
-/// can't be read or applied, where the child can't be started, and for want of memory.
+/// (<https://cr.yp.to/daemontools/envdir.html>). The program is sought in the changed `PATH`. Returns the
+/// status of the child, 111 if a signal ended it; 100 for less than two words; 111 if the folder
+/// can't be read or applied, if the child can't be started, and if it is out of memory.
 ///
-/// `--words` and a folder: writes the words by which `env` makes that environment of its own, each in single
-/// quotes and with a space behind it. A shell script that reads them can start the program in its own place.
-/// Starts nothing. Answers 0; 111 for those faults, and for one of the writer; 100 for more words.
+/// `--shell` and a folder: writes the commands by which a shell makes that environment of its own variables, and the
+/// start of the command that runs a program in its place. A third word is the path of the variables that the shell
+/// itself was given, /proc/PID/environ: those that a shell drops or changes are set again. Words after it are the
+/// program and its arguments. Starts nothing. Returns 0; 111 for those faults, and for one of the writer; 100 if
+/// there is no folder.
 pub fn run_envdir<R: EnvSystem, L: Launcher, A: Allocator + Clone, W: Write, E: Write>(
     rt: &R,
     launcher: &mut L,
@@ -293,13 +362,13 @@ pub fn run_envdir<R: EnvSystem, L: Launcher, A: Allocator + Clone, W: Write, E: 
     ensures unasked { length words.now < 2 → launcher.new ≡ launcher.old }
 {
     let [first, rest @ ..] = words else {
-        return usage(faults);
+        return usage(faults, Command::Envdir);
     };
-    if *first == "--words" {
+    if *first == "--shell" {
         return write_asked(rt, &alloc, rest, writer, faults);
     }
     let [name, arguments @ ..] = rest else {
-        return usage(faults);
+        return usage(faults, Command::Envdir);
     };
     let program = Program { name, arguments };
     run_in_folder(rt, launcher, &alloc, first, &program, faults)

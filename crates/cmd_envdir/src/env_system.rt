@@ -1,40 +1,49 @@
 //! What `envdir` reads of the operating system.
 ghost use Rattle.std.specs.Prelude.{IfOk, IfErr};
 
+use crate::fault::FolderFault;
 use crate::folder::{FolderFile, folder_files};
-use crate::variables::system_env;
+use crate::variables::{given_env, system_env};
 use env_title::Env;
 use std::alloc::{AllocError, Allocator};
-use std::io;
 
-/// The folders, and the variables of the process. Contracts see what they hold, where it says that.
+/// The folders, and the variables of the process. Contracts see what they hold, if it says that.
 pub trait EnvSystem {
     ghost use Rattle.std.specs.Prelude.{◌≡◌, None, IsOk, map};
-    ghost use Rattle.std.specs.IoError.{error_kind};
-    ghost use Rattle.cmd_base.specs.Known.{IsKnown, IsMissed};
+    ghost use Rattle.cmd_base.specs.Known.{IsKnown};
     ghost use Rattle.cmd_envdir.specs.Child.{AreInByteOrder};
-    ghost use Rattle.cmd_envdir.specs.System.{SystemState, unknown_state};
+    ghost use Rattle.cmd_envdir.specs.System.{SystemState, IsUnread, unknown_state};
 
-    // the files of each folder, as `read_folder` gives them, with what kind of error it fails, and the variables of the
-    // process
+    // the files of each folder, as `read_folder` gives them, the fault with which it fails, the variables of the
+    // process, and those that another was given
     ghost state: { Self → SystemState } = { λ _. unknown_state };
 
     /// The files of a folder, in byte order of their names, but for those whose names begin with a dot. A
-    /// name that is not text, a folder in the place of a file, and a file that can't be read are faults.
+    /// name that is not text, a folder in the place of a file, and a file that can't be read are faults. The fault says
+    /// which file can't be read, and why.
     fn read_folder<A: Allocator + Clone>(
         &self,
         alloc: &A,
         dir: &str,
-    ) -> io::Result<Vec<FolderFile<A>, A>>
+    ) -> Result<Vec<FolderFile<A>, A>, FolderFault<A>>
         ensures order { IfOk result (λ files. AreInByteOrder (map (λ file. file.name) files.items)) }
         ensures known { IfOk result (λ files. IsKnown ((state self.now).folder dir.now) files.items) }
-        ensures missing { IfErr result (λ fault. IsMissed fault ((state self.now).folder dir.now)) }
-        ensures fault { IfErr result (λ fault. IsKnown ((state self.now).folder_fault dir.now) (error_kind fault)) }
+        ensures missing { IfErr result (λ fault. IsUnread fault ((state self.now).folder dir.now)) }
+        ensures fault { IfErr result (λ fault. IsKnown ((state self.now).folder_fault dir.now) fault) }
         ensures whole { IsOk result → (state self.now).folder_fault dir.now ≡ None };
 
     /// The variables of this process, but for those that are not text.
     fn variables<A: Allocator + Clone>(&self, alloc: &A) -> Result<Env<A>, AllocError>
         ensures known { IfOk result (λ variables. IsKnown (state self.now).variables variables) };
+
+    /// The variables that a process was given, by the path of its `environ` in /proc, but for those that are not
+    /// text. If that can't be read, the variables of this process.
+    fn given_variables<A: Allocator + Clone>(
+        &self,
+        alloc: &A,
+        path: &str,
+    ) -> Result<Env<A>, AllocError>
+        ensures known { IfOk result (λ variables. IsKnown ((state self.now).given path.now) variables) };
 }
 
 /// The system's own. It says nothing to contracts of what it holds.
@@ -43,11 +52,19 @@ impl EnvSystem for HostRuntime {
         &self,
         alloc: &A,
         dir: &str,
-    ) -> io::Result<Vec<FolderFile<A>, A>> {
+    ) -> Result<Vec<FolderFile<A>, A>, FolderFault<A>> {
         folder_files(self, alloc, dir)
     }
 
     fn variables<A: Allocator + Clone>(&self, alloc: &A) -> Result<Env<A>, AllocError> {
         system_env(self, alloc)
+    }
+
+    fn given_variables<A: Allocator + Clone>(
+        &self,
+        alloc: &A,
+        path: &str,
+    ) -> Result<Env<A>, AllocError> {
+        given_env(self, alloc, path)
     }
 }

@@ -1,15 +1,111 @@
 //! Why `envdir` starts no child.
+ghost use Rattle.std.specs.Prelude.{◌≡◌, ◌≢◌};
+ghost use Rattle.std.specs.IoError.{error_kind, raw_os_error};
+ghost use Rattle.std.specs.declared.io.ErrorKind.TheVariants.{OutOfMemory};
+ghost use Rattle.tai_status.specs.Causes.{cause_of};
 
-/// Why `envdir` starts no child.
+use std::alloc::{AllocError, Allocator, Global};
+use std::io::{Error, ErrorKind};
+use std::marker::Model;
+use tai_status::Cause;
+
+/// Why the files of a folder do nothing.
 #[derive(Clone, Copy, Debug, PartialEq, Eq)]
 pub enum EnvdirFault {
-    /// The folder, or one of its files, can't be read.
-    Unread,
     /// The name of the file at this place has a `=`.
     NameHasEquals(usize),
     /// The value of the file at this place is not text.
     NotText(usize),
     /// The child can't be started.
-    NotRun,
+    NotRun(Cause),
     OutOfMemory,
+}
+
+/// Why a folder is not read.
+#[derive(Drop)]
+pub struct FolderFault<A: Allocator = Global> {
+    /// The path of the file that can't be read, or none if it is the folder.
+    file: Option<String<A>>,
+    /// That it is out of memory, or why the system refused the read.
+    cause: Cause,
+}
+
+impl<A: Allocator> Model for FolderFault<A> {
+    ghost use Rattle.std.specs.Prelude.{option_map, string_bytes};
+    ghost use Rattle.cmd_envdir.specs.System.{Unread};
+
+    ghost Value = { Unread };
+
+    ghost view = { λ fault. record { file = option_map string_bytes fault.file; cause = fault.cause } };
+}
+
+impl<A: Allocator> FolderFault<A> {
+    ghost use Rattle.std.specs.Prelude.{◌≡◌, Some, string_bytes};
+    ghost use Rattle.cmd_envdir.specs.System.{unread_path};
+
+    /// A file at this path can't be read.
+    pub fn of_file(path: String<A>, cause: Cause) -> FolderFault<A>
+        ensures file { result.file ≡ Some (string_bytes path) }
+        ensures cause { result.cause ≡ cause }
+    {
+        FolderFault {
+            file: Some(path),
+            cause,
+        }
+    }
+
+    /// Its cause.
+    pub fn cause(&self) -> Cause
+        ensures { result ≡ self.now.cause }
+    {
+        self.cause
+    }
+
+    /// The path that can't be read, in the folder of this path or the folder itself.
+    pub fn path<'a>(&'a self, dir: &'a str) -> &'a str
+        ensures { result.now ≡ unread_path dir.now self.now.file }
+    {
+        match &self.file {
+            Some(path) => path.as_str(),
+            None => dir,
+        }
+    }
+}
+
+/// The cause of a fault of the system. That it is out of memory goes before any other.
+pub fn cause_in(error: &Error) -> Cause
+    ensures memory { error_kind error.now ≡ OutOfMemory → result ≡ Cause.NoMemory }
+    ensures other { error_kind error.now ≢ OutOfMemory
+        → result ≡ cause_of (raw_os_error error.now) (error_kind error.now) }
+{
+    if error.kind() == ErrorKind::OutOfMemory {
+        return Cause::NoMemory;
+    }
+    Cause::of(error)
+}
+
+impl<A: Allocator> From<Error> for FolderFault<A> {
+    ghost use Rattle.std.specs.Prelude.{◌≡◌, None};
+
+    ghost from_gives = { λ _ fault. fault.file ≡ None };
+
+    fn from(error: Error) -> FolderFault<A> {
+        FolderFault {
+            file: None,
+            cause: cause_in(&error),
+        }
+    }
+}
+
+impl<A: Allocator> From<AllocError> for FolderFault<A> {
+    ghost use Rattle.std.specs.Prelude.{◌≡◌, None};
+
+    ghost from_gives = { λ _ fault. fault.file ≡ None };
+
+    fn from(_error: AllocError) -> FolderFault<A> {
+        FolderFault {
+            file: None,
+            cause: Cause::NoMemory,
+        }
+    }
 }

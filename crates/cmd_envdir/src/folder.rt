@@ -9,8 +9,9 @@ ghost use Rattle.std.specs.Option.{option_map_or};
 ghost use Rattle.env_title.specs.Faults.{first_fault};
 ghost use Rattle.cmd_envdir.specs.Child.{AreInByteOrder};
 ghost use Rattle.cmd_envdir.specs.Listing.{IsWhyUnlisted, ListsVisible, is_visible};
-ghost use Rattle.cmd_envdir.specs.System.{AreHeld};
+ghost use Rattle.cmd_envdir.specs.System.{AreHeld, NamesFile};
 
+use crate::fault::{FolderFault, cause_in};
 use cmd_base::FileSource;
 use env_title::{EnvFault, EnvFile};
 use std::alloc::{AllocError, Allocator, Global};
@@ -39,17 +40,31 @@ pub fn folder_files<R: Files + FileSource, A: Allocator + Clone>(
     rt: &R,
     alloc: &A,
     dir: &str,
-) -> io::Result<Vec<FolderFile<A>, A>>
+) -> Result<Vec<FolderFile<A>, A>, FolderFault<A>>
     ensures order { IfOk result (λ files. AreInByteOrder (map (λ file. file.name) files.items)) }
     ensures held { IfOk result (λ files. AreHeld (R.file_at rt.now) dir.now files.items) }
+    ensures file { IfErr result (λ fault. NamesFile (R.file_at rt.now) dir.now fault) }
 {
     let mut files = Vec::new(alloc.clone()?);
     for name in visible_names(rt, alloc, dir)? {
         let path = path_in(alloc, dir, name.as_str())?;
-        let bytes = rt.read_file(alloc.clone()?, path.as_str())?;
-        files.push(FolderFile { name, bytes })?;
+        match rt.read_file(alloc.clone()?, path.as_str()) {
+            Ok(bytes) => push_file(&mut files, FolderFile { name, bytes })?,
+            Err(error) => return Err(FolderFault::of_file(path, cause_in(&error))),
+        }
     }
     Ok(files)
+}
+
+/// Adds a file to files.
+fn push_file<A: Allocator>(
+    files: &mut Vec<FolderFile<A>, A>,
+    file: FolderFile<A>,
+) -> Result<(), AllocError>
+    ensures { OnOk result (files.new.items ≡ files.old.items ++ file ∷ []) }
+{
+    files.push(file)?;
+    Ok(())
 }
 
 /// The names in a folder that do not begin with a dot, in byte order.
@@ -133,7 +148,7 @@ impl<A: Allocator> FolderFile<A> {
     }
 }
 
-/// What is wrong with the first file that can't be applied, where one can't. It takes no memory.
+/// What is wrong with the first file that can't be applied, or none if all can. It takes no memory.
 pub fn fault_in<A: Allocator>(folder: &[FolderFile<A>]) -> Option<EnvFault>
     ensures { result ≡ first_fault folder.now }
 {
@@ -160,7 +175,7 @@ pub fn env_files<'a, A: Allocator + Clone>(
     Ok(files)
 }
 
-/// The name of the file at a place, empty where there is none.
+/// The name of the file at a place, empty if there is none.
 pub fn name_at<A: Allocator>(folder: &[FolderFile<A>], place: usize) -> &str
     ensures { result.now ≡ option_map_or (λ file. file.name) (slice_get folder.now place) [] }
 {

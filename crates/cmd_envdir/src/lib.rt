@@ -7,12 +7,13 @@ mod env_system;
 mod fault;
 mod folder;
 mod launcher;
+mod names;
+mod script;
 mod variables;
-mod words;
 
 pub use command::run_envdir;
 pub use env_system::EnvSystem;
-pub use fault::EnvdirFault;
+pub use fault::{EnvdirFault, FolderFault};
 pub use folder::FolderFile;
 pub use launcher::{Launcher, SystemLauncher};
 pub use variables::system_env;

@@ -1,10 +1,12 @@
-//! The environment of this process.
+//! The environment of this process, and that of another one.
 ghost use Rattle.std.specs.Prelude.{◌≡◌, OnOk};
 ghost use Rattle.cmd_envdir.specs.System.{entry_put};
 
+use cmd_base::FileSource;
 use env_title::Env;
 use std::alloc::{AllocError, Allocator};
 use std::env::FillError;
+use std::io::ErrorKind;
 use std::{env, str};
 
 /// The variables of this process, but for those that are not text.
@@ -18,6 +20,28 @@ pub fn system_env<R: env::Env, A: Allocator + Clone>(
             break;
         };
         put_entry(&mut variables, alloc, &entry)?;
+    }
+    Ok(variables)
+}
+
+/// The variables that a process was given, by the path of its `environ` in /proc, as `EnvSystem` says.
+pub fn given_env<R: FileSource + env::Env, A: Allocator + Clone>(
+    rt: &R,
+    alloc: &A,
+    path: &str,
+) -> Result<Env<A>, AllocError> {
+    match rt.read_file(alloc.clone()?, path) {
+        Ok(entries) => entries_env(alloc, &entries),
+        Err(error) if error.kind() == ErrorKind::OutOfMemory => Err(AllocError),
+        Err(_) => system_env(rt, alloc),
+    }
+}
+
+/// The variables of entries, each of which ends in a NUL.
+fn entries_env<A: Allocator + Clone>(alloc: &A, entries: &[u8]) -> Result<Env<A>, AllocError> {
+    let mut variables = Env::new(alloc.clone()?);
+    for entry in entries.split(|byte| *byte == 0) {
+        put_entry(&mut variables, alloc, entry)?;
     }
     Ok(variables)
 }

@@ -1,20 +1,21 @@
 -- How `tai64n` ends: by the tai64n page of daemontools (cr.yp.to/daemontools/tai64n.html).
-use Rattle.std.specs.Prelude.{◌≡◌, ◌≢◌, ℕ, List, [], ◌∷◌, ◌++◌, codes, map, Option}
+use Rattle.std.specs.Prelude.{◌≡◌, ◌≢◌, ℕ, List, [], ◌∷◌, codes, map, Option}
 use Rattle.std.specs.Borrow.{Bor}
 use Rattle.tai_status.specs.Label.{Tai64n}
-use Rattle.tai_status.specs.Counted.{Device, Fails, Works, IsRead, Reports}
+use Rattle.tai_status.specs.Counted.{Device, Fails, Works, IsRead, Reports, device_report}
 use Rattle.tai_status.specs.Lines.{StampState, stamp_state, Stamps, StampsFront}
 use Rattle.tai_status.specs.declared.stamp.StampFault.{StampFault}
 use Rattle.tai_status.specs.declared.stamp.StampFault.TheVariants as fault
 use Rattle.cmd_base.specs.Console.{Console, EndsWell, console}
 use Rattle.cmd_base.specs.Usage.{RefusesWords}
+use Rattle.cmd_base.specs.declared.command.Command.TheVariants as command
 
--- what is reported of a fault
-abbrev pub stamp_report : StampFault → List ℕ
-stamp_report fault.Read = codes "tai64n: Read" ++ 10 ∷ []
-stamp_report fault.Write = codes "tai64n: Write" ++ 10 ∷ []
+-- What is reported of a fault: which device failed, and the cause of its last fault.
+abbrev pub stamp_report : StampFault → (reader writer : Device) → List ℕ
+stamp_report fault.Read reader writer = device_report (codes "tai64n: ") (codes "Read") reader
+stamp_report fault.Write reader writer = device_report (codes "tai64n: ") (codes "Write") writer
 
--- where a command stamps, with what the clock gave so far
+-- the state of stamping of a command, with what the clock gave so far
 abbrev pub stamp_state_of : Console → Option (List Tai64n) → StampState
 stamp_state_of at readings = stamp_state at.reader at.writer readings
 
@@ -33,11 +34,11 @@ StampCause fault.Read past now old new = Fails old.reader new.reader × Works ol
 StampCause fault.Write past now old new = Works old.reader new.reader × Fails old.writer new.writer
     × StampsFront (stamp_state_of old past) (stamp_state_of new now)
 
--- A device failed, and it is reported which.
+-- A device failed, and it is reported which, and why.
 pub record StampsNoFurther (past now : Option (List Tai64n)) (old new : Console) : Type 0 where
   pub fault : StampFault
   pub cause : StampCause fault past now old new
-  pub reported : Reports old.faults new.faults (stamp_report fault)
+  pub reported : Reports old.faults new.faults (stamp_report fault new.reader new.writer)
 
 -- `tai64n` without words, by its status.
 pub record StampsByStatus (status : ℕ) (past now : Option (List Tai64n)) (old new : Console) : Type 0 where
@@ -48,7 +49,7 @@ pub record StampsByStatus (status : ℕ) (past now : Option (List Tai64n)) (old 
 abbrev pub StampsEnd : (words : List (List ℕ)) (status : ℕ) (past now : Option (List Tai64n))
     (old new : Console) → Type 0
 StampsEnd [] status past now old new = StampsByStatus status past now old new
-StampsEnd (word ∷ words) status past now old new = RefusesWords status old new
+StampsEnd (word ∷ words) status past now old new = RefusesWords command.Tai64n status old new
 
 -- The same, of a clock that gives its readings so, and of each device as it was and is.
 abbrev pub TaiEnds : {C : Type 0} (words : List (List ℕ)) (status : ℕ) (readings : C → Option (List Tai64n))

@@ -1,10 +1,11 @@
 -- What `readproctitle` prints: the title of its input, by the readproctitle page of daemontools
 -- (cr.yp.to/daemontools/readproctitle.html).
 use Rattle.std.specs.Prelude.{◌≡◌, ℕ, ◌<◌, ◌-◌, ◌⊎◌, List, [], ◌∷◌, ◌++◌, codes, length, slice_get, MatchOption, Some}
-use Rattle.tai_status.specs.Counted.{Device, Fails, Gives, Wrote, WroteFront, IsRead, Reports}
+use Rattle.tai_status.specs.Counted.{Device, Fails, Gives, Wrote, WroteFront, IsRead, Reports, device_report}
 use Rattle.env_title.specs.Title.{TitleParts, new_title, pushed, title_text}
 use Rattle.cmd_base.specs.Console.{Console, EndsWell}
 use Rattle.cmd_base.specs.Usage.{RefusesWords}
+use Rattle.cmd_base.specs.declared.command.Command.TheVariants as command
 use Rattle.cmd_filters.specs.declared.proctitle.ProctitleFault.{ProctitleFault}
 use Rattle.cmd_filters.specs.declared.proctitle.ProctitleFault.TheVariants as fault
 
@@ -27,12 +28,12 @@ abbrev pub WritesTitleFront : ℕ → (reader : Device) (old new : Device) → T
 WritesTitleFront len reader old new =
     (input : List ℕ) → reader.bytes ≡ Some input → WroteFront old new (title_line len input)
 
--- what is reported of a fault
-abbrev pub proctitle_report : ProctitleFault → List ℕ
-proctitle_report fault.TooShort = codes "readproctitle: TooShort" ++ 10 ∷ []
-proctitle_report fault.OutOfMemory = codes "readproctitle: OutOfMemory" ++ 10 ∷ []
-proctitle_report fault.Read = codes "readproctitle: read fault" ++ 10 ∷ []
-proctitle_report fault.Write = codes "readproctitle: write fault" ++ 10 ∷ []
+-- What is reported of a fault; of a device that failed, the cause of its last fault too.
+abbrev pub proctitle_report : ProctitleFault → (reader writer : Device) → List ℕ
+proctitle_report fault.TooShort reader writer = codes "readproctitle: TooShort" ++ 10 ∷ []
+proctitle_report fault.OutOfMemory reader writer = codes "readproctitle: OutOfMemory" ++ 10 ∷ []
+proctitle_report fault.Read reader writer = device_report (codes "readproctitle: ") (codes "read fault") reader
+proctitle_report fault.Write reader writer = device_report (codes "readproctitle: ") (codes "write fault") writer
 
 abbrev pub proctitle_status : ProctitleFault → ℕ
 proctitle_status fault.TooShort = 100
@@ -59,7 +60,7 @@ pub record ShowsInput (len : ℕ) (old new : Console) : Type 0 where
 pub record ReportsWhy (len status : ℕ) (old new : Console) : Type 0 where
   pub fault : ProctitleFault
   pub cause : NoTitle len fault old.reader new.reader old.writer new.writer
-  pub reported : Reports old.faults new.faults (proctitle_report fault)
+  pub reported : Reports old.faults new.faults (proctitle_report fault new.reader new.writer)
   pub status_is : status ≡ proctitle_status fault
 
 -- The title of this length, by the status. A title under 5 bytes is always refused.
@@ -69,5 +70,5 @@ pub record ShowsTitle (len status : ℕ) (old new : Console) : Type 0 where
 
 -- `readproctitle` shows a title of the length of its last word.
 abbrev pub TitleEnds : (words : List (List ℕ)) (status : ℕ) (old new : Console) → Type 0
-TitleEnds words status old new = MatchOption (slice_get words (length words - 1)) (RefusesWords status old new)
-    (λ word. ShowsTitle (length word) status old new)
+TitleEnds words status old new = MatchOption (slice_get words (length words - 1))
+    (RefusesWords command.Readproctitle status old new) (λ word. ShowsTitle (length word) status old new)

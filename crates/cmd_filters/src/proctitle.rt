@@ -1,13 +1,13 @@
 //! The command `readproctitle`.
 ghost use Rattle.std.specs.Prelude.{◌≡◌, ◌↔◌, ◌<◌, ◌≢◌, [], ◌∷◌, ◌++◌, length, OnOk, IfOk, IfErr, IsErrOf};
-ghost use Rattle.tai_status.specs.Counted.{Fails, Works, Wrote, WroteFront, IsRead};
+ghost use Rattle.tai_status.specs.Counted.{Fails, Works, Wrote, WroteFront, IsRead, Reports};
 ghost use Rattle.env_title.specs.Title.{new_title, title_text};
 ghost use Rattle.cmd_base.specs.Console.{console};
 ghost use Rattle.cmd_filters.specs.Stamped.{texts};
 ghost use Rattle.cmd_filters.specs.Title.{NoTitle, ShowsTitle, ShowsRead, TitleEnds, WritesTitle, proctitle_report};
 ghost use Rattle.cmd_filters.specs.Title.{proctitle_status};
 
-use cmd_base::{DONE, REFUSED, TROUBLE, report, usage};
+use cmd_base::{Command, DONE, REFUSED, TROUBLE, report, report_device, usage};
 use env_title::{Title, TitleFault};
 use std::alloc::Allocator;
 use std::io::{Read, Write};
@@ -104,25 +104,25 @@ fn show_title<A: Allocator + Clone, D: Read, W: Write>(
     write_title(&title, writer)
 }
 
-/// What is reported of a fault.
-fn fault_text(fault: ProctitleFault) -> &'static [u8]
-    ensures { result.now ≡ proctitle_report fault }
+/// Reports why there is no title, or not the whole of it, and returns the status of that.
+fn report_untitled<D: Read, W: Write, E: Write>(
+    fault: ProctitleFault,
+    reader: &Input<D>,
+    writer: &Output<W>,
+    faults: &mut Output<E>,
+) -> u8
+    ensures status { result ≡ proctitle_status fault }
+    ensures reported { Reports faults.old faults.new (proctitle_report fault reader.now writer.now) }
 {
     match fault {
-        ProctitleFault::TooShort => b"readproctitle: TooShort\n",
-        ProctitleFault::OutOfMemory => b"readproctitle: OutOfMemory\n",
-        ProctitleFault::Read => b"readproctitle: read fault\n",
-        ProctitleFault::Write => b"readproctitle: write fault\n",
-    }
-}
-
-/// The status of a fault.
-fn status(fault: ProctitleFault) -> u8
-    ensures { result ≡ proctitle_status fault }
-{
-    match fault {
-        ProctitleFault::TooShort => REFUSED,
-        _ => TROUBLE,
+        ProctitleFault::TooShort => report(faults, b"readproctitle: TooShort\n", REFUSED),
+        ProctitleFault::OutOfMemory => report(faults, b"readproctitle: OutOfMemory\n", TROUBLE),
+        ProctitleFault::Read => {
+            report_device(faults, b"readproctitle: ", b"read fault", reader.cause())
+        }
+        ProctitleFault::Write => {
+            report_device(faults, b"readproctitle: ", b"write fault", writer.cause())
+        }
     }
 }
 
@@ -139,15 +139,15 @@ fn run_title<A: Allocator + Clone, D: Read, W: Write, E: Write>(
 {
     match show_title(alloc, len, reader, writer) {
         Ok(()) => DONE,
-        Err(fault) => report(faults, fault_text(fault), status(fault)),
+        Err(fault) => report_untitled(fault, reader, writer, faults),
     }
 }
 
 /// The command `readproctitle`: reads its input to the end, and prints the title of it and a newline
 /// (<https://cr.yp.to/daemontools/readproctitle.html>). A title is as long as the last word, in bytes:
-/// three dots, and the last bytes of the input but for NULs, behind dots where these are too few.
-/// Answers the status: 0; 100 without a word, and for one of fewer than 5 bytes; 111 for want of memory
-/// and for a fault of the reader or the writer.
+/// three dots, and the last bytes of the input but for NULs, after dots if these are too few.
+/// Returns the status: 0; 100 without a word, and for one of fewer than 5 bytes; 111 if it is out of memory
+/// and for a fault of the reader or the writer, which is reported with its cause.
 pub fn run_readproctitle<A: Allocator + Clone, D: Read, W: Write, E: Write>(
     alloc: A,
     words: &[&str],
@@ -160,6 +160,6 @@ pub fn run_readproctitle<A: Allocator + Clone, D: Read, W: Write, E: Write>(
 {
     match words.last() {
         Some(word) => run_title(alloc, word.len(), reader, writer, faults),
-        None => usage(faults),
+        None => usage(faults, Command::Readproctitle),
     }
 }

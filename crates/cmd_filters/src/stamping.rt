@@ -1,15 +1,16 @@
 //! The command `tai64n`.
 ghost use Rattle.std.specs.Prelude.{◌≡◌, ◌<◌, [], length};
+ghost use Rattle.tai_status.specs.Counted.{Reports};
 ghost use Rattle.cmd_filters.specs.Stamped.{TaiEnds, stamp_report, texts};
 
-use cmd_base::{DONE, TROUBLE, report, usage};
+use cmd_base::{Command, DONE, report_device, usage};
 use std::io::{Read, Write};
 use tai_status::{Input, Output, StampFault, TimeSource, stamp_lines};
 
 /// The command `tai64n`: writes each line of the reader behind the text of a label and a space, with
 /// one reading of the clock for each line, at its first byte
-/// (<https://cr.yp.to/daemontools/tai64n.html>). It takes no words. Answers the status: 0; 100 for wrong
-/// words; 111 for a fault of the reader or the writer.
+/// (<https://cr.yp.to/daemontools/tai64n.html>). It takes no words. Returns the status: 0; 100 for wrong
+/// words; 111 for a fault of the reader or the writer, which is reported with its cause.
 pub fn run_tai64n<D: Read, W: Write, E: Write, C: TimeSource>(
     words: &[&str],
     reader: &mut Input<D>,
@@ -24,7 +25,7 @@ pub fn run_tai64n<D: Read, W: Write, E: Write, C: TimeSource>(
     if words.is_empty() {
         return stamp_input(reader, writer, faults, clock);
     }
-    usage(faults)
+    usage(faults, Command::Tai64n)
 }
 
 /// Stamps the whole input.
@@ -39,16 +40,22 @@ fn stamp_input<D: Read, W: Write, E: Write, C: TimeSource>(
 {
     match stamp_lines(reader, writer, clock) {
         Ok(_) => DONE,
-        Err(fault) => report(faults, fault_text(fault), TROUBLE),
+        Err(fault) => report_stamping(fault, reader, writer, faults),
     }
 }
 
-/// What is reported of a fault.
-fn fault_text(fault: StampFault) -> &'static [u8]
-    ensures { result.now ≡ stamp_report fault }
+/// Reports which device failed, and why, and returns the status of that.
+fn report_stamping<D: Read, W: Write, E: Write>(
+    fault: StampFault,
+    reader: &Input<D>,
+    writer: &Output<W>,
+    faults: &mut Output<E>,
+) -> u8
+    ensures status { result ≡ 111 }
+    ensures reported { Reports faults.old faults.new (stamp_report fault reader.now writer.now) }
 {
     match fault {
-        StampFault::Read => b"tai64n: Read\n",
-        StampFault::Write => b"tai64n: Write\n",
+        StampFault::Read => report_device(faults, b"tai64n: ", b"Read", reader.cause()),
+        StampFault::Write => report_device(faults, b"tai64n: ", b"Write", writer.cause()),
     }
 }

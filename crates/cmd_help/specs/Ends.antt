@@ -1,11 +1,13 @@
 -- How `help` and `version` end.
 use Rattle.std.specs.Prelude.{◌≡◌, ◌⊎◌, ℕ, List, [], ◌∷◌, ◌++◌, codes, Option, Some, None}
-use Rattle.tai_status.specs.Counted.{Device, Fails, Reports, Works, Wrote, WroteFront}
+use Rattle.tai_status.specs.Counted.{Device, Fails, Reports, Works, Wrote, WroteFront, device_report}
 use Rattle.cmd_base.specs.Printed.{printed}
 use Rattle.cmd_base.specs.Usage.{usage_text}
-use Rattle.cmd_help.specs.Commands.{command_named}
-use Rattle.cmd_help.specs.Pages.{overview, page}
-use Rattle.cmd_help.specs.declared.command.Command.{Command}
+use Rattle.cmd_base.specs.Commands.{command_named}
+use Rattle.cmd_base.specs.Pages.{page}
+use Rattle.cmd_help.specs.Pages.{overview, tool_page}
+use Rattle.cmd_base.specs.declared.command.Command.{Command}
+use Rattle.cmd_base.specs.declared.command.Command.TheVariants as command
 use Rattle.cmd_help.specs.declared.source.TheConstants.{KIT, SOURCE}
 
 -- A text was printed, and nothing is reported.
@@ -15,40 +17,46 @@ pub record PrintsAll (text : List ℕ) (status : ℕ) (old new faults reports : 
   pub works : Works old new
   pub unreported : reports ≡ faults
 
--- The writer failed after a front of a text, and this is reported.
-pub record PrintsFront (text reported : List ℕ) (status : ℕ) (old new faults reports : Device) : Type 0 where
+-- The writer failed after a front of a text, and that is reported with its cause, after the name of the command.
+pub record PrintsFront (text name : List ℕ) (status : ℕ) (old new faults reports : Device) : Type 0 where
   pub status_is : status ≡ 111
   pub wrote : WroteFront old new text
   pub fails : Fails old new
-  pub reports_it : Reports faults reports reported
+  pub reports_it : Reports faults reports (device_report name (codes "write fault") new)
 
-abbrev pub Prints : (text reported : List ℕ) (status : ℕ) (old new faults reports : Device) → Type 0
-Prints text reported status old new faults reports =
-    PrintsAll text status old new faults reports ⊎ PrintsFront text reported status old new faults reports
+abbrev pub Prints : (text name : List ℕ) (status : ℕ) (old new faults reports : Device) → Type 0
+Prints text name status old new faults reports =
+    PrintsAll text status old new faults reports ⊎ PrintsFront text name status old new faults reports
 
--- Nothing is printed, and the usage is reported.
-pub record Refuses (status : ℕ) (old new faults reports : Device) : Type 0 where
+-- Nothing is printed, and the usage of the command is reported.
+pub record Refuses (command : Command) (status : ℕ) (old new faults reports : Device) : Type 0 where
   pub status_is : status ≡ 100
   pub unwritten : new ≡ old
-  pub reports_it : Reports faults reports usage_text
+  pub reports_it : Reports faults reports (usage_text command)
 
--- what `help` and `version` say where the writer fails
-abbrev pub help_report : List ℕ
-help_report = codes "help: write fault" ++ 10 ∷ []
+-- the names of the commands, as a report of a fault begins
+abbrev pub help_name : List ℕ
+help_name = codes "help: "
 
-abbrev pub version_report : List ℕ
-version_report = codes "version: write fault" ++ 10 ∷ []
+abbrev pub version_name : List ℕ
+version_name = codes "version: "
 
--- The page of a command is printed; where a word named none, it is refused.
-abbrev pub PageEnds : Option Command → (status : ℕ) (old new faults reports : Device) → Type 0
-PageEnds None status old new faults reports = Refuses status old new faults reports
-PageEnds (Some command) status old new faults reports = Prints (page command) help_report status old new faults reports
+-- A page is printed; where a word named nothing that has one, it is refused.
+abbrev pub PageEnds : (page : Option (List ℕ)) → (status : ℕ) (old new faults reports : Device) → Type 0
+PageEnds None status old new faults reports = Refuses command.Help status old new faults reports
+PageEnds (Some text) status old new faults reports = Prints text help_name status old new faults reports
 
--- `help`, by its words: none, the overview; one, the page of the command that it names
+-- the page of the command that a word names, or of the installed program
+abbrev pub page_named : (word : List ℕ) → Option Command → Option (List ℕ)
+page_named word (Some command) = Some (page command)
+page_named word None = tool_page word
+
+-- `help`, by its words: none, the overview; one, the page of the command or the installed program that it names
 abbrev pub HelpEnds : (words : List (List ℕ)) (status : ℕ) (old new faults reports : Device) → Type 0
-HelpEnds [] status old new faults reports = Prints overview help_report status old new faults reports
-HelpEnds (word ∷ []) status old new faults reports = PageEnds (command_named word) status old new faults reports
-HelpEnds (word ∷ other ∷ words) status old new faults reports = Refuses status old new faults reports
+HelpEnds [] status old new faults reports = Prints overview help_name status old new faults reports
+HelpEnds (word ∷ []) status old new faults reports =
+    PageEnds (page_named word (command_named word)) status old new faults reports
+HelpEnds (word ∷ other ∷ words) status old new faults reports = Refuses command.Help status old new faults reports
 
 -- what `version` prints: which dtools this is, the line of the kit that built it, and the sum of its sources
 abbrev pub version_text : List ℕ
@@ -56,5 +64,5 @@ version_text = printed (codes "dtools 2.0.0" ∷ (codes "kit " ++ KIT.now) ∷ (
 
 -- `version` takes no words.
 abbrev pub VersionEnds : (words : List (List ℕ)) (status : ℕ) (old new faults reports : Device) → Type 0
-VersionEnds [] status old new faults reports = Prints version_text version_report status old new faults reports
-VersionEnds (word ∷ words) status old new faults reports = Refuses status old new faults reports
+VersionEnds [] status old new faults reports = Prints version_text version_name status old new faults reports
+VersionEnds (word ∷ words) status old new faults reports = Refuses command.Version status old new faults reports

@@ -1,8 +1,9 @@
 -- What `help` prints.
-use Rattle.std.specs.Prelude.{ℕ, List, [], ◌∷◌, ◌++◌, codes}
+use Rattle.std.specs.Prelude.{ℕ, List, [], ◌∷◌, ◌++◌, bytes_eq, codes, Option}
+use Rattle.std.specs.Map.{lookup}
 use Rattle.cmd_base.specs.Printed.{printed}
-use Rattle.cmd_help.specs.declared.command.Command.{Command}
-use Rattle.cmd_help.specs.declared.command.Command.TheVariants as command
+use Rattle.cmd_base.specs.Pages.{page}
+use Rattle.cmd_base.specs.declared.command.Command.TheVariants as command
 
 -- the commands, a line each
 abbrev pub overview : List ℕ
@@ -24,24 +25,19 @@ overview = printed (
     codes "  help COMMAND   shows the words of a command; man dtools-COMMAND has the rest" ∷
     codes "  version        says which dtools this is" ∷ [])
 
--- what `help` prints of a command: which words it takes
-abbrev pub page : Command → List ℕ
-page command.Svscan = codes "dtools svscan [DIR [ROUNDS]], over the working directory where no DIR is given" ++ 10 ∷ []
-page command.Svc =
-    codes "dtools svc [-W] [-udopchaitkx12q] SERVICE.., with u up, d down, o once, x exit, and signals" ++ 10 ∷ []
-page command.Svstat = codes "dtools svstat [--json | --metrics] SERVICE.." ++ 10 ∷ []
-page command.Svok = codes "dtools svok SERVICE" ++ 10 ∷ []
-page command.Wait =
-    codes "dtools wait [-u|-d|-x] [-t SECONDS] SERVICE.., with u up, d down, x no longer supervised" ++ 10 ∷ []
-page command.Multilog =
-    codes "dtools multilog ACTION.., of t, -PATTERN, +PATTERN, e, =FILE, sSIZE, nNUMBER, folders" ++ 10 ∷ []
-page command.Tai64n = codes "dtools tai64n" ++ 10 ∷ []
-page command.Tai64nlocal = codes "dtools tai64nlocal" ++ 10 ∷ []
-page command.Envdir = codes "dtools envdir DIR PROGRAM WORDS.., or dtools envdir --words DIR" ++ 10 ∷ []
-page command.Readproctitle = codes "dtools readproctitle WORD.., of which the last is as long as the title" ++ 10 ∷ []
-page command.Sim = codes "dtools sim, with a script on standard input, or dtools sim table" ++ 10 ∷ []
-page command.Trace =
-    codes "dtools trace FILE [--break SPEC] [--local], where SPEC is byte:C, phase:PHASE or signal:NAME" ++ 10 ∷ []
-page command.Why = codes "dtools why [--timeline] SERVICE.." ++ 10 ∷ []
-page command.Help = codes "dtools help [COMMAND]" ++ 10 ∷ []
-page command.Version = codes "dtools version" ++ 10 ∷ []
+-- The programs that are installed next to `dtools` and are not its commands, each with what `help` prints of it.
+abbrev pub tools : List (List ℕ × List ℕ)
+tools = (
+    (codes "svwait", page command.Wait) ∷
+    (codes "setuidgid", codes "setuidgid ACCOUNT PROGRAM WORDS.." ++ 10 ∷ []) ∷
+    (codes "envuidgid", codes "envuidgid ACCOUNT PROGRAM WORDS.." ++ 10 ∷ []) ∷
+    (codes "softlimit", codes "softlimit [-acdflmoprst LIMIT].. PROGRAM WORDS.." ++ 10 ∷ []) ∷
+    (codes "setlock", codes "setlock [-nNxX] FILE PROGRAM WORDS.." ++ 10 ∷ []) ∷
+    (codes "pgrphack", codes "pgrphack PROGRAM WORDS.." ++ 10 ∷ []) ∷
+    (codes "fghack", codes "fghack PROGRAM WORDS.." ++ 10 ∷ []) ∷
+    (codes "svscan-run", codes "svscan-run [DIR]" ++ 10 ∷ []) ∷
+    (codes "dtools-service", codes "dtools-service --add FOLDER [NAME], --remove NAME, --list [NAME]" ++ 10 ∷ []) ∷ [])
+
+-- what `help` prints of such a program
+abbrev pub tool_page : (name : List ℕ) → Option (List ℕ)
+tool_page name = lookup (bytes_eq name) tools

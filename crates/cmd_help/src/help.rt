@@ -1,43 +1,55 @@
 //! `help` and `version`.
 ghost use Rattle.std.specs.Prelude.{◌≡◌, map};
-ghost use Rattle.cmd_help.specs.Commands.{command_named};
-ghost use Rattle.cmd_help.specs.Ends.{HelpEnds, PageEnds, Prints, VersionEnds, version_text};
+ghost use Rattle.cmd_base.specs.Commands.{command_named};
+ghost use Rattle.std.specs.Option.{option_copied};
+ghost use Rattle.cmd_help.specs.Ends.{HelpEnds, PageEnds, Prints, VersionEnds, page_named, version_text};
 
-use crate::command::Command;
-use crate::pages::{overview, page_of};
+use crate::pages::{overview, tool_page};
 use crate::source::{KIT, SOURCE};
 use arrayvec::ArrayString;
-use cmd_base::{DONE, TROUBLE, report, usage};
+use cmd_base::{Command, DONE, page_of, report_device, usage};
 use std::io::Write;
 use tai_status::Output;
 
-/// Prints a text, or says that the writer failed.
+/// Prints a text, or says that the writer failed, and why. The name of the command comes with its `: `.
 fn print<W: Write, E: Write>(
     text: &[u8],
-    reported: &[u8],
+    command: &[u8],
     writer: &mut Output<W>,
     faults: &mut Output<E>,
 ) -> u8
-    ensures prints { Prints text.now reported.now result writer.old writer.new faults.old faults.new }
+    ensures prints { Prints text.now command.now result writer.old writer.new faults.old faults.new }
 {
     match writer.write_all(text) {
         Ok(()) => DONE,
-        Err(_) => report(faults, reported, TROUBLE),
+        Err(_) => report_device(faults, command, b"write fault", writer.cause()),
     }
 }
 
-/// Prints the page of the command that a word names.
-fn print_page<W: Write, E: Write>(word: &str, writer: &mut Output<W>, faults: &mut Output<E>) -> u8
-    ensures ends { PageEnds (command_named word.now) result writer.old writer.new faults.old faults.new }
+/// The page of the command that a word names, or of the installed program.
+fn page_named(word: &str) -> Option<&'static [u8]>
+    ensures { option_copied result ≡ page_named word.now (command_named word.now) }
 {
     match Command::named(word) {
-        Some(command) => print(page_of(command), b"help: write fault\n", writer, faults),
-        None => usage(faults),
+        Some(command) => Some(page_of(command)),
+        None => tool_page(word),
     }
 }
 
-/// The command `help`: prints which commands there are, or with the name of one which words that takes. Answers the
-/// status: 0; 100 for a word that names no command, and for more words; 111 for a fault of the writer.
+/// Prints the page that a word names.
+fn print_page<W: Write, E: Write>(word: &str, writer: &mut Output<W>, faults: &mut Output<E>) -> u8
+    ensures ends { PageEnds (page_named word.now (command_named word.now)) result
+        writer.old writer.new faults.old faults.new }
+{
+    match page_named(word) {
+        Some(page) => print(page, b"help: ", writer, faults),
+        None => usage(faults, Command::Help),
+    }
+}
+
+/// The command `help`: prints which commands there are, or with the name of one, or of a program that is installed
+/// beside this one, which words that takes. Answers the status: 0; 100 for a word that names neither, and for more
+/// words; 111 for a fault of the writer.
 pub fn run_help<W: Write, E: Write>(
     words: &[&str],
     writer: &mut Output<W>,
@@ -46,9 +58,9 @@ pub fn run_help<W: Write, E: Write>(
     ensures ends { HelpEnds (map (λ word. word.now) words.now) result writer.old writer.new faults.old faults.new }
 {
     match words {
-        [] => print(overview(), b"help: write fault\n", writer, faults),
+        [] => print(overview(), b"help: ", writer, faults),
         [word] => print_page(word, writer, faults),
-        _ => usage(faults),
+        _ => usage(faults, Command::Help),
     }
 }
 
@@ -78,8 +90,8 @@ pub fn run_version<W: Write, E: Write>(
     match words {
         [] => {
             let text = version_text();
-            print(text.as_bytes(), b"version: write fault\n", writer, faults)
+            print(text.as_bytes(), b"version: ", writer, faults)
         }
-        _ => usage(faults),
+        _ => usage(faults, Command::Version),
     }
 }

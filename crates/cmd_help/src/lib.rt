@@ -1,11 +1,11 @@
 //! The commands `help` and `version`: what there is, in a few lines.
 #![tactic(auto)]
 
-mod command;
+mod asking;
 mod help;
 mod pages;
 mod source;
 
-pub use command::Command;
+pub use asking::page_asked;
 pub use help::{run_help, run_version};
-pub use pages::{overview, page_of};
+pub use pages::{overview, tool_page};

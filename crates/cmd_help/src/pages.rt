@@ -1,8 +1,9 @@
 //! What `help` prints.
 ghost use Rattle.std.specs.Prelude.{◌≡◌};
-ghost use Rattle.cmd_help.specs.Pages.{overview, page};
+ghost use Rattle.std.specs.Option.{option_copied};
+ghost use Rattle.cmd_help.specs.Pages.{overview, tool_page};
 
-use crate::command::Command;
+use cmd_base::{Command, page_of};
 
 /// What `help` prints without a word: the commands, a line each.
 pub fn overview() -> &'static [u8]
@@ -27,37 +28,23 @@ pub fn overview() -> &'static [u8]
 "
 }
 
-/// What `help` prints of a command: which words it takes.
-pub fn page_of(command: Command) -> &'static [u8]
-    ensures page { result.now ≡ page command }
+/// What `help` prints of a program that is installed next to `dtools` and is not its command: which words it takes.
+/// None if there is no such program.
+pub fn tool_page(name: &str) -> Option<&'static [u8]>
+    ensures page { option_copied result ≡ tool_page name.now }
 {
-    match command {
-        Command::Svscan => {
-            b"dtools svscan [DIR [ROUNDS]], over the working directory where no DIR is given\n"
+    match name {
+        "svwait" => Some(page_of(Command::Wait)),
+        "setuidgid" => Some(b"setuidgid ACCOUNT PROGRAM WORDS..\n"),
+        "envuidgid" => Some(b"envuidgid ACCOUNT PROGRAM WORDS..\n"),
+        "softlimit" => Some(b"softlimit [-acdflmoprst LIMIT].. PROGRAM WORDS..\n"),
+        "setlock" => Some(b"setlock [-nNxX] FILE PROGRAM WORDS..\n"),
+        "pgrphack" => Some(b"pgrphack PROGRAM WORDS..\n"),
+        "fghack" => Some(b"fghack PROGRAM WORDS..\n"),
+        "svscan-run" => Some(b"svscan-run [DIR]\n"),
+        "dtools-service" => {
+            Some(b"dtools-service --add FOLDER [NAME], --remove NAME, --list [NAME]\n")
         }
-        Command::Svc => {
-            b"dtools svc [-W] [-udopchaitkx12q] SERVICE.., with u up, d down, o once, x exit, and signals\n"
-        }
-        Command::Svstat => b"dtools svstat [--json | --metrics] SERVICE..\n",
-        Command::Svok => b"dtools svok SERVICE\n",
-        Command::Wait => {
-            b"dtools wait [-u|-d|-x] [-t SECONDS] SERVICE.., with u up, d down, x no longer supervised\n"
-        }
-        Command::Multilog => {
-            b"dtools multilog ACTION.., of t, -PATTERN, +PATTERN, e, =FILE, sSIZE, nNUMBER, folders\n"
-        }
-        Command::Tai64n => b"dtools tai64n\n",
-        Command::Tai64nlocal => b"dtools tai64nlocal\n",
-        Command::Envdir => b"dtools envdir DIR PROGRAM WORDS.., or dtools envdir --words DIR\n",
-        Command::Readproctitle => {
-            b"dtools readproctitle WORD.., of which the last is as long as the title\n"
-        }
-        Command::Sim => b"dtools sim, with a script on standard input, or dtools sim table\n",
-        Command::Trace => {
-            b"dtools trace FILE [--break SPEC] [--local], where SPEC is byte:C, phase:PHASE or signal:NAME\n"
-        }
-        Command::Why => b"dtools why [--timeline] SERVICE..\n",
-        Command::Help => b"dtools help [COMMAND]\n",
-        Command::Version => b"dtools version\n",
+        _ => None,
     }
 }

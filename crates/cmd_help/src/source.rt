@@ -4,4 +4,4 @@
 pub(crate) const KIT: &str = "rattle-kit-13f logic dac8208d650f15bf";
 
 /// The sum of its sources, as packaging/source-sum says it.
-pub(crate) const SOURCE: &str = "748ac7f6ac77419d02896c7f25cd00b80428b1e77a1d7b92eaf03a45037295f3";
+pub(crate) const SOURCE: &str = "8c3ecb86f64d8e9cbcc17eb96a429e28ab0e762dfb039cd82b1157f1d9452ec8";

@@ -1,17 +1,19 @@
 -- How `tai64nlocal` ends: by the tai64nlocal page of daemontools (cr.yp.to/daemontools/tai64nlocal.html).
-use Rattle.std.specs.Prelude.{◌≡◌, ◌≢◌, ℕ, ℤ, List, [], ◌∷◌, ◌++◌, codes, map}
+use Rattle.std.specs.Prelude.{◌≡◌, ◌≢◌, ℕ, ℤ, List, [], ◌∷◌, codes, map}
 use Rattle.std.specs.Borrow.{Bor}
 use Rattle.tai_status.specs.Counted.{Device, Fails, Works, Gives, Wrote, WroteFront, IsRead, Reports}
+use Rattle.tai_status.specs.Counted.{device_report}
 use Rattle.cmd_base.specs.Console.{Console, EndsWell, console}
 use Rattle.cmd_base.specs.Usage.{RefusesWords}
+use Rattle.cmd_base.specs.declared.command.Command.TheVariants as command
 use Rattle.cmd_local.specs.Lines.{localised}
 use Rattle.cmd_local.specs.declared.localising.LocalFault.{LocalFault}
 use Rattle.cmd_local.specs.declared.localising.LocalFault.TheVariants as fault
 
--- what is reported of a fault
-abbrev pub local_report : LocalFault → List ℕ
-local_report fault.Read = codes "tai64nlocal: Read" ++ 10 ∷ []
-local_report fault.Write = codes "tai64nlocal: Write" ++ 10 ∷ []
+-- What is reported of a fault: which device failed, and the cause of its last fault.
+abbrev pub local_report : LocalFault → (reader writer : Device) → List ℕ
+local_report fault.Read reader writer = device_report (codes "tai64nlocal: ") (codes "Read") reader
+local_report fault.Write reader writer = device_report (codes "tai64nlocal: ") (codes "Write") writer
 
 -- Bytes were read, and each of their lines was written with local time.
 pub record Localises (ahead : ℤ → ℤ) (reader read writer written : Device) : Type 0 where
@@ -39,11 +41,11 @@ pub record LocalisesInput (ahead : ℤ → ℤ) (old new : Console) : Type 0 whe
   pub end : IsRead new.reader
   pub well : EndsWell old new
 
--- A device failed, and it is reported which.
+-- A device failed, and it is reported which, and why.
 pub record LocalisesNoFurther (ahead : ℤ → ℤ) (old new : Console) : Type 0 where
   pub fault : LocalFault
   pub cause : LocalCause ahead fault old.reader new.reader old.writer new.writer
-  pub reported : Reports old.faults new.faults (local_report fault)
+  pub reported : Reports old.faults new.faults (local_report fault new.reader new.writer)
 
 -- `tai64nlocal` without words, by its status.
 pub record LocalByStatus (ahead : ℤ → ℤ) (status : ℕ) (old new : Console) : Type 0 where
@@ -53,7 +55,7 @@ pub record LocalByStatus (ahead : ℤ → ℤ) (status : ℕ) (old new : Console
 -- `tai64nlocal` takes no words.
 abbrev pub LocalEnds : (ahead : ℤ → ℤ) (words : List (List ℕ)) (status : ℕ) (old new : Console) → Type 0
 LocalEnds ahead [] status old new = LocalByStatus ahead status old new
-LocalEnds ahead (word ∷ words) status old new = RefusesWords status old new
+LocalEnds ahead (word ∷ words) status old new = RefusesWords command.Tai64nlocal status old new
 
 -- The same, of each device as it was and is.
 abbrev pub FilterEnds : (ahead : ℤ → ℤ) (words : List (List ℕ)) (status : ℕ)

@@ -1,6 +1,7 @@
 //! The command `tai64nlocal`.
 ghost use Rattle.std.specs.Prelude.{◌≡◌, ◌<◌, ◌≤◌, ◌+◌, ◌-◌, length, take, drop, slice_range, OnOk, OnErr, IfOk, IfErr};
 ghost use Rattle.tai_status.specs.Counted.{CountsRead, Fails, Works, Gives, GivesNothing, IsRead, Wrote, WroteFront};
+ghost use Rattle.tai_status.specs.Counted.{Reports};
 ghost use Rattle.cmd_base.specs.Console.{console};
 ghost use Rattle.cmd_local.specs.Ends.{FilterEnds, LocalByStatus, LocalCause, Localises, local_report, texts};
 ghost use Rattle.cmd_local.specs.Lines.{localised_line};
@@ -9,7 +10,7 @@ ghost use Rattle.cmd_local.specs.Passing.{IsHeld, Moves, passed};
 
 use crate::line::{LastTime, put_line, put_lines};
 use crate::zone::Zone;
-use cmd_base::{DONE, TROUBLE, report, usage};
+use cmd_base::{Command, DONE, report_device, usage};
 use std::io::{Read, Write};
 use tai_status::{BLOCK, Block, DeviceFault, Input, Output};
 
@@ -133,13 +134,19 @@ fn localise_input<Z: Zone, D: Read, W: Write>(
     }
 }
 
-/// What is reported of a fault.
-fn fault_text(fault: LocalFault) -> &'static [u8]
-    ensures { result.now ≡ local_report fault }
+/// Reports which device failed, and why, and returns the status of that.
+fn report_unlocalised<D: Read, W: Write, E: Write>(
+    fault: LocalFault,
+    reader: &Input<D>,
+    writer: &Output<W>,
+    faults: &mut Output<E>,
+) -> u8
+    ensures status { result ≡ 111 }
+    ensures reported { Reports faults.old faults.new (local_report fault reader.now writer.now) }
 {
     match fault {
-        LocalFault::Read => b"tai64nlocal: Read\n",
-        LocalFault::Write => b"tai64nlocal: Write\n",
+        LocalFault::Read => report_device(faults, b"tai64nlocal: ", b"Read", reader.cause()),
+        LocalFault::Write => report_device(faults, b"tai64nlocal: ", b"Write", writer.cause()),
     }
 }
 
@@ -155,7 +162,7 @@ fn run_input<Z: Zone, D: Read, W: Write, E: Write>(
 {
     match localise_input(zone, reader, writer) {
         Ok(()) => DONE,
-        Err(fault) => report(faults, fault_text(fault), TROUBLE),
+        Err(fault) => report_unlocalised(fault, reader, writer, faults),
     }
 }
 
@@ -163,7 +170,8 @@ fn run_input<Z: Zone, D: Read, W: Write, E: Write>(
 /// that it begins with, as `2026-11-25 01:33:02.123456789` (<https://cr.yp.to/daemontools/tai64nlocal.html>). A
 /// label is an `@` and exactly 24 digits, which are lower-case hexadecimal. A line that begins with none, or with one
 /// whose local time is not in the years 1900 to 9999, stays as it is. Lines may have any length. It takes no words.
-/// Answers the status: 0; 100 for wrong words; 111 for a fault of the reader or the writer.
+/// Returns the status: 0; 100 for wrong words; 111 for a fault of the reader or the writer, which is reported with its
+/// cause.
 pub fn run_tai64nlocal<Z: Zone, D: Read, W: Write, E: Write>(
     zone: &Z,
     words: &[&str],
@@ -177,5 +185,5 @@ pub fn run_tai64nlocal<Z: Zone, D: Read, W: Write, E: Write>(
     if words.is_empty() {
         return run_input(zone, reader, writer, faults);
     }
-    usage(faults)
+    usage(faults, Command::Tai64nlocal)
 }

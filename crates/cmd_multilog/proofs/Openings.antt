@@ -5,9 +5,10 @@ use Rattle.std.proofs.Math.Seq.{take-suc}
 use Rattle.std.proofs.lemmas.List.{take_all, length-append}
 use Rattle.std.proofs.lemmas.Option.{slice_get-map, slice_get_within, get_or_from_slice_get, slice_get_cases}
 use Rattle.std.specs.Prelude.{◌≢◌, slice_get, IfSome}
-use Rattle.std.specs.IoError.{error_kind}
+use Rattle.std.specs.IoError.{error_kind, raw_os_error}
 use Rattle.std.specs.declared.io.Error.{Error}
 use Rattle.std.specs.declared.io.ErrorKind.TheVariants as error
+use Rattle.tai_status.specs.Causes.{cause_of}
 use Rattle.cmd_multilog.specs.Folder.{Folder, Status, IsCause}
 use Rattle.tai_status.specs.Extended.{Extended}
 use Rattle.cmd_multilog.specs.Shelf.{Shelf, IsBegunAt, OpensLog, AsksFor, AsksForOne, AddsStatus, AddsNone}
@@ -200,11 +201,13 @@ not_refused a b c fault well (inr (same, lacks)) kind = inl (same ∙ well)
 
 -- one did
 refused : (a b c : Shelf) (fault : Error) → b.gave ≡ a.gave → IsCause fault b.gave c.gave
-    → error_kind fault ≢ error.OutOfMemory → OneRefused a.gave c.gave
+    → error_kind fault ≢ error.OutOfMemory
+    → OneRefused (cause_of (raw_os_error fault) (error_kind fault)) a.gave c.gave
 refused a b c fault well (inl gave) kind = record {
   error = fault;
   gave = subst (λ (t : Option (List Error)). Extended t c.gave (fault ∷ [])) well gave;
   kind_is = kind;
+  cause_is = refl;
 }
 refused a b c fault well (inr (same, lacks)) kind = absurd (kind lacks)
 

@@ -80,7 +80,15 @@ heard_from rotates bytes words =
 -- what is left of what comes, and what is behind it
 abbrev left_of : Bool → Bool → Option Coming → Option (List ℕ)
 left_of stopped in_line coming =
-    left_in (record { coming = coming; stopped = stopped; rotates = false; in_line = in_line; reads = 0; faults = 0 })
+    left_in (record {
+      coming = coming;
+      stopped = stopped;
+      rotates = false;
+      in_line = in_line;
+      reads = 0;
+      faults = 0;
+      cause = None;
+    })
 
 abbrev behind_of : Bool → Bool → Bool → Option Coming → Option (List (List ℕ))
 behind_of stopped rotates in_line coming =
@@ -90,8 +98,8 @@ behind_of stopped rotates in_line coming =
       rotates = rotates;
       in_line = in_line;
       reads = 0;
-      faults =
-          0;
+      faults = 0;
+      cause = None;
     })
 
 pub word_left : (rotates in_line : Bool) (old new : Option Coming) → Changes old new (HearsWord rotates)
@@ -279,6 +287,7 @@ pub opens_next : (old : Listening) → old.rotates ≡ true → old.stopped ≡ 
       in_line = false;
       reads = old.reads;
       faults = old.faults;
+      cause = old.cause;
     }))
 opens_next old rotates stopped end = record {
   next = subst (λ (s : Bool). IsNext (behind_of s old.rotates old.in_line old.coming) (left_of false false old.coming)

@@ -1,15 +1,22 @@
 -- How `multilog` ends.
-use Rattle.std.specs.Prelude.{◌≡◌, ◌⊎◌, ℕ, List, [], map, slice_get, unwrap_or, Option, Some, None, MatchOption, Ok}
+use Rattle.std.specs.Prelude.{◌≡◌, ◌⊎◌, ℕ, List, [], ◌∷◌, ◌++◌, codes, map, slice_get, unwrap_or, Option, Some, None}
+use Rattle.std.specs.Prelude.{MatchOption, Ok}
 use Rattle.tai_status.specs.Label.{Tai64n}
-use Rattle.tai_status.specs.Counted.{Device, Reports}
+use Rattle.tai_status.specs.Counted.{Device, Reports, device_note}
+use Rattle.tai_status.specs.declared.cause.Cause.{Cause}
 use Rattle.mlog_script.specs.Script.{Act, said, first_fault, file_paths}
 use Rattle.mlog_script.specs.declared.fault.ScriptFaultKind.TheVariants as kind
 use Rattle.mlog_core.specs.Feed.{Feed}
 use Rattle.mlog_core.specs.Parts.{Play, play, RunsParts}
 use Rattle.mlog_core.specs.declared.stream.RunFault.{RunFault}
+use Rattle.mlog_core.specs.declared.stream.RunFault.TheVariants as run
 use Rattle.cmd_multilog.specs.Shelf.{Shelf, state_of}
 use Rattle.cmd_multilog.specs.Opening.{Opens, OpensUpTo, folders_of}
-use Rattle.cmd_multilog.specs.Sayings.{script_report, script_status, run_report, memory_report, unopened_report}
+use Rattle.cmd_multilog.specs.Sayings.{script_report, script_status, memory_report, unopened_report}
+use Rattle.cmd_multilog.specs.Sayings.{call_words, store_note}
+use Rattle.cmd_multilog.specs.declared.fault.StoreCall.{StoreCall}
+use Rattle.cmd_multilog.specs.declared.fault.StoreCall.TheVariants as call
+use Rattle.cmd_multilog.specs.declared.fault.StoreTrouble.{StoreTrouble}
 use Rattle.cmd_multilog.specs.declared.fault.OpenFault.{OpenFault}
 use Rattle.cmd_multilog.specs.declared.fault.OpenFault.TheVariants as why
 use Rattle.cmd_multilog.specs.declared.fault.NoScript.{NoScript}
@@ -63,7 +70,8 @@ pub record Refuses (words : List (List ℕ)) (status : ℕ) (old new : Stage) : 
 -- The logs
 
 abbrev pub open_report : List Act → OpenFault → List ℕ
-open_report script (why.Unopened log) = unopened_report (unwrap_or (slice_get (folders_of script) log) [])
+open_report script (why.Unopened log cause) =
+    unopened_report (unwrap_or (slice_get (folders_of script) log) []) cause
 open_report script why.OutOfMemory = memory_report
 
 -- A log can't be opened, or there is no memory: nothing is read, and it is reported.
@@ -85,9 +93,35 @@ abbrev pub run_status : Option RunFault → ℕ
 run_status None = 0
 run_status (Some fault) = 111
 
-abbrev pub ReportsRun : Option RunFault → Device → Device → Type 0
-ReportsRun None old new = new ≡ old
-ReportsRun (Some fault) old new = Reports old new (run_report fault)
+-- what a call of the store is of: the folder of a log, the path of a status file, or standard error
+abbrev pub object_of : List Act → StoreCall → List ℕ
+object_of script (call.Append log) = unwrap_or (slice_get (folders_of script) log) []
+object_of script (call.Finish log) = unwrap_or (slice_get (folders_of script) log) []
+object_of script (call.Remove log) = unwrap_or (slice_get (folders_of script) log) []
+object_of script (call.Status file) = unwrap_or (slice_get (file_paths script) file) []
+object_of script call.Alert = codes "standard error"
+
+-- what is reported of a call of the store that failed
+abbrev pub trouble_report : List Act → StoreTrouble → List ℕ
+trouble_report script trouble =
+    call_words trouble.call ++ (object_of script trouble.call ++ store_note trouble)
+
+-- what is reported of a fault of the store: the call that failed last, and why, if it is known
+abbrev pub store_report : List Act → (last : Option StoreTrouble) → List ℕ
+store_report script (Some trouble) = trouble_report script trouble
+store_report script None = codes "multilog: Store" ++ 10 ∷ []
+
+-- what is reported of a fault of the run: of one of the input, the cause of its last fault
+abbrev pub fault_report : List Act → (cause : Option Cause) → (last : Option StoreTrouble) → RunFault → List ℕ
+fault_report script cause last run.Read = codes "multilog: " ++ (codes "Read" ++ device_note cause)
+fault_report script cause last run.Store = store_report script last
+fault_report script cause last run.OutOfMemory = memory_report
+fault_report script cause last run.LabelsSpent = codes "multilog: LabelsSpent" ++ 10 ∷ []
+
+abbrev pub ReportsRun : List Act → (cause : Option Cause) → (last : Option StoreTrouble) → Option RunFault
+    → (old new : Device) → Type 0
+ReportsRun script cause last None old new = new ≡ old
+ReportsRun script cause last (Some fault) old new = Reports old new (fault_report script cause last fault)
 
 -- The script was run over opened logs, part by part of the input, no folder was asked for, and the fault is reported.
 pub record RunsOpened (script : List Act) (status : ℕ) (old new : Stage) : Type 0 where
@@ -95,7 +129,7 @@ pub record RunsOpened (script : List Act) (status : ℕ) (old new : Stage) : Typ
   pub asked : new.store.asked ≡ old.store.asked
   pub runs : RunsParts ran script (play_of old) (play_of new)
   pub status_is : status ≡ run_status ran
-  pub reported : ReportsRun ran old.faults new.faults
+  pub reported : ReportsRun script new.feed.device.cause new.store.last ran old.faults new.faults
 
 -- The logs were opened, with no call that failed, and then the script was run.
 pub record RunsScript (script : List Act) (status : ℕ) (old new : Stage) : Type 0 where

@@ -1,9 +1,11 @@
 -- How the logs and status files of a script are opened.
 use Rattle.std.specs.Prelude.{◌≡◌, ◌≢◌, ◌⊎◌, ℕ, ◌<◌, ◌≤◌, ◌+◌, ⊤, List, [], ◌∷◌, ◌++◌, take, map, length}
 use Rattle.std.specs.Prelude.{Option, IfSome}
-use Rattle.std.specs.IoError.{error_kind}
+use Rattle.std.specs.IoError.{error_kind, raw_os_error}
 use Rattle.std.specs.declared.io.Error.{Error}
 use Rattle.std.specs.declared.io.ErrorKind.TheVariants as kind
+use Rattle.tai_status.specs.Causes.{cause_of}
+use Rattle.tai_status.specs.declared.cause.Cause.{Cause}
 use Rattle.mlog_script.specs.Script.{Act, log_plans, file_paths}
 use Rattle.cmd_multilog.specs.Folder.{Folder, Status}
 use Rattle.tai_status.specs.Extended.{Extended}
@@ -46,13 +48,15 @@ pub record Opens (old new : Shelf) (paths files asked : List (List ℕ)) : Type 
 abbrev pub IsFault : Error → (log : ℕ) → OpenFault → Type 0
 IsFault error log fault =
     ((error_kind error ≡ kind.OutOfMemory) × (fault ≡ why.OutOfMemory))
-    ⊎ ((error_kind error ≢ kind.OutOfMemory) × (fault ≡ why.Unopened log))
+    ⊎ ((error_kind error ≢ kind.OutOfMemory)
+    × (fault ≡ why.Unopened log (cause_of (raw_os_error error) (error_kind error))))
 
--- One call failed by which folders are opened, and not for want of memory.
-pub record OneRefused (past now : Option (List Error)) : Type 0 where
+-- One call failed by which folders are opened, and not for want of memory, but for this cause.
+pub record OneRefused (cause : Cause) (past now : Option (List Error)) : Type 0 where
   pub error : Error
   pub gave : Extended past now (error ∷ [])
   pub kind_is : error_kind error ≢ kind.OutOfMemory
+  pub cause_is : cause ≡ cause_of (raw_os_error error) (error_kind error)
 
 -- One call failed by which folders are opened, for want of memory.
 pub record OneLacksMemory (past now : Option (List Error)) : Type 0 where
@@ -67,8 +71,8 @@ NoneRefused past now = (now ≡ past) ⊎ OneLacksMemory past now
 -- The logs before one were opened, and then no more: no folder behind that one's was asked for. That one can't be
 -- opened where the system refused it, and there is no memory only where it refused none.
 abbrev pub OpensUpTo : (old new : Shelf) (script : List Act) → OpenFault → Type 0
-OpensUpTo old new script (why.Unopened log) =
-    (log < length (folders_of script)) × OneRefused old.gave new.gave
+OpensUpTo old new script (why.Unopened log cause) =
+    (log < length (folders_of script)) × OneRefused cause old.gave new.gave
     × Opens old new (take log (folders_of script)) [] (take (log + 1) (folders_of script))
 OpensUpTo old new script why.OutOfMemory =
     (logs : ℕ) × (files : ℕ) × (asked : ℕ) × (asked ≤ logs + 1) × NoneRefused old.gave new.gave

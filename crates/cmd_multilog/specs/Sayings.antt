@@ -4,8 +4,12 @@ use Rattle.mlog_script.specs.declared.fault.ScriptFaultKind.{ScriptFaultKind}
 use Rattle.mlog_script.specs.declared.fault.ScriptFaultKind.TheVariants as kind
 use Rattle.mlog_script.specs.declared.fault.ScriptFault.{ScriptFault}
 use Rattle.mlog_script.specs.Named.{kind_name}
-use Rattle.mlog_core.specs.declared.stream.RunFault.{RunFault}
-use Rattle.mlog_core.specs.declared.stream.RunFault.TheVariants as fault
+use Rattle.tai_status.specs.Causes.{cause_words}
+use Rattle.tai_status.specs.declared.cause.Cause.{Cause}
+use Rattle.tai_status.specs.declared.cause.Cause.TheVariants as cause
+use Rattle.cmd_multilog.specs.declared.fault.StoreCall.{StoreCall}
+use Rattle.cmd_multilog.specs.declared.fault.StoreCall.TheVariants as call
+use Rattle.cmd_multilog.specs.declared.fault.StoreTrouble.{StoreTrouble}
 
 -- what is reported of a fault of the script
 abbrev pub script_report : ScriptFault → List ℕ
@@ -26,17 +30,37 @@ kind_status kind.OutOfMemory = 111
 abbrev pub script_status : ScriptFault → ℕ
 script_status fault = kind_status fault.kind
 
--- what is reported of a fault of the run
-abbrev pub run_report : RunFault → List ℕ
-run_report fault.Read = codes "multilog: Read" ++ 10 ∷ []
-run_report fault.Store = codes "multilog: Store" ++ 10 ∷ []
-run_report fault.OutOfMemory = codes "multilog: OutOfMemory" ++ 10 ∷ []
-run_report fault.LabelsSpent = codes "multilog: LabelsSpent" ++ 10 ∷ []
-
--- what is reported of want of memory
+-- what is reported if it is out of memory
 abbrev pub memory_report : List ℕ
 memory_report = codes "multilog: OutOfMemory" ++ 10 ∷ []
 
+-- why a log can't be opened, in words: a call that would wait is that for the lock
+abbrev pub open_words : Cause → List ℕ
+open_words cause.NoThread = codes "locked by another process"
+open_words other = cause_words other
+
+-- the same, as it is reported behind its folder
+abbrev pub open_note : Cause → List ℕ
+open_note why = codes ": " ++ open_words why ++ 10 ∷ []
+
 -- what is reported of a log that can't be opened
-abbrev pub unopened_report : List ℕ → List ℕ
-unopened_report folder = codes "multilog: unable to open " ++ (folder ++ 10 ∷ [])
+abbrev pub unopened_report : (folder : List ℕ) → Cause → List ℕ
+unopened_report folder why = codes "multilog: unable to open " ++ (folder ++ open_note why)
+
+-- what a call of the store was to do, as it is reported in front of what it was to be done to
+abbrev pub call_words : StoreCall → List ℕ
+call_words (call.Append log) = codes "multilog: Store: unable to write "
+call_words (call.Finish log) = codes "multilog: Store: unable to finish "
+call_words (call.Remove log) = codes "multilog: Store: unable to remove an old file of "
+call_words (call.Status file) = codes "multilog: Store: unable to write "
+call_words call.Alert = codes "multilog: Store: unable to write "
+
+-- the file of a log that a call is of, behind its folder
+abbrev pub where_in : StoreCall → List ℕ
+where_in (call.Append log) = codes "/current"
+where_in (call.Finish log) = codes "/current"
+where_in other = []
+
+-- why a call failed, as it is reported behind what it was to be done to
+abbrev pub store_note : StoreTrouble → List ℕ
+store_note trouble = where_in trouble.call ++ codes ": " ++ cause_words trouble.cause ++ 10 ∷ []

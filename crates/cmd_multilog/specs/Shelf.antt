@@ -1,15 +1,19 @@
 -- What a store over folders holds, and what it says of it.
 use Rattle.std.specs.Prelude.{◌≡◌, ◌⊎◌, ⊤, ℕ, List, [], ◌∷◌, ◌++◌, length, Option, Some, None, IfSome, slice_get}
-use Rattle.std.specs.IoError.{error_kind}
+use Rattle.std.specs.IoError.{error_kind, raw_os_error}
 use Rattle.std.specs.declared.io.Error.{Error}
 use Rattle.std.specs.declared.io.ErrorKind.TheVariants.{OutOfMemory}
 use Rattle.mlog_files.specs.Files.{Files}
 use Rattle.mlog_files.specs.Store.{StoreState}
+use Rattle.tai_status.specs.Causes.{cause_of}
+use Rattle.cmd_multilog.specs.declared.fault.StoreCall.{StoreCall}
+use Rattle.cmd_multilog.specs.declared.fault.StoreTrouble.{StoreTrouble}
 use Rattle.cmd_multilog.specs.Folder.{Folder, files_of, Begins, Status, given_of}
 use Rattle.tai_status.specs.Extended.{Extended}
 
 -- The folders of the logs and the status files, as far as the system reports them; the alerts; the folders that the
--- system was asked for, and the errors that the calls gave by which these are opened; and how many calls failed since.
+-- system was asked for, and the errors that the calls gave by which these are opened; how many calls failed since, and
+-- which one of them was the last, and why.
 pub record Shelf : Type 0 where
   pub logs : List (Option Folder)
   pub statuses : List (Option Status)
@@ -17,6 +21,11 @@ pub record Shelf : Type 0 where
   pub asked : Option (List (List ℕ))
   pub gave : Option (List Error)
   pub failures : ℕ
+  pub last : Option StoreTrouble
+
+-- a call that failed by an error, and why
+abbrev pub trouble_of : StoreCall → Error → StoreTrouble
+trouble_of call error = record { call = call; cause = cause_of (raw_os_error error) (error_kind error) }
 
 -- the files of the log at a place
 abbrev pub files_at : Option (Option Folder) → Option Files

@@ -4,6 +4,7 @@ use Rattle.std.specs.Prelude.{Option, Some, None}
 use Rattle.std.specs.List.{flat_map}
 use Rattle.std.specs.Option.{option_map}
 use Rattle.tai_status.specs.Counted.{IsRead}
+use Rattle.tai_status.specs.declared.cause.Cause.{Cause}
 use Rattle.mlog_script.specs.Script.{Act}
 use Rattle.mlog_core.specs.Feed.{Feed}
 use Rattle.mlog_core.specs.Run.{World, RunsAll}
@@ -108,7 +109,7 @@ unread in_line (word ∷ words) =
     else next_line in_line word.bytes ++ all_behind words
 
 -- A reader that listens: what comes to it; whether it has heard a word in the part that is read, and whether that was
--- for a rotation; whether a line is in hand; and how often it was read, and failed.
+-- for a rotation; whether a line is in hand; how often it was read, and failed; and the cause of its last fault.
 pub record Listening : Type 0 where
   pub coming : Option Coming
   pub stopped : Bool
@@ -116,11 +117,13 @@ pub record Listening : Type 0 where
   pub in_line : Bool
   pub reads : ℕ
   pub faults : ℕ
+  pub cause : Option Cause
 
 -- It was read and has failed as often as before.
 pub record SameCounts (old new : Listening) : Type 0 where
   pub reads : new.reads ≡ old.reads
   pub faults : new.faults ≡ old.faults
+  pub cause : new.cause ≡ old.cause
 
 -- It has heard what it had heard before.
 pub record SameWord (old new : Listening) : Type 0 where
@@ -149,7 +152,12 @@ behind_in listening = option_map (λ coming.
 -- the input in parts that it is
 abbrev pub feed_of : Listening → Feed
 feed_of listening = record {
-  device = record { bytes = left_in listening; reads = listening.reads; faults = listening.faults };
+  device = record {
+    bytes = left_in listening;
+    reads = listening.reads;
+    faults = listening.faults;
+    cause = listening.cause;
+  };
   behind = behind_in listening;
   rotates = listening.rotates;
 }

@@ -3,20 +3,25 @@ ghost use Rattle.std.specs.Prelude.{◌≡◌, [], slice_get, unwrap_or, IfOk, I
 ghost use Rattle.tai_status.specs.Counted.{Reports};
 ghost use Rattle.mlog_script.specs.Script.{texts};
 ghost use Rattle.cmd_multilog.specs.Opening.{folders_of};
+ghost use Rattle.mlog_script.specs.Script.{file_paths};
 ghost use Rattle.cmd_multilog.specs.Ends.{IsSaidBy, IsRefusal, refusal_report, refusal_status, open_report, EndsBy};
+ghost use Rattle.cmd_multilog.specs.Ends.{fault_report, object_of, store_report, trouble_report};
 
-use crate::fault::{NoScript, OpenFault, run_text, script_status, script_text};
+use crate::fault::{
+    NoScript, OpenFault, StoreCall, StoreTrouble, call_words, open_note, script_status,
+    script_text, store_note,
+};
 use crate::log_system::LogSystem;
 use crate::opening::open_all;
 use crate::store::FolderStore;
-use cmd_base::{DONE, TROUBLE, report, report_parts};
-use mlog_core::{PartedInput, run_parts};
+use cmd_base::{DONE, TROUBLE, report, report_device, report_parts};
+use mlog_core::{PartedInput, RunFault, run_parts};
 use mlog_script::{Script, check_words};
 use std::alloc::Allocator;
 use std::io::Write;
-use tai_status::{Output, TimeSource};
+use tai_status::{Cause, Output, TimeSource};
 
-/// What is reported of want of memory.
+/// What is reported if it is out of memory.
 const NO_MEMORY: &[u8] = b"multilog: OutOfMemory\n";
 
 /// Why words are no script, where there is no memory: the first bad word is reported, also then.
@@ -76,24 +81,98 @@ fn report_unopened<B: Allocator + Clone, E: Write>(
     ensures reported { Reports faults.old faults.new (open_report script.now why) }
 {
     match why {
-        OpenFault::Unopened(log) => {
-            report_parts(
-                faults,
-                b"multilog: unable to open ",
-                folder_of(script, log),
-                b"\n",
-                TROUBLE,
-            )
-        }
+        OpenFault::Unopened(log, cause) => report_parts(
+            faults,
+            b"multilog: unable to open ",
+            folder_of(script, log),
+            open_note(cause).as_bytes(),
+            TROUBLE,
+        ),
         OpenFault::OutOfMemory => report(faults, NO_MEMORY, TROUBLE),
     }
 }
 
+/// The path of the status file of a number, empty where there is none.
+fn file_of<B: Allocator + Clone>(script: &Script<B>, file: usize) -> &[u8]
+    ensures { result.now ≡ unwrap_or (slice_get (file_paths script.now) file) [] }
+{
+    match script.file(file) {
+        Some(path) => path,
+        None => b"",
+    }
+}
+
+/// What a call of the store is of: the folder of a log, the path of a status file, or standard error.
+fn object_of<B: Allocator + Clone>(script: &Script<B>, call: StoreCall) -> &[u8]
+    ensures { result.now ≡ object_of script.now call }
+{
+    match call {
+        StoreCall::Append(log) | StoreCall::Finish(log) | StoreCall::Remove(log) => folder_of(
+            script, log,
+        ),
+        StoreCall::Status(file) => file_of(script, file),
+        StoreCall::Alert => b"standard error",
+    }
+}
+
+/// Says which call of the store failed, and why, and answers the status of that.
+fn report_trouble<B: Allocator + Clone, E: Write>(
+    trouble: StoreTrouble,
+    script: &Script<B>,
+    faults: &mut Output<E>,
+) -> u8
+    ensures status { result ≡ 111 }
+    ensures reported { Reports faults.old faults.new (trouble_report script.now trouble) }
+{
+    report_parts(
+        faults,
+        call_words(trouble.call),
+        object_of(script, trouble.call),
+        store_note(trouble).as_bytes(),
+        TROUBLE,
+    )
+}
+
+/// Reports which call of the store failed last, and why, if it is known, and returns the status of that.
+fn report_store<B: Allocator + Clone, E: Write>(
+    last: Option<StoreTrouble>,
+    script: &Script<B>,
+    faults: &mut Output<E>,
+) -> u8
+    ensures status { result ≡ 111 }
+    ensures reported { Reports faults.old faults.new (store_report script.now last) }
+{
+    match last {
+        Some(trouble) => report_trouble(trouble, script, faults),
+        None => report(faults, b"multilog: Store\n", TROUBLE),
+    }
+}
+
+/// Reports why a run ended early, and returns the status of that. `cause` is that of the last fault of the input, and
+/// `last` the call of the store that failed last.
+fn report_run<B: Allocator + Clone, E: Write>(
+    fault: RunFault,
+    cause: Option<Cause>,
+    last: Option<StoreTrouble>,
+    script: &Script<B>,
+    faults: &mut Output<E>,
+) -> u8
+    ensures status { result ≡ 111 }
+    ensures reported { Reports faults.old faults.new (fault_report script.now cause last fault) }
+{
+    match fault {
+        RunFault::Read => report_device(faults, b"multilog: ", b"Read", cause),
+        RunFault::Store => report_store(last, script, faults),
+        RunFault::OutOfMemory => report(faults, NO_MEMORY, TROUBLE),
+        RunFault::LabelsSpent => report(faults, b"multilog: LabelsSpent\n", TROUBLE),
+    }
+}
+
 /// The command `multilog`: reads lines, and hands them out to the logs, alerts and status files that its words ask for
-/// (<https://cr.yp.to/daemontools/multilog.html>). No words are a lawful script. Behind each part of the input but the
-/// last the current files that aren't empty become old files. Answers the status: 0; 100 for words that are no script,
-/// where nothing is made or read; 111 where a log can't be opened, for a fault of the input or the store, where a log
-/// has no greater label, and for want of memory, of the words only where none of them is bad.
+/// (<https://cr.yp.to/daemontools/multilog.html>). No words are a lawful script. After each part of the input but the
+/// last the current files that aren't empty become old files. Returns the status: 0; 100 for words that are no script,
+/// and then nothing is made or read; 111 if a log can't be opened, for a fault of the input or the store, if a log has
+/// no greater label, and if it is out of memory, for the words only if none of them is bad.
 pub fn run_multilog<D, A, I, E, C>(
     alloc: A,
     store: &mut FolderStore<D, A>,
@@ -123,6 +202,12 @@ where
     }
     match run_parts(alloc, &script, input, store, clock) {
         Ok(()) => DONE,
-        Err(fault) => report(faults, run_text(fault), TROUBLE),
+        Err(fault) => report_run(
+            fault,
+            input.last_cause(),
+            store.last_trouble(),
+            &script,
+            faults,
+        ),
     }
 }

@@ -1,18 +1,41 @@
 //! Why `multilog` ends early, and what it says of that.
-ghost use Rattle.std.specs.Prelude.{◌≡◌};
-ghost use Rattle.cmd_multilog.specs.Sayings.{run_report, script_report, script_status};
+ghost use Rattle.std.specs.Prelude.{◌≡◌, ◌≤◌, length};
+ghost use Rattle.cmd_multilog.specs.Sayings.{call_words, open_note, open_words, script_report};
+ghost use Rattle.cmd_multilog.specs.Sayings.{script_status, store_note, where_in};
 
 use arrayvec::ArrayString;
 use cmd_base::{REFUSED, TROUBLE, push_number};
-use mlog_core::RunFault;
 use mlog_script::{ScriptFault, ScriptFaultKind, kind_name};
+use tai_status::Cause;
 
 /// Why the logs and status files of a script are not opened.
 #[derive(Clone, Copy, Debug, PartialEq, Eq)]
 pub enum OpenFault {
-    /// The log of this number can't be opened.
-    Unopened(usize),
+    /// The log of this number can't be opened, for this cause.
+    Unopened(usize, Cause),
     OutOfMemory,
+}
+
+/// A call of the store, of the log or the status file of a number.
+#[derive(Clone, Copy, Debug, PartialEq, Eq)]
+pub enum StoreCall {
+    /// A front of a piece was to be appended to the current file.
+    Append(usize),
+    /// The current file was to become an old one.
+    Finish(usize),
+    /// The smallest old file was to be removed.
+    Remove(usize),
+    /// The status file was to be replaced.
+    Status(usize),
+    /// A line was to be written to standard error.
+    Alert,
+}
+
+/// A call of the store that failed, and why.
+#[derive(Clone, Copy, Debug, PartialEq, Eq)]
+pub struct StoreTrouble {
+    pub call: StoreCall,
+    pub cause: Cause,
 }
 
 /// Why there is no script.
@@ -47,14 +70,60 @@ pub(crate) fn script_status(fault: ScriptFault) -> u8
     }
 }
 
-/// What is reported of a fault of the run.
-pub(crate) fn run_text(fault: RunFault) -> &'static [u8]
-    ensures { result.now ≡ run_report fault }
+/// Why a log can't be opened, in words. A call that would wait is that for the lock.
+fn open_words(cause: Cause) -> &'static str
+    ensures words { result.now ≡ open_words cause }
+    ensures short { length result.now ≤ 34 }
 {
-    match fault {
-        RunFault::Read => b"multilog: Read\n",
-        RunFault::Store => b"multilog: Store\n",
-        RunFault::OutOfMemory => b"multilog: OutOfMemory\n",
-        RunFault::LabelsSpent => b"multilog: LabelsSpent\n",
+    match cause {
+        Cause::NoThread => "locked by another process",
+        other => other.words(),
     }
+}
+
+/// Why a log can't be opened, as it is reported behind its folder.
+pub(crate) fn open_note(cause: Cause) -> ArrayString<64>
+    ensures { result.bytes ≡ open_note cause }
+{
+    let mut note = ArrayString::new();
+    note.push_str(": ");
+    note.push_str(open_words(cause));
+    note.push_str("\n");
+    note
+}
+
+/// What a call was to do, as it is reported in front of what it was to be done to.
+pub(crate) fn call_words(call: StoreCall) -> &'static [u8]
+    ensures { result.now ≡ call_words call }
+{
+    match call {
+        StoreCall::Append(_) | StoreCall::Status(_) | StoreCall::Alert => {
+            b"multilog: Store: unable to write "
+        }
+        StoreCall::Finish(_) => b"multilog: Store: unable to finish ",
+        StoreCall::Remove(_) => b"multilog: Store: unable to remove an old file of ",
+    }
+}
+
+/// The file of a log that a call is of, behind its folder.
+fn where_in(call: StoreCall) -> &'static str
+    ensures words { result.now ≡ where_in call }
+    ensures short { length result.now ≤ 8 }
+{
+    match call {
+        StoreCall::Append(_) | StoreCall::Finish(_) => "/current",
+        StoreCall::Remove(_) | StoreCall::Status(_) | StoreCall::Alert => "",
+    }
+}
+
+/// Why a call failed, as it is reported behind what it was to be done to.
+pub(crate) fn store_note(trouble: StoreTrouble) -> ArrayString<64>
+    ensures { result.bytes ≡ store_note trouble }
+{
+    let mut note = ArrayString::new();
+    note.push_str(where_in(trouble.call));
+    note.push_str(": ");
+    note.push_str(trouble.cause.words());
+    note.push_str("\n");
+    note
 }

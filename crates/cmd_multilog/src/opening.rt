@@ -9,6 +9,7 @@ use crate::store::FolderStore;
 use mlog_script::Script;
 use std::alloc::{AllocError, Allocator};
 use std::io::{Error, ErrorKind};
+use tai_status::Cause;
 
 /// Why a log is not opened.
 fn fault_of(error: Error, log: usize) -> OpenFault
@@ -17,7 +18,7 @@ fn fault_of(error: Error, log: usize) -> OpenFault
     if error.kind() == ErrorKind::OutOfMemory {
         return OpenFault::OutOfMemory;
     }
-    OpenFault::Unopened(log)
+    OpenFault::Unopened(log, Cause::of(&error))
 }
 
 /// Opens the logs of a script, in order, up to the first that can't be opened.

@@ -5,7 +5,7 @@ ghost use Rattle.std.specs.Prelude.{◌≡◌, ◌<◌, ◌≤◌, ◌^◌, true
 use mlog_core::PartedInput;
 use std::io;
 use std::marker::Model;
-use tai_status::DeviceFault;
+use tai_status::{Cause, DeviceFault};
 
 /// How often a logger's input is read at most.
 const MOST_READS: u64 = 1 << 48;
@@ -46,8 +46,8 @@ pub trait LoggerInput {
 }
 
 /// A reader of whole lines. Once it hears a word it reads the line in hand to its newline, byte by byte, and its part
-/// is at its end then. Behind a rotation the next part begins there; what comes behind a stop and that line is not
-/// read.
+/// is at its end then. After a rotation the next part begins there; what comes after a stop and that line is not
+/// read. It counts its faults, of a wait as of a read, and keeps the cause of the last one.
 #[derive(Drop)]
 pub struct Stoppable<S: LoggerInput + Drop> {
     input: S,
@@ -56,6 +56,7 @@ pub struct Stoppable<S: LoggerInput + Drop> {
     in_line: bool,
     reads: u64,
     faults: u64,
+    cause: Option<Cause>,
 }
 
 impl<S: LoggerInput + Drop> Model for Stoppable<S> {
@@ -71,13 +72,14 @@ impl<S: LoggerInput + Drop> Model for Stoppable<S> {
       in_line = s.in_line;
       reads = s.reads;
       faults = s.faults;
+      cause = s.cause;
     } };
 
     ghost invariant = { λ s. s.rotates ≡ true → s.stopped ≡ true };
 }
 
 impl<S: LoggerInput + Drop> Stoppable<S> {
-    ghost use Rattle.std.specs.Prelude.{◌≡◌, ◌<◌, false, IfOk, OnErr, length, take};
+    ghost use Rattle.std.specs.Prelude.{◌≡◌, ◌<◌, false, None, IfOk, OnErr, length, take};
     ghost use Rattle.std.specs.Io.{ReadsAtMost};
     ghost use Rattle.std.specs.Io.KnownBytes.{ReadConsumes};
     ghost use Rattle.cmd_multilog.specs.Stop.{Changes, Reads, IsOver, is_in_line, left_in, behind_in};
@@ -92,6 +94,7 @@ impl<S: LoggerInput + Drop> Stoppable<S> {
           in_line = false;
           reads = 0;
           faults = 0;
+          cause = None;
         } }
     {
         Stoppable {
@@ -101,6 +104,7 @@ impl<S: LoggerInput + Drop> Stoppable<S> {
             in_line: false,
             reads: 0,
             faults: 0,
+            cause: None,
         }
     }
 
@@ -165,14 +169,21 @@ impl<S: LoggerInput + Drop> PartedInput for Stoppable<S> {
     ghost feed = { feed_of };
 
     fn read_part(&mut self, into: &mut [u8]) -> Result<usize, DeviceFault> {
+        let mut cause = Cause::Other;
         if self.reads < MOST_READS {
             self.reads += 1;
-            if let Ok(count) = self.read_lines(into) {
-                return Ok(count);
+            match self.read_lines(into) {
+                Ok(count) => return Ok(count),
+                Err(error) => cause = Cause::of(&error),
             }
         }
         self.faults = self.faults.saturating_add(1);
+        self.cause = Some(cause);
         Err(DeviceFault)
+    }
+
+    fn last_cause(&self) -> Option<Cause> {
+        self.cause
     }
 
     fn next_part(&mut self) -> bool {

@@ -1,13 +1,15 @@
 //! A store over folders.
 ghost use Rattle.std.specs.Prelude.{◌≡◌};
 
+use crate::fault::{StoreCall, StoreTrouble};
 use crate::folder_log::{FolderLog, begin};
 use crate::log_system::{LogSystem, StatusFile};
 use mlog_files::{LogStore, StoreFault};
 use std::alloc::{AllocError, Allocator, Global};
 use std::io;
+use std::io::Error;
 use std::marker::Model;
-use tai_status::Label;
+use tai_status::{Cause, Label};
 
 /// A status file in its place.
 #[derive(Drop)]
@@ -50,6 +52,8 @@ pub struct FolderStore<D: LogSystem + Drop, A: Allocator = Global> {
     logs: Vec<FolderLog<D::Folder, A>, A>,
     statuses: Vec<PlacedStatus<D::Status>, A>,
     failures: u64,
+    /// The call that failed last, and why.
+    last: Option<StoreTrouble>,
 }
 
 impl<D: LogSystem + Drop, A: Allocator> Model for FolderStore<D, A> {
@@ -64,14 +68,15 @@ impl<D: LogSystem + Drop, A: Allocator> Model for FolderStore<D, A> {
       asked = D.asked store.system;
       gave = D.gave store.system;
       failures = store.failures;
+      last = store.last;
     } };
 }
 
 impl<D: LogSystem + Drop, A: Allocator + Clone> FolderStore<D, A> {
-    ghost use Rattle.std.specs.Prelude.{◌≡◌, ◌<◌, ◌≤◌, ◌^◌, [], length, IfOk, IfErr, OnOk, OnErr};
+    ghost use Rattle.std.specs.Prelude.{◌≡◌, ◌<◌, ◌≤◌, ◌^◌, [], length, Some, IfOk, IfErr, OnOk, OnErr};
     ghost use Rattle.tai_status.specs.Counted.{Rose};
     ghost use Rattle.cmd_multilog.specs.Folder.{IsCause};
-    ghost use Rattle.cmd_multilog.specs.Shelf.{OpensLog, AsksFor, AddsStatus, AddsNone};
+    ghost use Rattle.cmd_multilog.specs.Shelf.{OpensLog, AsksFor, AddsStatus, AddsNone, trouble_of};
 
     /// A store over a disk.
     pub fn new(system: D, alloc: A) -> Result<FolderStore<D, A>, AllocError>
@@ -88,6 +93,7 @@ impl<D: LogSystem + Drop, A: Allocator + Clone> FolderStore<D, A> {
             logs: Vec::new(alloc),
             statuses,
             failures: 0,
+            last: None,
         })
     }
 
@@ -128,8 +134,16 @@ impl<D: LogSystem + Drop, A: Allocator + Clone> FolderStore<D, A> {
         Ok(())
     }
 
-    // Counts a failed call.
-    fn fail(&mut self) -> StoreFault
+    /// The call that failed last, and why.
+    pub(crate) fn last_trouble(&self) -> Option<StoreTrouble>
+        ensures { result ≡ self.now.last }
+    {
+        self.last
+    }
+
+    // Counts a failed call, and keeps which it is, and why.
+    fn fail(&mut self, call: StoreCall, error: &Error) -> StoreFault
+        ensures last { self.new.last ≡ Some (trouble_of call error.now) }
         ensures rose { Rose self.old.failures self.new.failures }
         ensures steady { self.old.failures ≤ self.new.failures }
         ensures logs { self.new.logs ≡ self.old.logs }
@@ -138,6 +152,10 @@ impl<D: LogSystem + Drop, A: Allocator + Clone> FolderStore<D, A> {
         ensures asked { self.new.asked ≡ self.old.asked }
     {
         self.failures = self.failures.saturating_add(1);
+        self.last = Some(StoreTrouble {
+            call,
+            cause: Cause::of(error),
+        });
         StoreFault
     }
 }
@@ -150,21 +168,21 @@ impl<D: LogSystem + Drop, A: Allocator + Clone> LogStore for FolderStore<D, A> {
     fn append(&mut self, log: usize, piece: &[u8]) -> Result<usize, StoreFault> {
         match self.logs[log].append(piece) {
             Ok(count) => Ok(count),
-            Err(_) => Err(self.fail()),
+            Err(error) => Err(self.fail(StoreCall::Append(log), &error)),
         }
     }
 
     fn finish(&mut self, log: usize, label: &Label) -> Result<(), StoreFault> {
         match self.logs[log].finish(label) {
             Ok(()) => Ok(()),
-            Err(_) => Err(self.fail()),
+            Err(error) => Err(self.fail(StoreCall::Finish(log), &error)),
         }
     }
 
     fn remove_smallest(&mut self, log: usize) -> Result<(), StoreFault> {
         match self.logs[log].remove_smallest() {
             Ok(()) => Ok(()),
-            Err(_) => Err(self.fail()),
+            Err(error) => Err(self.fail(StoreCall::Remove(log), &error)),
         }
     }
 
@@ -172,14 +190,14 @@ impl<D: LogSystem + Drop, A: Allocator + Clone> LogStore for FolderStore<D, A> {
     fn replace_status(&mut self, file: usize, content: &[u8]) -> Result<(), StoreFault> {
         match self.statuses[file].replace(content) {
             Ok(()) => Ok(()),
-            Err(_) => Err(self.fail()),
+            Err(error) => Err(self.fail(StoreCall::Status(file), &error)),
         }
     }
 
     fn alert(&mut self, piece: &[u8]) -> Result<usize, StoreFault> {
         match self.system.alert(piece) {
             Ok(count) => Ok(count),
-            Err(_) => Err(self.fail()),
+            Err(error) => Err(self.fail(StoreCall::Alert, &error)),
         }
     }
 

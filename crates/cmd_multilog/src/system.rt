@@ -4,15 +4,27 @@ ghost use Rattle.std.specs.Prelude.{◌<◌, ◌≤◌, length, IfOk};
 use crate::log_system::{LogFolder, LogSystem, StatusFile};
 use crate::names::FileName;
 use std::alloc::{AllocError, Allocator, Global};
-use std::fs::{DirBuilder, File, Files, OpenOptions};
+use std::fs::{DirBuilder, File, Files, OpenOptions, Permissions};
 use std::io::{Error, ErrorKind, Write};
-use std::os::unix::fs::{DirBuilderExt, OpenOptionsExt};
+use std::os::unix::fs::{DirBuilderExt, OpenOptionsExt, PermissionsExt};
 use std::{fs, io, str};
 
-/// The modes of what is made, less the umask.
-const FOLDER_MODE: u32 = 0o755;
+/// The modes of what is made, less the umask, as daemontools has them: only the owner reads a log's folder and takes
+/// its lock.
+const FOLDER_MODE: u32 = 0o700;
 
-const FILE_MODE: u32 = 0o644;
+const LOCK_MODE: u32 = 0o600;
+
+const STATUS_MODE: u32 = 0o600;
+
+/// The mode of a current file, whatever the umask.
+const CURRENT_MODE: u32 = 0o644;
+
+/// The mode of a current file that is whole and on the disk, and so of an old file.
+const FINISHED_MODE: u32 = 0o744;
+
+/// What a mode lets others than the owner do.
+const OTHERS: u32 = 0o077;
 
 /// How often a write is tried that is interrupted.
 const TRIES: u32 = 1000;
@@ -43,11 +55,21 @@ fn path_in<A: Allocator>(alloc: A, folder: &str, name: &str) -> Result<String<A>
     Ok(path)
 }
 
-/// Opens a file for appending, and makes it where it is missing.
-fn open_to_append<R: Files<File = File>>(runtime: &R, path: &str) -> io::Result<File> {
+/// Opens a file for appending, and makes it with a mode where it is missing.
+fn open_to_append<R: Files<File = File>>(runtime: &R, path: &str, mode: u32) -> io::Result<File> {
     let mut how = OpenOptions::new();
-    how.append(true).create(true).mode(FILE_MODE);
+    how.append(true).create(true).mode(mode);
     how.open(runtime, path)
+}
+
+/// Closes a lock to others, who could hold it for ever else. Only its owner may; a lock of somebody else stays as it
+/// is.
+fn close_to_others(lock: &File) {
+    if let Ok(found) = lock.metadata() {
+        if found.permissions().mode() & OTHERS != 0 {
+            let _owned = lock.set_permissions(Permissions::from_mode(LOCK_MODE));
+        }
+    }
 }
 
 /// Writes a front of the piece, and again where a write was interrupted.
@@ -78,18 +100,30 @@ impl<R: Files<File = File> + Drop, A: Allocator + Clone> SystemFolder<R, A> {
     fn path_of(&self, name: &str) -> io::Result<String<A>> {
         Ok(path_in(self.alloc.clone()?, self.path.as_str(), name)?)
     }
+
+    /// Gives the current file the mode of a finished one.
+    fn mark_finished(&self) -> io::Result<()> {
+        match &self.current {
+            Some(file) => file.set_permissions(Permissions::from_mode(FINISHED_MODE)),
+            None => Err(Error::from(ErrorKind::NotFound)),
+        }
+    }
 }
 
 impl<R: Files<File = File> + Drop, A: Allocator + Clone> LogFolder for SystemFolder<R, A> {
     fn lock(&mut self) -> io::Result<()> {
-        let file = open_to_append(&self.runtime, self.path_of("lock")?.as_str())?;
+        let path = self.path_of("lock")?;
+        let file = open_to_append(&self.runtime, path.as_str(), LOCK_MODE)?;
+        close_to_others(&file);
         file.try_lock()?;
         self.lock = Some(file);
         Ok(())
     }
 
     fn open_current(&mut self) -> io::Result<()> {
-        let file = open_to_append(&self.runtime, self.path_of("current")?.as_str())?;
+        let path = self.path_of("current")?;
+        let file = open_to_append(&self.runtime, path.as_str(), CURRENT_MODE)?;
+        let _owned = file.set_permissions(Permissions::from_mode(CURRENT_MODE));
         self.current = Some(file);
         Ok(())
     }
@@ -137,11 +171,9 @@ impl<R: Files<File = File> + Drop, A: Allocator + Clone> LogFolder for SystemFol
                 }
             }
         }
-        fs::rename(
-            &self.runtime,
-            self.path_of("current")?.as_str(),
-            old.as_str(),
-        )?;
+        let path = self.path_of("current")?;
+        self.mark_finished()?;
+        fs::rename(&self.runtime, path.as_str(), old.as_str())?;
         self.current = None;
         Ok(())
     }
@@ -159,19 +191,47 @@ pub struct SystemStatus<R: Files<File = File> + Drop, A: Allocator = Global> {
     new: Vec<u8, A>,
 }
 
-/// Makes a file of this content.
-fn write_file<R: Files<File = File>>(runtime: &R, path: &str, content: &[u8]) -> io::Result<()> {
+/// Makes a new file at a path. What is there already goes first: a link is not followed.
+fn make_anew<R: Files<File = File>>(runtime: &R, path: &str) -> io::Result<File> {
     let mut how = OpenOptions::new();
-    how.write(true).create(true).truncate(true).mode(FILE_MODE);
-    let mut file = how.open(runtime, path)?;
+    how.write(true).create_new(true).mode(STATUS_MODE);
+    match how.open(runtime, path) {
+        Err(fault) if fault.kind() == ErrorKind::AlreadyExists => {
+            fs::remove_file(runtime, path)?;
+            how.open(runtime, path)
+        }
+        opened => opened,
+    }
+}
+
+/// Makes a new file of this content, with this mode.
+fn write_file<R: Files<File = File>>(
+    runtime: &R,
+    path: &str,
+    content: &[u8],
+    mode: u32,
+) -> io::Result<()> {
+    let mut file = make_anew(runtime, path)?;
+    if mode != STATUS_MODE {
+        file.set_permissions(Permissions::from_mode(mode))?;
+    }
     file.write_all(content)
+}
+
+/// The mode of the file at a path, or that of a new status file where there is none.
+fn mode_at<R: Files<File = File>>(runtime: &R, path: &str) -> u32 {
+    match fs::metadata(runtime, path) {
+        Ok(found) if found.is_file() => found.permissions().mode() & 0o777,
+        _ => STATUS_MODE,
+    }
 }
 
 impl<R: Files<File = File> + Drop, A: Allocator + Clone> StatusFile for SystemStatus<R, A> {
     fn replace(&mut self, content: &[u8]) -> io::Result<()> {
         let new = text_of(&self.new)?;
-        write_file(&self.runtime, new, content)?;
-        fs::rename(&self.runtime, new, text_of(&self.path)?)
+        let path = text_of(&self.path)?;
+        write_file(&self.runtime, new, content, mode_at(&self.runtime, path))?;
+        fs::rename(&self.runtime, new, path)
     }
 }
 

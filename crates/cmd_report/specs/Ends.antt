@@ -2,7 +2,7 @@
 use Rattle.std.specs.Prelude.{◌≡◌, ◌≢◌, ℕ, List, [], ◌∷◌, codes}
 use Rattle.tai_status.specs.Counted.{Device}
 use Rattle.cmd_svc.specs.Sight.{Sight}
-use Rattle.cmd_svc.specs.Svstat.{SvstatEnds, look_line}
+use Rattle.cmd_svc.specs.Svstat.{SvstatEnds, shown_line}
 use Rattle.cmd_report.specs.Json.{json_line}
 use Rattle.cmd_report.specs.MetricsEnds.{CountFiles, MetricsEnds}
 
@@ -13,11 +13,11 @@ pub record FormEnds (files : CountFiles) (word : List ℕ) (services : List (Lis
   pub json : word ≡ codes "--json" → SvstatEnds json_line services status sight sees writer writes faults reports
   pub metrics : word ≡ codes "--metrics" → MetricsEnds files services status sight sees writer writes faults reports
   pub plain : (word ≢ codes "--json") × (word ≢ codes "--metrics")
-      → SvstatEnds look_line (word ∷ services) status sight sees writer writes faults reports
+      → SvstatEnds shown_line (word ∷ services) status sight sees writer writes faults reports
 
 abbrev pub ReportEnds : (files : CountFiles) (words : List (List ℕ)) (status : ℕ) (sight sees : Sight)
     (writer writes faults reports : Device) → Type 0
 ReportEnds files [] status sight sees writer writes faults reports =
-    SvstatEnds look_line [] status sight sees writer writes faults reports
+    SvstatEnds shown_line [] status sight sees writer writes faults reports
 ReportEnds files (word ∷ services) status sight sees writer writes faults reports =
     FormEnds files word services status sight sees writer writes faults reports

@@ -1,9 +1,9 @@
 -- What is reported of services as metrics, in Prometheus' text exposition format
 -- (prometheus.io/docs/instrumenting/exposition_formats): a sample a line, those of one metric together behind its help.
-use Rattle.std.specs.Prelude.{◌≡◌, ℕ, ◌==◌, Bool, true, false, if◌then◌else◌, List, [], ◌∷◌, ◌++◌, codes, decimal}
+use Rattle.std.specs.Prelude.{ℕ, ◌==◌, Bool, true, false, if◌then◌else◌, List, [], ◌∷◌, ◌++◌, codes, decimal}
 use Rattle.std.specs.Prelude.{flat_map, bytes_eq, Option, Some, None}
 use Rattle.tai_status.specs.Label.{Tai64n}
-use Rattle.tai_status.specs.Record.{Status, flag_byte}
+use Rattle.tai_status.specs.Record.{flag_byte}
 use Rattle.tai_status.specs.Loading.{status_in}
 use Rattle.tai_status.specs.Phase.{phase_name}
 use Rattle.tai_status.specs.declared.phase.Phase.{Phase}

@@ -1,8 +1,11 @@
 -- How `svstat --metrics` ends: all services are looked at, and then all is written.
-use Rattle.std.specs.Prelude.{◌≡◌, ◌⊎◌, ⊤, ℕ, List, [], ◌∷◌, ◌++◌, map, Option, Some, None}
+use Rattle.std.specs.Prelude.{◌≡◌, ◌⊎◌, ℕ, List, [], ◌∷◌, ◌++◌, codes, map, Option, Some}
+use Rattle.std.specs.Prelude.{None}
 use Rattle.tai_status.specs.Counted.{Device, Fails, Reports, Works, Wrote, WroteFront}
 use Rattle.cmd_base.specs.Known.{IsKnown}
-use Rattle.cmd_svc.specs.Sight.{Sight}
+use Rattle.cmd_svc.specs.Calls.{Call}
+use Rattle.cmd_svc.specs.Missing.{TellsEach, telling}
+use Rattle.cmd_svc.specs.Sight.{Sight, sight}
 use Rattle.cmd_svc.specs.Svstat.{Scene, Finds, scene, svstat_report}
 use Rattle.cmd_svc.specs.declared.svstat.SvstatFault.TheVariants as why
 use Rattle.cmd_svc.specs.declared.look.Look.{Look}
@@ -56,15 +59,16 @@ pub record FindsFront (files : CountFiles) (words : List (List ℕ)) (old new : 
 
 -- Ends
 
--- Each word was looked at, and all was written.
+-- Each word was looked at, and all was written; then it is reported of each folder that is not there, and nothing else.
 pub record WritesAll (files : CountFiles) (words : List (List ℕ)) (status : ℕ) (old new : Scene)
     (faults reports : Device) : Type 0 where
   pub founds : List Found
-  pub finds : FindsWords files words founds old.sight new.sight
+  pub asked : Option (List Call)
+  pub finds : FindsWords files words founds old.sight (sight asked new.sight.readings)
   pub wrote : Wrote old.writer new.writer (metrics_text founds)
   pub works : Works old.writer new.writer
   pub status_is : status ≡ 0
-  pub unreported : reports ≡ faults
+  pub told : TellsEach (codes "svstat: ") words (telling asked faults) (telling new.sight.calls reports)
 
 -- Each word was looked at, and the writer failed after a front of the text.
 pub record WritesFront (files : CountFiles) (words : List (List ℕ)) (status : ℕ) (old new : Scene)
@@ -74,7 +78,7 @@ pub record WritesFront (files : CountFiles) (words : List (List ℕ)) (status : 
   pub wrote : WroteFront old.writer new.writer (metrics_text founds)
   pub fails : Fails old.writer new.writer
   pub status_is : status ≡ 111
-  pub reported : Reports faults reports (svstat_report why.Write)
+  pub reported : Reports faults reports (svstat_report why.Write new.writer)
 
 -- There was no memory, and nothing was written.
 pub record WritesNothing (files : CountFiles) (words : List (List ℕ)) (status : ℕ) (old new : Scene)
@@ -82,7 +86,7 @@ pub record WritesNothing (files : CountFiles) (words : List (List ℕ)) (status 
   pub finds : FindsFront files words old.sight new.sight
   pub unwritten : new.writer ≡ old.writer
   pub status_is : status ≡ 111
-  pub reported : Reports faults reports (svstat_report why.OutOfMemory)
+  pub reported : Reports faults reports (svstat_report why.OutOfMemory new.writer)
 
 -- By what was looked at and written.
 abbrev pub WritesMetrics : (files : CountFiles) (words : List (List ℕ)) (status : ℕ) (old new : Scene)

@@ -251,7 +251,7 @@ pub struct JsonLine;
 impl LineForm for JsonLine {
     ghost line_of = { λ _ folder look. json_line folder look };
 
-    fn line<A: Allocator>(
+    fn line<A: Allocator + Clone>(
         &self,
         alloc: A,
         folder: &str,

@@ -5,15 +5,15 @@ ghost use Rattle.cmd_report.specs.MetricsEnds.{MetricsEnds};
 use crate::find::find_all;
 use crate::metrics::metrics_text;
 use crate::sources::CountFiles;
-use cmd_base::{DONE, TROUBLE, report};
-use cmd_svc::{Observer, Services, SvstatFault, svstat_report};
+use cmd_base::DONE;
+use cmd_svc::{Observer, Services, SvstatFault, report_svstat, tell_missing};
 use std::alloc::Allocator;
 use std::io::Write;
 use tai_status::{Output, TimeSource};
 
 /// The command `svstat --metrics`: looks at the service in each folder that its words name, in order, and then writes
-/// what was found as [`metrics_text`]. Answers the status: 0; 111 for want of memory, and then nothing was written; 111
-/// for a fault of the writer.
+/// what was found as [`metrics_text`], and says of each folder that is not there why. Answers the status: 0; 111 for
+/// want of memory, and then nothing was written; 111 for a fault of the writer.
 pub fn run_metrics<S, F, A, W, E, C>(
     alloc: A,
     observer: &mut Observer<S, C>,
@@ -33,16 +33,19 @@ where
         observer.old observer.new writer.old writer.new faults.old faults.new }
 {
     let Ok(own) = alloc.clone() else {
-        return report(faults, svstat_report(SvstatFault::OutOfMemory), TROUBLE);
+        return report_svstat(SvstatFault::OutOfMemory, writer, faults);
     };
     let Ok(founds) = find_all(own, observer, files, words) else {
-        return report(faults, svstat_report(SvstatFault::OutOfMemory), TROUBLE);
+        return report_svstat(SvstatFault::OutOfMemory, writer, faults);
     };
     let Ok(text) = metrics_text(alloc, &founds) else {
-        return report(faults, svstat_report(SvstatFault::OutOfMemory), TROUBLE);
+        return report_svstat(SvstatFault::OutOfMemory, writer, faults);
     };
     match writer.write_all(&text) {
-        Ok(()) => DONE,
-        Err(_) => report(faults, svstat_report(SvstatFault::Write), TROUBLE),
+        Ok(()) => {
+            tell_missing(&mut observer.services, b"svstat: ", words, faults);
+            DONE
+        }
+        Err(_) => report_svstat(SvstatFault::Write, writer, faults),
     }
 }

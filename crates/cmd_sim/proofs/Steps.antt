@@ -739,7 +739,7 @@ rows_further bytes i within =
 
 -- By the fault that ended it.
 pub ends_by : (status : ℕ) (old new : Console) (subject : SimFault) → status ≡ status_of subject
-    → Reports old.faults new.faults (report_of subject)
+    → Reports old.faults new.faults (report_of subject new.reader new.writer)
     → ((line : ℕ) (why : Why) → subject ≡ sim.Refused line why
     → AnswersUpTo old.reader new.reader old.writer new.writer (record { line = line; why = why })
     × (Works old.reader new.reader × Works old.writer new.writer))

@@ -1,9 +1,10 @@
 -- What `sim` reports of its faults, and how it ends.
 use Rattle.std.specs.Prelude.{◌≡◌, ℕ, ◌⊎◌, List, [], ◌∷◌, ◌++◌, bytes_eq, codes, decimal, map, MatchBool}
 use Rattle.std.specs.Borrow.{Bor}
-use Rattle.tai_status.specs.Counted.{Device, Fails, Works, Wrote, WroteFront, IsRead, Reports}
+use Rattle.tai_status.specs.Counted.{Device, Fails, Works, Wrote, WroteFront, IsRead, Reports, device_report}
 use Rattle.cmd_base.specs.Console.{Console, EndsWell}
 use Rattle.cmd_base.specs.Usage.{RefusesWords}
+use Rattle.cmd_base.specs.declared.command.Command.TheVariants as command
 use Rattle.cmd_sim.specs.Sim.{MissesAt}
 use Rattle.cmd_sim.specs.Sim.{Refusal, IsOfSuite, AnswersAll, AnswersUpTo, AnswersFront, AnswersWholeLines}
 use Rattle.cmd_sim.specs.Sim.{printed_table}
@@ -25,14 +26,20 @@ why_name why.Unsorted = codes "Unsorted"
 why_name why.Twice = codes "Twice"
 why_name why.Exhausted = codes "Exhausted"
 
-abbrev pub words_of : SimFault → List ℕ
-words_of (fault.Refused line why) = codes "line " ++ decimal line ++ codes ": " ++ why_name why
-words_of fault.OutOfMemory = codes "OutOfMemory"
-words_of fault.Read = codes "read fault"
-words_of fault.Write = codes "write fault"
+-- what is reported of a line that is refused
+abbrev pub refused_report : (line : ℕ) → Why → List ℕ
+refused_report line why = codes "sim: line " ++ decimal line ++ codes ": " ++ why_name why ++ 10 ∷ []
 
-abbrev pub report_of : SimFault → List ℕ
-report_of fault = codes "sim: " ++ words_of fault ++ 10 ∷ []
+-- what is reported of a writer that failed
+abbrev pub unwritten_report : (writer : Device) → List ℕ
+unwritten_report writer = device_report (codes "sim: ") (codes "write fault") writer
+
+-- What is reported of a fault; of a device that failed, the cause of its last fault too.
+abbrev pub report_of : SimFault → (reader writer : Device) → List ℕ
+report_of (fault.Refused line why) reader writer = refused_report line why
+report_of fault.OutOfMemory reader writer = codes "sim: OutOfMemory" ++ 10 ∷ []
+report_of fault.Read reader writer = device_report (codes "sim: ") (codes "read fault") reader
+report_of fault.Write reader writer = unwritten_report writer
 
 abbrev pub status_of : SimFault → ℕ
 status_of (fault.Refused line why) = 100
@@ -54,7 +61,7 @@ pub record RefusesLine (old new : Console) : Type 0 where
   pub answers : AnswersUpTo old.reader new.reader old.writer new.writer refusal
   pub reads : Works old.reader new.reader
   pub writes : Works old.writer new.writer
-  pub reported : Reports old.faults new.faults (report_of (fault.Refused refusal.line refusal.why))
+  pub reported : Reports old.faults new.faults (refused_report refusal.line refusal.why)
 
 -- There was no memory, and nothing was read or written; or there was none at a line of a suite.
 abbrev pub MissesMemory : (old new : Console) → Type 0
@@ -62,8 +69,8 @@ MissesMemory old new =
     ((new.reader ≡ old.reader) × (new.writer ≡ old.writer))
     ⊎ (IsOfSuite old.reader.bytes × MissesAt old.reader.bytes new.reader.bytes old.writer.bytes new.writer.bytes)
 
--- What a fault comes from: want of memory; or the reader failed, and the whole lines that were read are answered; or
--- the writer failed, after a front of the answers to what was read.
+-- What a fault comes from: it is out of memory; or the reader failed, and the whole lines that were read are answered;
+-- or the writer failed, after a front of the answers to what was read.
 abbrev pub SimCause : SimFault → (old new : Console) → Type 0
 SimCause (fault.Refused line why) old new = ⊥
 SimCause fault.OutOfMemory old new = MissesMemory old new
@@ -75,7 +82,7 @@ SimCause fault.Write old new = Fails old.writer new.writer × AnswersFront old.r
 pub record ReportsTrouble (old new : Console) : Type 0 where
   pub fault : SimFault
   pub cause : SimCause fault old new
-  pub reported : Reports old.faults new.faults (report_of fault)
+  pub reported : Reports old.faults new.faults (report_of fault new.reader new.writer)
 
 -- By the status: all lines are answered, one is refused, or there is trouble.
 abbrev pub AnswersByStatus : (status : ℕ) (old new : Console) → Type 0
@@ -91,11 +98,11 @@ pub record PrintsTable (writer writes faults reports : Device) : Type 0 where
   pub works : Works writer writes
   pub unreported : reports ≡ faults
 
--- The writer failed after a front of the table, and that is reported.
+-- The writer failed after a front of the table, and that is reported with its cause.
 pub record PrintsNoTable (writer writes faults reports : Device) : Type 0 where
   pub front : WroteFront writer writes printed_table
   pub failed : Fails writer writes
-  pub reported : Reports faults reports (report_of fault.Write)
+  pub reported : Reports faults reports (unwritten_report writes)
 
 -- The table, by the status.
 abbrev pub TableByStatus : (status : ℕ) (writer writes faults reports : Device) → Type 0
@@ -115,5 +122,6 @@ texts words = map (λ word. word.now) words
 abbrev pub SimEnds : (words : List (List ℕ)) (status : ℕ) (old new : Console) → Type 0
 SimEnds [] status old new = AnswersByStatus status old new
 SimEnds (word ∷ []) status old new =
-    MatchBool (bytes_eq word (codes "table")) (TableEnds status old new) (RefusesWords status old new)
-SimEnds (word ∷ more ∷ words) status old new = RefusesWords status old new
+    MatchBool (bytes_eq word (codes "table")) (TableEnds status old new)
+    (RefusesWords command.Sim status old new)
+SimEnds (word ∷ more ∷ words) status old new = RefusesWords command.Sim status old new

@@ -2,53 +2,57 @@
 ghost use Rattle.std.specs.Prelude.{◌≡◌};
 ghost use Rattle.tai_status.specs.Counted.{Reports};
 ghost use Rattle.cmd_base.specs.Console.{console};
-ghost use Rattle.cmd_sim.specs.Ends.{AnswersByStatus, SimEnds, TableByStatus, texts, report_of, status_of};
+ghost use Rattle.cmd_sim.specs.Ends.{AnswersByStatus, SimEnds, TableByStatus, texts, refused_report, report_of};
+ghost use Rattle.cmd_sim.specs.Ends.{status_of, unwritten_report};
 
-use crate::fault::{SimFault, why_name};
+use crate::fault::{SimFault, Why, why_name};
 use crate::session::answer_lines;
 use crate::table::whole_table;
 use arrayvec::ArrayString;
-use cmd_base::{DONE, REFUSED, TROUBLE, push_number, report, usage};
+use cmd_base::{Command, DONE, REFUSED, TROUBLE, push_number, report, report_device, usage};
 use std::alloc::Allocator;
 use std::io::{Read, Write};
 use tai_status::{Input, Output};
 
-/// What is reported of a fault.
-fn fault_text(fault: SimFault) -> ArrayString<64>
-    ensures { result.bytes ≡ report_of fault }
+/// What is reported of a line that is refused.
+fn refused_text(line: u64, why: Why) -> ArrayString<64>
+    ensures { result.bytes ≡ refused_report line why }
 {
     let mut out = ArrayString::new();
-    match fault {
-        SimFault::Refused { line, why } => {
-            out.push_str("sim: line ");
-            push_number(&mut out, line);
-            out.push_str(": ");
-            out.push_str(why_name(why));
-        }
-        SimFault::OutOfMemory => out.push_str("sim: OutOfMemory"),
-        SimFault::Read => out.push_str("sim: read fault"),
-        SimFault::Write => out.push_str("sim: write fault"),
-    }
+    out.push_str("sim: line ");
+    push_number(&mut out, line);
+    out.push_str(": ");
+    out.push_str(why_name(why));
     out.push_str("\n");
     out
 }
 
-/// The status of a fault.
-fn status(fault: SimFault) -> u8
-    ensures { result ≡ status_of fault }
+/// Reports that the writer failed, and why, and returns the status of that.
+fn report_unwritten<W: Write, E: Write>(writer: &Output<W>, faults: &mut Output<E>) -> u8
+    ensures status { result ≡ 111 }
+    ensures reported { Reports faults.old faults.new (unwritten_report writer.now) }
 {
-    match fault {
-        SimFault::Refused { .. } => REFUSED,
-        _ => TROUBLE,
-    }
+    report_device(faults, b"sim: ", b"write fault", writer.cause())
 }
 
-/// Reports a fault, and answers its status.
-fn report_fault<E: Write>(fault: SimFault, faults: &mut Output<E>) -> u8
+/// Reports a fault, and returns its status.
+fn report_fault<D: Read, W: Write, E: Write>(
+    fault: SimFault,
+    reader: &Input<D>,
+    writer: &Output<W>,
+    faults: &mut Output<E>,
+) -> u8
     ensures status { result ≡ status_of fault }
-    ensures reported { Reports faults.old faults.new (report_of fault) }
+    ensures reported { Reports faults.old faults.new (report_of fault reader.now writer.now) }
 {
-    report(faults, fault_text(fault).as_bytes(), status(fault))
+    match fault {
+        SimFault::Refused { line, why } => {
+            report(faults, refused_text(line, why).as_bytes(), REFUSED)
+        }
+        SimFault::OutOfMemory => report(faults, b"sim: OutOfMemory\n", TROUBLE),
+        SimFault::Read => report_device(faults, b"sim: ", b"read fault", reader.cause()),
+        SimFault::Write => report_unwritten(writer, faults),
+    }
 }
 
 /// `sim` without words: answers the lines of the input.
@@ -63,7 +67,7 @@ fn answer_input<A: Allocator + Clone + Copy, D: Read, W: Write, E: Write>(
 {
     match answer_lines(alloc, reader, writer) {
         Ok(()) => DONE,
-        Err(fault) => report_fault(fault, faults),
+        Err(fault) => report_fault(fault, reader, writer, faults),
     }
 }
 
@@ -73,16 +77,16 @@ fn show_table<W: Write, E: Write>(writer: &mut Output<W>, faults: &mut Output<E>
 {
     match writer.write_all(whole_table().as_bytes()) {
         Ok(()) => DONE,
-        Err(_) => report_fault(SimFault::Write, faults),
+        Err(_) => report_unwritten(writer, faults),
     }
 }
 
 /// The command `sim`: reads lines, and prints what each is answered with. A first line of the word `scan` is the first
 /// event of a suite, and each later line is one; each is answered by one line or more. Another first line begins a
 /// service, each later line is an event of it, and each is answered by one line. With the word `table` it prints the
-/// table of the control bytes, and other words are wrong. Answers the status: 0; 100 where a line is refused, of which
-/// the fault writer reports the number, or for wrong words; 111 for want of memory and for a fault of the reader or the
-/// writer. The allocator is one of which a copy takes none, as the program's own.
+/// table of the control bytes, and other words are wrong. Returns the status: 0; 100 if a line is refused, of which
+/// the fault writer reports the number, or for wrong words; 111 if it is out of memory and for a fault of the reader or
+/// the writer, which is reported with its cause. A copy of the allocator takes no memory, as of the program's own.
 pub fn run_sim<A: Allocator + Clone + Copy, D: Read, W: Write, E: Write>(
     alloc: A,
     words: &[&str],
@@ -97,8 +101,8 @@ pub fn run_sim<A: Allocator + Clone + Copy, D: Read, W: Write, E: Write>(
         [] => answer_input(alloc, reader, writer, faults),
         [word] => match *word {
             "table" => show_table(writer, faults),
-            _ => usage(faults),
+            _ => usage(faults, Command::Sim),
         },
-        [_, _, ..] => usage(faults),
+        [_, _, ..] => usage(faults, Command::Sim),
     }
 }

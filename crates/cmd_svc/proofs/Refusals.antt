@@ -1,5 +1,5 @@
 -- Why words are no order.
-use Rattle.std.proofs.Common.{◌≡◌, ℕ, Option, Some, None, Result, Err, subst}
+use Rattle.std.proofs.Common.{◌≡◌, ℕ, Option, Some, None, Result, Ok, Err, subst}
 use Rattle.std.specs.Prelude.{MatchOption, IsOkUnless, IsErrOf}
 use Rattle.cmd_svc.specs.declared.order.SvcFault.{SvcFault}
 use Rattle.cmd_svc.specs.declared.order.SvcFault.TheVariants.{UnknownLetter, OutOfMemory}
@@ -29,3 +29,13 @@ pub memory-lacks : {T : Type 0} (unknown : Option ℕ) (r : Result T SvcFault) (
     → r ≡ Err OutOfMemory → P → MatchOption unknown P Q
 memory-lacks None r P Q why is p = p
 memory-lacks (Some first) r P Q why is p = absurd (never_both first r is why)
+
+never_served : {T : Type 0} (order : T) (b : ℕ) (r : Result T SvcFault) → r ≡ Ok order → r ≡ Err (UnknownLetter b) → ⊥
+never_served order b r h k = cc
+
+-- Where there is an order no letter is unknown.
+pub order-serves : {T : Type 0} (unknown : Option ℕ) (r : Result T SvcFault) (order : T) (P : Type 0) (Q : ℕ → Type 0)
+    → MatchOption unknown (IsOkUnless r OutOfMemory) (λ first. IsErrOf r (UnknownLetter first))
+    → r ≡ Ok order → P → MatchOption unknown P Q
+order-serves None r order P Q why is p = p
+order-serves (Some first) r order P Q why is p = absurd (never_served order first r is why)

@@ -2,6 +2,9 @@ pub mod Words
 pub mod Line
 pub mod Paths
 pub mod Calls
+pub mod Process
+pub mod Shown
+pub mod Missing
 pub mod Sight
 pub mod Connecting
 pub mod Turns

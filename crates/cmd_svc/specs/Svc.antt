@@ -12,6 +12,7 @@ use Rattle.cmd_svc.specs.declared.order.SvcFault.TheVariants as cause
 use Rattle.cmd_svc.specs.declared.services.Unreached.{Unreached}
 use Rattle.cmd_svc.specs.declared.services.Unreached.TheVariants as unreached
 use Rattle.cmd_svc.specs.Turns.{InTurn}
+use Rattle.cmd_svc.specs.Missing.{TellsEach, telling}
 
 -- What `svc` works with: the calls that were made, and where it reports faults.
 pub record Effects : Type 0 where
@@ -63,20 +64,18 @@ pub record Serves (bytes folder : List ℕ) (old new : Sending) : Type 0 where
   pub reported : ReportsFault fault folder old.effects.faults new.effects.faults
   pub missed : new.missed ≡ (is_some fault || old.missed)
 
--- These services get the bytes, one after the other, whichever of them can be reached. No bytes are not sent.
-abbrev pub ServesAll : (bytes : List ℕ) (services : List (List ℕ)) (old new : Sending) → Type 0
-ServesAll [] services old new = new ≡ old
-ServesAll (byte ∷ bytes) services old new = InTurn (Serves (byte ∷ bytes)) services old new
-
 -- Ends
 
--- Each service got the bytes of the words, or it is reported that it can't be reached. The status says whether one
--- could not.
+-- Each service got the bytes of the words, which may be none, or it is reported that it can't be reached; then it is
+-- reported of each folder that is not there. The status says whether a service could not be reached.
 pub record ServesWords (missed_status : ℕ) (words : List (List ℕ)) (status : ℕ) (old new : Effects) : Type 0 where
   pub missed : Bool
+  pub served : Effects
   pub status_is : status ≡ (if missed then missed_status else 0)
-  pub serves : ServesAll (order_bytes words) (service_words words)
-      (sending old.calls old.faults false) (sending new.calls new.faults missed)
+  pub serves : InTurn (Serves (order_bytes words)) (service_words words)
+      (sending old.calls old.faults false) (sending served.calls served.faults missed)
+  pub told : TellsEach (codes "svc: ") (service_words words)
+      (telling served.calls served.faults) (telling new.calls new.faults)
 
 -- Words are refused for their first unknown letter, and else only for want of memory.
 abbrev pub RefusesUnknown : {T : Type 0} → (words : List (List ℕ)) (order : Result T SvcFault) → Type 0

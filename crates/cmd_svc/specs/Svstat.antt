@@ -2,16 +2,18 @@
 use Rattle.std.specs.Prelude.{◌≡◌, ◌⊎◌, ℕ, Bool, not, List, [], ◌∷◌, ◌++◌, codes, Option, Some, None, Ok}
 use Rattle.std.specs.Prelude.{Err}
 use Rattle.tai_status.specs.Label.{Tai64n}
-use Rattle.tai_status.specs.Counted.{Device, Fails, Reports, Works, Wrote, WroteFront}
+use Rattle.tai_status.specs.Counted.{Device, Fails, Reports, Works, Wrote, WroteFront, device_report}
 use Rattle.tai_status.specs.Loading.{loaded_from}
 use Rattle.tai_status.specs.declared.loading.Loaded.{Loaded}
 use Rattle.tai_status.specs.declared.record.RecordFault.{RecordFault}
 use Rattle.tai_status.specs.declared.record.RecordFault.TheVariants as fault
 use Rattle.cmd_svc.specs.Line.{status_line}
-use Rattle.cmd_svc.specs.Calls.{Reached, ReadStatus, SoughtDown}
-use Rattle.cmd_svc.specs.Sight.{Sight}
+use Rattle.cmd_svc.specs.Calls.{Call, Reached, ReadStatus, SoughtDown}
+use Rattle.cmd_svc.specs.Sight.{Sight, sight}
 use Rattle.tai_status.specs.Extended.{Extended}
 use Rattle.cmd_svc.specs.Turns.{InTurn}
+use Rattle.cmd_svc.specs.Shown.{shown}
+use Rattle.cmd_svc.specs.Missing.{TellsEach, telling}
 use Rattle.cmd_svc.specs.declared.services.Unreached.{Unreached}
 use Rattle.cmd_svc.specs.declared.services.Unreached.TheVariants as unreached
 use Rattle.cmd_svc.specs.declared.look.Look.{Look}
@@ -88,6 +90,10 @@ look_line folder look.Unread = folder ++ codes ": unable to read status"
 look_line folder (look.Bad cause) = folder ++ codes ": bad status record: " ++ fault_name cause
 look_line folder (look.Standing loaded normally_up now) = status_line folder loaded normally_up now
 
+-- the same as svstat prints it: control characters of the folder's name are escaped, and the line has no others
+abbrev pub shown_line : (folder : List ℕ) → Look → List ℕ
+shown_line folder look = shown (look_line folder look)
+
 -- How the line of a look at the service in a folder reads, without a newline
 abbrev pub Form : Type 0
 Form = (folder : List ℕ) → Look → List ℕ
@@ -122,19 +128,20 @@ pub record ShowsUpTo (line_of : Form) (words : List (List ℕ)) (old new : Scene
   pub shown : InTurn (Shows line_of) before old middle
   pub fails : ShowsNot line_of folder cause middle new
 
--- what is reported of a fault
-abbrev pub svstat_report : SvstatFault → List ℕ
-svstat_report why.OutOfMemory = codes "svstat: OutOfMemory" ++ 10 ∷ []
-svstat_report why.Write = codes "svstat: write fault" ++ 10 ∷ []
+-- what is reported of a fault: if the writer failed, the cause of its last fault too
+abbrev pub svstat_report : SvstatFault → (writer : Device) → List ℕ
+svstat_report why.OutOfMemory writer = codes "svstat: OutOfMemory" ++ 10 ∷ []
+svstat_report why.Write writer = device_report (codes "svstat: ") (codes "write fault") writer
 
 -- Ends
 
--- Each word has its line, and nothing is reported.
+-- Each word has its line, and then it is reported of each folder that is not there, and nothing else.
 pub record ShowsAll (line_of : Form) (words : List (List ℕ)) (status : ℕ) (old new : Scene) (faults reports : Device)
     : Type 0 where
+  pub asked : Option (List Call)
   pub status_is : status ≡ 0
-  pub shown : InTurn (Shows line_of) words old new
-  pub unreported : reports ≡ faults
+  pub lines : InTurn (Shows line_of) words old (scene (sight asked new.sight.readings) new.writer)
+  pub told : TellsEach (codes "svstat: ") words (telling asked faults) (telling new.sight.calls reports)
 
 -- A line could not be written, and it is reported why.
 pub record Stops (line_of : Form) (words : List (List ℕ)) (status : ℕ) (old new : Scene) (faults reports : Device)
@@ -142,7 +149,7 @@ pub record Stops (line_of : Form) (words : List (List ℕ)) (status : ℕ) (old 
   pub cause : SvstatFault
   pub stops : ShowsUpTo line_of words old new cause
   pub status_is : status ≡ 111
-  pub reported : Reports faults reports (svstat_report cause)
+  pub reported : Reports faults reports (svstat_report cause new.writer)
 
 -- `svstat`, by its words, with lines of a form
 abbrev pub SvstatEnds : (line_of : Form) (words : List (List ℕ)) (status : ℕ) (sight sees : Sight)

@@ -1,6 +1,7 @@
 //! Forms of the line of a look.
-ghost use Rattle.cmd_svc.specs.Svstat.{look_line};
+ghost use Rattle.cmd_svc.specs.Svstat.{shown_line};
 
+use crate::escaping::shown;
 use crate::look::{Look, look_line};
 use std::alloc::{AllocError, Allocator};
 
@@ -13,7 +14,7 @@ pub trait LineForm {
     ghost line_of: { Self → List ℕ → Look → List ℕ };
 
     /// The line of a look at the service in a folder, without a newline.
-    fn line<A: Allocator>(
+    fn line<A: Allocator + Clone>(
         &self,
         alloc: A,
         folder: &str,
@@ -22,18 +23,19 @@ pub trait LineForm {
         ensures { IfOk result (λ line. line.items ≡ line_of self.now folder.now look.now) };
 }
 
-/// The form of svstat itself.
+/// The form of svstat itself. Control characters of the folder's name are escaped.
 pub(crate) struct PlainLine;
 
 impl LineForm for PlainLine {
-    ghost line_of = { λ _ folder look. look_line folder look };
+    ghost line_of = { λ _ folder look. shown_line folder look };
 
-    fn line<A: Allocator>(
+    fn line<A: Allocator + Clone>(
         &self,
         alloc: A,
         folder: &str,
         look: &Look,
     ) -> Result<Vec<u8, A>, AllocError> {
-        Ok(look_line(alloc, folder, look)?.into_bytes())
+        let line = look_line(alloc.clone()?, folder, look)?;
+        shown(alloc, line.as_bytes())
     }
 }

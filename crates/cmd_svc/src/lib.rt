@@ -5,11 +5,14 @@
 //! svstat prints it (<https://cr.yp.to/daemontools/svstat.html>).
 #![tactic(auto)]
 
+mod escaping;
 mod form;
 mod line;
 mod look;
+mod missing;
 mod observer;
 mod order;
+mod process;
 mod services;
 mod svc;
 mod svok;
@@ -17,14 +20,16 @@ mod svstat;
 mod system;
 mod words;
 
+pub use escaping::shown;
 pub use form::LineForm;
 pub use line::stat_line;
 pub use look::{Look, fault_name, look_at};
+pub use missing::tell_missing;
 pub use observer::Observer;
 pub use order::{LETTER_COUNT, LETTERS, Order, OrderBytes, SvcFault};
 pub use services::{Services, Unreached};
 pub use svc::run_svc;
 pub use svok::run_svok;
-pub use svstat::{SvstatFault, run_svstat, run_svstat_as, svstat_report};
+pub use svstat::{SvstatFault, report_svstat, run_svstat, run_svstat_as};
 pub use system::SystemServices;
 pub use words::{assemble, is_option};

@@ -1,6 +1,7 @@
 //! The client's side of the folders of services.
 use cmd_base::StatusFront;
 use std::io;
+use tai_status::Cause;
 
 /// Why a service was not reached.
 #[derive(Clone, Copy, Debug, PartialEq, Eq)]
@@ -17,7 +18,8 @@ pub enum Unreached {
 /// it keeps that.
 pub trait Services {
     ghost use Rattle.std.specs.Prelude.{◌∷◌, [], Option, Some, None, List, IfOk, IfErr, OnOk, OnErr};
-    ghost use Rattle.cmd_svc.specs.Calls.{Call, Sent, Reached, ReadStatus, SoughtChange, SoughtDown};
+    ghost use Rattle.cmd_svc.specs.Calls.{Call, Sent, Reached, ReadStatus, SoughtAge, SoughtChange, SoughtDown};
+    ghost use Rattle.cmd_svc.specs.Calls.{SoughtFolder};
     ghost use Rattle.tai_status.specs.Extended.{Extended};
 
     ghost calls: { Self → Option (List Call) } = { λ _. None };
@@ -48,4 +50,13 @@ pub trait Services {
     /// 1970. None where that can't be reported.
     fn changed_at(&mut self, folder: &str) -> Option<u64>
         ensures sought { Extended (calls self.old) (calls self.new) (SoughtChange folder.now result ∷ []) };
+
+    /// Why there is no folder at a path, where there is none.
+    fn folder_fault(&mut self, folder: &str) -> Option<Cause>
+        ensures sought { Extended (calls self.old) (calls self.new) (SoughtFolder folder.now result ∷ []) };
+
+    /// For how many hundredths of a second, at least, the process of a number has lived. None where there is none,
+    /// where it has ended, whether its parent has waited for it or not, and where that can't be found.
+    fn age(&mut self, process: u32) -> Option<u128>
+        ensures sought { Extended (calls self.old) (calls self.new) (SoughtAge process result ∷ []) };
 }

@@ -1,14 +1,15 @@
 //! The command `svc`.
-ghost use Rattle.std.specs.Prelude.{◌≡◌, false, if◌then◌else◌};
-ghost use Rattle.cmd_svc.specs.Words.{texts};
+ghost use Rattle.std.specs.Prelude.{◌≡◌, codes, false, if◌then◌else◌};
+ghost use Rattle.cmd_svc.specs.Words.{service_words, texts};
 ghost use Rattle.tai_status.specs.Counted.{Reports};
 ghost use Rattle.cmd_svc.specs.Turns.{InTurn};
 ghost use Rattle.cmd_svc.specs.Svc.{effects, letter_report, missed_status, order_words, reason, sending};
-ghost use Rattle.cmd_svc.specs.Svc.{OrderEnds, Serves, ServesAll, SvcEnds};
+ghost use Rattle.cmd_svc.specs.Svc.{OrderEnds, Serves, SvcEnds};
 
+use crate::missing::tell_missing;
 use crate::order::SvcFault;
 use crate::services::{Services, Unreached};
-use crate::words::assemble;
+use crate::words::{assemble, services_of};
 use cmd_base::{DONE, REFUSED, TROUBLE, report, report_parts};
 use std::alloc::Allocator;
 use std::io::Write;
@@ -62,7 +63,8 @@ fn serve<S: Services, E: Write>(
     }
 }
 
-/// Sends bytes to services, one after the other. Answers whether some service was not reached.
+/// Sends bytes to services, one after the other; where there are none, only whether each takes a connection is seen.
+/// Answers whether some service was not reached.
 fn serve_each<S: Services, A: Allocator, E: Write>(
     services: &mut S,
     names: &[Name<A>],
@@ -77,22 +79,6 @@ fn serve_each<S: Services, A: Allocator, E: Write>(
         missed = serve(services, name.as_str(), bytes, missed, faults);
     }
     missed
-}
-
-/// Sends bytes to services. No bytes are not sent. Answers whether some service was not reached.
-fn serve_all<S: Services, A: Allocator, E: Write>(
-    services: &mut S,
-    names: &[Name<A>],
-    bytes: &[u8],
-    faults: &mut Output<E>,
-) -> bool
-    ensures { ServesAll bytes.now names.now (sending (S.calls services.old) faults.old false)
-        (sending (S.calls services.new) faults.new result) }
-{
-    if bytes.is_empty() {
-        return false;
-    }
-    serve_each(services, names, bytes, faults)
 }
 
 /// The status behind services that were served.
@@ -117,7 +103,8 @@ fn run_order<S: Services, A: Allocator + Clone, E: Write>(
     match assemble(alloc, words) {
         Ok(order) => {
             let names = order.services.as_slice();
-            let missed = serve_all(services, names, order.bytes.as_slice(), faults);
+            let missed = serve_each(services, names, order.bytes.as_slice(), faults);
+            tell_missing(services, b"svc: ", services_of(words), faults);
             served_status(missed, missed_status)
         }
         Err(SvcFault::UnknownLetter(letter)) => report_letter(letter, faults),
@@ -147,10 +134,10 @@ fn order_words<'a, 'b>(words: &'a [&'b str]) -> &'a [&'b str]
 
 /// The command `svc`: sends the letters of its option words, as control bytes, to each service that its other words
 /// name, in order (<https://cr.yp.to/daemontools/svc.html>). Each letter is sent once. A service that can't be reached
-/// is reported as `svc: warning: unable to control DIR: WHY`, and the others are served. No letters, or no services:
-/// nothing is done. Answers the status: 0, also after such warnings, but 111 after one where the first word is `-W`,
-/// which is no option word then; 100 for an unknown letter, and 111 for want of memory: then nothing is sent to
-/// anybody.
+/// is reported as `svc: warning: unable to control DIR: WHY`, and the others are served; at the end of each folder that
+/// is not there why. Without letters nothing is sent, and services that can't be reached are reported. Answers the
+/// status: 0, also after such warnings, but 111 after one where the first word is `-W`, which is no option word then;
+/// 100 for an unknown letter, and 111 for want of memory: then nothing is sent to anybody.
 pub fn run_svc<S: Services, A: Allocator + Clone, E: Write>(
     alloc: A,
     services: &mut S,

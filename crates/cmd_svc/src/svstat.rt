@@ -1,16 +1,17 @@
 //! The command `svstat`.
 ghost use Rattle.std.specs.Prelude.{◌≡◌, ◌∷◌, [], ◌++◌, OnOk, IfOk, IfErr};
-ghost use Rattle.tai_status.specs.Counted.{Wrote, Works};
+ghost use Rattle.tai_status.specs.Counted.{Reports, Wrote, Works};
 ghost use Rattle.cmd_svc.specs.Words.{texts};
 ghost use Rattle.cmd_svc.specs.Turns.{InTurn};
-ghost use Rattle.cmd_svc.specs.Svstat.{scene, look_line, Shows, ShowsNot, ShowsUpTo};
+ghost use Rattle.cmd_svc.specs.Svstat.{scene, shown_line, Shows, ShowsNot, ShowsUpTo};
 ghost use Rattle.cmd_svc.specs.Svstat.{SvstatEnds, WritesNot, svstat_report};
 
 use crate::form::{LineForm, PlainLine};
 use crate::look::{Look, look_at};
+use crate::missing::tell_missing;
 use crate::observer::Observer;
 use crate::services::Services;
-use cmd_base::{DONE, TROUBLE, report};
+use cmd_base::{DONE, TROUBLE, report, report_device};
 use std::alloc::{AllocError, Allocator};
 use std::io::Write;
 use tai_status::{Output, TimeSource};
@@ -97,13 +98,19 @@ fn show_all<F: LineForm, S: Services, A: Allocator + Clone, W: Write, C: TimeSou
     Ok(())
 }
 
-/// What is reported of a fault.
-pub fn svstat_report(fault: SvstatFault) -> &'static [u8]
-    ensures { result.now ≡ svstat_report fault }
+/// Reports why the line of a service is not written, and returns the status of that. If the writer failed, the line
+/// names the cause of its last fault.
+pub fn report_svstat<W: Write, E: Write>(
+    fault: SvstatFault,
+    writer: &Output<W>,
+    faults: &mut Output<E>,
+) -> u8
+    ensures status { result ≡ 111 }
+    ensures reported { Reports faults.old faults.new (svstat_report fault writer.now) }
 {
     match fault {
-        SvstatFault::OutOfMemory => b"svstat: OutOfMemory\n",
-        SvstatFault::Write => b"svstat: write fault\n",
+        SvstatFault::OutOfMemory => report(faults, b"svstat: OutOfMemory\n", TROUBLE),
+        SvstatFault::Write => report_device(faults, b"svstat: ", b"write fault", writer.cause()),
     }
 }
 
@@ -127,14 +134,19 @@ where
         observer.old observer.new writer.old writer.new faults.old faults.new }
 {
     match show_all(form, &alloc, observer, words, writer) {
-        Ok(()) => DONE,
-        Err(fault) => report(faults, svstat_report(fault), TROUBLE),
+        Ok(()) => {
+            tell_missing(&mut observer.services, b"svstat: ", words, faults);
+            DONE
+        }
+        Err(fault) => report_svstat(fault, writer, faults),
     }
 }
 
 /// The command `svstat`: writes a line for the service in each folder that its words name, in order
 /// (<https://cr.yp.to/daemontools/svstat.html>): how it stands, or that it is not supervised, that its status can't be
 /// read, or that this is no status record. It is looked at when its line comes, and the clock is read once for it.
+/// Control characters of its name are escaped, as by [`shown`](crate::shown). After the lines it says of each folder
+/// that is not there why.
 /// Answers the status: 0, whatever the lines say; 111 for a fault of the writer and for want of memory, and then the
 /// services after that one are not looked at.
 pub fn run_svstat<S: Services, A: Allocator + Clone, W: Write, E: Write, C: TimeSource>(
@@ -144,7 +156,7 @@ pub fn run_svstat<S: Services, A: Allocator + Clone, W: Write, E: Write, C: Time
     writer: &mut Output<W>,
     faults: &mut Output<E>,
 ) -> u8
-    ensures ends { SvstatEnds look_line (texts words.now) result
+    ensures ends { SvstatEnds shown_line (texts words.now) result
         observer.old observer.new writer.old writer.new faults.old faults.new }
 {
     run_svstat_as(&PlainLine, alloc, observer, words, writer, faults)

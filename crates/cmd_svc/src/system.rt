@@ -4,16 +4,19 @@ ghost use Rattle.std.specs.IoError.{error_kind};
 ghost use Rattle.cmd_svc.specs.Paths.{FitsAddress};
 ghost use Rattle.cmd_svc.specs.Connecting.{unreached_by};
 
+use crate::process::{age_at, living_tick};
 use crate::services::{Services, Unreached};
 use arrayvec::ArrayString;
-use cmd_base::{StatusFront, path_by_descriptor, read_status_front};
+use cmd_base::{StatusFront, path_by_descriptor, push_number, read_status_front};
 use mio::net::UnixStream;
 use std::fs::{File, Files, Metadata};
-use std::io::{Error, ErrorKind, Write};
+use std::io::{Error, ErrorKind, Read, Write};
 use std::net::Net;
 use std::os::fd::AsRawFd;
 use std::os::unix::fs::MetadataExt;
+use std::time::Clock;
 use std::{fs, io};
+use tai_status::Cause;
 
 /// How long a path is at most on this system, with the zero behind it.
 const PATH_BYTES: usize = 4096;
@@ -21,17 +24,48 @@ const PATH_BYTES: usize = 4096;
 /// How long the path of a socket is at most: its address has one byte more, for the zero behind it.
 const SOCKET_BYTES: usize = 107;
 
+/// How much of a process's line is read: up to the tick at which it began, whatever the program's name.
+const STAT_BYTES: usize = 512;
+
 /// The services of this system. It says nothing to contracts, and takes no memory.
 #[derive(Drop)]
-pub struct SystemServices<R: Files<File = File> + Net + Drop> {
+pub struct SystemServices<R: Files<File = File> + Net + Clock + Drop> {
     runtime: R,
+    /// The clock when an age was asked for first, in ticks.
+    first: Option<u64>,
 }
 
-impl<R: Files<File = File> + Net + Drop> SystemServices<R> {
+impl<R: Files<File = File> + Net + Clock + Drop> SystemServices<R> {
     /// The services of this runtime.
     pub fn new(runtime: R) -> SystemServices<R> {
-        SystemServices { runtime }
+        SystemServices {
+            runtime,
+            first: None,
+        }
     }
+
+    /// For how many ticks, at least, the process has lived whose line is at a path.
+    fn age_of(&mut self, path: &str) -> Option<u128> {
+        let now = ticks(&self.runtime)?;
+        let first = *self.first.get_or_insert(now);
+        let own = living_tick_at(&self.runtime, "/proc/self/stat")?;
+        let began = living_tick_at(&self.runtime, path)?;
+        Some(age_at(began, own, first, now))
+    }
+}
+
+/// The clock that nobody sets, in hundredths of a second, which are the kernel's ticks.
+fn ticks<R: Clock>(runtime: &R) -> Option<u64> {
+    let now = runtime.monotonic().ok()?;
+    u64::try_from(now.as_millis() / 10).ok()
+}
+
+/// The tick at which the process began whose line is at a path, where it lives.
+fn living_tick_at<R: Files<File = File>>(runtime: &R, path: &str) -> Option<u64> {
+    let mut line = [0; STAT_BYTES];
+    let mut file = fs::open(runtime, path).ok()?;
+    let count = file.read(&mut line).ok()?;
+    living_tick(&line[..count.min(STAT_BYTES)])
 }
 
 /// The path of something in a folder. One that is longer than any path of this system is a fault.
@@ -115,7 +149,7 @@ fn changed_at(folder: &Metadata) -> Option<u64> {
     nanoseconds(seconds, rest)
 }
 
-impl<R: Files<File = File> + Net + Drop> Services for SystemServices<R> {
+impl<R: Files<File = File> + Net + Clock + Drop> Services for SystemServices<R> {
     fn send(&mut self, folder: &str, bytes: &[u8]) -> Result<(), Unreached> {
         send_bytes(&self.runtime, folder, bytes).map_err(|fault| unreached(&fault))
     }
@@ -143,5 +177,21 @@ impl<R: Files<File = File> + Net + Drop> Services for SystemServices<R> {
         let path = path_in(folder, "/supervise").ok()?;
         let found = fs::metadata(&self.runtime, path.as_str()).ok()?;
         changed_at(&found)
+    }
+
+    fn folder_fault(&mut self, folder: &str) -> Option<Cause> {
+        match fs::metadata(&self.runtime, folder) {
+            Ok(found) if found.is_dir() => None,
+            Ok(_) => Some(Cause::NoFolder),
+            Err(fault) => Some(Cause::of(&fault)),
+        }
+    }
+
+    fn age(&mut self, process: u32) -> Option<u128> {
+        let mut path = ArrayString::<32>::new();
+        path.push_str("/proc/");
+        push_number(&mut path, u64::from(process));
+        path.push_str("/stat");
+        self.age_of(path.as_str())
     }
 }

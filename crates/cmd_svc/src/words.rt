@@ -57,7 +57,7 @@ fn read_letters(words: &[&str]) -> Result<OrderBytes, SvcFault>
 }
 
 /// The services among the words.
-fn services_of<'a, 'b>(words: &'a [&'b str]) -> &'a [&'b str]
+pub(crate) fn services_of<'a, 'b>(words: &'a [&'b str]) -> &'a [&'b str]
     ensures { texts result.now ≡ service_words (texts words.entry.now) }
 {
     let rest = after_options(words);

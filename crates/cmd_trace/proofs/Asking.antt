@@ -9,6 +9,7 @@ use Rattle.trace_words.specs.Words.{asked_of}
 use Rattle.trace_words.proofs.Examples.{no_word}
 use Rattle.cmd_base.specs.Known.{IsKnown, KnownFiles}
 use Rattle.cmd_base.specs.Usage.{usage_text}
+use Rattle.cmd_base.specs.declared.command.Command.TheVariants as command
 use Rattle.cmd_trace.specs.Traced.{AskFor, DoesAsked, TraceEnds}
 
 -- where the command line takes no words, they ask for no file
@@ -19,7 +20,7 @@ asks_nothing words none file at local asked = let never = sym none ∙ asked.1.0
 -- no words at all
 pub ends_without_words : {W : Type 0} (text : W → List ℕ) (words : List W) (ahead : ℤ → ℤ) (files : KnownFiles)
     (status : ℕ) (writer writes faults reports : Device) → length words ≡ 0 → status ≡ 100 → writes ≡ writer
-    → Reports faults reports usage_text
+    → Reports faults reports (usage_text command.Trace)
     → TraceEnds ahead files (map text words) status writer writes faults reports
 ends_without_words text [] ahead files status writer writes faults reports none is unwritten reported = record {
   wrong = asks_nothing [] no_word;

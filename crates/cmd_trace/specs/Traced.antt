@@ -2,11 +2,11 @@
 use Rattle.std.specs.Prelude.{◌≡◌, ◌≢◌, ◌<◌, ◌^◌, ⊤, ℕ, ℤ, ◌⊎◌, Bool, true, false, List, [], ◌∷◌, ◌++◌, codes, decimal}
 use Rattle.std.specs.Prelude.{Option, Some, None, IfSome, Err, option_map}
 use Rattle.std.specs.Borrow.{Bor}
-use Rattle.std.specs.IoError.{error_kind}
+use Rattle.std.specs.IoError.{error_kind, raw_os_error}
 use Rattle.std.specs.declared.io.Error.{Error}
 use Rattle.std.specs.declared.io.ErrorKind.{ErrorKind}
-use Rattle.std.specs.declared.io.ErrorKind.TheVariants.{OutOfMemory}
-use Rattle.tai_status.specs.Counted.{Device, Fails, Works, Wrote, WroteFront, Reports}
+use Rattle.std.specs.declared.io.ErrorKind.TheVariants.{OutOfMemory, IsADirectory}
+use Rattle.tai_status.specs.Counted.{Device, Fails, Works, Wrote, WroteFront, Reports, device_note}
 use Rattle.tai_status.specs.Phase.{phase_name}
 use Rattle.sup_core.specs.State.{State}
 use Rattle.sup_core.specs.Text.{byte_text, signal_name}
@@ -24,7 +24,10 @@ use Rattle.trace_words.specs.declared.WordsFault.{WordsFault}
 use Rattle.trace_words.specs.declared.WordsFault.TheVariants as words
 use Rattle.cmd_base.specs.Printed.{printed}
 use Rattle.cmd_base.specs.Known.{IsKnown, KnownFiles, known_files}
+use Rattle.tai_status.specs.Causes.{cause_of, cause_note}
+use Rattle.tai_status.specs.declared.cause.Cause.{Cause}
 use Rattle.cmd_base.specs.Usage.{usage_text}
+use Rattle.cmd_base.specs.declared.command.Command.TheVariants as command
 use Rattle.cmd_trace.specs.Local.{local_explanation}
 use Rattle.cmd_trace.specs.declared.fault.TraceTrouble.{TraceTrouble}
 use Rattle.cmd_trace.specs.declared.fault.TraceTrouble.TheVariants as trouble
@@ -112,19 +115,20 @@ pub record ShowsFront (times : Times) (text : List ℕ) (at : Option Break) (wri
 
 -- Faults
 
--- what is reported of trouble, behind the command's name
-abbrev pub trouble_words : TraceTrouble → List ℕ
-trouble_words (trouble.Refused fault) =
-    codes "line " ++ decimal fault.line ++ codes ": " ++ kind_name fault.kind ++ 10 ∷ []
-trouble_words trouble.OutOfMemory = codes "OutOfMemory" ++ 10 ∷ []
-trouble_words trouble.Write = codes "write fault" ++ 10 ∷ []
+-- what is reported of a text that is refused
+abbrev pub refused_text : TraceFault → List ℕ
+refused_text fault =
+    codes "trace: line " ++ decimal fault.line ++ codes ": " ++ kind_name fault.kind ++ 10 ∷ []
 
+-- what is reported of trouble
 abbrev pub trouble_text : TraceTrouble → List ℕ
-trouble_text trouble = codes "trace: " ++ trouble_words trouble
+trouble_text (trouble.Refused fault) = refused_text fault
+trouble_text trouble.OutOfMemory = codes "trace: OutOfMemory" ++ 10 ∷ []
+trouble_text (trouble.Write cause) = codes "trace: " ++ (codes "write fault" ++ device_note cause)
 
 -- what is reported of a file that can't be read
-abbrev pub unread_text : List ℕ → List ℕ
-unread_text file = codes "trace: unable to read " ++ (file ++ 10 ∷ [])
+abbrev pub unread_text : (file : List ℕ) → Cause → List ℕ
+unread_text file cause = codes "trace: unable to read " ++ (file ++ cause_note cause)
 
 -- Why a text is refused: for its first fault; or there was no memory for an entry that it has at that line.
 abbrev pub IsRefusedFor : List ℕ → TraceFault → Type 0
@@ -137,11 +141,12 @@ abbrev pub IsTraceText : List ℕ → Type 0
 IsTraceText text = (trace : Content) × (IsContent trace × (text ≡ trace_text trace))
 
 -- What trouble comes from. The text is refused; it is that of a trace, and there was no memory for what is printed; or
--- the writer failed, after a front of that. Only the writer's fault comes after a write.
+-- the writer failed, after a front of that, for the cause that it keeps. Only the writer's fault comes after a write.
 abbrev pub TraceCause : Times → TraceTrouble → List ℕ → Option Break → (writer writes : Device) → Type 0
 TraceCause times (trouble.Refused fault) text at writer writes = (writes ≡ writer) × IsRefusedFor text fault
 TraceCause times trouble.OutOfMemory text at writer writes = (writes ≡ writer) × IsTraceText text
-TraceCause times trouble.Write text at writer writes = Fails writer writes × ShowsFront times text at writer writes
+TraceCause times (trouble.Write cause) text at writer writes =
+    Fails writer writes × (ShowsFront times text at writer writes × (cause ≡ writes.cause))
 
 -- How `trace` ends
 
@@ -173,21 +178,25 @@ pub record EndsWithText (times : Times) (file : Option (List ℕ)) (at : Option 
   pub text_is : IsKnown file text
   pub ends : TextEnds times text at status writer writes faults reports
 
--- It is reported of a file that is not known to be there that it can't be read, and nothing is written. A read of it
--- is not known to want memory.
+-- It is reported of a file that is not known to be there that it can't be read, and why, and nothing is written. The
+-- cause is that of the read's fault, which is not want of memory, by its number and kind.
 pub record ReportsUnread (files : KnownFiles) (file : List ℕ) (status : ℕ) (writer writes faults reports : Device)
     : Type 0 where
+  pub number : Option ℤ
+  pub kind : ErrorKind
   pub unknown : files.bytes file ≡ None
-  pub fault : IfSome (files.fault file) (λ kind. kind ≢ OutOfMemory)
+  pub fault : IsKnown (files.fault file) kind
+  pub room : kind ≢ OutOfMemory
   pub unwritten : writes ≡ writer
-  pub reported : Reports faults reports (unread_text file)
+  pub reported : Reports faults reports (unread_text file (cause_of number kind))
   pub status_is : status ≡ 111
 
 -- It is reported why a file is not read: there was no memory, where the error says so; else that it can't be read.
 abbrev pub ReportsMissed : Error → (file : List ℕ) → (faults reports : Device) → Type 0
 ReportsMissed error file faults reports =
     ((error_kind error ≡ OutOfMemory) × Reports faults reports (trouble_text trouble.OutOfMemory))
-    ⊎ ((error_kind error ≢ OutOfMemory) × Reports faults reports (unread_text file))
+    ⊎ ((error_kind error ≢ OutOfMemory)
+    × Reports faults reports (unread_text file (cause_of (raw_os_error error) (error_kind error))))
 
 -- There was no memory for the words or the file; nothing is written, and that is reported.
 pub record ReportsStarved (status : ℕ) (writer writes faults reports : Device) : Type 0 where
@@ -206,19 +215,47 @@ abbrev pub known_in : {F : Type 0} → (file_at : F → List ℕ → Option (Lis
     (fault_at : F → List ℕ → Option ErrorKind) (files : F) → KnownFiles
 known_in file_at fault_at files = known_files (file_at files) (fault_at files)
 
--- `trace` over this file and this break.
+-- `trace` over the file at this path and this break.
+abbrev pub PathEnds : (times : Times) (files : KnownFiles) (path : List ℕ) (at : Option Break) (status : ℕ)
+    (writer writes faults reports : Device) → Type 0
+PathEnds times files path at status writer writes faults reports =
+    EndsWithText times (files.bytes path) at status writer writes faults reports
+    ⊎ (ReportsUnread files path status writer writes faults reports
+    ⊎ ReportsNoRoom files path status writer writes faults reports)
+
+-- `trace` over the trace of the service in this folder.
+abbrev pub FolderEnds : (times : Times) (files : KnownFiles) (folder : List ℕ) (at : Option Break) (status : ℕ)
+    (writer writes faults reports : Device) → Type 0
+FolderEnds times files folder at status writer writes faults reports =
+    PathEnds times files (folder ++ codes "/supervise/trace") at status writer writes faults reports
+    ⊎ ReportsStarved status writer writes faults reports
+
+-- A folder is there, and no file.
+pub record EndsWithFolder (times : Times) (files : KnownFiles) (folder : List ℕ) (at : Option Break) (status : ℕ)
+    (writer writes faults reports : Device) : Type 0 where
+  pub fault : IsKnown (files.fault folder) IsADirectory
+  pub ends : FolderEnds times files folder at status writer writes faults reports
+
+-- A file can't be read, and it is no folder.
+pub record ReportsNoFile (files : KnownFiles) (file : List ℕ) (status : ℕ) (writer writes faults reports : Device)
+    : Type 0 where
+  pub unread : ReportsUnread files file status writer writes faults reports
+  pub no_folder : unread.kind ≢ IsADirectory
+
+-- `trace` over this file and this break; or over the service in this folder.
 abbrev pub FileEnds : (times : Times) (files : KnownFiles) (file : List ℕ) (at : Option Break) (status : ℕ)
     (writer writes faults reports : Device) → Type 0
 FileEnds times files file at status writer writes faults reports =
     EndsWithText times (files.bytes file) at status writer writes faults reports
-    ⊎ (ReportsUnread files file status writer writes faults reports
-    ⊎ ReportsNoRoom files file status writer writes faults reports)
+    ⊎ (ReportsNoFile files file status writer writes faults reports
+    ⊎ (ReportsNoRoom files file status writer writes faults reports
+    ⊎ EndsWithFolder times files file at status writer writes faults reports))
 
 -- Words ask for nothing; nothing is written, and the usage is reported.
 pub record ReportsUsage (words : List (List ℕ)) (status : ℕ) (writer writes faults reports : Device) : Type 0 where
   pub wrong : (file : List ℕ) (at : Option Break) (local : Bool) → AskFor words file at local → ⊥
   pub unwritten : writes ≡ writer
-  pub reported : Reports faults reports usage_text
+  pub reported : Reports faults reports (usage_text command.Trace)
   pub status_is : status ≡ 100
 
 -- What words ask for was done, or there was trouble with it.
@@ -232,7 +269,7 @@ pub record DoesAsked (ahead : ℤ → ℤ) (files : KnownFiles) (words : List (L
 
 -- What is reported of words that were not read: the usage of wrong ones, else want of memory.
 abbrev pub words_text : WordsFault → List ℕ
-words_text words.Wrong = usage_text
+words_text words.Wrong = usage_text command.Trace
 words_text words.OutOfMemory = trouble_text trouble.OutOfMemory
 
 -- the status of that

@@ -1,21 +1,26 @@
 //! The command `trace`.
-ghost use Rattle.std.specs.Prelude.{◌≡◌, None, OnOk, IfErr};
+ghost use Rattle.std.specs.Prelude.{◌≡◌, ◌++◌, None, OnOk, IfErr, IfOk, codes, string_bytes};
 ghost use Rattle.tai_status.specs.Counted.{Works, Reports};
 ghost use Rattle.cmd_local.specs.Ends.{texts};
-ghost use Rattle.cmd_trace.specs.Traced.{FileEnds, Shows, ReportsMissed, TextEnds, TraceCause, TraceEnds};
-ghost use Rattle.cmd_trace.specs.Traced.{known_in, times_asked, times_in, trouble_text, unread_text};
+ghost use Rattle.cmd_trace.specs.Traced.{FileEnds, FolderEnds, PathEnds, Shows, ReportsMissed, TextEnds, TraceCause};
+ghost use Rattle.cmd_trace.specs.Traced.{TraceEnds, known_in, times_asked, times_in};
+ghost use Rattle.cmd_trace.specs.Traced.{refused_text, trouble_text};
+ghost use Rattle.cmd_trace.specs.Traced.{unread_text};
 ghost use Rattle.cmd_trace.specs.Traced.{words_status, words_text};
 
 use crate::break_word::read_spec;
 use crate::fault::TraceTrouble;
 use crate::shown::shown;
 use arrayvec::ArrayString;
-use cmd_base::{DONE, FileSource, TROUBLE, push_number, report, report_parts, usage};
+use cmd_base::{
+    Command, DONE, FileSource, TROUBLE, cause_note, push_number, report, report_device,
+    report_parts, usage,
+};
 use cmd_local::{LocalZone, Zone};
-use std::alloc::{Allocator, Global};
+use std::alloc::{AllocError, Allocator, Global};
 use std::io::{Error, ErrorKind, Write};
-use sup_trace::{Break, kind_name, read_text};
-use tai_status::Output;
+use sup_trace::{Break, TraceFault, kind_name, read_text};
+use tai_status::{Cause, Output};
 use trace_words::{WordsFault, parse_words};
 
 /// Writes what is printed of the trace whose text this is, with the local times of a zone where there is one.
@@ -41,35 +46,33 @@ fn show_text<A: Allocator + Clone + Copy, W: Write, Z: Zone>(
     };
     match writer.write_all(&shown) {
         Ok(()) => Ok(()),
-        Err(_) => Err(TraceTrouble::Write),
+        Err(_) => Err(TraceTrouble::Write(writer.cause())),
     }
 }
 
-/// What is reported of trouble.
-fn trouble_text(trouble: TraceTrouble) -> ArrayString<64>
-    ensures { result.bytes ≡ trouble_text trouble }
+/// What is reported of a text that is refused.
+fn refused_text(fault: TraceFault) -> ArrayString<64>
+    ensures { result.bytes ≡ refused_text fault }
 {
     let mut out = ArrayString::new();
-    match trouble {
-        TraceTrouble::Refused(fault) => {
-            out.push_str("trace: line ");
-            push_number(&mut out, fault.line);
-            out.push_str(": ");
-            out.push_str(kind_name(fault.kind));
-        }
-        TraceTrouble::OutOfMemory => out.push_str("trace: OutOfMemory"),
-        TraceTrouble::Write => out.push_str("trace: write fault"),
-    }
+    out.push_str("trace: line ");
+    push_number(&mut out, fault.line);
+    out.push_str(": ");
+    out.push_str(kind_name(fault.kind));
     out.push_str("\n");
     out
 }
 
-/// Reports trouble, and answers its status.
+/// Reports trouble, and returns its status.
 fn report_trouble<E: Write>(trouble: TraceTrouble, faults: &mut Output<E>) -> u8
     ensures status { result ≡ 111 }
     ensures reported { Reports faults.old faults.new (trouble_text trouble) }
 {
-    report(faults, trouble_text(trouble).as_bytes(), TROUBLE)
+    match trouble {
+        TraceTrouble::Refused(fault) => { report(faults, refused_text(fault).as_bytes(), TROUBLE) }
+        TraceTrouble::OutOfMemory => report(faults, b"trace: OutOfMemory\n", TROUBLE),
+        TraceTrouble::Write(cause) => report_device(faults, b"trace: ", b"write fault", cause),
+    }
 }
 
 /// Prints what this text says, with the local times of a zone where there is one, and answers the status.
@@ -108,6 +111,54 @@ pub fn trace_bytes<A: Allocator + Clone + Copy, W: Write, E: Write>(
 
 /// Prints what the text in a file says, with the local times of a zone where there is one, and answers the status:
 /// that of `trace_bytes`, and 111 for a file that can't be read.
+fn trace_path<R: FileSource, W: Write, E: Write, Z: Zone>(
+    files: &R,
+    alloc: Global,
+    zone: Option<&Z>,
+    path: &str,
+    at: Option<Break>,
+    writer: &mut Output<W>,
+    faults: &mut Output<E>,
+) -> u8
+    ensures ends { PathEnds (times_in Z.ahead_at zone.entry) (known_in R.file_at R.fault_at files.now) path.now at
+        result writer.old writer.new faults.old faults.new }
+{
+    match files.read_file(alloc, path) {
+        Ok(text) => show_bytes(alloc, zone, &text, at, writer, faults),
+        Err(error) => report_missed(&error, path, faults),
+    }
+}
+
+/// The same of the trace of the service in a folder.
+fn trace_folder<R: FileSource, W: Write, E: Write, Z: Zone>(
+    files: &R,
+    alloc: Global,
+    zone: Option<&Z>,
+    folder: &str,
+    at: Option<Break>,
+    writer: &mut Output<W>,
+    faults: &mut Output<E>,
+) -> u8
+    ensures ends { FolderEnds (times_in Z.ahead_at zone.entry) (known_in R.file_at R.fault_at files.now) folder.now at
+        result writer.old writer.new faults.old faults.new }
+{
+    match trace_in(alloc, folder) {
+        Ok(path) => trace_path(files, alloc, zone, path.as_str(), at, writer, faults),
+        Err(_) => report_trouble(TraceTrouble::OutOfMemory, faults),
+    }
+}
+
+/// The path of the trace of the service in a folder.
+fn trace_in<A: Allocator>(alloc: A, folder: &str) -> Result<String<A>, AllocError>
+    ensures { IfOk result (λ path. string_bytes path ≡ folder.now ++ codes "/supervise/trace") }
+{
+    let mut path = String::from_str(alloc, folder)?;
+    path.push_str("/supervise/trace")?;
+    Ok(path)
+}
+
+/// Prints what the text in a file says, or where that is a folder what that of the service in it says, with the local
+/// times of a zone where there is one, and answers the status.
 fn trace_file<R: FileSource, W: Write, E: Write, Z: Zone>(
     files: &R,
     alloc: Global,
@@ -122,31 +173,35 @@ fn trace_file<R: FileSource, W: Write, E: Write, Z: Zone>(
 {
     match files.read_file(alloc, file) {
         Ok(text) => show_bytes(alloc, zone, &text, at, writer, faults),
-        Err(error) => report_missed(error, file, faults),
+        Err(error) if error.kind() == ErrorKind::IsADirectory => {
+            trace_folder(files, alloc, zone, file, at, writer, faults)
+        }
+        Err(error) => report_missed(&error, file, faults),
     }
 }
 
-/// Says why a file is not read, and answers the status of that. Memory is wanted only where its error says so.
-fn report_missed<E: Write>(error: Error, file: &str, faults: &mut Output<E>) -> u8
+/// Says why a file is not read, and returns the status of that. Only an error that says so is out of memory.
+fn report_missed<E: Write>(error: &Error, file: &str, faults: &mut Output<E>) -> u8
     ensures status { result ≡ 111 }
-    ensures reported { ReportsMissed error file.now faults.old faults.new }
+    ensures reported { ReportsMissed error.now file.now faults.old faults.new }
 {
     if error.kind() == ErrorKind::OutOfMemory {
         return report_trouble(TraceTrouble::OutOfMemory, faults);
     }
-    report_unread(file, faults)
+    report_unread(file, Cause::of(error), faults)
 }
 
-/// Says that a file can't be read, and answers the status of that.
-fn report_unread<E: Write>(file: &str, faults: &mut Output<E>) -> u8
+/// Says that a file can't be read, and why, and returns the status of that.
+fn report_unread<E: Write>(file: &str, cause: Cause, faults: &mut Output<E>) -> u8
     ensures status { result ≡ 111 }
-    ensures reported { Reports faults.old faults.new (unread_text file.now) }
+    ensures reported { Reports faults.old faults.new (unread_text file.now cause) }
 {
+    let note = cause_note(cause);
     report_parts(
         faults,
         b"trace: unable to read ",
         file.as_bytes(),
-        b"\n",
+        note.as_bytes(),
         TROUBLE,
     )
 }
@@ -157,7 +212,7 @@ fn report_words<E: Write>(fault: WordsFault, faults: &mut Output<E>) -> u8
     ensures reported { Reports faults.old faults.new (words_text fault) }
 {
     match fault {
-        WordsFault::Wrong => usage(faults),
+        WordsFault::Wrong => usage(faults, Command::Trace),
         WordsFault::OutOfMemory => report_trouble(TraceTrouble::OutOfMemory, faults),
     }
 }
@@ -172,9 +227,9 @@ fn zone_asked<Z: Zone>(zone: &Z, local: bool) -> Option<&Z>
 /// The command `trace FILE [--break SPEC] [--local]`: prints what each entry of the trace in the file did, and the
 /// machine after them; with `--local` with the local times of a zone in place of labels, and words in place of the
 /// digits of records; or with `--break` the number of the first entry that is what SPEC names, as `read_break` reads
-/// it, with `--local` or without. Answers the status: 0; 100 for wrong words; 111 for a file that can't be read, a text
-/// that is refused, want of memory, and a fault of the writer. Words are looked at before SPEC, SPEC before the file,
-/// and the file before its text.
+/// it, with `--local` or without. Where FILE is a folder, it is that of a service, whose trace is meant. Answers the
+/// status: 0; 100 for wrong words; 111 for a file that can't be read, a text that is refused, want of memory, and a
+/// fault of the writer. Words are looked at before SPEC, SPEC before the file, and the file before its text.
 pub fn run_trace<R: FileSource, W: Write, E: Write, Z: Zone>(
     files: &R,
     alloc: Global,
@@ -187,7 +242,7 @@ pub fn run_trace<R: FileSource, W: Write, E: Write, Z: Zone>(
         result writer.old writer.new faults.old faults.new }
 {
     if words.is_empty() {
-        return usage(faults);
+        return usage(faults, Command::Trace);
     }
     let asked = match parse_words(alloc, words) {
         Ok(asked) => asked,
@@ -203,6 +258,6 @@ pub fn run_trace<R: FileSource, W: Write, E: Write, Z: Zone>(
             writer,
             faults,
         ),
-        Err(_) => usage(faults),
+        Err(_) => usage(faults, Command::Trace),
     }
 }

@@ -1,3 +1,4 @@
 pub mod Looking
+pub mod Lasting
 pub mod Found
 pub mod Waiting

@@ -33,7 +33,7 @@ looks-on goal services left folder after finding a b c h f on =
     let look : Look = record { folder = folder; sighting = f.sighting } in
     let P : Look → Type 0 = λ one. GoesOn (finding_of goal one.sighting) in
     let lefts : Look → List (List ℕ) = λ one. left_at one.folder (finding_of goal one.sighting) in
-    let calls : Look → List Call = λ one. calls_of_look one.folder one.sighting in
+    let calls : Look → List Call = λ one. calls_of_look goal one.folder one.sighting in
     let name : Look → List ℕ = λ one. one.folder in
     let split : folders h.looks ++ folder ∷ after ≡ folders (h.looks ++ look ∷ []) ++ after =
     sym (ap (λ (l : List (List ℕ)). l ++ after) (map-append name h.looks (look ∷ []))
@@ -45,7 +45,7 @@ looks-on goal services left folder after finding a b c h f on =
           ∙ ap (λ (one : Finding). left_by goal h.looks ++ left_at folder one) f.is
           ∙ sym (flat_map-push lefts h.looks look);
       calls = subst (λ (l : List Call). Extended a c l) (sym (flat_map-push calls h.looks look))
-          (extended-then a b c (calls_of h.looks) (calls_of_look folder f.sighting) h.calls f.calls);
+          (extended-then a b c (calls_of goal h.looks) (calls_of_look goal folder f.sighting) h.calls f.calls);
     }
 
 -- the words from a place on

@@ -5,9 +5,11 @@ use Rattle.tai_status.specs.Counted.{Device, Reports}
 use Rattle.tai_status.specs.Extended.{Extended}
 use Rattle.tai_status.specs.declared.record.RecordFault.{RecordFault}
 use Rattle.cmd_base.specs.Usage.{usage_text}
+use Rattle.cmd_base.specs.declared.command.Command.TheVariants as command
 use Rattle.cmd_svc.specs.Svstat.{fault_name}
 use Rattle.cmd_svc.specs.Calls.{Call}
 use Rattle.cmd_svc.specs.Turns.{InTurn}
+use Rattle.cmd_svc.specs.Missing.{TellsEach, telling}
 use Rattle.cmd_svc.specs.Words.{texts}
 use Rattle.cmd_wait.specs.Steps.{Step, Read, Sight, sight, IsOver}
 use Rattle.cmd_wait.specs.Watching.{Watched, watched, first_watch}
@@ -116,11 +118,26 @@ pub record WaitsFor (order : Order) (status : ℕ) (old new : Scene) : Type 0 wh
   pub waits : Waits order begin order.services (watched first_watch begun) left middle
   pub ends : EndsBy order begin (looks_of waits) left status (scene middle.sight old.faults) new
 
+-- It waits, and then it is reported of each folder that is not there.
+pub record WaitsThenTells (order : Order) (status : ℕ) (old new : Scene) : Type 0 where
+  pub waited : Scene
+  pub waits : WaitsFor order status old waited
+  pub rested : new.sight.steps ≡ waited.sight.steps
+  pub told : TellsEach (codes "wait: ") order.services (telling waited.sight.calls waited.faults)
+      (telling new.sight.calls new.faults)
+
 -- It waits as options say.
 abbrev pub WaitsAsked : Options → (status : ℕ) → (calls asked : Option (List Call)) → (steps taken : Option (List Step))
     → (faults reports : Device) → Type 0
 WaitsAsked options status calls asked steps taken faults reports =
     WaitsFor (order options.goal options.limit (texts options.services.now)) status
+    (scene (sight calls steps) faults) (scene (sight asked taken) reports)
+
+-- The same, and then it is reported of each folder that is not there.
+abbrev pub WaitsAndTells : Options → (status : ℕ) → (calls asked : Option (List Call))
+    → (steps taken : Option (List Step)) → (faults reports : Device) → Type 0
+WaitsAndTells options status calls asked steps taken faults reports =
+    WaitsThenTells (order options.goal options.limit (texts options.services.now)) status
     (scene (sight calls steps) faults) (scene (sight asked taken) reports)
 
 -- Ends
@@ -130,7 +147,7 @@ pub record RefusesWords (words : List (List ℕ)) (status : ℕ) (old new : Scen
   pub wrong : AskNothing words
   pub status_is : status ≡ 100
   pub unasked : new.sight ≡ old.sight
-  pub reported : Reports old.faults new.faults usage_text
+  pub reported : Reports old.faults new.faults (usage_text command.Wait)
 
 -- There is no memory to keep which services are left: nothing is asked, and it is reported.
 pub record LacksMemory (status : ℕ) (old new : Scene) : Type 0 where
@@ -142,7 +159,7 @@ pub record LacksMemory (status : ℕ) (old new : Scene) : Type 0 where
 pub record WaitsWords (words : List (List ℕ)) (status : ℕ) (old new : Scene) : Type 0 where
   pub order : Order
   pub asks : Asks words order
-  pub waits : LacksMemory status old new ⊎ WaitsFor order status old new
+  pub waits : LacksMemory status old new ⊎ WaitsThenTells order status old new
 
 -- `wait`, by its words
 abbrev pub EndsByWords : (words : List (List ℕ)) (status : ℕ) (old new : Scene) → Type 0

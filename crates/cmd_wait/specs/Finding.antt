@@ -1,15 +1,16 @@
 -- What a look at a service finds, by what came of its calls.
-use Rattle.std.specs.Prelude.{◌≡◌, ℕ, Bool, true, false, not, if◌then◌else◌, List, [], ◌∷◌, Option, Some, None}
+use Rattle.std.specs.Prelude.{◌≡◌, ◌≤◌, ℕ, nat_le, Bool, true, false, not, ◌&&◌, if◌then◌else◌, List, [], ◌∷◌, ◌++◌}
+use Rattle.std.specs.Prelude.{Option, Some, None}
 use Rattle.std.specs.Prelude.{Result, Ok}
 use Rattle.std.specs.Prelude.{Err}
 use Rattle.tai_status.specs.Extended.{Extended}
-use Rattle.tai_status.specs.Loading.{loaded_from}
+use Rattle.tai_status.specs.Loading.{loaded_from, status_in}
 use Rattle.tai_status.specs.declared.loading.Loaded.{Loaded}
 use Rattle.tai_status.specs.declared.loading.Loaded.TheVariants.{Old, New}
 use Rattle.tai_status.specs.declared.phase.Phase.{Phase}
 use Rattle.tai_status.specs.declared.phase.Phase.TheVariants as phase
 use Rattle.tai_status.specs.declared.record.RecordFault.{RecordFault}
-use Rattle.cmd_svc.specs.Calls.{Call, Reached, ReadStatus}
+use Rattle.cmd_svc.specs.Calls.{Call, Reached, ReadStatus, SoughtAge}
 use Rattle.cmd_svc.specs.Line.{is_running}
 use Rattle.cmd_svc.specs.declared.services.Unreached.{Unreached}
 use Rattle.cmd_svc.specs.declared.services.Unreached.TheVariants.{NotRunning, Denied, Unanswered}
@@ -18,19 +19,6 @@ use Rattle.cmd_wait.specs.declared.finding.Goal.TheVariants as goal
 use Rattle.cmd_wait.specs.declared.finding.Finding.{Finding}
 use Rattle.cmd_wait.specs.declared.finding.Finding.TheVariants.{Reached, Waiting, Failed}
 use Rattle.cmd_wait.specs.declared.finding.WaitFault.TheVariants as fault
-
--- What came of the calls of a look: the service did not answer, for this reason; its status could not be read; or these
--- are the first bytes of it.
-pub data Sighting : Type 0 where
-  Absent : (why : Unreached) → Sighting
-  Unread : Sighting
-  Shown : (bytes : List ℕ) → Sighting
-
--- the calls of a look at the service in a folder
-abbrev pub calls_of_look : (folder : List ℕ) → Sighting → List Call
-calls_of_look folder (Absent why) = Reached folder (Some why) ∷ []
-calls_of_look folder Unread = Reached folder None ∷ ReadStatus folder None ∷ []
-calls_of_look folder (Shown bytes) = Reached folder None ∷ ReadStatus folder (Some bytes) ∷ []
 
 abbrev pub is_up_phase : Phase → Bool
 is_up_phase phase.Up = true
@@ -41,7 +29,8 @@ is_down_phase phase.Down = true
 is_down_phase phase.Gone = true
 is_down_phase other = false
 
--- whether a service is up and settled: its phase says it, or, in a record that has none, that there is a process
+-- whether a record says that a service is up and settled: its phase says it, or, in a record that has none, that there
+-- is a process
 abbrev pub is_up : Loaded → Bool
 is_up (Old status) = is_running status
 is_up (New full) = is_up_phase full.phase
@@ -50,6 +39,37 @@ is_up (New full) = is_up_phase full.phase
 abbrev pub is_down : Loaded → Bool
 is_down (Old status) = not (is_running status)
 is_down (New full) = is_down_phase full.phase
+
+-- Whether a process has lived for two seconds, by its age in hundredths of a second, where it lives. So the service is
+-- up for a second since it was settled.
+abbrev pub has_lasted : Option ℕ → Bool
+has_lasted None = false
+has_lasted (Some age) = nat_le 200 age
+
+-- the process whose age is asked for: that of a service that is waited for as up, where its record says that it is
+abbrev pub process_asked : Goal → Result Loaded RecordFault → Option ℕ
+process_asked goal.Up (Ok loaded) = if is_up loaded then Some (status_in loaded).pid else None
+process_asked other read = None
+
+-- What came of the calls of a look: the service did not answer, for this reason; its status could not be read; or these
+-- are the first bytes of it, and this is the age of its process, where it was asked for and the process lives.
+pub data Sighting : Type 0 where
+  Absent : (why : Unreached) → Sighting
+  Unread : Sighting
+  Shown : (bytes : List ℕ) → (age : Option ℕ) → Sighting
+
+-- the call that asks for the age of a process, where there is one to ask for
+abbrev pub calls_of_age : (process age : Option ℕ) → List Call
+calls_of_age None age = []
+calls_of_age (Some process) age = SoughtAge process age ∷ []
+
+-- the calls of a look at the service in a folder
+abbrev pub calls_of_look : Goal → (folder : List ℕ) → Sighting → List Call
+calls_of_look goal folder (Absent why) = Reached folder (Some why) ∷ []
+calls_of_look goal folder Unread = Reached folder None ∷ ReadStatus folder None ∷ []
+calls_of_look goal folder (Shown bytes age) =
+    (Reached folder None ∷ ReadStatus folder (Some bytes) ∷ [])
+    ++ calls_of_age (process_asked goal (loaded_from bytes)) age
 
 abbrev pub reached_if : Bool → Finding
 reached_if reached = if reached then Reached else Waiting
@@ -69,20 +89,38 @@ unread_finding goal.Unsupervised = Waiting
 unread_finding goal.Up = Failed fault.Unread
 unread_finding goal.Down = Failed fault.Unread
 
-abbrev pub record_finding : Goal → Result Loaded RecordFault → Finding
-record_finding goal.Unsupervised read = Waiting
-record_finding goal.Up (Ok loaded) = reached_if (is_up loaded)
-record_finding goal.Up (Err cause) = Failed (fault.Bad cause)
-record_finding goal.Down (Ok loaded) = reached_if (is_down loaded)
-record_finding goal.Down (Err cause) = Failed (fault.Bad cause)
+-- A service is up where its record says so and its process has lived for two seconds: one that ends sooner, and is
+-- started again and again, never is.
+abbrev pub record_finding : Goal → Result Loaded RecordFault → (age : Option ℕ) → Finding
+record_finding goal.Unsupervised read age = Waiting
+record_finding goal.Up (Ok loaded) age = reached_if (is_up loaded && has_lasted age)
+record_finding goal.Up (Err cause) age = Failed (fault.Bad cause)
+record_finding goal.Down (Ok loaded) age = reached_if (is_down loaded)
+record_finding goal.Down (Err cause) age = Failed (fault.Bad cause)
 
 abbrev pub finding_of : Goal → Sighting → Finding
 finding_of goal (Absent why) = absent_finding goal why
 finding_of goal Unread = unread_finding goal
-finding_of goal (Shown bytes) = record_finding goal (loaded_from bytes)
+finding_of goal (Shown bytes age) = record_finding goal (loaded_from bytes) age
 
 -- The service in a folder was looked at, once, and this was found.
 pub record Finds (goal : Goal) (folder : List ℕ) (finding : Finding) (old new : Option (List Call)) : Type 0 where
   pub sighting : Sighting
   pub is : finding ≡ finding_of goal sighting
-  pub calls : Extended old new (calls_of_look folder sighting)
+  pub calls : Extended old new (calls_of_look goal folder sighting)
+
+-- What a look saw of a service that is up: a record that says so, and that the process of that record lived then, and
+-- had lived for two seconds.
+pub record SeesUp (sighting : Sighting) : Type 0 where
+  pub bytes : List ℕ
+  pub loaded : Loaded
+  pub age : ℕ
+  pub saw : sighting ≡ Shown bytes (Some age)
+  pub is : loaded_from bytes ≡ Ok loaded
+  pub up : is_up loaded ≡ true
+  pub lasted : 200 ≤ age
+  pub asked : process_asked goal.Up (loaded_from bytes) ≡ Some (status_in loaded).pid
+
+-- No look that finds a service up saw less.
+abbrev pub UpLasts : Type 0
+UpLasts = (sighting : Sighting) → finding_of goal.Up sighting ≡ Reached → SeesUp sighting

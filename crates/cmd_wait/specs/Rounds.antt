@@ -23,8 +23,8 @@ pub record Look : Type 0 where
 abbrev pub folders : List Look → List (List ℕ)
 folders looks = map (λ look. look.folder) looks
 
-abbrev pub calls_of : List Look → List Call
-calls_of looks = flat_map (λ look. calls_of_look look.folder look.sighting) looks
+abbrev pub calls_of : Goal → List Look → List Call
+calls_of goal looks = flat_map (λ look. calls_of_look goal look.folder look.sighting) looks
 
 -- A service can be waited for.
 abbrev pub GoesOn : Finding → Type 0
@@ -49,7 +49,7 @@ pub record LooksAt (goal : Goal) (services left after : List (List ℕ)) (old ne
   pub split : services ≡ folders looks ++ after
   pub goes_on : All (λ look. GoesOn (finding_of goal look.sighting)) looks
   pub left_is : left ≡ left_by goal looks
-  pub calls : Extended old new (calls_of looks)
+  pub calls : Extended old new (calls_of goal looks)
 
 -- The look at the service in a folder, after looks at those before it, found that it can't be waited for.
 pub record FailsAt (goal : Goal) (services : List (List ℕ)) (folder : List ℕ) (fault : WaitFault)

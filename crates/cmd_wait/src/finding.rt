@@ -1,15 +1,20 @@
 //! What a look at a service finds.
 ghost use Rattle.std.specs.Prelude.{◌≡◌};
-ghost use Rattle.cmd_wait.specs.Finding.{absent_finding, is_down, is_up, reached_if, record_finding};
-ghost use Rattle.cmd_wait.specs.Finding.{unread_finding, Finds};
+ghost use Rattle.tai_status.specs.Extended.{Extended};
+ghost use Rattle.cmd_wait.specs.Finding.{absent_finding, calls_of_age, has_lasted, is_down, is_up, process_asked};
+ghost use Rattle.cmd_wait.specs.Finding.{reached_if, record_finding, unread_finding, Finds};
 
 use cmd_svc::{Services, Unreached};
 use tai_status::{Loaded, Phase, RecordFault, decode_front};
 
+/// How long the process of a service has lived that counts as up, in hundredths of a second.
+const LASTING: u128 = 200;
+
 /// What is waited for.
 #[derive(Clone, Copy, Debug, PartialEq, Eq)]
 pub enum Goal {
-    /// That it is up and settled: a record of 20 bytes is in the phase `up`, one of 18 bytes has a process.
+    /// That it is up and settled: a record of 20 bytes is in the phase `up`, one of 18 bytes has a process; and that
+    /// this process lives, and has lived for two seconds.
     Up,
     /// That it is down: a record of 20 bytes is in the phase `down` or `gone`, one of 18 bytes has no process.
     Down,
@@ -64,7 +69,7 @@ fn unread_finding(goal: Goal) -> Finding
     }
 }
 
-/// Whether a service is up and settled.
+/// Whether a record says that a service is up and settled.
 fn is_up(loaded: &Loaded) -> bool
     ensures { result ≡ is_up loaded.now }
 {
@@ -101,27 +106,62 @@ fn reached_if(reached: bool) -> Finding
     }
 }
 
-/// What is found of a service, by what its status file says.
-fn record_finding(goal: Goal, read: &Result<Loaded, RecordFault>) -> Finding
-    ensures { result ≡ record_finding goal read.now }
+/// Whether a process lives, and has lived for two seconds, by its age.
+fn has_lasted(age: Option<u128>) -> bool
+    ensures { result ≡ has_lasted age }
+{
+    match age {
+        Some(age) => LASTING <= age,
+        None => false,
+    }
+}
+
+/// The process whose age is asked for: that of a service that is waited for as up, where its record says that it is.
+fn process_asked(goal: Goal, read: &Result<Loaded, RecordFault>) -> Option<u32>
+    ensures { result ≡ process_asked goal read.now }
+{
+    match (goal, read) {
+        (Goal::Up, Ok(loaded)) if is_up(loaded) => Some(loaded.view().pid),
+        _ => None,
+    }
+}
+
+/// The age of that process, where there is one to ask for, and it lives.
+fn age_asked<S: Services>(
+    services: &mut S,
+    goal: Goal,
+    read: &Result<Loaded, RecordFault>,
+) -> Option<u128>
+    ensures { Extended (S.calls services.old) (S.calls services.new)
+        (calls_of_age (process_asked goal read.now) result) }
+{
+    services.age(process_asked(goal, read)?)
+}
+
+/// What is found of a service, by what its status file says, and by the age of its process, where that was asked for.
+fn record_finding(goal: Goal, read: &Result<Loaded, RecordFault>, age: Option<u128>) -> Finding
+    ensures { result ≡ record_finding goal read.now age }
 {
     match (goal, read) {
         (Goal::Unsupervised, _) => Finding::Waiting,
         (_, Err(fault)) => Finding::Failed(WaitFault::Bad(*fault)),
-        (Goal::Up, Ok(loaded)) => reached_if(is_up(loaded)),
+        (Goal::Up, Ok(loaded)) => reached_if(is_up(loaded) && has_lasted(age)),
         (Goal::Down, Ok(loaded)) => reached_if(is_down(loaded)),
     }
 }
 
-/// Looks at the service in a folder: whether it is supervised, and then its status.
+/// Looks at the service in a folder: whether it is supervised, then its status, and then, where it is waited for as up
+/// and its record says that it is, for how long its process has lived.
 pub(crate) fn look<S: Services>(services: &mut S, goal: Goal, folder: &str) -> Finding
     ensures { Finds goal folder.now result (S.calls services.old) (S.calls services.new) }
 {
     if let Err(why) = services.reach(folder) {
         return absent_finding(goal, why);
     }
-    match services.read_status(folder) {
-        Ok(front) => record_finding(goal, &decode_front(front.as_slice())),
-        Err(_) => unread_finding(goal),
-    }
+    let Ok(front) = services.read_status(folder) else {
+        return unread_finding(goal);
+    };
+    let read = decode_front(front.as_slice());
+    let age = age_asked(services, goal, &read);
+    record_finding(goal, &read, age)
 }

@@ -5,6 +5,7 @@
 #![tactic(auto)]
 
 mod finding;
+mod laws;
 mod options;
 mod pace;
 mod rounds;
@@ -13,6 +14,7 @@ mod wait;
 mod watch;
 
 pub use finding::{Finding, Goal, WaitFault};
+pub use laws::no_crash_loop_is_up;
 pub use options::{Options, read_options};
 pub use pace::{Pace, SystemPace};
 pub use wait::run_wait;

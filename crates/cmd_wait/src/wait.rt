@@ -1,14 +1,14 @@
 //! The command `wait`.
 ghost use Rattle.std.specs.Prelude.{◌≡◌};
-ghost use Rattle.cmd_wait.specs.Ends.{WaitEnds, WaitsAsked};
+ghost use Rattle.cmd_wait.specs.Ends.{WaitEnds, WaitsAsked, WaitsAndTells};
 
 use crate::options::{Options, read_options};
 use crate::pace::Pace;
 use crate::rounds::{is_over, look_at_each};
 use crate::sayings::{report_failure, report_over};
 use crate::watch::{Watch, pause};
-use cmd_base::{DONE, TROUBLE, report, usage};
-use cmd_svc::Services;
+use cmd_base::{Command, DONE, TROUBLE, report, usage};
+use cmd_svc::{Services, tell_missing};
 use std::alloc::Allocator;
 use std::io::Write;
 use std::sync::Wait;
@@ -50,11 +50,30 @@ fn wait_for<R: Wait, S: Services, P: Pace, A: Allocator, E: Write>(
     unreachable!()
 }
 
-/// The command `wait [-u|-d|-x] [-t SECONDS] SERVICE..`: returns once each service is up and settled, down (`-d`), or
-/// no longer supervised (`-x`). It looks at them in rounds, and at each until it was found so once: what comes of it
-/// later is not seen. A round comes 45 milliseconds after the one before it for a second after something changed in a
-/// folder `supervise` of theirs, and so after such a change; else a second after it. With `-t` the last round is the
-/// first that begins when so many seconds are over, so that `-t 0` looks once; else it may not come back.
+/// Waits for services, and then says of each folder that is not there why.
+fn wait_and_tell<R: Wait, S: Services, P: Pace, A: Allocator, E: Write>(
+    rt: &R,
+    services: &mut S,
+    pace: &mut P,
+    options: &Options<'_>,
+    names: Vec<&str, A>,
+    faults: &mut Output<E>,
+) -> u8
+    requires { names.items ≡ options.now.services.now }
+    ensures { WaitsAndTells options.now result (S.calls services.old) (S.calls services.new)
+        (P.steps pace.old) (P.steps pace.new) faults.old faults.new }
+{
+    let status = wait_for(rt, services, pace, options, names, faults);
+    tell_missing(services, b"wait: ", options.services, faults);
+    status
+}
+
+/// The command `wait [-u|-d|-x] [-t SECONDS] SERVICE..`: returns once each service is up and settled, its process being
+/// older than two seconds, down (`-d`), or no longer supervised (`-x`). It looks at them in rounds, and at each until it
+/// was found so once: what comes of it later is not seen. At last it says of each folder that is not there why. A round
+/// comes 45 milliseconds after the one before it for a second after something changed in a folder `supervise` of theirs,
+/// and so after such a change; else a second after it. With `-t` the last round is the first that begins when so many
+/// seconds are over, so that `-t 0` looks once; else it may not come back.
 ///
 /// Answers the status: 0; 99 where the time is over, with a line on `faults` for each service that is left; 102 where a
 /// service is not supervised, or no longer so; 111 where this user may not look at one, where a status can't be read or
@@ -72,10 +91,10 @@ pub fn run_wait<R: Wait, S: Services, P: Pace, A: Allocator, E: Write>(
         (P.steps pace.old) (P.steps pace.new) faults.old faults.new }
 {
     let Some(options) = read_options(words) else {
-        return usage(faults);
+        return usage(faults, Command::Wait);
     };
     match Vec::from_slice(alloc, options.services) {
-        Ok(names) => wait_for(rt, services, pace, &options, names, faults),
+        Ok(names) => wait_and_tell(rt, services, pace, &options, names, faults),
         Err(_) => report(faults, b"wait: OutOfMemory\n", TROUBLE),
     }
 }

@@ -1,3 +1,4 @@
 pub mod Columns
+pub mod Exits
 pub mod Lasts
 pub mod Stretches

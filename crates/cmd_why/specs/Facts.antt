@@ -1,10 +1,10 @@
 -- What a trace says of the processes of a service. Each fact is of the last entry of a kind, or a count of entries.
 use Rattle.std.specs.Prelude.{ℕ, ◌+◌, ◌-◌, ◌*◌, ◌/◌, ◌^◌, nat_le, nat_lt, ◌==◌, ◌&&◌, ◌||◌, not, Bool, true, false}
-use Rattle.std.specs.Prelude.{List, Option, Some, None, count_by}
+use Rattle.std.specs.Prelude.{if◌then◌else◌, List, [], ◌∷◌, Option, Some, None, count_by}
 use Rattle.tai_status.specs.Label.{Tai64n}
 use Rattle.tai_status.specs.Record.{Status}
 use Rattle.sup_core.specs.declared.event.Event.{Event}
-use Rattle.sup_core.specs.declared.event.Event.TheVariants.{Started, StartFailed, Death}
+use Rattle.sup_core.specs.declared.event.Event.TheVariants.{Byte, Started, StartFailed, Death}
 use Rattle.sup_trace.specs.Content.{Content, replay_of}
 use Rattle.cmd_why.specs.declared.entries.Kind.TheVariants.{Start, Death as OfDeath, Attempt, Control, Signal, Want}
 use Rattle.cmd_why.specs.declared.facts.Ended.{Ended}
@@ -38,6 +38,23 @@ is_recent_start now other = false
 -- how many starts there were in the last 60 seconds, as far as entries say
 abbrev pub recent_starts : (now : Tai64n) → List Event → ℕ
 recent_starts now entries = count_by (is_recent_start now) entries
+
+-- Whether an operator asked for the next start, behind one more event: a control byte came since the start before it.
+abbrev pub is_asked : (asked : Bool) → Event → Bool
+is_asked asked (Byte byte) = true
+is_asked asked (Started pid label) = false
+is_asked asked other = asked
+
+-- a start of the last 60 seconds that nobody asked for
+abbrev pub is_unasked : (now : Tai64n) (asked : Bool) → Event → Bool
+is_unasked now asked event = is_recent_start now event && not asked
+
+-- How many starts of the last 60 seconds nobody asked for, as far as these entries say, where it is known whether the
+-- first one was asked for.
+abbrev pub unasked_starts : (now : Tai64n) (asked : Bool) → List Event → ℕ
+unasked_starts now asked [] = 0
+unasked_starts now asked (event ∷ events) =
+    (if is_unasked now asked event then 1 else 0) + unasked_starts now (is_asked asked event) events
 
 -- Every start of the last 60 seconds is among the entries: nothing was folded, or the last change of process before the
 -- entries is older.
@@ -94,14 +111,10 @@ abbrev pub facts_of : Content → Status → (now : Tai64n) → Facts
 facts_of content status now = record {
   leads = leads_to content status;
   starts = recent_starts now content.entries;
+  unasked = unasked_starts now false content.entries;
   reaches = reaches_back content now;
   sent = byte_in (last_of Signal (behind_last Start content.entries));
   ended = last_ended content;
   failed = is_failure (last_of Attempt content.entries);
   unrun = has_not_run content;
 }
-
--- the process that ended last, where a trace says of one
-abbrev pub ended_in : Option Facts → Option Ended
-ended_in (Some facts) = facts.ended
-ended_in None = None

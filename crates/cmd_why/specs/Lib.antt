@@ -1,5 +1,6 @@
 pub mod Entries
 pub mod Facts
+pub mod LastEnd
 pub mod Sentences
 pub mod Texts
 pub mod Timeline

@@ -20,6 +20,11 @@ use Rattle.cmd_svc.specs.Line.{is_running, seconds, note, normal_notes}
 use Rattle.cmd_why.specs.Entries.{is_signal}
 use Rattle.cmd_why.specs.declared.facts.Ended.{Ended}
 use Rattle.cmd_why.specs.declared.facts.Facts.{Facts}
+use Rattle.cmd_why.specs.declared.last_ends.LastEnd.{LastEnd}
+use Rattle.cmd_why.specs.declared.last_ends.LastEnd.TheVariants.{Traced, Recorded}
+use Rattle.cmd_why.specs.Facts.{nanos}
+use Rattle.cmd_why.specs.LastEnd.{time_of_end}
+use Rattle.svc_exit.specs.declared.exit.Exit.{Exit}
 
 -- How it stands: the record and the clock
 
@@ -83,7 +88,7 @@ state_text loaded normally_up time now =
     standing_text (status_in loaded) time now ++ phase_text loaded ++ notes_text (status_in loaded) normally_up
     ++ end_text loaded ++ codes "."
 
--- What was before: the trace, where it leads to that record
+-- What was before: the last end, and the trace, if it leads to that record
 
 abbrev pub first_signal : List Sig → List ℕ
 first_signal [] = []
@@ -132,10 +137,25 @@ abbrev pub sent_sentence : Option ℕ → List ℕ
 sent_sentence (Some byte) = codes " It was sent " ++ signal_end byte
 sent_sentence None = []
 
--- the process before the one that runs
-abbrev pub before_sentence : Option Ended → Option Ending → List ℕ
-before_sentence (Some ended) ending = codes " Before it process " ++ ended_words ended ending
-before_sentence None ending = []
+-- which process ended, and how, if only the file `exit` says it
+abbrev pub exit_words : Exit → List ℕ
+exit_words exit = decimal exit.pid ++ codes " ended" ++ ending_words (Some exit.ending) ++ codes "."
+
+abbrev pub last_words : LastEnd → List ℕ
+last_words (Traced ended ending) = ended_words ended ending
+last_words (Recorded exit) = exit_words exit
+
+-- whether an end was before the process that runs began
+abbrev pub is_before : Status → LastEnd → Bool
+is_before status end = is_running status && nat_le (nanos (time_of_end end)) (nanos status.label)
+
+abbrev pub end_opening : (before : Bool) → List ℕ
+end_opening before = if before then codes " Before it process " else codes " Process "
+
+-- the last end
+abbrev pub end_sentence : Status → Option LastEnd → List ℕ
+end_sentence status (Some end) = end_opening (is_before status end) ++ last_words end
+end_sentence status None = []
 
 -- why a service is down: by the last of u, d and o behind the start of the process that ended
 abbrev pub wanted_sentence : Option ℕ → List ℕ
@@ -145,20 +165,35 @@ wanted_sentence (Some byte) =
     else []
 wanted_sentence None = []
 
--- the process that ended
-abbrev pub last_sentence : Option Ended → Option Ending → List ℕ
-last_sentence (Some ended) ending = wanted_sentence ended.wanted ++ codes " Process " ++ ended_words ended ending
-last_sentence None ending = []
+-- the control byte that says why, if the trace has the last end
+abbrev pub wanted_at : Option LastEnd → Option ℕ
+wanted_at (Some (Traced ended ending)) = ended.wanted
+wanted_at other = None
 
-abbrev pub past_sentences : (running : Bool) → Facts → Option Ending → List ℕ
-past_sentences running facts ending =
-    if running then sent_sentence facts.sent ++ before_sentence facts.ended ending
-    else last_sentence facts.ended ending
-    ++ note facts.failed (codes " Its last start failed.")
-    ++ note facts.unrun (codes " It has not run since supervise began.")
+-- what led to the last end or came after it: the signal that the process that runs was sent; or why the service is down
+abbrev pub cause_sentence : (running : Bool) → Facts → Option LastEnd → List ℕ
+cause_sentence running facts last = if running then sent_sentence facts.sent else wanted_sentence (wanted_at last)
 
--- Starts. Five or more within 60 seconds are flapping. A trace that does not lead to the record, or does not reach
--- back 60 seconds, knows of so many at least.
+-- what is said of starts that made no process
+abbrev pub unstarted_text : (running : Bool) → Facts → List ℕ
+unstarted_text running facts =
+    note (not running && facts.failed) (codes " Its last start failed.")
+    ++ note (not running && facts.unrun) (codes " It has not run since supervise began.")
+
+-- the past, by a trace that leads to the record
+abbrev pub led_sentences : Status → Facts → Option LastEnd → List ℕ
+led_sentences status facts last =
+    cause_sentence (is_running status) facts last ++ end_sentence status last
+    ++ unstarted_text (is_running status) facts
+
+-- the past: the last end, and what a trace says that leads to the record
+abbrev pub past_sentences : Status → Option Facts → Option LastEnd → List ℕ
+past_sentences status None last = end_sentence status last
+past_sentences status (Some facts) last =
+    if facts.leads then led_sentences status facts last else end_sentence status last
+
+-- Starts. Five or more within 60 seconds that nobody asked for are flapping. A trace that does not lead to the record,
+-- or does not reach back 60 seconds, knows of so many at least.
 
 -- whether the trace has all starts of the last 60 seconds
 abbrev pub has_all : Facts → Bool
@@ -168,26 +203,26 @@ abbrev pub count_words : (starts : ℕ) → List ℕ
 count_words starts =
     decimal starts ++ (if starts == 1 then codes " start" else codes " starts") ++ codes " in the last 60 s."
 
-abbrev pub starts_opening : (starts : ℕ) → (all : Bool) → List ℕ
-starts_opening starts all =
-    if nat_le 5 starts then (if all then codes " It is flapping: " else codes " It is flapping: at least ")
+abbrev pub starts_opening : (unasked : ℕ) → (all : Bool) → List ℕ
+starts_opening unasked all =
+    if nat_le 5 unasked then (if all then codes " It is flapping: " else codes " It is flapping: at least ")
     else if all then codes " "
     else codes " At least "
 
-abbrev pub count_sentence : (starts : ℕ) → (all : Bool) → List ℕ
-count_sentence starts all = if starts == 0 then [] else starts_opening starts all ++ count_words starts
+abbrev pub count_sentence : (starts unasked : ℕ) → (all : Bool) → List ℕ
+count_sentence starts unasked all =
+    if starts == 0 then [] else starts_opening unasked all ++ count_words starts
 
--- what a trace says, where there is one
-abbrev pub trace_sentences : (running : Bool) → Option Facts → Option Ending → List ℕ
-trace_sentences running None ending = []
-trace_sentences running (Some facts) ending =
-    (if facts.leads then past_sentences running facts ending else []) ++ count_sentence facts.starts (has_all facts)
+-- what a trace says of starts, if there is one
+abbrev pub starts_sentence : Option Facts → List ℕ
+starts_sentence None = []
+starts_sentence (Some facts) = count_sentence facts.starts facts.unasked (has_all facts)
 
 -- The line
 
 -- the line of a service in this folder, without a newline
-abbrev pub why_line : (folder : List ℕ) → Loaded → (normally_up : Bool) → Option Facts → Option Ending
+abbrev pub why_line : (folder : List ℕ) → Loaded → (normally_up : Bool) → Option Facts → Option LastEnd
     → (time : List ℕ) → (now : Tai64n) → List ℕ
-why_line folder loaded normally_up facts ending time now =
-    folder ++ state_text loaded normally_up time now
-    ++ trace_sentences (is_running (status_in loaded)) facts ending
+why_line folder loaded normally_up facts last time now =
+    folder ++ state_text loaded normally_up time now ++ past_sentences (status_in loaded) facts last
+    ++ starts_sentence facts

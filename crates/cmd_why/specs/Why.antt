@@ -5,7 +5,7 @@ use Rattle.std.specs.declared.io.ErrorKind.{ErrorKind}
 use Rattle.std.specs.declared.io.ErrorKind.TheVariants as io
 use Rattle.tai_status.specs.Label.{Tai64n}
 use Rattle.tai_status.specs.Extended.{Extended}
-use Rattle.tai_status.specs.Counted.{Device, Fails, Reports, Works, Wrote, WroteFront}
+use Rattle.tai_status.specs.Counted.{Device, Fails, Reports, Works, Wrote, WroteFront, device_report}
 use Rattle.tai_status.specs.Loading.{loaded_from, status_in}
 use Rattle.tai_status.specs.Record.{Status}
 use Rattle.tai_status.specs.declared.loading.Loaded.{Loaded}
@@ -18,16 +18,17 @@ use Rattle.cmd_base.specs.Known.{IsKnown}
 use Rattle.cmd_svc.specs.Calls.{Call, Reached, ReadStatus, SoughtDown}
 use Rattle.cmd_svc.specs.declared.services.Unreached.{Unreached}
 use Rattle.cmd_svc.specs.declared.services.Unreached.TheVariants as unreached
-use Rattle.cmd_svc.specs.Sight.{Sight}
+use Rattle.cmd_svc.specs.Shown.{shown}
+use Rattle.cmd_svc.specs.Missing.{TellsEach, telling}
+use Rattle.cmd_svc.specs.Sight.{Sight, sight}
 use Rattle.cmd_svc.specs.Svstat.{fault_name}
 use Rattle.cmd_svc.specs.Turns.{InTurn}
-use Rattle.svc_exit.specs.Exits.{IsEnding, Says}
-use Rattle.svc_exit.specs.declared.ending.Ending.{Ending}
+use Rattle.svc_exit.specs.declared.exit.Exit.{Exit}
 use Rattle.cmd_why.specs.Texts.{Knowledge}
-use Rattle.cmd_why.specs.Facts.{ended_in, facts_of, leads_to}
+use Rattle.cmd_why.specs.Facts.{facts_of, leads_to}
+use Rattle.cmd_why.specs.LastEnd.{Reads, last_end}
 use Rattle.cmd_why.specs.Sentences.{why_line}
 use Rattle.cmd_why.specs.Timeline.{bar_of, drawing_lines, left_end}
-use Rattle.cmd_why.specs.declared.facts.Ended.{Ended}
 use Rattle.cmd_why.specs.declared.lines.Absence.{Absence}
 use Rattle.cmd_why.specs.declared.lines.Absence.TheVariants as absence
 use Rattle.cmd_why.specs.declared.lines.Drawing.{Drawing}
@@ -83,16 +84,17 @@ found_line folder (found.Absent absence) = folder ++ absence_words absence
 found_line folder found.Unread = folder ++ codes " is supervised, but its status can't be read."
 found_line folder (found.Bad cause) =
     folder ++ codes " is supervised, but its status is no record: " ++ fault_name cause ++ codes "."
-found_line folder (found.Standing s) = why_line folder s.loaded s.normally_up s.facts s.ending s.time.bytes s.now
+found_line folder (found.Standing s) = why_line folder s.loaded s.normally_up s.facts s.last s.time.bytes s.now
 
 -- what is drawn of it
 abbrev pub drawing_in : Found → Drawing
 drawing_in (found.Standing s) = s.drawing
 drawing_in other = drawing.Unasked
 
--- that line, and what is drawn behind it
+-- that line, in which control characters of the folder's name are escaped (it has no others), and what is drawn behind
+-- it
 abbrev pub found_text : (folder : List ℕ) → Found → List ℕ
-found_text folder found = found_line folder found ++ (10 ∷ []) ++ drawing_lines (drawing_in found)
+found_text folder found = shown (found_line folder found) ++ (10 ∷ []) ++ drawing_lines (drawing_in found)
 
 -- Whether a service could not be read. That nobody answers is an answer.
 abbrev pub is_unread : Found → Bool
@@ -121,23 +123,15 @@ abbrev pub IsTraceOf : (trace : Option (List ℕ)) → Option Content → Type 0
 IsTraceOf trace None = (trace ≡ None) ⊎ IsRefused trace
 IsTraceOf trace (Some content) = IsTraceText trace content
 
--- A line was read, and it says of this process that it ended so.
-pub record SaysOf (exit : Option (List ℕ)) (ended : Ended) (ending : Ending) : Type 0 where
+-- A line was read, and it says this.
+pub record ReadsLine (known : Option (List ℕ)) (exit : Option Exit) : Type 0 where
   pub line : List ℕ
-  pub line_is : IsKnown exit line
-  pub says : Says line ended.pid ended.label ending
+  pub line_is : IsKnown known line
+  pub reads : Reads line exit
 
--- A line was read, and it says of this process no way to end.
-pub record SaysNothingOf (exit : Option (List ℕ)) (ended : Ended) : Type 0 where
-  pub line : List ℕ
-  pub line_is : IsKnown exit line
-  pub says : (ending : Ending) → IsEnding ending → Says line ended.pid ended.label ending → ⊥
-
--- how a process ended, by the line of that; or none where it is not known to be there or is of another process
-abbrev pub IsEndingOf : (exit : Option (List ℕ)) → Option Ended → Option Ending → Type 0
-IsEndingOf exit None ending = ending ≡ None
-IsEndingOf exit (Some ended) (Some ending) = SaysOf exit ended ending
-IsEndingOf exit (Some ended) None = (exit ≡ None) ⊎ SaysNothingOf exit ended
+-- what the file `exit` says; none if it is not known to be there, or is the line of no exit
+abbrev pub IsExitOf : (known : Option (List ℕ)) → Option Exit → Type 0
+IsExitOf known exit = ((known ≡ None) × (exit ≡ None)) ⊎ ReadsLine known exit
 
 -- This is the picture of a trace beside a record, at a clock reading, and the local time of its left end.
 pub record IsPicture (times : Tai64n → Option (List ℕ)) (content : Content) (status : Status) (now : Tai64n)
@@ -188,8 +182,8 @@ Reaches k folder (reach.Bad cause) past now = ReachesBad folder cause past now
 Reaches k folder (reach.Standing loaded normally_up) past now = ReachesStanding folder loaded normally_up past now
 
 -- The trace of a service was read and then the clock, once; how it stands is said by its record, that trace and
--- this reading; and how the process ended of which the trace says last, by the line of that. A timeline is drawn where
--- it is asked for.
+-- this reading; and the last end of a process, by that trace and the file `exit`. A timeline is drawn where it is
+-- asked for.
 pub record FindsStanding (k : Knowledge) (timeline : Bool) (folder : List ℕ) (loaded : Loaded) (normally_up : Bool)
     (past now : Option (List Tai64n)) (s : Standing) : Type 0 where
   pub content : Option Content
@@ -198,7 +192,9 @@ pub record FindsStanding (k : Knowledge) (timeline : Bool) (folder : List ℕ) (
   pub loaded_is : s.loaded ≡ loaded
   pub normally_is : s.normally_up ≡ normally_up
   pub facts : s.facts ≡ option_map (λ content. facts_of content (status_in loaded) s.now) content
-  pub ending : IsEndingOf (k.exits folder) (ended_in s.facts) s.ending
+  pub exit : Option Exit
+  pub exit_is : IsExitOf (k.exits folder) exit
+  pub last : s.last ≡ last_end s.facts exit
   pub time : IsKnown (k.times (status_in loaded).label) s.time.bytes
   pub drawing : IsDrawing k.times timeline content (status_in loaded) s.now s.drawing
 
@@ -286,20 +282,22 @@ pub record ShowsUpTo (k : Knowledge) (timeline : Bool) (words : List (List ℕ))
   pub shown : InTurn (Shows k timeline) before (scene sight writer false) middle
   pub fails : FailsToShow k timeline folder cause middle (scene sees writes false)
 
--- what is reported of a fault
-abbrev pub why_report : WhyFault → List ℕ
-why_report fault.OutOfMemory = codes "why: OutOfMemory" ++ 10 ∷ []
-why_report fault.Write = codes "why: write fault" ++ 10 ∷ []
+-- what is reported of a fault: if the writer failed, the cause of its last fault too
+abbrev pub why_report : WhyFault → (writer : Device) → List ℕ
+why_report fault.OutOfMemory writer = codes "why: OutOfMemory" ++ 10 ∷ []
+why_report fault.Write writer = device_report (codes "why: ") (codes "write fault") writer
 
 -- Ends
 
--- Each word has its text, and nothing is reported. The status is 0 where each service could be read.
-pub record ShowsAll (k : Knowledge) (timeline : Bool) (words : List (List ℕ)) (status : ℕ) (sight sees : Sight)
+-- Each word has its text; then it is reported of each folder that is not there, and nothing else. The status is 0 where
+-- each service could be read.
+pub record ShowsAll (k : Knowledge) (timeline : Bool) (words : List (List ℕ)) (status : ℕ) (seen sees : Sight)
     (writer writes faults reports : Device) : Type 0 where
   pub unread : Bool
-  pub shown : ShowsEach k timeline words sight sees writer writes unread
+  pub asked : Option (List Call)
+  pub texts : ShowsEach k timeline words seen (sight asked sees.readings) writer writes unread
   pub status_is : status ≡ (if unread then 111 else 0)
-  pub unreported : reports ≡ faults
+  pub told : TellsEach (codes "why: ") words (telling asked faults) (telling sees.calls reports)
 
 -- A text could not be written, and it is reported why.
 pub record Stops (k : Knowledge) (timeline : Bool) (words : List (List ℕ)) (status : ℕ) (sight sees : Sight)
@@ -307,7 +305,7 @@ pub record Stops (k : Knowledge) (timeline : Bool) (words : List (List ℕ)) (st
   pub cause : WhyFault
   pub stops : ShowsUpTo k timeline words sight sees writer writes cause
   pub status_is : status ≡ 111
-  pub reported : Reports faults reports (why_report cause)
+  pub reported : Reports faults reports (why_report cause writes)
 
 -- `why` over services, with timelines or without
 abbrev pub ShowEnds : Knowledge → (timeline : Bool) → (words : List (List ℕ)) → (status : ℕ) → (sight sees : Sight)

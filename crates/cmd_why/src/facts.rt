@@ -1,11 +1,11 @@
 //! What a trace says of the processes of a service.
-ghost use Rattle.std.specs.Prelude.{◌≡◌, ◌<◌, ◌^◌, IfSome};
+ghost use Rattle.std.specs.Prelude.{◌≡◌, ◌<◌, ◌^◌, false, IfSome};
 ghost use Rattle.std.specs.List.{Contains};
 ghost use Rattle.sup_core.specs.declared.event.Event.TheVariants as event;
 ghost use Rattle.cmd_why.specs.declared.entries.Kind.TheVariants as kind;
 ghost use Rattle.cmd_why.specs.Entries.{byte_in, behind_last, has, last_of};
 ghost use Rattle.cmd_why.specs.Facts.{ended_at, ended_by, facts_of, has_not_run, is_failure, is_recent_start};
-ghost use Rattle.cmd_why.specs.Facts.{label_of_start};
+ghost use Rattle.cmd_why.specs.Facts.{is_asked, is_unasked, label_of_start, unasked_starts};
 ghost use Rattle.cmd_why.specs.Facts.{last_ended, leads_to, nanos, pid_of_start, reaches_back, recent_starts};
 ghost use Rattle.cmd_why.specs.Facts.{same_label, tenths_between};
 
@@ -18,7 +18,7 @@ use tai_status::{Label, View};
 /// The nanoseconds of 60 seconds.
 const MINUTE: u128 = 60_000_000_000;
 
-/// How many starts within 60 seconds are flapping.
+/// How many starts within 60 seconds that nobody asked for are flapping.
 pub const FLAPPING: u64 = 5;
 
 /// A process that ended, as a trace says it.
@@ -45,6 +45,8 @@ pub struct Facts {
     pub leads: bool,
     /// How many starts there were in the last 60 seconds, as far as its entries say.
     pub starts: u64,
+    /// How many of these nobody asked for: no control byte came since the start before.
+    pub unasked: u64,
     /// Whether its entries reach back 60 seconds.
     pub reaches: bool,
     /// The last control byte behind the last start that had a signal sent.
@@ -73,7 +75,7 @@ fn tenths_between(from: &Label, to: &Label) -> u128
 }
 
 /// Whether two labels are the same.
-fn same_label(a: &Label, b: &Label) -> bool
+pub(crate) fn same_label(a: &Label, b: &Label) -> bool
     ensures { result ≡ same_label a.now b.now }
 {
     a.sec == b.sec && a.nano == b.nano
@@ -102,6 +104,40 @@ pub fn recent_starts(now: &Label, entries: &[Event]) -> u64
         if is_recent_start(now, event) {
             count += 1;
         }
+    }
+    count
+}
+
+/// Whether an operator asked for the next start, behind one more event: a control byte came since the start before it.
+fn is_asked(asked: bool, event: &Event) -> bool
+    ensures { result ≡ is_asked asked event.now }
+{
+    match event {
+        Event::Byte(_) => true,
+        Event::Started { .. } => false,
+        _ => asked,
+    }
+}
+
+/// Whether an event is a start of the last 60 seconds that nobody asked for.
+fn is_unasked(now: &Label, asked: bool, event: &Event) -> bool
+    ensures { result ≡ is_unasked now.now asked event.now }
+{
+    is_recent_start(now, event) && !asked
+}
+
+/// How many of these entries are starts of the last 60 seconds that no control byte stands before, back to the start
+/// before them.
+pub fn unasked_starts(now: &Label, entries: &[Event]) -> u64
+    ensures { result ≡ unasked_starts now.now false entries.now }
+{
+    let mut count = 0;
+    let mut asked = false;
+    for event in entries {
+        if is_unasked(now, asked, event) {
+            count += 1;
+        }
+        asked = is_asked(asked, event);
     }
     count
 }
@@ -239,6 +275,7 @@ pub fn facts_of<A: Allocator>(content: &TraceText<A>, status: &View, now: &Label
     Facts {
         leads: leads_to(content, status),
         starts: recent_starts(now, entries),
+        unasked: unasked_starts(now, entries),
         reaches: reaches_back(content, now),
         sent: last_signal(entries),
         ended: last_ended(content),

@@ -6,6 +6,7 @@
 
 mod entries;
 mod facts;
+mod last_ends;
 mod lines;
 mod sentences;
 mod sources;
@@ -15,7 +16,10 @@ mod times;
 mod why;
 
 pub use entries::{Kind, before_last, behind_last, last_of};
-pub use facts::{Ended, FLAPPING, Facts, facts_of, last_signal, last_want, recent_starts};
+pub use facts::{
+    Ended, FLAPPING, Facts, facts_of, last_signal, last_want, recent_starts, unasked_starts,
+};
+pub use last_ends::{LastEnd, last_end, read_exit_line};
 pub use lines::{Absence, Drawing, Found, Picture, Standing, absence_of, found_line, found_text};
 pub use sentences::why_line;
 pub use sources::{Evidence, LocalTime, LocalTimes, ServiceEvidence, ServiceFiles};

@@ -1,17 +1,17 @@
 //! What a look at a service found, and the line of that.
-ghost use Rattle.std.specs.Prelude.{◌≡◌, ◌++◌, replicate, string_bytes, IfOk, OnOk};
+ghost use Rattle.std.specs.Prelude.{◌≡◌, ◌++◌, ◌∷◌, [], replicate, string_bytes, IfOk, OnOk};
 ghost use Rattle.cmd_why.specs.Timeline.{drawing_lines, scale};
 ghost use Rattle.cmd_why.specs.Why.{absence_of, absence_words, drawing_in, found_line, found_text, is_denied};
 ghost use Rattle.cmd_why.specs.Why.{is_missing};
 
 use crate::facts::Facts;
+use crate::last_ends::LastEnd;
 use crate::sentences::why_line;
 use crate::sources::LocalTime;
 use crate::timeline::{Bar, COLUMNS};
-use cmd_svc::{Unreached, fault_name};
+use cmd_svc::{Unreached, fault_name, shown};
 use std::alloc::{AllocError, Allocator};
 use std::io::ErrorKind;
-use svc_exit::Ending;
 use tai_status::{Label, Loaded, RecordFault};
 
 /// Why nobody answers for a service.
@@ -69,8 +69,8 @@ pub struct Standing {
     pub normally_up: bool,
     /// What its trace says, where there is one that can be read.
     pub facts: Option<Facts>,
-    /// How the process ended that ended last, where its trace says of one, and its file `exit` says it of that one.
-    pub ending: Option<Ending>,
+    /// The last end of a process of it, by its trace and its file `exit`.
+    pub last: Option<LastEnd>,
     /// The local time of the record's label.
     pub time: LocalTime,
     /// When it was looked at.
@@ -170,7 +170,7 @@ pub fn found_line<A: Allocator>(
             &standing.loaded,
             standing.normally_up,
             standing.facts.as_ref(),
-            standing.ending,
+            standing.last.as_ref(),
             standing.time.as_str(),
             &standing.now,
         ),
@@ -223,16 +223,27 @@ fn push_drawing_in<A: Allocator>(out: &mut String<A>, found: &Found) -> Result<(
     }
 }
 
-/// The line of what a look at the service in a folder found, and what is drawn behind it, each line with its newline.
-pub fn found_text<A: Allocator>(
+/// What stands behind the line of what a look found: its newline, and what is drawn, each line with its newline.
+fn found_end<A: Allocator>(alloc: A, found: &Found) -> Result<String<A>, AllocError>
+    ensures { IfOk result (λ end. string_bytes end ≡ (10 ∷ []) ++ drawing_lines (drawing_in found.now)) }
+{
+    let mut end = String::from_str(alloc, "\n")?;
+    push_drawing_in(&mut end, found)?;
+    Ok(end)
+}
+
+/// The line of what a look at the service in a folder found, with control characters of the folder's name escaped, and
+/// what is drawn behind it, each line with its newline.
+pub fn found_text<A: Allocator + Clone>(
     alloc: A,
     folder: &str,
     found: &Found,
-) -> Result<String<A>, AllocError>
-    ensures { IfOk result (λ text. string_bytes text ≡ found_text folder.now found.now) }
+) -> Result<Vec<u8, A>, AllocError>
+    ensures { IfOk result (λ text. text.items ≡ found_text folder.now found.now) }
 {
-    let mut text = found_line(alloc, folder, found)?;
-    text.push_str("\n")?;
-    push_drawing_in(&mut text, found)?;
+    let line = found_line(alloc.clone()?, folder, found)?;
+    let mut text = shown(alloc.clone()?, line.as_bytes())?;
+    let end = found_end(alloc, found)?;
+    text.extend_from_slice(end.as_bytes())?;
     Ok(text)
 }

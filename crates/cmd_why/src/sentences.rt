@@ -1,19 +1,22 @@
 //! What is said of a service: sentences, each by a rule over its status record, its trace and the clock.
 ghost use Rattle.std.specs.Prelude.{◌≡◌, ◌++◌, string_bytes, decimal, codes, IfOk, OnOk};
 ghost use Rattle.cmd_svc.specs.Line.{is_running, note};
-ghost use Rattle.cmd_why.specs.Sentences.{before_sentence, count_sentence, count_words, end_text, ended_words};
-ghost use Rattle.cmd_why.specs.Sentences.{how_words, last_sentence, past_sentences, phase_text, process_text};
-ghost use Rattle.cmd_why.specs.Sentences.{side_text, signal_words, since_text, state_text, trace_sentences, want_words};
-ghost use Rattle.cmd_why.specs.Sentences.{wanted_sentence, why_line, end_words, phase_words, starts_opening};
+ghost use Rattle.cmd_why.specs.Sentences.{cause_sentence, count_sentence, count_words, end_text, ended_words};
+ghost use Rattle.cmd_why.specs.Sentences.{end_opening, end_sentence, exit_words, how_words, is_before, led_sentences};
+ghost use Rattle.cmd_why.specs.Sentences.{last_words, past_sentences, phase_text, process_text, starts_sentence};
+ghost use Rattle.cmd_why.specs.Sentences.{unstarted_text};
+ghost use Rattle.cmd_why.specs.Sentences.{side_text, signal_words, since_text, state_text, want_words, wanted_at};
+ghost use Rattle.cmd_why.specs.Sentences.{end_words, phase_words, starts_opening, wanted_sentence, why_line};
 ghost use Rattle.cmd_why.specs.Sentences.{normal_text, paused_text, sent_sentence};
 ghost use Rattle.cmd_why.specs.Sentences.{ending_words, notes_text, signal_end, signal_text, standing_text};
 ghost use Rattle.cmd_why.specs.Sentences.{tenths_text};
 ghost use Rattle.std.specs.Option.{option_copied};
 
-use crate::facts::{Ended, FLAPPING, Facts};
+use crate::facts::{Ended, FLAPPING, Facts, nanos};
+use crate::last_ends::{LastEnd, time_of_end};
 use itoa::Buffer;
 use std::alloc::{AllocError, Allocator};
-use svc_exit::{Ending, signal_name};
+use svc_exit::{Ending, Exit, signal_name};
 use tai_status::{Label, Loaded, Phase, View, Want};
 
 /// The line of a service: how it stands, by its record and the clock; and then, where there is a trace, what it says.
@@ -31,28 +34,38 @@ use tai_status::{Label, Loaded, Phase, View, Want};
 /// - `, and supervise is gone`, `, and supervise is to end`: a record of 20 bytes says that it is exiting, in the
 ///   phase `gone` or in another.
 ///
-/// What was before, where the trace leads to the record: the machine after its entries has the record's label and
-/// process number. Of a service that is up:
+/// What was before. The trace leads to the record if the machine after its entries has the record's label and process
+/// number. Then, of a service that is up:
 ///
-/// - `It was sent SIGNAL (C).`: C is the last control byte with a signal behind the last start.
-/// - `Before it process N ran S s and ended.`: the trace has a death, of which the last one ended that process.
+/// - `It was sent SIGNAL (C).`: C is the last control byte with a signal after the last start.
 ///
 /// And of one that is down:
 ///
 /// - `It was brought down (d).`, `It was to run once (o).`: that is the last of `u`, `d` and `o` between the start of
-///   the process that the last death ended and that death.
-/// - `Process N ran S s and ended.`: the last death ended that process.
-/// - `Its last start failed.`: no start is known behind the last one that failed.
+///   the process that ended last and its death, if the trace has that death.
+///
+/// The last end of a process is the later one of the last death in the trace and the end in the file `exit`
+/// ([`last_end`](crate::last_end)):
+///
+/// - `Process N ran S s and ended.`: the trace has it. `Process N ended.`: only the file `exit` has it.
+/// - `Before it process N ..`: the service is up, and the end is no later than the record.
+///
+/// It ended ` with status S` or ` by SIGNAL` if the file `exit` says it of that process. It ended ` after SIGNAL (C)`
+/// if C is the last control byte with a signal between its start and its death, and ` without a control byte` if the
+/// trace has its start and no control byte between them.
+///
+/// Of a service that is down, if the trace leads to the record:
+///
+/// - `Its last start failed.`: no start is known after the last one that failed.
 /// - `It has not run since supervise began.`: nothing was folded, there is no process before the entries, and no start
 ///   among them.
 ///
-/// A process ended ` with status S` or ` by SIGNAL` where its file `exit` says it of that process. It ended ` after
-/// SIGNAL (C)` where C is the last control byte with a signal between its start and its death, and ` without a control
-/// byte` where the trace has its start and no control byte between them. Starts, last:
+/// Starts, last:
 ///
 /// - `N starts in the last 60 s.`: so many entries are starts whose label lies within 60 seconds before the clock, if
 ///   any.
-/// - `It is flapping: N starts in the last 60 s.`: they are five or more.
+/// - `It is flapping: N starts in the last 60 s.`: five or more of them came with no control byte since the start
+///   before.
 /// - `at least N`: the trace does not lead to the record, or its entries do not reach back 60 seconds.
 ///
 /// `AllocError` comes only where the allocator refuses the memory for the line.
@@ -62,16 +75,18 @@ pub fn why_line<A: Allocator>(
     loaded: &Loaded,
     normally_up: bool,
     facts: Option<&Facts>,
-    ending: Option<Ending>,
+    last: Option<&LastEnd>,
     time: &str,
     now: &Label,
 ) -> Result<String<A>, AllocError>
     ensures { IfOk result (λ line. string_bytes line
-        ≡ why_line dir.now loaded.now normally_up (option_copied facts.entry) ending time.now now.now) }
+        ≡ why_line dir.now loaded.now normally_up (option_copied facts.entry) (option_copied last.entry)
+        time.now now.now) }
 {
     let mut line = String::from_str(alloc, dir)?;
     push_state(&mut line, loaded, normally_up, time, now)?;
-    push_trace(&mut line, is_running(&loaded.view()), facts, ending)?;
+    push_past(&mut line, &loaded.view(), facts, last)?;
+    push_traced_starts(&mut line, facts)?;
     Ok(line)
 }
 
@@ -411,19 +426,56 @@ fn push_sent<A: Allocator>(out: &mut String<A>, sent: Option<u8>) -> Result<(), 
     }
 }
 
-/// Writes of the process before the one that runs.
-fn push_before<A: Allocator>(
-    out: &mut String<A>,
-    ended: Option<&Ended>,
-    ending: Option<Ending>,
-) -> Result<(), AllocError>
-    ensures { OnOk result (string_bytes out.new
-        ≡ string_bytes out.old ++ before_sentence (option_copied ended.entry) ending) }
+/// Writes which process ended, and how, if only the file `exit` says it.
+fn push_exit<A: Allocator>(out: &mut String<A>, exit: &Exit) -> Result<(), AllocError>
+    ensures { OnOk result (string_bytes out.new ≡ string_bytes out.old ++ exit_words exit.now) }
 {
-    match ended {
-        Some(ended) => {
-            out.push_str(" Before it process ")?;
-            push_ended(out, ended, ending)
+    push_number(out, u128::from(exit.pid))?;
+    out.push_str(" ended")?;
+    push_ending(out, Some(exit.ending))?;
+    out.push_str(".")
+}
+
+/// Writes which process ended last, and how.
+fn push_last_words<A: Allocator>(out: &mut String<A>, end: &LastEnd) -> Result<(), AllocError>
+    ensures { OnOk result (string_bytes out.new ≡ string_bytes out.old ++ last_words end.now) }
+{
+    match end {
+        LastEnd::Traced(ended, ending) => push_ended(out, ended, *ending),
+        LastEnd::Recorded(exit) => push_exit(out, exit),
+    }
+}
+
+/// Whether an end was before the process that runs began.
+fn is_before(status: &View, end: &LastEnd) -> bool
+    ensures { result ≡ is_before status.now end.now }
+{
+    is_running(status) && nanos(&time_of_end(end)) <= nanos(&status.label)
+}
+
+/// How the sentence on the last end begins.
+fn end_opening(before: bool) -> &'static str
+    ensures { result.now ≡ end_opening before }
+{
+    if before {
+        " Before it process "
+    } else {
+        " Process "
+    }
+}
+
+/// Writes of the last end of a process, if there is one.
+fn push_end<A: Allocator>(
+    out: &mut String<A>,
+    status: &View,
+    last: Option<&LastEnd>,
+) -> Result<(), AllocError>
+    ensures { OnOk result (string_bytes out.new ≡ string_bytes out.old ++ end_sentence status.now (option_copied last.entry)) }
+{
+    match last {
+        Some(end) => {
+            out.push_str(end_opening(is_before(status, end)))?;
+            push_last_words(out, end)
         }
         None => Ok(()),
     }
@@ -440,22 +492,13 @@ fn wanted_sentence(wanted: Option<u8>) -> &'static str
     }
 }
 
-/// Writes of the process that ended.
-fn push_last<A: Allocator>(
-    out: &mut String<A>,
-    ended: Option<&Ended>,
-    ending: Option<Ending>,
-) -> Result<(), AllocError>
-    ensures { OnOk result (string_bytes out.new
-        ≡ string_bytes out.old ++ last_sentence (option_copied ended.entry) ending) }
+/// The control byte that says why a service is down, if the trace has the last end.
+fn wanted_at(last: Option<&LastEnd>) -> Option<u8>
+    ensures { result ≡ wanted_at (option_copied last.entry) }
 {
-    match ended {
-        Some(ended) => {
-            out.push_str(wanted_sentence(ended.wanted))?;
-            out.push_str(" Process ")?;
-            push_ended(out, ended, ending)
-        }
-        None => Ok(()),
+    match last {
+        Some(LastEnd::Traced(ended, _)) => ended.wanted,
+        _ => None,
     }
 }
 
@@ -481,23 +524,64 @@ fn unrun_text(unrun: bool) -> &'static str
     }
 }
 
-/// Writes what was before.
-fn push_past<A: Allocator>(
+/// Writes the signal that the process that runs was sent, or why the service is down.
+fn push_cause<A: Allocator>(
     out: &mut String<A>,
     running: bool,
     facts: &Facts,
-    ending: Option<Ending>,
+    last: Option<&LastEnd>,
 ) -> Result<(), AllocError>
     ensures { OnOk result (string_bytes out.new
-        ≡ string_bytes out.old ++ past_sentences running facts.now ending) }
+        ≡ string_bytes out.old ++ cause_sentence running facts.now (option_copied last.entry)) }
 {
     if running {
-        push_sent(out, facts.sent)?;
-        return push_before(out, facts.ended.as_ref(), ending);
+        return push_sent(out, facts.sent);
     }
-    push_last(out, facts.ended.as_ref(), ending)?;
-    out.push_str(failed_text(facts.failed))?;
-    out.push_str(unrun_text(facts.unrun))
+    out.push_str(wanted_sentence(wanted_at(last)))
+}
+
+/// Writes of starts that made no process.
+fn push_unstarted<A: Allocator>(
+    out: &mut String<A>,
+    running: bool,
+    facts: &Facts,
+) -> Result<(), AllocError>
+    ensures { OnOk result (string_bytes out.new ≡ string_bytes out.old ++ unstarted_text running facts.now) }
+{
+    out.push_str(failed_text(!running && facts.failed))?;
+    out.push_str(unrun_text(!running && facts.unrun))
+}
+
+/// Writes of the past, by a trace that leads to the record.
+fn push_led<A: Allocator>(
+    out: &mut String<A>,
+    status: &View,
+    facts: &Facts,
+    last: Option<&LastEnd>,
+) -> Result<(), AllocError>
+    ensures { OnOk result (string_bytes out.new
+        ≡ string_bytes out.old ++ led_sentences status.now facts.now (option_copied last.entry)) }
+{
+    let running = is_running(status);
+    push_cause(out, running, facts, last)?;
+    push_end(out, status, last)?;
+    push_unstarted(out, running, facts)
+}
+
+/// Writes of the past.
+fn push_past<A: Allocator>(
+    out: &mut String<A>,
+    status: &View,
+    facts: Option<&Facts>,
+    last: Option<&LastEnd>,
+) -> Result<(), AllocError>
+    ensures { OnOk result (string_bytes out.new
+        ≡ string_bytes out.old ++ past_sentences status.now (option_copied facts.entry) (option_copied last.entry)) }
+{
+    match facts {
+        Some(facts) if facts.leads => push_led(out, status, facts, last),
+        _ => push_end(out, status, last),
+    }
 }
 
 /// Writes how many starts there were.
@@ -510,21 +594,26 @@ fn push_count<A: Allocator>(out: &mut String<A>, starts: u64) -> Result<(), Allo
 }
 
 /// Writes what is said of starts.
-fn push_starts<A: Allocator>(out: &mut String<A>, starts: u64, all: bool) -> Result<(), AllocError>
-    ensures { OnOk result (string_bytes out.new ≡ string_bytes out.old ++ count_sentence starts all) }
+fn push_starts<A: Allocator>(
+    out: &mut String<A>,
+    starts: u64,
+    unasked: u64,
+    all: bool,
+) -> Result<(), AllocError>
+    ensures { OnOk result (string_bytes out.new ≡ string_bytes out.old ++ count_sentence starts unasked all) }
 {
     if starts == 0 {
         return Ok(());
     }
-    out.push_str(starts_opening(starts, all))?;
+    out.push_str(starts_opening(unasked, all))?;
     push_count(out, starts)
 }
 
 /// How the sentence on starts begins.
-fn starts_opening(starts: u64, all: bool) -> &'static str
-    ensures { result.now ≡ starts_opening starts all }
+fn starts_opening(unasked: u64, all: bool) -> &'static str
+    ensures { result.now ≡ starts_opening unasked all }
 {
-    match (starts >= FLAPPING, all) {
+    match (unasked >= FLAPPING, all) {
         (true, true) => " It is flapping: ",
         (true, false) => " It is flapping: at least ",
         (false, true) => " ",
@@ -532,21 +621,21 @@ fn starts_opening(starts: u64, all: bool) -> &'static str
     }
 }
 
-/// Writes what the trace says, where there is one.
-fn push_trace<A: Allocator>(
+/// Writes what the trace says of starts, if there is one.
+fn push_traced_starts<A: Allocator>(
     out: &mut String<A>,
-    running: bool,
     facts: Option<&Facts>,
-    ending: Option<Ending>,
 ) -> Result<(), AllocError>
     ensures { OnOk result (string_bytes out.new
-        ≡ string_bytes out.old ++ trace_sentences running (option_copied facts.entry) ending) }
+        ≡ string_bytes out.old ++ starts_sentence (option_copied facts.entry)) }
 {
-    let Some(facts) = facts else {
-        return Ok(());
-    };
-    if facts.leads {
-        push_past(out, running, facts, ending)?;
+    match facts {
+        Some(facts) => push_starts(
+            out,
+            facts.starts,
+            facts.unasked,
+            facts.leads && facts.reaches,
+        ),
+        None => Ok(()),
     }
-    push_starts(out, facts.starts, facts.leads && facts.reaches)
 }

@@ -1,24 +1,25 @@
 //! The command `why`.
-ghost use Rattle.std.specs.Prelude.{◌≡◌, false, OnOk, IfOk, IfErr};
+ghost use Rattle.std.specs.Prelude.{◌≡◌, false, if◌then◌else◌, OnOk, IfOk, IfErr};
 ghost use Rattle.std.specs.Option.{option_copied};
 ghost use Rattle.std.specs.Prelude.{option_map};
-ghost use Rattle.tai_status.specs.Counted.{Wrote, Works};
+ghost use Rattle.tai_status.specs.Counted.{Reports, Wrote, Works};
 ghost use Rattle.cmd_svc.specs.Words.{texts};
-ghost use Rattle.cmd_why.specs.Facts.{ended_in, facts_of};
+ghost use Rattle.cmd_why.specs.Facts.{facts_of};
 ghost use Rattle.cmd_why.specs.Why.{found_text, is_unread, why_report, Finds, FindsStanding, IsDrawing};
-ghost use Rattle.cmd_why.specs.Why.{IsEndingOf, IsPicture, IsTraceOf, Reaches, ShowEnds, ShowsEach, ShowsNot};
+ghost use Rattle.cmd_why.specs.Why.{IsExitOf, IsPicture, IsTraceOf, Reaches, ShowEnds, ShowsEach, ShowsNot};
 ghost use Rattle.cmd_why.specs.Why.{ShowsOne, ShowsUpTo, WhyEnds, WritesNot};
 
 use crate::facts::{Facts, facts_of, leads_to};
+use crate::last_ends::{last_end, read_exit_line};
 use crate::lines::{Absence, Drawing, Found, Picture, Standing, absence_of, found_text};
 use crate::sources::Evidence;
 use crate::timeline::{bar_of, left_end};
-use cmd_base::{DONE, TROUBLE, report};
-use cmd_svc::{Observer, Services};
+use cmd_base::{DONE, TROUBLE, report, report_device};
+use cmd_svc::{Observer, Services, tell_missing};
 use std::alloc::{AllocError, Allocator};
 use std::io::{ErrorKind, Write};
 use sup_trace::{TraceFaultKind, TraceText, read_text};
-use svc_exit::{Ending, read_ending};
+use svc_exit::Exit;
 use tai_status::{Label, Loaded, Output, RecordFault, TimeSource, View, decode_front};
 
 /// Why the text of a service is not written.
@@ -93,14 +94,12 @@ fn facts_in<A: Allocator>(
     }
 }
 
-/// How the process that ended last ended, where the trace says of one, and the line of how the last one ended is of
-/// it.
-fn read_how<K: Evidence>(sources: &K, folder: &str, facts: Option<&Facts>) -> Option<Ending>
-    ensures { IsEndingOf ((K.known sources.now).exits folder.now) (ended_in (option_copied facts.entry)) result }
+/// What the file `exit` of the service in a folder says, if it can be read.
+fn read_exit<K: Evidence>(sources: &K, folder: &str) -> Option<Exit>
+    ensures { IsExitOf ((K.known sources.now).exits folder.now) result }
 {
-    let ended = facts?.ended?;
     match sources.read_exit(folder) {
-        Ok(line) => read_ending(line.as_slice(), ended.pid, &ended.label),
+        Ok(line) => read_exit_line(line.as_slice()),
         Err(_) => None,
     }
 }
@@ -160,13 +159,13 @@ fn stand<A: Allocator + Clone, K: Evidence, C: TimeSource>(
     let now = clock.now();
     let status = loaded.view();
     let facts = facts_in(content.as_ref(), &status, &now);
-    let ending = read_how(sources, folder, facts.as_ref());
+    let last = last_end(facts.as_ref(), read_exit(sources, folder));
     let drawing = draw(alloc, sources, timeline, content.as_ref(), &status, &now)?;
     Ok(Standing {
         loaded,
         normally_up,
         facts,
-        ending,
+        last,
         time: sources.local_time(&status.label),
         now,
         drawing,
@@ -230,7 +229,7 @@ fn write_text<A: Allocator + Clone, W: Write>(
     let Ok(text) = found_text(alloc, folder, found) else {
         return Err(WhyFault::OutOfMemory);
     };
-    match writer.write_all(text.as_bytes()) {
+    match writer.write_all(&text) {
         Ok(()) => Ok(()),
         Err(_) => Err(WhyFault::Write),
     }
@@ -295,14 +294,27 @@ where
     Ok(unread)
 }
 
-/// What is reported of a fault.
-fn fault_text(fault: WhyFault) -> &'static [u8]
-    ensures { result.now ≡ why_report fault }
+/// Reports why the text of a service is not written, and returns the status of that. If the writer failed, the line
+/// names the cause of its last fault.
+fn report_fault<W: Write, E: Write>(
+    fault: WhyFault,
+    writer: &Output<W>,
+    faults: &mut Output<E>,
+) -> u8
+    ensures status { result ≡ 111 }
+    ensures reported { Reports faults.old faults.new (why_report fault writer.now) }
 {
     match fault {
-        WhyFault::OutOfMemory => b"why: OutOfMemory\n",
-        WhyFault::Write => b"why: write fault\n",
+        WhyFault::OutOfMemory => report(faults, b"why: OutOfMemory\n", TROUBLE),
+        WhyFault::Write => report_device(faults, b"why: ", b"write fault", writer.cause()),
     }
+}
+
+/// The status behind services that were shown.
+fn shown_status(unread: bool) -> u8
+    ensures { result ≡ (if unread then 111 else 0) }
+{
+    if unread { TROUBLE } else { DONE }
 }
 
 /// `why` over services, with timelines or without.
@@ -326,19 +338,24 @@ where
         observer.old observer.new writer.old writer.new faults.old faults.new }
 {
     match show_all(&alloc, timeline, observer, sources, folders, writer) {
-        Ok(true) => TROUBLE,
-        Ok(false) => DONE,
-        Err(fault) => report(faults, fault_text(fault), TROUBLE),
+        Ok(unread) => {
+            tell_missing(&mut observer.services, b"why: ", folders, faults);
+            shown_status(unread)
+        }
+        Err(fault) => report_fault(fault, writer, faults),
     }
 }
 
 /// The command `why`: writes a line for the service in each folder that its words name, in order: in plain words how it
 /// stands and why, as [`why_line`](crate::why_line) says it; or that nobody answers for it, or that it can't be read.
-/// It is looked at when its line comes: first its status is read, then its trace, and then the clock, once.
+/// It is looked at when its line comes: first its status is read, then its trace, then the clock, once, and then how
+/// its last process ended.
 ///
 /// Where the first word is `--timeline`, two lines more stand behind the line of each service behind it that could be
 /// read: the picture of its trace, as [`bar_of`] draws it, and the local time at which that begins, with `now` at its
 /// end; or one line that there is no trace that can be read.
+///
+/// Control characters of a folder's name are escaped. After the lines it says of each folder that is not there why.
 ///
 /// Answers the status: 0; 111 where a service could not be read, which its line says; and 111 for a fault of the
 /// writer and for want of memory, and then the services after that one are not looked at.

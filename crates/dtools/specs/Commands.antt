@@ -3,8 +3,8 @@
 use Rattle.std.specs.Prelude.{◌≡◌, ⊤, ℕ, ℤ, List, Bool, true, false, Option}
 use Rattle.cmd_base.specs.Console.{Console}
 use Rattle.cmd_base.specs.Known.{KnownFiles}
-use Rattle.cmd_help.specs.declared.command.Command.{Command}
-use Rattle.cmd_help.specs.declared.command.Command.TheVariants as command
+use Rattle.cmd_base.specs.declared.command.Command.{Command}
+use Rattle.cmd_base.specs.declared.command.Command.TheVariants as command
 use Rattle.cmd_sim.specs.Ends.{SimEnds}
 use Rattle.cmd_trace.specs.Traced.{TraceEnds}
 use Rattle.cmd_filters.specs.Stamped.{StampsEnd}

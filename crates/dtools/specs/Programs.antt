@@ -2,10 +2,9 @@
 use Rattle.std.specs.Prelude.{◌≡◌, ℕ, ℤ, List, [], ◌∷◌, ◌++◌, codes, Option, Some, None, ⊤}
 use Rattle.tai_status.specs.Counted.{Reports}
 use Rattle.cmd_base.specs.Known.{KnownFiles}
-use Rattle.cmd_base.specs.Usage.{usage_text}
 use Rattle.cmd_envdir.specs.System.{Launch, SystemState}
-use Rattle.cmd_help.specs.Commands.{command_named}
-use Rattle.cmd_help.specs.declared.command.Command.{Command}
+use Rattle.cmd_base.specs.Commands.{command_named}
+use Rattle.cmd_base.specs.declared.command.Command.{Command}
 use Rattle.cmd_multilog.specs.Shelf.{Shelf}
 use Rattle.mlog_core.specs.Feed.{Feed}
 use Rattle.cmd_report.specs.MetricsEnds.{CountFiles}
@@ -15,9 +14,9 @@ use Rattle.svscan_rounds.specs.Calls.{Call}
 use Rattle.dtools.specs.Commands.{ChildEnds, Equipment, Leaves, LoggerEnds, PacedEnds, PlainEnds, ReasonEnds, ScanEnds}
 use Rattle.dtools.specs.Commands.{ServiceEnds, ZonedEnds}
 
--- what is reported where there is no word
-abbrev pub no_word_report : List ℕ
-no_word_report = codes "dtools: usage" ++ 10 ∷ codes "dtools help lists the commands" ++ 10 ∷ []
+-- what is reported if no word names a command
+abbrev pub no_command_report : List ℕ
+no_command_report = codes "dtools: usage" ++ 10 ∷ codes "dtools help lists the commands" ++ 10 ∷ []
 
 -- There is no command: this is reported, and the status is 100.
 pub record Refuses (text : List ℕ) (status : ℕ) (old new : Equipment) : Type 0 where
@@ -43,7 +42,7 @@ LeftAlone words old new = ByWords words ⊤ ⊤ (λ command words. Leaves comman
 
 abbrev pub PlainProgram : (words : List (List ℕ)) (status : ℕ) (old new : Equipment) → Type 0
 PlainProgram words status old new =
-    ByWords words (Refuses no_word_report status old new) (Refuses usage_text status old new)
+    ByWords words (Refuses no_command_report status old new) (Refuses no_command_report status old new)
     (λ command words. PlainEnds command words status old new)
 
 abbrev pub ZonedProgram : (words : List (List ℕ)) (status : ℕ) (ahead : ℤ → ℤ) (files : KnownFiles)

@@ -7,13 +7,13 @@ ghost use Rattle.tai_status.specs.Counted.{Reports};
 ghost use Rattle.dtools.specs.Commands.{ChildEnds, Leaves, LoggerEnds, PacedEnds, PlainEnds, ReasonEnds, ScanEnds};
 ghost use Rattle.dtools.specs.Commands.{ServiceEnds, ZonedEnds};
 ghost use Rattle.dtools.specs.Programs.{ChildProgram, LeftAlone, LoggerProgram, PacedProgram, PlainProgram};
-ghost use Rattle.dtools.specs.Programs.{ReasonProgram, ScanProgram, ServiceProgram, ZonedProgram, no_word_report};
+ghost use Rattle.dtools.specs.Programs.{ReasonProgram, ScanProgram, ServiceProgram, ZonedProgram, no_command_report};
 
 use crate::devices::Devices;
-use cmd_base::{FileSource, REFUSED, report, usage};
+use cmd_base::{Command, FileSource, REFUSED, report};
 use cmd_envdir::{EnvSystem, Launcher, run_envdir};
 use cmd_filters::{run_readproctitle, run_tai64n};
-use cmd_help::{Command, run_help, run_version};
+use cmd_help::{run_help, run_version};
 use cmd_local::{Zone, run_tai64nlocal};
 use cmd_multilog::{FolderStore, LogSystem, run_multilog};
 use cmd_report::{CountFiles, run_report};
@@ -119,10 +119,10 @@ where
     }
 }
 
-/// Says that there is no word, and which command reports more; answers the status of that.
-fn refuse_no_word<E: Write>(faults: &mut Output<E>) -> u8
+/// Says that no command is named, and which command lists them, and returns the status of that.
+fn refuse_no_command<E: Write>(faults: &mut Output<E>) -> u8
     ensures status { result ≡ 100 }
-    ensures reported { Reports faults.old faults.new no_word_report }
+    ensures reported { Reports faults.old faults.new no_command_report }
 {
     report(
         faults,
@@ -131,9 +131,8 @@ fn refuse_no_word<E: Write>(faults: &mut Output<E>) -> u8
     )
 }
 
-/// Runs the command that the first word names, over the words after it, and answers its status. No
-/// word, or one that names no command, is `dtools: usage`, 100; where there is none, a line behind it
-/// names `dtools help`.
+/// Runs the command that the first word names, over the words after it, and returns its status. No word, or one that
+/// names no command, is `dtools: usage`, with a line that names `dtools help`, and the status 100.
 pub fn run<R, L, K, I, S, P, V, T, Z, D, W, E, C>(
     rt: &R,
     launcher: &mut L,
@@ -195,8 +194,8 @@ where
                 words,
                 devices,
             ),
-            None => usage(&mut devices.faults),
+            None => refuse_no_command(&mut devices.faults),
         },
-        [] => refuse_no_word(&mut devices.faults),
+        [] => refuse_no_command(&mut devices.faults),
     }
 }

@@ -6,9 +6,11 @@ ghost use Rattle.cmd_svscan.specs.Requests.{IsReplyTo};
 
 mod command;
 mod devices;
+mod words;
 
-use cmd_base::{SystemClock, TROUBLE, report, usage};
+use cmd_base::{REFUSED, SystemClock, TROUBLE, report};
 use cmd_envdir::SystemLauncher;
+use cmd_help::page_asked;
 use cmd_local::{LocalZone, system_zone};
 use cmd_multilog::{
     FolderStore, LineClock, LineLabels, Stoppable, SystemInput, SystemLogs, stop_channel,
@@ -19,11 +21,13 @@ use cmd_wait::SystemPace;
 use command::run;
 use devices::Devices;
 use mlog_core::PartedInput;
+use std::alloc::AllocError;
 use std::env;
-use std::io::{ErrorKind, Read, Write};
+use std::io::{Read, Write};
 use std::process::ExitCode;
 use std::sync::Wait;
 use tai_status::{Counted, Output, TimeSource};
+use words::{WordsFault, program_words};
 
 fn main(rt: HostRuntime) -> ExitCode {
     let labels = LineLabels::new();
@@ -79,16 +83,45 @@ where
     C: TimeSource,
     requires { P.ready service_set.old }
 {
-    let texts = match arguments(rt) {
+    let texts = match program_words(rt) {
         Ok(texts) => texts,
-        Err(fault) => return refuse_words(fault, &mut devices.faults),
+        Err(fault) => return refuse_words(&fault, &mut devices.faults),
     };
     let mut words = Vec::new(rt.alloc());
     for text in &texts {
         if words.push(text.as_str()).is_err() {
-            return refuse_words(ErrorKind::OutOfMemory, &mut devices.faults);
+            return refuse_words(&WordsFault::OutOfMemory, &mut devices.faults);
         }
     }
+    match page_asked(&words) {
+        Some(name) => run_words(rt, waiting, lines, service_set, &["help", name], devices),
+        None => run_words(rt, waiting, lines, service_set, &words, devices),
+    }
+}
+
+/// Runs these words.
+fn run_words<V, I, P, D, W, E, S, C>(
+    rt: &HostRuntime,
+    waiting: &V,
+    lines: &mut I,
+    service_set: &mut P,
+    words: &[&str],
+    devices: &mut Devices<D, W, E, S, C>,
+) -> u8
+where
+    V: Wait,
+    I: PartedInput,
+    P: ServiceSet,
+    D: Read,
+    W: Write,
+    E: Write,
+    S: Services,
+    C: TimeSource,
+    requires { P.ready service_set.old }
+{
+    let Ok(zone) = zone_for(rt, words) else {
+        return refuse_words(&WordsFault::OutOfMemory, &mut devices.faults);
+    };
     let system = SystemLogs::new(rt, rt.stderr(), rt.alloc());
     match FolderStore::new(system, rt.alloc()) {
         Ok(mut store) => run(
@@ -99,42 +132,28 @@ where
             service_set,
             waiting,
             &mut SystemPace::new(rt),
-            &zone_for(rt, &words),
-            &words,
+            &zone,
+            words,
             devices,
         ),
-        Err(_) => refuse_words(ErrorKind::OutOfMemory, &mut devices.faults),
+        Err(_) => refuse_words(&WordsFault::OutOfMemory, &mut devices.faults),
     }
 }
 
 /// The zone of this computer, where the command reports local times, `trace` only with its flag. The others need none.
-fn zone_for(rt: &HostRuntime, words: &[&str]) -> LocalZone {
+/// `AllocError` comes where memory for it is refused.
+fn zone_for(rt: &HostRuntime, words: &[&str]) -> Result<LocalZone, AllocError> {
     match words {
         ["tai64nlocal" | "why", ..] => system_zone(rt),
         ["trace", words @ ..] if words.iter().any(|word| *word == "--local") => system_zone(rt),
-        _ => LocalZone::Utc,
+        _ => Ok(LocalZone::Utc),
     }
 }
 
-/// The program's words, without its own name.
-fn arguments(rt: &HostRuntime) -> Result<Vec<String>, ErrorKind> {
-    let all = match env::args(rt) {
-        Ok(all) => all,
-        Err(fault) => return Err(fault.kind()),
-    };
-    let mut words = Vec::new(rt.alloc());
-    for word in all.skip(1) {
-        if words.push(word).is_err() {
-            return Err(ErrorKind::OutOfMemory);
-        }
+/// Says why the words are not run, and returns the status of that.
+fn refuse_words<E: Write>(fault: &WordsFault, faults: &mut Output<E>) -> u8 {
+    match fault {
+        WordsFault::OutOfMemory => report(faults, b"dtools: OutOfMemory\n", TROUBLE),
+        WordsFault::NoText(line) => report(faults, line.as_bytes(), REFUSED),
     }
-    Ok(words)
-}
-
-/// Says why the words could not be had: for want of memory, or since they are no text.
-fn refuse_words<E: Write>(why: ErrorKind, faults: &mut Output<E>) -> u8 {
-    if why == ErrorKind::OutOfMemory {
-        return report(faults, b"dtools: OutOfMemory\n", TROUBLE);
-    }
-    usage(faults)
 }

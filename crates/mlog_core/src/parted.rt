@@ -2,12 +2,12 @@
 ghost use Rattle.std.specs.Prelude.{◌≡◌, ◌≤◌, true, false, IfOk, OnOk, OnErr, length};
 
 use std::io::Read;
-use tai_status::{DeviceFault, Input};
+use tai_status::{Cause, DeviceFault, Input};
 
 /// The input of a logger. It comes in parts: behind each but the last the logs are to be rotated. Contracts see the
 /// part that is read, and what is behind it where that is visible.
 pub trait PartedInput {
-    ghost use Rattle.std.specs.Prelude.{◌≡◌, ◌≤◌, true, false, IfOk, OnOk, OnErr, length};
+    ghost use Rattle.std.specs.Prelude.{◌≡◌, ◌≤◌, true, false, IfOk, IsSome, OnOk, OnErr, length};
     ghost use Rattle.std.specs.Io.KnownBytes.{ReadConsumes};
     ghost use Rattle.tai_status.specs.Counted.{CountsRead, Fails, IsRead, Works};
     ghost use Rattle.mlog_core.specs.Feed.{Feed, OpensNext};
@@ -22,7 +22,12 @@ pub trait PartedInput {
         ensures reads { OnOk result (CountsRead (feed self.old).device (feed self.new).device) }
         ensures faults { OnOk result (Works (feed self.old).device (feed self.new).device) }
         ensures fault { OnErr result (Fails (feed self.old).device (feed self.new).device) }
+        ensures why { OnErr result (IsSome (feed self.new).device.cause) }
         ensures behind { (feed self.new).behind ≡ (feed self.old).behind };
+
+    /// The cause of the last fault.
+    fn last_cause(&self) -> Option<Cause>
+        ensures { result ≡ (feed self.now).device.cause };
 
     /// Whether the logs are to be rotated behind the part, which is at its end. If so the next part is begun.
     fn next_part(&mut self) -> bool
@@ -39,6 +44,10 @@ impl<D: Read> PartedInput for Input<D> {
 
     fn read_part(&mut self, into: &mut [u8]) -> Result<usize, DeviceFault> {
         self.read(into)
+    }
+
+    fn last_cause(&self) -> Option<Cause> {
+        self.cause()
     }
 
     fn next_part(&mut self) -> bool {

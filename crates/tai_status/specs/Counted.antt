@@ -1,13 +1,16 @@
 -- A device with counts of its reads and of its faults, and what calls do to it.
-use Rattle.std.specs.Prelude.{◌≡◌, ℕ, ◌-◌, ◌^◌, ◌<◌, ◌≤◌, ◌⊎◌, List, take, Option}
+use Rattle.std.specs.Prelude.{◌≡◌, ℕ, ◌-◌, ◌^◌, ◌<◌, ◌≤◌, ◌⊎◌, List, take, Option, Some, None, [], ◌∷◌, ◌++◌}
 use Rattle.std.specs.Io.KnownBytes.{Appends, Consumes, Keeps, IsAtEnd}
+use Rattle.tai_status.specs.declared.cause.Cause.{Cause}
+use Rattle.tai_status.specs.Causes.{cause_note}
 
 -- A device as contracts see it: the bytes that a reader has left or that a writer holds, where they are known, how
--- often it was read, and how many of its calls failed.
+-- often it was read, how many of its calls failed, and the cause of the last one that did.
 pub record Device : Type 0 where
   pub bytes : Option (List ℕ)
   pub reads : ℕ
   pub faults : ℕ
+  pub cause : Option Cause
 
 -- The count rose, or stands at its end.
 abbrev pub Rose : ℕ → ℕ → Type 0
@@ -53,3 +56,12 @@ GivesNothing old new = Keeps old.bytes new.bytes
 -- All of the device was read.
 abbrev pub IsRead : Device → Type 0
 IsRead device = IsAtEnd device.bytes
+
+-- The end of a line that says that a device failed: the cause of its last fault.
+abbrev pub device_note : Option Cause → List ℕ
+device_note None = 10 ∷ []
+device_note (Some cause) = cause_note cause
+
+-- The line that a command writes of a device that failed.
+abbrev pub device_report : (command what : List ℕ) → Device → List ℕ
+device_report command what device = command ++ (what ++ device_note device.cause)

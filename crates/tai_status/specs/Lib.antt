@@ -5,6 +5,7 @@ pub mod Decoding
 pub mod Phase
 pub mod Full
 pub mod Loading
+pub mod Causes
 pub mod Counted
 pub mod Block
 pub mod LineReader

@@ -1,14 +1,15 @@
-ghost use Rattle.std.specs.Prelude.{◌≡◌, ◌≤◌, ◌<◌, ◌^◌, OnOk, OnErr, IfOk, length};
+ghost use Rattle.std.specs.Prelude.{◌≡◌, ◌≤◌, ◌<◌, ◌^◌, OnOk, OnErr, IfOk, Some, IsSome, length};
 ghost use Rattle.std.specs.Io.KnownBytes.{ReadConsumes, WriteAppends};
 ghost use Rattle.tai_status.specs.Counted.{Fails, Works, CountsRead, Wrote, WroteFront};
 
+use crate::cause::Cause;
 use std::io::{ErrorKind, Read, Write};
 use std::marker::{Model, PhantomData};
 
 /// How often a device is read at most, and how often one write is tried.
 const MOST_READS: u64 = 1 << 48;
 
-/// A fault of a device. The count of its [`Counted`] shows it.
+/// A fault of a device. Its [`Counted`] shows the count and the cause.
 #[derive(Clone, Copy, Debug, PartialEq, Eq)]
 pub struct DeviceFault;
 
@@ -35,16 +36,17 @@ impl<D: Write> Used<Out> for D {
     ghost bytes = { D.contents };
 }
 
-/// A reader or a writer, with counts of its reads and of its faults. Which of the two it is follows
-/// from its use.
+/// A reader or a writer, with counts of its reads and of its faults, and the cause of its last fault. Which of the two
+/// it is follows from its use.
 ///
-/// A fault is answered only where the count of faults rose in that call, or stood at its end. After
-/// 2^48 reads each further one is a fault, so that every loop over a reader ends.
+/// A call returns a fault only if the count of faults rose in that call, or was at its end. After 2^48 reads each
+/// further one is a fault, so that every loop over a reader ends.
 #[derive(Drop)]
 pub struct Counted<D: Used<Way>, Way> {
     device: D,
     reads: u64,
     faults: u64,
+    cause: Option<Cause>,
     way: PhantomData<Way>,
 }
 
@@ -60,7 +62,7 @@ impl<D: Used<Way>, Way> Model for Counted<D, Way> {
 
     ghost Value = { Device };
 
-    ghost view = { λ c. record { bytes = D.bytes c.device; reads = c.reads; faults = c.faults } };
+    ghost view = { λ c. record { bytes = D.bytes c.device; reads = c.reads; faults = c.faults; cause = c.cause } };
 
     ghost invariant = { λ c. c.reads ≤ 2 ^ 48 };
 }
@@ -68,12 +70,13 @@ impl<D: Used<Way>, Way> Model for Counted<D, Way> {
 impl<D: Used<Way>, Way> Counted<D, Way> {
     /// The device, not read and without a fault yet.
     pub fn new(device: D) -> Counted<D, Way>
-        ensures { result ≡ record { bytes = D.bytes device; reads = 0; faults = 0 } }
+        ensures { result ≡ record { bytes = D.bytes device; reads = 0; faults = 0; cause = None } }
     {
         Counted {
             device,
             reads: 0,
             faults: 0,
+            cause: None,
             way: PhantomData,
         }
     }
@@ -93,6 +96,13 @@ impl<D: Used<Way>, Way> Counted<D, Way> {
         self.reads
     }
 
+    /// The cause of the last fault.
+    pub fn cause(&self) -> Option<Cause>
+        ensures { result ≡ self.now.cause }
+    {
+        self.cause
+    }
+
     /// The device itself.
     pub fn into_device(self) -> D
         ensures { D.bytes result ≡ self.bytes }
@@ -101,13 +111,15 @@ impl<D: Used<Way>, Way> Counted<D, Way> {
         device
     }
 
-    /// Counts a fault. The count stops at its end.
-    fn count_fault(&mut self) -> DeviceFault
+    /// Counts a fault, and keeps its cause. The count stops at its end.
+    fn count_fault(&mut self, cause: Cause) -> DeviceFault
         ensures rose { Fails self.old self.new }
+        ensures cause { self.new.cause ≡ Some cause }
         ensures bytes { self.new.bytes ≡ self.old.bytes }
         ensures reads { self.new.reads ≡ self.old.reads }
     {
         self.faults = self.faults.saturating_add(1);
+        self.cause = Some(cause);
         DeviceFault
     }
 }
@@ -120,6 +132,7 @@ impl<D: Read> Counted<D, In> {
         ensures reads { OnOk result (CountsRead self.old self.new) }
         ensures faults { OnOk result (Works self.old self.new) }
         ensures fault { OnErr result (Fails self.old self.new) }
+        ensures why { OnErr result (IsSome self.new.cause) }
     {
         while self.reads < MOST_READS {
             self.reads += 1;
@@ -127,12 +140,12 @@ impl<D: Read> Counted<D, In> {
                 Ok(count) => return Ok(count),
                 Err(fault) => {
                     if fault.kind() != ErrorKind::Interrupted {
-                        return Err(self.count_fault());
+                        return Err(self.count_fault(Cause::of(&fault)));
                     }
                 }
             }
         }
-        Err(self.count_fault())
+        Err(self.count_fault(Cause::Other))
     }
 }
 
@@ -146,23 +159,24 @@ impl<D: Write> Counted<D, Out> {
         ensures reads { self.new.reads ≡ self.old.reads }
         ensures faults { OnOk result (Works self.old self.new) }
         ensures fault { OnErr result (Fails self.old self.new) }
+        ensures why { OnErr result (IsSome self.new.cause) }
     {
         for _ in 0..MOST_READS {
             match self.device.write(piece) {
                 Ok(count) => {
                     if count == 0 && !piece.is_empty() {
-                        return Err(self.count_fault());
+                        return Err(self.count_fault(Cause::Other));
                     }
                     return Ok(count);
                 }
                 Err(fault) => {
                     if fault.kind() != ErrorKind::Interrupted {
-                        return Err(self.count_fault());
+                        return Err(self.count_fault(Cause::of(&fault)));
                     }
                 }
             }
         }
-        Err(self.count_fault())
+        Err(self.count_fault(Cause::Other))
     }
 
     /// Writes the whole piece. After a fault a front of it is written.
@@ -172,6 +186,7 @@ impl<D: Write> Counted<D, Out> {
         ensures reads { self.new.reads ≡ self.old.reads }
         ensures faults { OnOk result (Works self.old self.new) }
         ensures fault { OnErr result (Fails self.old self.new) }
+        ensures why { OnErr result (IsSome self.new.cause) }
     {
         let mut at = 0;
         while at < piece.len() {

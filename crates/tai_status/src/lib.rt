@@ -5,6 +5,7 @@
 #![tactic(auto)]
 
 mod block;
+mod cause;
 mod counted;
 mod decoding;
 mod full;
@@ -19,6 +20,7 @@ mod record;
 mod stamp;
 
 pub use block::{BLOCK, Block};
+pub use cause::Cause;
 pub use counted::{Counted, DeviceFault, In, Input, Out, Output, Used};
 pub use decoding::decode;
 pub use full::{Full, encode_full};

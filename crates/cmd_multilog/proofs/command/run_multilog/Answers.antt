@@ -1,5 +1,8 @@
-use Rattle.std.proofs.Common.{None, Some, subst, List, ℕ, inr, refl}
+use Rattle.std.proofs.Common.{Option, None, Some, subst, inr, refl}
 use Rattle.tai_status.specs.Counted.{Reports}
+use Rattle.tai_status.specs.declared.cause.Cause.{Cause}
+use Rattle.cmd_multilog.specs.Ends.{fault_report}
+use Rattle.cmd_multilog.specs.declared.fault.StoreTrouble.{StoreTrouble}
 use Rattle.cmd_multilog.proofs.command.run_multilog.Goals as goal
 
 pub returns-in-Ok-run_parts : goal.returns-in-Ok-run_parts
@@ -37,9 +40,13 @@ returns g c =
             ran = Some c.in-Err-run_parts.fault;
             asked = c.in-Err-run_parts.ensures.stays.asked;
             runs = c.in-Err-run_parts.ensures.runs;
-            status_is = c.report.ensures.status;
-            reported = subst (λ (t : List ℕ). Reports c.args.faults.now c.report.new.faults t) c.run_text.ensures
-                c.report.ensures.reported;
+            status_is = c.report_run.ensures.status;
+            reported = subst (λ (last : Option StoreTrouble). Reports c.args.faults.now c.report_run.new.faults
+                (fault_report c.in-Ok.script (g.I.PartedInput.feed c.run_parts.new.input).device.cause last
+                c.in-Err-run_parts.fault)) c.last_trouble.ensures
+                (subst (λ (cause : Option Cause). Reports c.args.faults.now c.report_run.new.faults
+                (fault_report c.in-Ok.script cause c.last_trouble.result c.in-Err-run_parts.fault))
+                c.last_cause.ensures c.report_run.ensures.reported);
           };
         }),
       );

@@ -2,7 +2,7 @@ use Rattle.std.proofs.Common.{rules, ◌≡◌, ◌+◌, ◌<◌, ◌++◌, ◌�
 use Rattle.std.proofs.Common.{◌∙◌, subst, append_assoc, Bor}
 use Rattle.cmd_svc.proofs.Turns.{taken-one, parts-at}
 use Rattle.cmd_report.specs.declared.found.Found.{Found}
-use Rattle.cmd_report.specs.MetricsEnds.{FindsFront, FindsWords}
+use Rattle.cmd_report.specs.MetricsEnds.{FindsWords}
 use Rattle.cmd_report.proofs.Finds.{finds_words-then}
 use Rattle.cmd_report.proofs.find.find_all.Goals as goal
 

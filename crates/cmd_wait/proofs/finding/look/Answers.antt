@@ -1,26 +1,38 @@
-use Rattle.std.proofs.Common.{rules, [], ◌∷◌, None, Some, ap, ◌∙◌}
+use Rattle.std.proofs.Common.{rules, [], ◌∷◌, None, Some, ap, ◌∙◌, subst}
+use Rattle.std.specs.Prelude.{Result}
 use Rattle.tai_status.specs.Extended.{Extended}
 use Rattle.tai_status.specs.Loading.{loaded_from}
+use Rattle.tai_status.specs.declared.loading.Loaded.{Loaded}
+use Rattle.tai_status.specs.declared.record.RecordFault.{RecordFault}
 use Rattle.cmd_svc.specs.Calls.{Reached, ReadStatus}
 use Rattle.cmd_svc.proofs.Turns.{extended-then}
-use Rattle.cmd_wait.specs.Finding.{Absent, Shown, record_finding}
+use Rattle.cmd_wait.specs.Finding.{Absent, Shown, calls_of_age, process_asked, record_finding}
 use Rattle.cmd_wait.proofs.finding.look.Goals as goal
 
 pub returns-in-Err : goal.returns-in-Err
 returns-in-Err g c = record { sighting = Absent c.in-Err.why; is = c.absent_finding.ensures; calls = search rules }
 
-pub returns-in-Ok : goal.returns-in-Ok
-returns-in-Ok g c =
+pub returns : goal.returns
+returns g c =
     let past = g.S.Services.calls c.args.services.now in
     let asked = g.S.Services.calls c.reach.new.self in
     let read = g.S.Services.calls c.read_status.new.self in
+    let aged = g.S.Services.calls c.age_asked-age.new.services in
     let folder = c.args.folder.now in
     let bytes = c.in-Ok.front.items in
+    let goal = c.args.goal in
+    let is = c.decode_front-read.ensures.read ∙ ap loaded_from c.as_slice.ensures.value in
     let first : Extended past asked (Reached folder None ∷ []) = search rules in
-    let second : Extended asked read (ReadStatus folder (Some bytes) ∷ []) = search rules in record {
-      sighting = Shown bytes;
+    let second : Extended asked read (ReadStatus folder (Some bytes) ∷ []) = search rules in
+    let third : Extended read aged (calls_of_age (process_asked goal (loaded_from bytes)) c.age_asked-age.result) =
+    subst (λ (r : Result Loaded RecordFault).
+    Extended read aged (calls_of_age (process_asked goal r) c.age_asked-age.result))
+    is c.age_asked-age.ensures in record {
+      sighting = Shown bytes c.age_asked-age.result;
       is = c.record_finding.ensures
-          ∙ ap (record_finding c.args.goal) (c.decode_front.ensures.read ∙ ap loaded_from c.as_slice.ensures.value);
-      calls = extended-then past asked read (Reached folder None ∷ []) (ReadStatus folder (Some bytes) ∷ []) first
-          second;
+          ∙ ap (λ (r : Result Loaded RecordFault). record_finding goal r c.age_asked-age.result) is;
+      calls = extended-then past read aged (Reached folder None ∷ ReadStatus folder (Some bytes) ∷ [])
+          (calls_of_age (process_asked goal (loaded_from bytes)) c.age_asked-age.result)
+          (extended-then past asked read (Reached folder None ∷ []) (ReadStatus folder (Some bytes) ∷ []) first second)
+          third;
     }

@@ -13,19 +13,19 @@ returns-clause-next g c =
       coming = coming;
       stopped = inside.stopped;
       rotates = inside.rotates;
-      in_line =
-          inside.in_line;
+      in_line = inside.in_line;
       reads = inside.reads;
       faults = inside.faults;
+      cause = inside.cause;
     } in
     let new : Listening = record {
       coming = coming;
       stopped = false;
       rotates = false;
       in_line = false;
-      reads =
-          inside.reads;
+      reads = inside.reads;
       faults = inside.faults;
+      cause = inside.cause;
     } in
     let end = subst (λ (l : Listening). IsRead (feed_of l).device) (sym c.self.view_is) c.requires.end in
     λ is. subst (λ (l : Listening). OpensNext (feed_of l) (feed_of new)) c.self.view_is

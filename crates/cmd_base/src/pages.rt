@@ -1,0 +1,41 @@
+//! The page of each command.
+ghost use Rattle.std.specs.Prelude.{◌≡◌};
+ghost use Rattle.cmd_base.specs.Pages.{page};
+
+use crate::command::Command;
+
+/// The page of a command, one line: which words it takes.
+pub fn page_of(command: Command) -> &'static [u8]
+    ensures page { result.now ≡ page command }
+{
+    match command {
+        Command::Svscan => {
+            b"dtools svscan [DIR [ROUNDS]], over the working directory where no DIR is given\n"
+        }
+        Command::Svc => {
+            b"dtools svc [-W] [-udopchaitkx12q] SERVICE.., with u up, d down, o once, x exit, and signals\n"
+        }
+        Command::Svstat => b"dtools svstat [--json | --metrics] SERVICE..\n",
+        Command::Svok => b"dtools svok SERVICE\n",
+        Command::Wait => {
+            b"dtools wait [-u|-d|-x] [-t SECONDS] SERVICE.., with u up, d down, x no longer supervised\n"
+        }
+        Command::Multilog => {
+            b"dtools multilog ACTION.., of t, -PATTERN, +PATTERN, e, =FILE, sSIZE, nNUMBER, folders\n"
+        }
+        Command::Tai64n => b"dtools tai64n\n",
+        Command::Tai64nlocal => b"dtools tai64nlocal\n",
+        Command::Envdir =>
+            b"dtools envdir DIR PROGRAM WORDS.., or dtools envdir --shell DIR [ENVIRON [PROGRAM WORDS..]]\n",
+        Command::Readproctitle => {
+            b"dtools readproctitle WORD.., of which the last is as long as the title\n"
+        }
+        Command::Sim => b"dtools sim, with a script on standard input, or dtools sim table\n",
+        Command::Trace => {
+            b"dtools trace FILE|SERVICE [--break SPEC] [--local], where SPEC is byte:C, phase:PHASE or signal:NAME\n"
+        }
+        Command::Why => b"dtools why [--timeline] SERVICE..\n",
+        Command::Help => b"dtools help [COMMAND]\n",
+        Command::Version => b"dtools version\n",
+    }
+}

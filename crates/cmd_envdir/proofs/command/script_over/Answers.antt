@@ -1,0 +1,8 @@
+use Rattle.std.proofs.Common.{ap, ◌∙◌}
+use Rattle.cmd_envdir.specs.Ends.{starved}
+use Rattle.cmd_envdir.proofs.Children.{starved_first}
+use Rattle.cmd_envdir.proofs.command.script_over.Goals as goal
+
+pub returns-in_default-clause-first : goal.returns-in_default-clause-first
+returns-in_default-clause-first g c =
+    starved_first c.args.folder.now _ (c.starved.ensures ∙ ap starved c.fault_in.ensures)

@@ -1,0 +1,16 @@
+use Rattle.std.proofs.Common.{◌++◌, Option, subst}
+use Rattle.std.specs.Prelude.{codes}
+use Rattle.tai_status.specs.Counted.{Reports, device_note}
+use Rattle.tai_status.specs.declared.cause.Cause.{Cause}
+use Rattle.cmd_filters.proofs.stamping.report_stamping.Goals as goal
+
+pub returns-in-Read-clause-reported : goal.returns-in-Read-clause-reported
+returns-in-Read-clause-reported g c =
+    rw c.in-Read.is (subst (λ (cause : Option Cause). Reports c.args.faults.now c.report_device.new.faults
+    (codes "tai64n: " ++ (codes "Read" ++ device_note cause))) c.cause.ensures c.report_device.ensures.reported)
+
+pub returns-in-Write-clause-reported : goal.returns-in-Write-clause-reported
+returns-in-Write-clause-reported g c =
+    rw c.in-Write.is (subst (λ (cause : Option Cause). Reports c.args.faults.now c.report_device-in-Write.new.faults
+    (codes "tai64n: " ++ (codes "Write" ++ device_note cause))) c.cause-in-Write.ensures
+    c.report_device-in-Write.ensures.reported)

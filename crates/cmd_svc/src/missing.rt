@@ -1,0 +1,40 @@
+//! What is reported of services whose folders are not there.
+ghost use Rattle.cmd_svc.specs.Missing.{TellsEach, TellsMissing, telling};
+ghost use Rattle.cmd_svc.specs.Words.{texts};
+
+use crate::services::Services;
+use cmd_base::{DONE, cause_note, report_parts};
+use std::io::Write;
+use tai_status::Output;
+
+/// Says why there is no folder at a path, if there is none. The name of the command comes with its `: `.
+fn tell_one<S: Services, E: Write>(
+    services: &mut S,
+    command: &[u8],
+    folder: &str,
+    faults: &mut Output<E>,
+)
+    ensures { TellsMissing command.now folder.now (telling (S.calls services.old) faults.old)
+        (telling (S.calls services.new) faults.new) }
+{
+    if let Some(cause) = services.folder_fault(folder) {
+        let note = cause_note(cause);
+        report_parts(faults, command, folder.as_bytes(), note.as_bytes(), DONE);
+    }
+}
+
+/// Says of each service whose folder is not there, in order, why: `COMMAND: DIR: CAUSE`. The name of the command comes
+/// with its `: `.
+pub fn tell_missing<S: Services, E: Write>(
+    services: &mut S,
+    command: &[u8],
+    folders: &[&str],
+    faults: &mut Output<E>,
+)
+    ensures { TellsEach command.now (texts folders.now) (telling (S.calls services.old) faults.old)
+        (telling (S.calls services.new) faults.new) }
+{
+    for folder in folders {
+        tell_one(services, command, folder, faults);
+    }
+}

@@ -1,0 +1,65 @@
+-- The last end of a process of a service, by its trace and by its file `exit`: the later one of the two.
+use Rattle.std.specs.Prelude.{◌≡◌, ◌<◌, ◌^◌, ℕ, nat_lt, ◌==◌, ◌&&◌, Bool, if◌then◌else◌, List, Option, Some, None}
+use Rattle.std.specs.Prelude.{option_map}
+use Rattle.tai_status.specs.Label.{Tai64n, IsLabel}
+use Rattle.svc_exit.specs.Exits.{IsEnding, exit_text}
+use Rattle.svc_exit.specs.declared.ending.Ending.{Ending}
+use Rattle.svc_exit.specs.declared.exit.Exit.{Exit}
+use Rattle.cmd_why.specs.Facts.{nanos, same_label}
+use Rattle.cmd_why.specs.declared.facts.Ended.{Ended}
+use Rattle.cmd_why.specs.declared.facts.Facts.{Facts}
+use Rattle.cmd_why.specs.declared.last_ends.LastEnd.{LastEnd}
+use Rattle.cmd_why.specs.declared.last_ends.LastEnd.TheVariants.{Traced, Recorded}
+
+-- The file `exit`
+
+-- The number, the way to end and the label of an exit fit their types.
+pub record IsExit (exit : Exit) : Type 0 where
+  pub pid : exit.pid < 2 ^ 32
+  pub ending : IsEnding exit.ending
+  pub label : IsLabel exit.label
+
+-- what the line of an exit says; none if it is the line of no exit
+abbrev pub Reads : (line : List ℕ) → Option Exit → Type 0
+Reads line (Some exit) = line ≡ exit_text exit
+Reads line None = (exit : Exit) → IsExit exit → line ≡ exit_text exit → ⊥
+
+-- The last end
+
+-- whether an exit is of the process, and of the time, of an end in the trace
+abbrev pub is_of_end : Exit → Ended → Bool
+is_of_end exit ended = (exit.pid == ended.pid) && same_label exit.label ended.label
+
+-- how a process ended whose end is in the trace, if the exit is of it
+abbrev pub how : Exit → Ended → Option Ending
+how exit ended = if is_of_end exit ended then Some exit.ending else None
+
+-- whether an exit is later than an end in the trace
+abbrev pub is_later : Exit → Ended → Bool
+is_later exit ended = nat_lt (nanos ended.label) (nanos exit.label)
+
+-- the later one of two ends; at the same time that in the trace
+abbrev pub later : Exit → Option Ended → LastEnd
+later exit None = Recorded exit
+later exit (Some ended) = if is_later exit ended then Recorded exit else Traced ended (how exit ended)
+
+-- the last end in a trace
+abbrev pub ended_in : Option Facts → Option Ended
+ended_in (Some facts) = facts.ended
+ended_in None = None
+
+-- the same, if the trace leads to the record
+abbrev pub traced_end : Option Facts → Option Ended
+traced_end (Some facts) = if facts.leads then facts.ended else None
+traced_end None = None
+
+-- The last end is the later one of that in the trace and that in the file `exit`. If there is no line of `exit`, it is
+-- that in the trace, if the trace leads to the record.
+abbrev pub last_end : Option Facts → Option Exit → Option LastEnd
+last_end facts (Some exit) = Some (later exit (ended_in facts))
+last_end facts None = option_map (λ ended. Traced ended None) (traced_end facts)
+
+-- when that was
+abbrev pub time_of_end : LastEnd → Tai64n
+time_of_end (Traced ended ending) = ended.label
+time_of_end (Recorded exit) = exit.label

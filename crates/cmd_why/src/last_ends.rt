@@ -1,0 +1,132 @@
+//! The last end of a process of a service, by its trace and its file `exit`.
+ghost use Rattle.std.specs.Prelude.{◌≡◌};
+ghost use Rattle.std.specs.Option.{option_copied};
+ghost use Rattle.cmd_why.specs.LastEnd.{IsExit, Reads, ended_in, how, is_later, is_of_end, last_end, later};
+ghost use Rattle.cmd_why.specs.LastEnd.{time_of_end, traced_end};
+ghost use Rattle.svc_exit.specs.declared.exit.Exit.{Exit};
+ghost use Rattle.svc_exit.specs.Exits.{exit_text};
+
+use crate::facts::{Ended, Facts, nanos, same_label};
+use sup_core::{read_label, read_number, split_field};
+use svc_exit::{Ending, Exit, read_ending};
+use tai_status::Label;
+
+/// How many bytes the end of a line of `exit` has: its label and the newline.
+const LINE_END: usize = 26;
+
+/// The last end of a process of a service.
+#[derive(Clone, Copy, Debug, PartialEq, Eq)]
+pub enum LastEnd {
+    /// The trace has it, and the file `exit` may say how that process ended.
+    Traced(Ended, Option<Ending>),
+    /// Only the file `exit` has it.
+    Recorded(Exit),
+}
+
+/// The process number at the begin of a line.
+fn pid_in(line: &[u8]) -> Option<u32>
+    ensures { (exit : Exit) → IsExit exit → line.now ≡ exit_text exit → result ≡ Some exit.pid }
+{
+    let number = read_number(split_field(line).0)?;
+    u32::try_from(number).ok()
+}
+
+/// The label at the end of a line.
+fn label_in(line: &[u8]) -> Option<Label>
+    ensures { (exit : Exit) → IsExit exit → line.now ≡ exit_text exit → result ≡ Some exit.label }
+{
+    if line.len() < LINE_END {
+        return None;
+    }
+    read_label(&line[line.len() - LINE_END..line.len() - 1])
+}
+
+/// What a line of `exit` says, with its newline: which process ended, how, and when. None if it is the line of no
+/// process.
+pub fn read_exit_line(line: &[u8]) -> Option<Exit>
+    ensures { Reads line.now result }
+{
+    let pid = pid_in(line)?;
+    let label = label_in(line)?;
+    let ending = read_ending(line, pid, &label)?;
+    Some(Exit { pid, ending, label })
+}
+
+/// Whether a line of `exit` is of the same process, and of the same time, as an end in the trace.
+fn is_of_end(exit: &Exit, ended: &Ended) -> bool
+    ensures { result ≡ is_of_end exit.now ended.now }
+{
+    exit.pid == ended.pid && same_label(&exit.label, &ended.label)
+}
+
+/// How a process ended whose end is in the trace, if the line of `exit` is of it.
+fn how(exit: &Exit, ended: &Ended) -> Option<Ending>
+    ensures { result ≡ how exit.now ended.now }
+{
+    if is_of_end(exit, ended) {
+        Some(exit.ending)
+    } else {
+        None
+    }
+}
+
+/// Whether the line of `exit` is later than an end in the trace.
+fn is_later(exit: &Exit, ended: &Ended) -> bool
+    ensures { result ≡ is_later exit.now ended.now }
+{
+    nanos(&ended.label) < nanos(&exit.label)
+}
+
+/// The later one of two ends; at the same time that in the trace.
+fn later(exit: &Exit, ended: Option<Ended>) -> LastEnd
+    ensures { result ≡ later exit.now ended }
+{
+    match ended {
+        Some(ended) if !is_later(exit, &ended) => LastEnd::Traced(ended, how(exit, &ended)),
+        _ => LastEnd::Recorded(*exit),
+    }
+}
+
+/// The last end in a trace.
+fn ended_in(facts: Option<&Facts>) -> Option<Ended>
+    ensures { result ≡ ended_in (option_copied facts.entry) }
+{
+    match facts {
+        Some(facts) => facts.ended,
+        None => None,
+    }
+}
+
+/// The last end in a trace, if the trace leads to the record.
+fn traced_end(facts: Option<&Facts>) -> Option<Ended>
+    ensures { result ≡ traced_end (option_copied facts.entry) }
+{
+    match facts {
+        Some(facts) if facts.leads => facts.ended,
+        _ => None,
+    }
+}
+
+/// The last end of a process of a service: the later one of that in its trace and that in its file `exit`. If there is
+/// no line of `exit`, that in the trace, if the trace leads to the record.
+pub fn last_end(facts: Option<&Facts>, exit: Option<Exit>) -> Option<LastEnd>
+    ensures { result ≡ last_end (option_copied facts.entry) exit }
+{
+    match exit {
+        Some(exit) => Some(later(&exit, ended_in(facts))),
+        None => match traced_end(facts) {
+            Some(ended) => Some(LastEnd::Traced(ended, None)),
+            None => None,
+        },
+    }
+}
+
+/// When a process ended.
+pub(crate) fn time_of_end(end: &LastEnd) -> Label
+    ensures { result ≡ time_of_end end.now }
+{
+    match end {
+        LastEnd::Traced(ended, _) => ended.label,
+        LastEnd::Recorded(exit) => exit.label,
+    }
+}

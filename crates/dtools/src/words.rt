@@ -1,0 +1,148 @@
+//! The words of the command line, of which one may be no text.
+ghost use Rattle.std.specs.Prelude.{string_bytes, IfOk};
+ghost use Rattle.dtools.specs.Words.{EndsWithZero};
+
+use cmd_base::Command;
+use std::alloc::{AllocError, Allocator};
+use std::env;
+use std::env::{Env, FillError};
+use std::io::ErrorKind;
+
+/// How many bytes a buffer for a word has first, and how often it is made twice as large: a word of Linux is shorter
+/// than the last one (execve(2): 32 pages).
+const FIRST_BYTES: usize = 4096;
+
+const SIZES: u32 = 11;
+
+/// Why the words are not run.
+#[derive(Debug, Drop)]
+pub(crate) enum WordsFault {
+    /// There is no memory for them.
+    OutOfMemory,
+    /// A word is no text, and names no service: the line that says which one.
+    NoText(String),
+}
+
+impl From<AllocError> for WordsFault {
+    fn from(_fault: AllocError) -> WordsFault {
+        WordsFault::OutOfMemory
+    }
+}
+
+/// The words of the program, without its own name.
+///
+/// A word of a command that names services, and that is no text, is replaced by a name that no file has: the command
+/// then reports of that service that it is not there, and shows the others. One that begins with `-`, and one of any
+/// other command, is refused.
+pub(crate) fn program_words(rt: &HostRuntime) -> Result<Vec<String>, WordsFault> {
+    let all = match env::args(rt) {
+        Ok(all) => all,
+        Err(fault) if fault.kind() == ErrorKind::OutOfMemory => {
+            return Err(WordsFault::OutOfMemory);
+        }
+        Err(_) => return words_of_bytes(rt),
+    };
+    let mut words = Vec::new(rt.alloc());
+    for word in all.skip(1) {
+        push_word(&mut words, word)?;
+    }
+    Ok(words)
+}
+
+/// Adds a word to others.
+fn push_word(words: &mut Vec<String>, word: String) -> Result<(), WordsFault> {
+    match words.push(word) {
+        Ok(()) => Ok(()),
+        Err(_) => Err(WordsFault::OutOfMemory),
+    }
+}
+
+/// The same, if one of them is no text.
+fn words_of_bytes(rt: &HostRuntime) -> Result<Vec<String>, WordsFault> {
+    let mut words: Vec<String> = Vec::new(rt.alloc());
+    for place in 1..usize::MAX {
+        let Some(bytes) = bytes_at(rt, place)? else {
+            break;
+        };
+        let word = word_of(rt, &words, bytes)?;
+        push_word(&mut words, word)?;
+    }
+    Ok(words)
+}
+
+/// The bytes of the word at a place, if there is one.
+fn bytes_at(rt: &HostRuntime, place: usize) -> Result<Option<Vec<u8>>, AllocError> {
+    for doublings in 0..SIZES {
+        let mut bytes = vec![in rt.alloc(); 0; FIRST_BYTES << doublings]?;
+        match rt.arg(place, &mut bytes) {
+            Ok(count) => {
+                bytes.truncate(count);
+                return Ok(Some(bytes));
+            }
+            Err(FillError::NotPresent) => return Ok(None),
+            Err(FillError::TooLong) => {}
+        }
+    }
+    Err(AllocError)
+}
+
+/// The next word, by those before it and by its bytes.
+fn word_of(rt: &HostRuntime, before: &[String], bytes: Vec<u8>) -> Result<String, WordsFault> {
+    let bytes = match String::from_utf8(bytes) {
+        Ok(text) => return Ok(text),
+        Err(fault) => fault.into_bytes(),
+    };
+    let command = match before.first() {
+        Some(name) => name.as_str(),
+        None => "dtools",
+    };
+    if names_services(command) && !bytes.starts_with(b"-") {
+        return Ok(missing_name(rt.alloc(), &bytes)?);
+    }
+    Err(WordsFault::NoText(refusal(rt.alloc(), command, &bytes)?))
+}
+
+/// Whether the words of a command, but for its options, name services.
+fn names_services(command: &str) -> bool {
+    matches!(
+        Command::named(command),
+        Some(Command::Svc | Command::Svstat | Command::Svok | Command::Wait | Command::Why)
+    )
+}
+
+/// The digit of a number below 16.
+fn digit(number: u8) -> char {
+    char::from_digit(u32::from(number), 16).unwrap_or('?')
+}
+
+/// Writes bytes at the end of a text: what is no UTF-8 as `\x` and two hexadecimal digits a byte.
+fn push_escaped<A: Allocator>(out: &mut String<A>, bytes: &[u8]) -> Result<(), AllocError> {
+    for chunk in bytes.utf8_chunks() {
+        out.push_str(chunk.valid())?;
+        for byte in chunk.invalid() {
+            out.push_str("\\x")?;
+            out.push(digit(*byte >> 4))?;
+            out.push(digit(*byte & 15))?;
+        }
+    }
+    Ok(())
+}
+
+/// A name that no file has, since it has a zero byte at its end: a word that is no text, escaped.
+fn missing_name<A: Allocator>(alloc: A, bytes: &[u8]) -> Result<String<A>, AllocError>
+    ensures { IfOk result (λ name. EndsWithZero (string_bytes name)) }
+{
+    let mut name = String::new(alloc);
+    push_escaped(&mut name, bytes)?;
+    name.push('\0')?;
+    Ok(name)
+}
+
+/// The line that says of a word that it is no text, after the name of the command.
+fn refusal<A: Allocator>(alloc: A, command: &str, bytes: &[u8]) -> Result<String<A>, AllocError> {
+    let mut line = String::from_str(alloc, command)?;
+    line.push_str(": ")?;
+    push_escaped(&mut line, bytes)?;
+    line.push_str(": no text\n")?;
+    Ok(line)
+}
