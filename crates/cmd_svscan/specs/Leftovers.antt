@@ -9,6 +9,7 @@ use Rattle.svc_host.specs.Outputs.{CountsLost}
 use Rattle.svc_host.specs.Parts.{GoOn, HostPart, IsReading, running_ids}
 use Rattle.svc_host.specs.Rounds.{HostState}
 use Rattle.svscan_rounds.specs.declared.service_set.Remaining.{Remaining}
+use Rattle.svscan_rounds.specs.declared.service_set.Unfinished.TheVariants.{Bytes}
 use Rattle.svscan_rounds.specs.declared.service_set.Unlogged.{Unlogged}
 use Rattle.cmd_svscan.specs.Losses.{name_at, shown_name}
 
@@ -44,7 +45,7 @@ Lost = ℕ × ℕ
 
 -- the service by name, and how many bytes
 abbrev pub unlogged_of : List SlotState → Lost → Unlogged
-unlogged_of slots one = record { name = name_at slots one.0; count = one.1 }
+unlogged_of slots one = record { name = name_at slots one.0; what = Bytes one.1 }
 
 -- the bytes that were not logged, by the services that lost any
 abbrev pub unlogged_in : List SlotState → List Lost → List Unlogged

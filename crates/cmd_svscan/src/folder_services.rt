@@ -4,9 +4,9 @@ ghost use Rattle.cmd_svscan.specs.Requests.{IsReplyTo};
 
 use crate::limits::allowed_descriptors;
 use crate::listing::{FolderNames, has_names, list_names, list_rows};
-use crate::losses::{remaining, take_losses, unlogged, unmade_in};
+use crate::losses::{add_unwritten, remaining, take_losses, unlogged, unmade_in};
 use crate::own_status::own_status;
-use cmd_base::{Cause, SystemClock};
+use cmd_base::SystemClock;
 use scan_table::{DirRow, ScanFault};
 use std::alloc::Global;
 use std::fs::Files;
@@ -15,7 +15,7 @@ use std::process::{Processes, SystemProcess};
 use std::sync::Wait;
 use std::thread::Threads;
 use std::time::{Clock, Duration};
-use std::{io, process, thread};
+use std::{fs, io, process, thread};
 use svc_door::Door;
 use svc_host::{Host, HostOut, Maker};
 use svc_house::{Inbox, MailInbox};
@@ -24,7 +24,7 @@ use svc_world::{AdoptionWatch, FolderFault};
 use svscan_rounds::{
     Begun, ListFault, Listing, Remaining, RoundOut, ServiceSet, Unlogged, needed_names, shortage,
 };
-use tai_status::{Names, TimeSource, encode_full};
+use tai_status::{Cause, Names, TimeSource, encode_full};
 
 /// How long it rests between two rounds, in seconds, and how long one look at the end of all services takes.
 const REST_SECONDS: u64 = 5;
@@ -203,6 +203,9 @@ fn scan<M: FolderHolder + Drop, R: Threads + Wait + Clock + Copy + Drop + Send +
     if host.ask_maker(|maker| maker.set_folder(folder)).is_err() {
         return Err(ScanFault::OutOfMemory);
     }
+    // The limit may have been raised since.
+    let allowed = allowed_descriptors();
+    host.ask_maker(|maker| maker.set_allowed(allowed));
     host.ask_maker(|maker| maker.prepare(rows));
     let label = SystemClock::new(rt).now();
     let HostOut { scan, mut failed } = host.scan(rows, label)?;
@@ -274,7 +277,8 @@ fn end<M: Maker + Drop, R: Threads + Wait + Clock + Copy + Drop + Send + 'static
     Some(remaining(alloc, host).unwrap_or(Vec::new(alloc)))
 }
 
-/// The services are left, once what was read of their outputs is with their loggers, or five seconds are over.
+/// The services are left, once what was read of their outputs is with their loggers and their records are written, or
+/// five seconds are over.
 fn leave<M: FolderHolder + Drop, R: Threads + Wait + Clock + Copy + Drop + Send + 'static>(
     rt: R,
     alloc: Global,
@@ -282,14 +286,16 @@ fn leave<M: FolderHolder + Drop, R: Threads + Wait + Clock + Copy + Drop + Send 
 ) -> Vec<Unlogged> {
     let begin = rt.monotonic().ok();
     for _ in rt.forever() {
-        if host.end_outputs() || left(&rt, begin.unwrap_or(Duration::ZERO)).is_none() {
+        let may_leave = host.end_outputs() && !host.any_owes();
+        if may_leave || left(&rt, begin.unwrap_or(Duration::ZERO)).is_none() {
             break;
         }
         host.rest(Duration::from_millis(STEP_MILLIS));
     }
-    let all = match unlogged(&rt, alloc, host) {
+    let mut all = match unlogged(&rt, alloc, host) {
         Ok(all) | Err(all) => all,
     };
+    let _ = add_unwritten(alloc, host, &mut all);
     host.collect();
     host.keep_traces();
     let record = own_record(rt, 0);
@@ -328,7 +334,7 @@ where
 {
     let door = Door::open(&rt, alloc)?;
     let adoptions = AdoptionWatch::open(&rt, alloc)?;
-    let system = SystemParts::new(rt, files, alloc, door, adoptions, allowed_descriptors())?;
+    let system = SystemParts::new(rt, files, alloc, door, adoptions)?;
     Ok(Running {
         host: Host::new(rt, alloc, FolderMaker::new(alloc, system), MAIL, TRACE)?,
         inbox: None,
@@ -368,28 +374,47 @@ fn begin<M: FolderHolder + Drop, R: Threads + Wait + Clock + Copy + Drop + Send 
     }
 }
 
-/// Makes the host, where there is none and it can be made.
-fn open<R>(rt: R, files: HostRuntime, alloc: Global, running: &mut Option<SystemHost<R>>)
+/// Makes the host, if there is none, or says why it can't be made.
+fn open<R>(
+    rt: R,
+    files: HostRuntime,
+    alloc: Global,
+    running: &mut Option<SystemHost<R>>,
+) -> Result<(), Cause>
 where
     R: Files + Net + Processes<Started = SystemProcess>,
     R: Threads + Wait + Clock + Copy + Send + Sync + Drop + 'static,
 {
     if running.is_none() {
-        *running = open_host(rt, files, alloc).ok();
+        *running = Some(open_host(rt, files, alloc)?);
     }
+    Ok(())
 }
 
-/// Has svscan itself served in a folder, where there is a host.
-fn try_begin<M: FolderHolder + Drop, R: Threads + Wait + Clock + Copy + Drop + Send + 'static>(
+/// Whether the folder of the services can be read, or why not.
+fn read_folder<R: Files>(rt: &R, alloc: Global, folder: &str) -> Result<(), Cause> {
+    drop(fs::read_dir(&(rt, &alloc), folder)?);
+    Ok(())
+}
+
+/// Has svscan itself served in a folder that can be read, if there is a host.
+fn try_begin<M, R>(
     rt: R,
     files: HostRuntime,
     alloc: Global,
     running: &mut Option<Running<M, R>>,
     folder: &str,
-) -> Begun {
+) -> Begun
+where
+    M: FolderHolder + Drop,
+    R: Files + Threads + Wait + Clock + Copy + Drop + Send + 'static,
+{
+    if let Err(cause) = read_folder(&rt, alloc, folder) {
+        return Begun::Unread(cause);
+    }
     match running {
         Some(running) => begin(rt, files, alloc, running, folder),
-        None => Begun::Unserved(Cause::NoMemory),
+        None => Begun::Refused(Cause::NoMemory),
     }
 }
 
@@ -462,8 +487,8 @@ where
     }
 }
 
-/// Does what is requested. The host is made at the beginning, or where that fails at the first listing for which it can
-/// be.
+/// Does what is requested. The host is made at the beginning; if that fails svscan is refused, and why. Without a beginning
+/// it is made at the first listing for which it can be.
 pub fn handle<R>(
     rt: R,
     files: HostRuntime,
@@ -476,8 +501,14 @@ where
     R: Threads + Wait + Clock + Copy + Send + Sync + Drop + 'static,
     ensures { IsReplyTo request result }
 {
-    if let Request::Begin(_) | Request::List(_) = &request {
-        open(rt, files, alloc, running);
+    if let Request::Begin(_) = &request {
+        if let Err(cause) = open(rt, files, alloc, running) {
+            return Reply::Begun(Begun::Refused(cause));
+        }
+    }
+    // For want of memory there may have been no beginning.
+    if let Request::List(_) = &request {
+        let _ = open(rt, files, alloc, running);
     }
     reply_to(rt, files, alloc, running, request)
 }

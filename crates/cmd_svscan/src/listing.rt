@@ -10,7 +10,7 @@ use std::fs::{DirEntry, Files};
 use std::os::unix::fs::MetadataExt;
 use std::{fs, io};
 use svscan_rounds::{Folder, ListFault, rows_of};
-use tai_status::Label;
+use tai_status::{Cause, Label};
 
 /// A folder on this system, by its path.
 #[derive(Drop)]
@@ -50,7 +50,7 @@ impl<'a, R: Files> Folder for SystemFolder<'a, R> {
 fn fault_of(fault: &io::Error) -> ListFault {
     match fault.kind() {
         io::ErrorKind::OutOfMemory => ListFault::OutOfMemory,
-        _ => ListFault::Unlisted,
+        _ => ListFault::Unlisted(Cause::of(fault)),
     }
 }
 

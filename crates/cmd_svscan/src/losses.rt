@@ -13,7 +13,7 @@ use std::thread::Threads;
 use std::time::Clock;
 use svc_host::{Host, Loss, Maker};
 use svc_maker::part_name;
-use svscan_rounds::{Remaining, Unlogged, Unmade, Untaken};
+use svscan_rounds::{Remaining, Unfinished, Unlogged, Unmade, Untaken};
 use tai_status::{Name, Names, View};
 
 /// The name of the service in a slot: nothing, where there is none.
@@ -224,7 +224,8 @@ fn unlogged_in<M: Maker + Drop, R: Threads + Wait + Clock + Copy + Drop + Send +
                 return Err(all);
             }
             let name = Name::new(name);
-            all.push_reserved(Unlogged { name, count });
+            let what = Unfinished::Bytes(count);
+            all.push_reserved(Unlogged { name, what });
         }
     }
     Ok(all)
@@ -241,4 +242,19 @@ pub(crate) fn unlogged<M: Maker + Drop, R: Threads + Wait + Clock + Copy + Drop 
 {
     let lost = take_all_lost(rt, alloc, host);
     unlogged_in(alloc, host, &lost)
+}
+
+/// Adds the parts whose records could not be written: all, or as many as there is memory for.
+pub(crate) fn add_unwritten<
+    M: Maker + Drop,
+    R: Threads + Wait + Clock + Copy + Drop + Send + 'static,
+>(alloc: Global, host: &Host<M, R>, all: &mut Vec<Unlogged>) -> Result<(), AllocError>
+    ensures { IsPrefix all.old.items all.new.items }
+{
+    for part in &host.owing_parts()? {
+        let name = shown_name(alloc, host, *part)?;
+        let what = Unfinished::Records;
+        all.push(Unlogged { name, what })?;
+    }
+    Ok(())
 }

@@ -1,2 +1,9 @@
 pub mod Scanning
 pub mod Publishing
+pub mod Lists
+pub mod Telling
+pub mod Moving
+pub mod Running
+pub mod Scanned
+pub mod ScanFollows
+pub mod Apart

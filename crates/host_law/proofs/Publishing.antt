@@ -26,15 +26,15 @@ use Rattle.host_law.specs.Alike.{PartsPublishAlike, answers_along, at_part}
 
 -- One event that a part takes
 
-trace_there : (parts : List PartState) (part : PartId) (event : Event) (kept : Kept) → trace_of parts part ≡ Some kept
+pub trace_there : (parts : List PartState) (part : PartId) (event : Event) (kept : Kept) → trace_of parts part ≡ Some kept
     → trace_of (parts_after part event parts) part ≡ Some (noted_if_taken kept event)
 trace_there parts part event kept there =
     trace_of-after parts part part event ∙ rw (there, is_part-self part) refl
 
-took : (past : History) (event : Event) → takes past event ≡ true → reply_to past event ≡ Took (asks_of past event)
+pub took : (past : History) (event : Event) → takes past event ≡ true → reply_to past event ≡ Took (asks_of past event)
 took past event taken = rw taken refl
 
-replays : (past : History) (kept : Kept) (event : Event) → replay kept ≡ state_of past → takes past event ≡ true
+pub replays : (past : History) (kept : Kept) (event : Event) → replay kept ≡ state_of past → takes past event ≡ true
     → replay (noted_if_taken kept event) ≡ state_of (Then past event)
 replays past kept event same taken =
     replay-noted_if_taken kept event ∙ next-state (history_of kept) past event same
@@ -50,7 +50,7 @@ answered part past kept event same taken =
     rw (reply, state) refl
 
 -- Where a part is gone, it takes nothing more.
-is_gone-gone : (p : Phase) → is_gone p ≡ true → p ≡ phase.Gone
+pub is_gone-gone : (p : Phase) → is_gone p ≡ true → p ≡ phase.Gone
 is_gone-gone phase.Gone is = refl
 is_gone-gone phase.Starting is = cc is
 is_gone-gone phase.Settling is = cc is
@@ -58,7 +58,7 @@ is_gone-gone phase.Resting is = cc is
 is_gone-gone phase.Up is = cc is
 is_gone-gone phase.Down is = cc is
 
-nothing_more : (past : History) (events : List Event) → is_gone (phase_of past) ≡ true → AreTaken past events
+pub nothing_more : (past : History) (events : List Event) → is_gone (phase_of past) ≡ true → AreTaken past events
     → events ≡ []
 nothing_more past [] gone taken = refl
 nothing_more past (event ∷ events) gone taken =
@@ -75,7 +75,7 @@ record Along (A : Type 0) (suite : SuiteState) (part : PartId) (past : History) 
   table : (suite_along suite (at_part {A = A} part events)).table
       ≡ (if is_gone (phase_of (followed_by past events)) then after_end suite.table part else suite.table)
 
-reported : (suite : SuiteState) (part : PartId) (past : History) (kept : Kept) (event : Event)
+pub reported : (suite : SuiteState) (part : PartId) (past : History) (kept : Kept) (event : Event)
     → trace_of suite.parts part ≡ Some kept
     → replay kept ≡ state_of past → takes past event ≡ true
     → (suite_at suite part event).table

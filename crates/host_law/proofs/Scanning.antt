@@ -41,7 +41,7 @@ neither : (a b : Bool) → (not a && not b) ≡ not (a || b)
 neither true b = refl
 neither false b = refl
 
-stays-not : (suite : SuiteState) (rows : List Row) (part : PartId)
+pub stays-not : (suite : SuiteState) (rows : List Row) (part : PartId)
     → stays (drops suite.table.slots rows) (restarts suite.table.slots suite.table.next rows) part
     ≡ not (is_taken_away suite rows part)
 stays-not suite rows part =
@@ -49,7 +49,7 @@ stays-not suite rows part =
     (neither (list_any (λ slot. part.slot == slot) (drops suite.table.slots rows))
     (list_any (λ (new : PartId). is_place new part) (restarts suite.table.slots suite.table.next rows)))
 
-filtered : (f g : HostPart → Bool) (parts : List HostPart) → ((part : HostPart) → f part ≡ g part)
+pub filtered : (f g : HostPart → Bool) (parts : List HostPart) → ((part : HostPart) → f part ≡ g part)
     → filter f parts ≡ filter g parts
 filtered f g [] alike = refl
 filtered f g (part ∷ parts) alike = rw (alike part, filtered f g parts alike) refl
@@ -77,7 +77,7 @@ its_parts : (slots : List SlotState) (rows : List Row) (parts : List PartId)
 its_parts slots rows [] = refl
 its_parts slots rows (part ∷ parts) = ap (λ (ps : List PartId). part ∷ ps) (its_parts slots rows parts)
 
-joined : (slots : List SlotState) (rows : List Row) (xs ys : List PartId)
+pub joined : (slots : List SlotState) (rows : List Row) (xs ys : List PartId)
     → map part_of (map (beginning slots rows) xs ++ map (beginning slots rows) ys) ≡ xs ++ ys
 joined slots rows [] ys = its_parts slots rows ys
 joined slots rows (x ∷ xs) ys = ap (λ (ps : List PartId). x ∷ ps) (joined slots rows xs ys)

@@ -1,5 +1,6 @@
 //! The law of host and suite. Each function here does nothing: its contract is the law.
 ghost use Rattle.host_law.specs.Alike.{PartsPublishAlike, ScansAreAlike};
+ghost use Rattle.host_law.specs.Whole.{RunsAreOfSuites};
 
 use std::alloc::Allocator;
 
@@ -15,4 +16,9 @@ pub fn scans_are_alike()
 /// reported of its end exactly where the part is gone.
 pub fn parts_publish_alike<A: Allocator>()
     ensures { PartsPublishAlike A }
+{}
+
+/// A whole run of a host is a run of each suite that stands for it.
+pub fn runs_are_of_suites<A: Allocator>()
+    ensures { RunsAreOfSuites A }
 {}

@@ -6,7 +6,7 @@ use std::io;
 use std::io::Read;
 use std::sync::atomic::{AtomicBool, AtomicU64, Ordering};
 use std::sync::{Arc, Wait};
-use std::time::Clock;
+use std::time::{Clock, Duration};
 use sup_core::Sig;
 use svc_host::{Outlets, Reaper};
 use svc_house::{News, Notifier, StartAnswer, World};
@@ -78,6 +78,12 @@ impl World for Actor {
 
     fn clock(&mut self) -> Label {
         self.clock
+    }
+
+    fn mend(&mut self) {}
+
+    fn longest_rest(&self) -> Option<Duration> {
+        None
     }
 }
 

@@ -7,6 +7,8 @@ mod actor;
 #[cfg(test)]
 mod cast;
 #[cfg(test)]
+mod leftovers;
+#[cfg(test)]
 mod meeting;
 #[cfg(test)]
 mod threads;

@@ -1,7 +1,7 @@
 pub mod Names
 pub mod Traces
-mod Tied
-mod Runs
+pub mod Tied
+pub mod Runs
 mod Placed
 mod Begun
-mod Begins
+pub mod Begins

@@ -4,3 +4,4 @@ pub mod Connection
 pub mod Dues
 pub mod Slots
 pub mod Looks
+pub mod Turns

@@ -4,6 +4,7 @@ use crate::connection::Connection;
 use crate::rests::{after_refusal, sooner};
 use mio::net::{UnixListener, UnixStream};
 use mio::{Interest, Registry, Token};
+use std::io;
 use std::sync::Wait;
 
 /// The most connections to `ok` that one turn accepts.
@@ -23,8 +24,10 @@ pub struct Part<P: ByteSink> {
 }
 
 impl<P: ByteSink + Drop> Part<P> {
-    ghost use Rattle.std.specs.Prelude.{◌≡◌, ◌↔◌, ◌≤◌, IsTrue, IsNone, IsSome, IsSomeAnd, Some};
+    ghost use Rattle.std.specs.Prelude.{◌≡◌, ◌↔◌, ◌≤◌, IsTrue, IsNone, IsSome, IsSomeAnd, Some, None, OnOk, OnErr};
+    ghost use Rattle.svc_door.specs.Connection.{ConnectionState};
     ghost use Rattle.svc_door.specs.Looks.{LooksAgainAt, HasClosed};
+    ghost use Rattle.svc_door.specs.Turns.{GoesOnWith, Greets, HasTurn, Serves, TakesTurn};
 
     /// A part with no connection.
     pub fn new(number: u64, sink: P, control: UnixListener, ok: UnixListener) -> Part<P>
@@ -41,7 +44,7 @@ impl<P: ByteSink + Drop> Part<P> {
     }
 
     /// Has the registry watch both listeners.
-    pub fn register(&mut self, registry: &Registry, token: Token) -> std::io::Result<()>
+    pub fn register(&mut self, registry: &Registry, token: Token) -> io::Result<()>
         ensures number { self.new.number ≡ self.old.number }
         ensures sink { self.new.sink ≡ self.old.sink }
     {
@@ -74,13 +77,18 @@ impl<P: ByteSink + Drop> Part<P> {
         ensures due { IsSome self.new.connection → IsSome self.new.due }
         ensures next { HasClosed self.old.connection self.new.connection
             → IsSomeAnd self.new.due (λ due. due ≤ now) }
+        ensures takes { TakesTurn (P.accepted self.old.sink) (P.accepted self.new.sink) now
+            self.old.connection self.new.connection self.new.due }
+        ensures number { self.new.number ≡ self.old.number }
     {
         let greeted = self.greet(now);
         let served = self.serve(rt, registry, token, now);
         self.due = sooner(greeted, served);
     }
 
-    fn greet(&self, now: u64) -> Option<u64> {
+    fn greet(&self, now: u64) -> Option<u64>
+        ensures { Greets now result }
+    {
         for _ in 0..GREETED {
             match self.ok.accept() {
                 Ok(_source) => {}
@@ -93,17 +101,37 @@ impl<P: ByteSink + Drop> Part<P> {
     fn serve<R: Wait>(&mut self, rt: &R, registry: &Registry, token: Token, now: u64) -> Option<u64>
         ensures due { IsSome self.new.connection → IsSome result }
         ensures next { HasClosed self.old.connection self.new.connection → result ≡ Some now }
+        ensures serves { Serves (P.accepted self.old.sink) (P.accepted self.new.sink) now
+            self.old.connection self.new.connection result }
+        ensures number { self.new.number ≡ self.old.number }
     {
-        if self.connection.is_none() {
-            match self.control.accept() {
-                Ok((stream, _)) => self.begin(stream, registry, token, now),
-                Err(fault) => return after_refusal(&fault, now),
-            }
+        match self.connect(registry, token, now) {
+            Ok(()) => Some(self.hear(rt, now)),
+            Err(fault) => after_refusal(&fault, now),
         }
-        Some(self.hear(rt, now))
     }
 
-    fn begin(&mut self, mut stream: UnixStream, registry: &Registry, token: Token, now: u64) {
+    // Has a connection to go on with: the one that there is, or the next one that comes.
+    fn connect(&mut self, registry: &Registry, token: Token, now: u64) -> io::Result<()>
+        ensures with_one { OnOk result ((connection : ConnectionState)
+            × (self.new.connection ≡ Some connection) × GoesOnWith now self.old.connection connection) }
+        ensures none { OnErr result ((self.old.connection ≡ None) × (self.new.connection ≡ None)) }
+        ensures sink { self.new.sink ≡ self.old.sink }
+        ensures number { self.new.number ≡ self.old.number }
+    {
+        if self.connection.is_none() {
+            let (stream, _) = self.control.accept()?;
+            self.begin(stream, registry, token, now);
+        }
+        Ok(())
+    }
+
+    fn begin(&mut self, mut stream: UnixStream, registry: &Registry, token: Token, now: u64)
+        ensures begins { (connection : ConnectionState)
+            × (self.new.connection ≡ Some connection) × GoesOnWith now None connection }
+        ensures sink { self.new.sink ≡ self.old.sink }
+        ensures number { self.new.number ≡ self.old.number }
+    {
         let watched = registry
             .register(&mut stream, token, Interest::READABLE)
             .is_ok();
@@ -114,6 +142,9 @@ impl<P: ByteSink + Drop> Part<P> {
     fn hear<R: Wait>(&mut self, rt: &R, now: u64) -> u64
         ensures over { IsNone self.new.connection → result ≡ now }
         ensures looks { LooksAgainAt self.old.connection self.new.connection now result }
+        ensures hears { (old : ConnectionState) → self.old.connection ≡ Some old
+            → HasTurn (P.accepted self.old.sink) (P.accepted self.new.sink) now old self.new.connection result }
+        ensures number { self.new.number ≡ self.old.number }
     {
         let Some(connection) = &mut self.connection else {
             return now;

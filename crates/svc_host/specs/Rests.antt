@@ -1,5 +1,5 @@
 -- How long a thread rests, and how long was waited.
-use Rattle.std.specs.Prelude.{ℕ, ◌+◌, ◌-◌, ◌*◌, ◌/◌, ◌^◌, min}
+use Rattle.std.specs.Prelude.{ℕ, ◌+◌, ◌-◌, ◌*◌, ◌/◌, ◌^◌, min, Option, Some, None}
 use Rattle.core.specs.declared.time.Duration.{Duration}
 use Rattle.core.specs.Duration.{as_nanos}
 use Rattle.tai_status.specs.Label.{Tai64n}
@@ -15,3 +15,10 @@ rest_before now until = min (nanoseconds until - nanoseconds now) (10 ^ 9)
 -- the milliseconds from one reading of the running clock to another, at most 2^64 - 1
 abbrev pub waited : (begin now : Duration) → ℕ
 waited begin now = min ((as_nanos now - as_nanos begin) / 10 ^ 6) (2 ^ 64 - 1)
+
+-- the shorter of two rests, of which None has no end
+abbrev pub shorter : (one other : Option ℕ) → Option ℕ
+shorter None None = None
+shorter None (Some rest) = Some rest
+shorter (Some rest) None = Some rest
+shorter (Some one) (Some other) = Some (min one other)

@@ -14,7 +14,9 @@ use Rattle.svc_host.specs.declared.host.Begun.{Begun}
 use Rattle.svc_host.specs.declared.host.HostOut.{HostOut}
 use Rattle.svc_host.specs.declared.host.Unmade.{Unmade}
 use Rattle.svc_house.specs.Calls.{ExtendedWhileKept}
-use Rattle.svc_host.specs.Parts.{HostPart, GoOn, IsPart, stays}
+use Rattle.svc_host.specs.Parts.{HostPart, GoOn, IsJoined, IsPart, PartGoesOn, history_of, stays}
+use Rattle.sup_core.specs.History.{phase_of}
+use Rattle.tai_status.specs.declared.phase.Phase.TheVariants as phase
 use Rattle.svc_host.specs.Begun.{Begins}
 use Rattle.svc_host.specs.Calls.{Call, ForgotSlot, HandsOut, HandsOutNone}
 
@@ -37,12 +39,28 @@ unmade_ids failed = map (λ (unmade : Unmade). unmade.part) failed
 abbrev pub Ran : List HostPart → PartId → Type 0
 Ran parts id = (part : HostPart) × IsPart id parts part × (part.has_ended ≡ false)
 
+-- Its thread was joined: it ran, and is gone with its whole history, and what it left in its mailbox is noted.
+pub record IsReaped (old new : HostPart) : Type 0 where
+  pub goes_on : PartGoesOn old new
+  pub ran : old.has_ended ≡ false
+  pub joined : IsJoined new
+  pub gone : phase_of (history_of new) ≡ phase.Gone
+
+-- Each of these parts is as it was, or its thread was joined, and these are those, in order.
+abbrev pub AreReaped : (joined : List PartId) → (olds news : List HostPart) → Type 0
+AreReaped joined [] [] = joined ≡ []
+AreReaped joined (old ∷ olds) (new ∷ news) =
+    ((new ≡ old) × AreReaped joined olds news)
+    ⊎ ((rest : List PartId) × (joined ≡ old.id ∷ rest) × IsReaped old new × AreReaped rest olds news)
+AreReaped joined olds news = ⊥
+
 -- Threads were joined, of parts that ran: the table notes that these have ended, and what each had is given back, once.
 pub record AreCollected (old new : HostState) : Type 0 where
   pub joined : List PartId
   pub ran : All (Ran old.parts) joined
   pub table : new.table ≡ after_ends joined old.table
   pub parts : GoOn old.parts new.parts
+  pub each : AreReaped joined old.parts new.parts
   pub returned : HandsOut old.calls new.calls [] joined
 
 -- what a scan of a table answers

@@ -17,7 +17,6 @@ use crate::part::Part;
 use crate::running::{Running, end};
 use crate::service::{Beginning, Task};
 use crate::shared::Activity;
-use cmd_base::Cause;
 use scan_table::{DirRow, PartId, Role, ScanTable, find_row};
 use std::alloc::Global;
 use std::io;
@@ -26,7 +25,7 @@ use std::thread::{Builder, Threads};
 use std::time::Clock;
 use svc_house::Notifier;
 use svc_station::parked::Parked;
-use tai_status::Label;
+use tai_status::{Cause, Label};
 
 /// How much room each part gets.
 #[derive(Clone, Copy)]

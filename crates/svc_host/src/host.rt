@@ -7,7 +7,7 @@ ghost use Rattle.scan_table.specs.Table.{scanned};
 ghost use Rattle.svc_host.specs.Calls.{GivesBack, HandsOutNone};
 ghost use Rattle.svc_host.specs.Ending.{EndSteps, IsEndStep};
 ghost use Rattle.svc_host.specs.Outputs.{EndsInput, EndsOutput};
-ghost use Rattle.svc_host.specs.Parts.{GoOn, HostPart, IsJoined, IsStep, PartGoesOn};
+ghost use Rattle.svc_host.specs.Parts.{GoOn, HostPart, IsGoneIfEnded, IsJoined, IsStep, PartGoesOn};
 ghost use Rattle.svc_host.specs.Rounds.{BeginsAll, BeginsOne, Forgets, IsScan, after_ends, staying, unmade_ids};
 
 use crate::ending::{lives, may_leave};
@@ -16,7 +16,8 @@ use crate::factory::{PartFactory, Rooms};
 use crate::maker::{Maker, PartFault};
 use crate::part::{Loss, Part};
 use crate::parts::{
-    forget_losses, losses, post_to, running, running_ids, service_runs, sight_at, status_of, stays,
+    any_owes, forget_losses, losses, owing_ids, post_to, running, running_ids, service_runs,
+    sight_at, status_of, stays,
 };
 use crate::shared::Activity;
 use scan_table::{DirRow, PartId, Role, ScanFault, ScanOut, ScanTable};
@@ -214,6 +215,7 @@ fn join_part<M: Maker + Drop, R: Threads + Wait + Clock + Copy + Drop + Send + '
 )
     ensures same { PartGoesOn part.old part.new }
     ensures joined { IsJoined part.new }
+    ensures gone { IsGoneIfEnded part.new }
     ensures gives_back { GivesBack part.old part.new (M.calls factory.old.maker) (M.calls factory.new.maker) }
 {
     part.join(&factory.rt, factory.alloc);
@@ -325,7 +327,8 @@ impl<M: Maker + Drop, R: Threads + Wait + Clock + Copy + Drop + Send + 'static> 
     ghost use Rattle.std.specs.Prelude.{length, map, option_copied, option_map, slice_index_or};
     ghost use Rattle.scan_table.specs.Table.{after_end, name_of, new_table, slot_at};
     ghost use Rattle.svc_host.specs.Ending.{EndsAll};
-    ghost use Rattle.svc_host.specs.Parts.{GoOn, HostPart, IsFullAt, IsJoined, IsNowhere, IsPost, IsReading, IsStep};
+    ghost use Rattle.svc_host.specs.Parts.{GoOn, HostPart, IsFullAt, IsGoneIfEnded, IsJoined};
+    ghost use Rattle.svc_host.specs.Parts.{IsNowhere, IsPost, IsReading, IsStep};
     ghost use Rattle.svc_host.specs.Parts.{count_running, losses_in, running_ids, without_loss};
     ghost use Rattle.svc_host.specs.Calls.{HandsOut, HandsOutNone, returned_by};
     ghost use Rattle.svc_host.specs.Outputs.{CountsLost};
@@ -431,6 +434,7 @@ impl<M: Maker + Drop, R: Threads + Wait + Clock + Copy + Drop + Send + 'static> 
         ensures ran { result ≡ true → (d : HostPart) → (slice_index_or self.old.parts place d).has_ended ≡ false }
         ensures joined { result ≡ true → (d : HostPart) → IsJoined (slice_index_or self.new.parts place d) }
         ensures same { result ≡ false → self.new.parts ≡ self.old.parts }
+        ensures gone { result ≡ true → (d : HostPart) → IsGoneIfEnded (slice_index_or self.new.parts place d) }
         ensures returned { (d : HostPart) → HandsOut self.old.calls self.new.calls []
             (returned_by result (slice_index_or self.old.parts place d).id) }
     {
@@ -540,6 +544,16 @@ impl<M: Maker + Drop, R: Threads + Wait + Clock + Copy + Drop + Send + 'static> 
         ensures { IfOk result (λ ids. ids.items ≡ running_ids self.now.parts) }
     {
         running_ids(self.factory.alloc, &self.parts)
+    }
+
+    /// Whether any part runs and owes what it could not write.
+    pub fn any_owes(&self) -> bool {
+        any_owes(&self.parts)
+    }
+
+    /// The parts that run and owe what they could not write.
+    pub fn owing_parts(&self) -> Result<Vec<PartId>, AllocError> {
+        owing_ids(self.factory.alloc, &self.parts)
     }
 
     /// Goes on with the end of all services, in order, by what is next for each part. Answers how many parts still run.

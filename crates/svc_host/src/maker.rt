@@ -1,5 +1,4 @@
 //! The resources of the parts of services.
-use cmd_base::Cause;
 use scan_table::PartId;
 use std::alloc::{AllocError, Global};
 use std::io::Read;
@@ -8,6 +7,7 @@ use std::time::Clock;
 use svc_house::{ControlSender, Gate, Notifier, World};
 use svc_left::Opening;
 use svc_relay::outlet::Outlet;
+use tai_status::Cause;
 
 /// Why a part was not made.
 #[derive(Clone, Copy, Debug, PartialEq, Eq)]

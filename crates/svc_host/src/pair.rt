@@ -10,7 +10,6 @@ use crate::growing_reader::GrowingReader;
 use crate::maker::{Maker, Outlets, PartFault};
 use crate::rest::waited;
 use crate::shared::PairShared;
-use cmd_base::Cause;
 use core::thread::Anything;
 use std::alloc::Global;
 use std::io::Read;
@@ -25,7 +24,7 @@ use svc_relay::outlet::Outlet;
 use svc_relay::piece::Piece;
 use svc_relay::relay::Relay;
 use svc_relay::turn::{IntakeTurn, RelayTurn};
-use tai_status::Input;
+use tai_status::{Cause, Input};
 
 /// The room of a stack: a relay gathers 32 KiB in it.
 const STACK: usize = 256 * 1024;

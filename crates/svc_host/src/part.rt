@@ -133,6 +133,11 @@ impl<R: Threads + Wait + Clock + Copy + Drop + Send + 'static> Part<R> {
         self.id
     }
 
+    /// Whether it runs and owes what it could not write.
+    pub(crate) fn owes(&self) -> bool {
+        self.thread.owes()
+    }
+
     /// Whether its thread was joined.
     pub(crate) fn has_ended(&self) -> bool
         ensures { result ≡ self.now.has_ended }
@@ -289,6 +294,7 @@ impl<R: Threads + Wait + Clock + Copy + Drop + Send + 'static> Part<R> {
         ensures ended { self.new.has_ended ≡ self.old.has_ended }
         ensures trace { self.new.loss.lacks_trace ≡ not has_trace }
         ensures untaken { self.new.loss.untaken ≡ self.new.untaken }
+        ensures gone { self.new.has_ended ≡ true → phase_of (history_of self.new) ≡ Phase.Gone }
     {
         self.loss = Loss {
             untaken: self.thread.drain(rt, most),

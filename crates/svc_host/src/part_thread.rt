@@ -195,10 +195,19 @@ impl<R: Threads + Wait + Clock + Copy + Drop + Send + 'static> PartThread<R> {
         }
     }
 
+    /// Whether the service runs and owes what it could not write.
+    pub(crate) fn owes(&self) -> bool {
+        match self {
+            PartThread::Runs(running) => running.shared.owes(),
+            PartThread::Ended(_) => false,
+        }
+    }
+
     // Joins the thread, where it was not joined.
     fn joined(self, rt: &R, alloc: Global) -> (PartThread<R>, ())
         ensures same { IsSameThread self result.0 }
         ensures ended { is_ended result.0 ≡ true }
+        ensures gone { phase_of (history_at (reader_at result.0)) ≡ Phase.Gone }
     {
         match self {
             PartThread::Runs(running) => (PartThread::Ended(running.join(rt, alloc)), ()),
@@ -210,6 +219,7 @@ impl<R: Threads + Wait + Clock + Copy + Drop + Send + 'static> PartThread<R> {
     pub(crate) fn join(&mut self, rt: &R, alloc: Global)
         ensures same { IsSameThread self.old self.new }
         ensures ended { is_ended self.new ≡ true }
+        ensures gone { phase_of (history_at (reader_at self.new)) ≡ Phase.Gone }
     {
         replace_with(self, rt, |thread, rt| thread.joined(rt, alloc))
     }
@@ -269,6 +279,7 @@ impl<R: Threads + Wait + Clock + Copy + Drop + Send + 'static> PartThread<R> {
         ensures same { IsSameThread self.old self.new }
         ensures ended { is_ended self.new ≡ is_ended self.old }
         ensures untaken { result ≡ untaken_at self.new }
+        ensures gone { is_ended self.new ≡ true → phase_of (history_at (reader_at self.new)) ≡ Phase.Gone }
     {
         match self {
             PartThread::Runs(_) => 0,

@@ -197,6 +197,27 @@ pub(crate) fn running_ids<R: Threads + Wait + Clock + Copy + Drop + Send + 'stat
     Ok(ids)
 }
 
+/// The parts that run and owe what they could not write.
+pub(crate) fn owing_ids<R: Threads + Wait + Clock + Copy + Drop + Send + 'static>(
+    alloc: Global,
+    parts: &[Part<R>],
+) -> Result<Vec<PartId>, AllocError> {
+    let mut ids = Vec::new(alloc);
+    for part in parts {
+        if part.owes() {
+            ids.push(part.id())?;
+        }
+    }
+    Ok(ids)
+}
+
+/// Whether any part runs and owes what it could not write.
+pub(crate) fn any_owes<R: Threads + Wait + Clock + Copy + Drop + Send + 'static>(
+    parts: &[Part<R>],
+) -> bool {
+    parts.iter().any(|part| part.owes())
+}
+
 /// Whether a part is of the slot and the role of another.
 fn is_of(other: &PartId, id: PartId) -> bool
     ensures { result ≡ is_at other.now id.slot id.role }

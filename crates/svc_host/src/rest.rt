@@ -1,6 +1,6 @@
 //! How long a thread rests, and how long was waited.
 ghost use Rattle.std.specs.Prelude.{◌≡◌};
-ghost use Rattle.svc_host.specs.Rests.{rest_before, waited};
+ghost use Rattle.svc_host.specs.Rests.{rest_before, shorter, waited};
 
 use std::time::Duration;
 use tai_status::Label;
@@ -30,4 +30,20 @@ pub(crate) fn waited(begin: Duration, now: Duration) -> u64
         Some(waited) => u64::try_from(waited.as_millis()).unwrap_or(u64::MAX),
         None => 0,
     }
+}
+
+/// The shorter of two rests, of which None has no end.
+pub(crate) fn shorter(one: Option<u64>, other: Option<u64>) -> Option<u64>
+    ensures { result ≡ shorter one other }
+{
+    match (one, other) {
+        (Some(one), Some(other)) => Some(one.min(other)),
+        (Some(rest), None) | (None, Some(rest)) => Some(rest),
+        (None, None) => None,
+    }
+}
+
+/// A time in nanoseconds, as far as they can be counted.
+pub(crate) fn nanos_of(time: Duration) -> u64 {
+    u64::try_from(time.as_nanos()).unwrap_or(u64::MAX)
 }

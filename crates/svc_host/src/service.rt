@@ -13,7 +13,7 @@ ghost use Rattle.svc_host.specs.Answers.{answered};
 ghost use Rattle.svc_host.specs.Served.{ServesOut};
 ghost use Rattle.svc_house.specs.Turn.{IsSameHouse, phase_in};
 
-use crate::rest::rest_before;
+use crate::rest::{nanos_of, rest_before, shorter};
 use crate::shared::PartShared;
 use cmd_base::SystemClock;
 use std::alloc::Global;
@@ -103,20 +103,19 @@ impl<R: Wait> ServesToItsEnd<R> {
     }
 }
 
-/// How long a service rests that found nothing: until a notification, or where it settles or rests until the end of
-/// that.
+/// How long a service rests that found nothing: until a notification, or if it settles or rests until the end of that,
+/// and no longer than its world allows.
 fn rest<W: World, I: Inbox, G: Gate + Drop, R: Wait + Clock + Copy + Drop>(
     rt: R,
     house: &House<W, I, G>,
     notifier: &Notifier,
 ) {
-    match house.until() {
-        None => notifier.wait(&rt, None),
-        Some(until) => {
-            let now = SystemClock::new(rt).now();
-            notifier.wait(&rt, Some(Duration::from_nanos(rest_before(now, until))));
-        }
-    }
+    let rest = match house.until() {
+        None => None,
+        Some(until) => Some(rest_before(SystemClock::new(rt).now(), until)),
+    };
+    let longest = house.longest_rest().map(nanos_of);
+    notifier.wait(&rt, shorter(rest, longest).map(Duration::from_nanos));
 }
 
 /// Turns the loop of a service until it is gone.
@@ -134,7 +133,9 @@ fn run<W: World, I: Inbox, G: Gate + Drop, R: Wait + Clock + Copy + Drop>(
     ensures gone { phase_in house.new ≡ Phase.Gone }
 {
     for _ in rt.forever() {
-        match house.turn(&rt) {
+        let turned = house.turn(&rt);
+        shared.note_owing(house.longest_rest().is_some());
+        match turned {
             Ok(Turned::Took(_)) => shared.note_event(),
             Ok(Turned::Ended) => return,
             Ok(Turned::Idle) => rest(rt, house, &shared.notifier),

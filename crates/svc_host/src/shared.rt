@@ -37,6 +37,7 @@ pub(crate) struct PartShared {
     activity: Arc<Activity, Global>,
     stays_out: AtomicBool,
     has_ended: AtomicBool,
+    owes: AtomicBool,
 }
 
 impl PartShared {
@@ -51,7 +52,17 @@ impl PartShared {
             activity: Arc::try_clone(activity)?,
             stays_out: AtomicBool::new(false),
             has_ended: AtomicBool::new(false),
+            owes: AtomicBool::new(false),
         })
+    }
+
+    /// Whether the service owes what it could not write, after its last turn.
+    pub(crate) fn note_owing(&self, owes: bool) {
+        self.owes.store(owes, Ordering::SeqCst);
+    }
+
+    pub(crate) fn owes(&self) -> bool {
+        self.owes.load(Ordering::SeqCst)
     }
 
     /// The service is not to begin, since it has no thread.

@@ -9,12 +9,13 @@ use Rattle.sup_core.specs.Runs.{followed_by}
 use Rattle.svc_house.specs.declared.pending.Pending.{Pending}
 use Rattle.svc_house.specs.declared.pending.Pending.TheVariants.{Empty, One, ByteThenDeath}
 use Rattle.svc_house.specs.declared.turned.Turned.{Turned}
-use Rattle.svc_house.specs.declared.turned.Turned.TheVariants.{Took}
+use Rattle.svc_house.specs.declared.turned.Turned.TheVariants.{Idle, Took, Ended}
 use Rattle.svc_house.specs.declared.turned.HouseFault.{HouseFault}
 use Rattle.svc_house.specs.Calls.{ExtendedWhileKept, requested, IsLastReading}
 use Rattle.svc_house.specs.Pending.{events_in, rest_of}
 use Rattle.svc_house.specs.Standing.{Standing, past_of}
-use Rattle.svc_house.specs.Turn.{phase_in, polls_of, IsAbout, IsRefused, IsSameHouse, IsTurn, Listens, PassesGate}
+use Rattle.svc_house.specs.Turn.{phase_in, polls_of, IsAbout, IsIdle, IsRefused, IsSameHouse, IsTurn, Listens}
+use Rattle.svc_house.specs.Turn.{PassesGate}
 use Rattle.svc_house.specs.Turn.{Takes}
 use Rattle.svc_house.proofs.Extended.{extended-append}
 
@@ -106,3 +107,33 @@ module _ {I : Type 0} where
         events = found.events;
         calls = found.polls (some-pending mid.pending event found.next);
       })
+
+  -- A turn of a house whose world was asked to mend is one of the house before that.
+  mended-turn : (old new : Standing I) (mends : Option ℕ) (turned : Turned)
+      → IsTurn (record old { mends = mends }) turned new → IsTurn old turned new
+  mended-turn old new mends Idle turn = record {
+    none = turn.none;
+    polls = turn.polls;
+    listens = turn.listens;
+    gate = turn.gate;
+    events = turn.events;
+    pending = turn.pending;
+  }
+  mended-turn old new mends (Took event) turn = record {
+    pending = turn.pending;
+    about = turn.about;
+    next = turn.next;
+    listens = turn.listens;
+    gate = turn.gate;
+    events = turn.events;
+    calls = turn.calls;
+    reading = turn.reading;
+  }
+  mended-turn old new mends Ended turn = turn
+
+  pub turned-mended : (old mid new : Standing I) (result : Result Turned HouseFault)
+      → mid ≡ record old { mends = mid.mends } → IfOk result (λ turned. IsTurn mid turned new)
+      → IfOk result (λ turned. IsTurn old turned new)
+  turned-mended old mid new (Err fault) same turn = tt
+  turned-mended old mid new (Ok turned) same turn =
+      mended-turn old new mid.mends turned (subst (λ (s : Standing I). IsTurn s turned new) same turn)

@@ -23,6 +23,8 @@ pub record Standing (I : Type 0) : Type 0 where
   pub pending : Pending
   -- what the world was asked and what it answered, where it keeps that
   pub calls : Option (List Call)
+  -- how often the world was asked to mend, where it counts that
+  pub mends : Option ℕ
   -- where its control bytes come from: which mailbox, if any, what it gave, and how often it had none
   pub inbox : I
   pub source : Option (TableId × ℕ)
@@ -33,14 +35,15 @@ pub record Standing (I : Type 0) : Type 0 where
 
 module _ {I : Type 0} where
   -- a service with this writer and this pending, and what its world, inbox and gate report
-  abbrev pub standing : Writer → Pending → Option (List Call)
+  abbrev pub standing : Writer → Pending → Option (List Call) → Option ℕ
       → I → Option (TableId × ℕ) → List ℕ → ℕ → Option ℕ → Standing I
-  standing writer pending calls inbox source given nones passes = record {
+  standing writer pending calls mends inbox source given nones passes = record {
     station = station writer;
     opening = opening_of writer;
     events = published writer;
     pending = pending;
     calls = calls;
+    mends = mends;
     inbox = inbox;
     source = source;
     given = given;

@@ -95,7 +95,7 @@ pub record IsIdle {I : Type 0} (old new : Standing I) : Type 0 where
 abbrev pub IsTurn : {I : Type 0} → Standing I → Turned → Standing I → Type 0
 IsTurn old Idle new = IsIdle old new
 IsTurn old (Took event) new = Takes old event new
-IsTurn old Ended new = new ≡ old
+IsTurn old Ended new = new ≡ record old { mends = new.mends }
 
 -- There was no memory to publish an event. What was found is pending, and nothing was published or reported.
 pub record IsRefused {I : Type 0} (old new : Standing I) : Type 0 where

@@ -36,7 +36,7 @@ impl<A: Allocator + Clone> ControlSender<A> {
         ensures full { IfErr result (λ full. (full.0 ≡ byte) × WasFull (sender_in self.old)) }
     {
         let news = News::post(rt, &mut self.sender, byte)?;
-        self.notifier.notify(news);
+        self.notifier.notify_letter(news);
         Ok(())
     }
 }

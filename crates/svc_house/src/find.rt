@@ -43,6 +43,7 @@ pub(crate) fn find<W: World, I: Inbox, G: Gate, R: Wait>(
         → ExtendedWhileKept (W.calls world.old) (W.calls world.new) (polls_before result machine.now.phase) }
     ensures vain { result ≡ pending.Empty
         → PolledInVain machine.now.phase machine.now.until (W.calls world.old) (W.calls world.new) }
+    ensures mends { W.mends world.new ≡ W.mends world.old }
     ensures gate { PassesGate pending.Empty machine.now.phase (G.passes gate.old) (G.passes gate.new) }
     ensures source { I.source inbox.new ≡ I.source inbox.old }
     ensures given { I.given inbox.new ≡ I.given inbox.old ++ bytes_in (events_in result) }

@@ -14,6 +14,7 @@ use crate::world::World;
 use std::alloc::AllocError;
 use std::marker::Model;
 use std::sync::Wait;
+use std::time::Duration;
 use sup_core::{Asks, Event, Reply};
 use svc_station::writer::Writer;
 use tai_status::Label;
@@ -33,10 +34,10 @@ impl<W: World, I: Inbox, G: Gate + Drop> Model for House<W, I, G> {
 
     ghost Value = { Standing I };
 
-    ghost view = { λ h. standing h.writer h.pending (W.calls h.world)
+    ghost view = { λ h. standing h.writer h.pending (W.calls h.world) (W.mends h.world)
         h.inbox (I.source h.inbox) (I.given h.inbox) (I.nones h.inbox) (G.passes h.gate) };
 
-    ghost invariant = { λ h. IsHouse (standing h.writer h.pending (W.calls h.world)
+    ghost invariant = { λ h. IsHouse (standing h.writer h.pending (W.calls h.world) (W.mends h.world)
         h.inbox (I.source h.inbox) (I.given h.inbox) (I.nones h.inbox) (G.passes h.gate)) };
 }
 
@@ -56,6 +57,7 @@ fn publish_and_request<W: World, R: Wait>(
         (ExtendedWhileKept (W.calls world.old) (W.calls world.new)
         (requested (asks_of (history_of writer.old) event))) }
     ensures unrequested { OnErr result (W.calls world.new ≡ W.calls world.old) }
+    ensures mends { W.mends world.new ≡ W.mends world.old }
 {
     match writer.publish(rt, event)? {
         Reply::Held => unreachable!(),
@@ -72,7 +74,7 @@ impl<W: World, I: Inbox, G: Gate + Drop> House<W, I, G> {
     ghost use Rattle.tai_status.specs.declared.phase.Phase.{Phase};
     ghost use Rattle.sup_core.specs.State.{is_gone};
     ghost use Rattle.svc_station.specs.Ends.{history_of, published, station, opening_of};
-    ghost use Rattle.svc_house.specs.Calls.{answers_in, IsAsk, IsLastReading};
+    ghost use Rattle.svc_house.specs.Calls.{answers_in, CountsOne, IsAsk, IsLastReading};
     ghost use Rattle.svc_house.specs.Pending.{IsNext, rest_of};
     ghost use Rattle.svc_house.specs.Standing.{Standing, IsHouse, past_of, state_in};
     ghost use Rattle.svc_house.specs.Turn.{IsSameHouse, IsTurn, IsIdle, IsRefused, Listens, PassesGate, phase_in};
@@ -91,6 +93,7 @@ impl<W: World, I: Inbox, G: Gate + Drop> House<W, I, G> {
         ensures station { (result.station ≡ station writer) × (result.opening ≡ opening_of writer) }
         ensures events { (result.events ≡ []) × (result.pending ≡ pending.Empty) }
         ensures passes { result.passes ≡ G.passes gate }
+        ensures mends { result.mends ≡ W.mends world }
     {
         let mut world = world;
         request(&mut world, first.as_slice());
@@ -103,19 +106,40 @@ impl<W: World, I: Inbox, G: Gate + Drop> House<W, I, G> {
         }
     }
 
-    /// One turn. What is pending comes first. Else what the phase can take is looked for: while the service starts how
-    /// that ended, while it settles or rests the clock, while it is down a control byte, and while it is up its death
-    /// and then a control byte, so that one that dies at once still hears its letters. What was found is published, and
-    /// then the world is asked for what that wants, in order; where both were found the byte is published, and the
-    /// death stays pending.
+    /// One turn. The world is asked to mend first, whatever the turn finds. Then what is pending comes first. Else what
+    /// the phase can take is looked for: while the service starts how that ended, while it settles or rests the clock,
+    /// while it is down a control byte, and while it is up its death and then a control byte, so that one that dies at
+    /// once still hears its letters. What was found is published, and then the world is asked for what that wants, in
+    /// order; where both were found the byte is published, and the death stays pending.
     ///
     /// It never waits for something to happen: a turn that finds nothing is `Idle`. What can end that is a letter while
-    /// the service is up or down, the world's answer while it starts or is up, and the time `until` while it settles or
-    /// rests.
+    /// the service is up or down, the world's answer while it starts or is up, the time `until` while it settles or
+    /// rests, and the end of the rest that the world allows (`longest_rest`).
     ///
     /// `OutOfMemory` where the publication finds no room: what was found stays pending, and nothing was reported.
     pub fn turn<R: Wait>(&mut self, rt: &R) -> Result<Turned, HouseFault>
         ensures same { IsSameHouse self.old self.new }
+        ensures mended { CountsOne self.old.mends self.new.mends }
+        ensures turned { IfOk result (λ turned. IsTurn self.old turned self.new) }
+        ensures ended { (result ≡ Ok Turned.Ended) ↔ (phase_in self.old ≡ Phase.Gone) }
+        ensures refused { OnErr result (IsRefused self.old self.new) }
+    {
+        self.mend();
+        self.turn_mended(rt)
+    }
+
+    // Asks the world to mend.
+    fn mend(&mut self)
+        ensures mended { CountsOne self.old.mends self.new.mends }
+        ensures rest { self.new ≡ record self.old { mends = self.new.mends } }
+    {
+        self.world.mend();
+    }
+
+    // A turn behind the mending.
+    fn turn_mended<R: Wait>(&mut self, rt: &R) -> Result<Turned, HouseFault>
+        ensures same { IsSameHouse self.old self.new }
+        ensures mends { self.new.mends ≡ self.old.mends }
         ensures turned { IfOk result (λ turned. IsTurn self.old turned self.new) }
         ensures ended { (result ≡ Ok Turned.Ended) ↔ (phase_in self.old ≡ Phase.Gone) }
         ensures refused { OnErr result (IsRefused self.old self.new) }
@@ -137,6 +161,7 @@ impl<W: World, I: Inbox, G: Gate + Drop> House<W, I, G> {
         requires pending { self.old.pending ≡ pending.Empty }
         requires phase { is_gone (phase_in self.old) ≡ false }
         ensures same { IsSameHouse self.old self.new }
+        ensures mends { self.new.mends ≡ self.old.mends }
         ensures events { self.new.events ≡ self.old.events }
         ensures pending { MatchOption result (self.new.pending ≡ pending.Empty)
             (λ event. IsNext event self.new.pending) }
@@ -161,6 +186,7 @@ impl<W: World, I: Inbox, G: Gate + Drop> House<W, I, G> {
     fn publish<R: Wait>(&mut self, rt: &R, event: Event) -> Result<Turned, HouseFault>
         requires { IsNext event self.old.pending }
         ensures same { IsSameHouse self.old self.new }
+        ensures mends { self.new.mends ≡ self.old.mends }
         ensures took { IfOk result (λ turned. turned ≡ Turned.Took event) }
         ensures published { OnOk result (self.new.events ≡ self.old.events ++ event ∷ []) }
         ensures requested { OnOk result
@@ -179,6 +205,11 @@ impl<W: World, I: Inbox, G: Gate + Drop> House<W, I, G> {
             }
             Err(_refused) => Err(HouseFault::OutOfMemory),
         }
+    }
+
+    /// How long it may rest before its next turn, by what its world says. None: until it is notified.
+    pub fn longest_rest(&self) -> Option<Duration> {
+        self.world.longest_rest()
     }
 
     /// When settling or resting ends.

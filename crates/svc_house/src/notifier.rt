@@ -1,6 +1,7 @@
 //! What the thread of a service waits for.
 use crate::news::News;
 use std::sync::Wait;
+use std::sync::atomic::{AtomicU64, Ordering};
 use std::thread::Parker;
 use std::time::Duration;
 
@@ -12,6 +13,7 @@ use std::time::Duration;
 #[derive(Drop)]
 pub struct Notifier {
     parker: Parker,
+    letters: AtomicU64,
 }
 
 impl Notifier {
@@ -19,7 +21,19 @@ impl Notifier {
     pub const fn new() -> Notifier {
         Notifier {
             parker: Parker::new(),
+            letters: AtomicU64::new(0),
         }
+    }
+
+    /// Counts a letter that was posted, and reports it.
+    pub(crate) fn notify_letter(&self, news: News) {
+        self.letters.fetch_add(1, Ordering::SeqCst);
+        self.notify(news);
+    }
+
+    /// How many letters were reported.
+    pub fn letters(&self) -> u64 {
+        self.letters.load(Ordering::SeqCst)
     }
 
     /// Reports the news: ends the wait that is under way, or else the next. It returns at once.

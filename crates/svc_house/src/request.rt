@@ -8,7 +8,8 @@ use sup_core::Ask;
 
 fn request_one<W: World>(world: &mut W, ask: &Ask)
     requires { IsAsk ask.now }
-    ensures { ExtendedWhileKept (W.calls world.old) (W.calls world.new) (Call.Requested ask.now ∷ []) }
+    ensures calls { ExtendedWhileKept (W.calls world.old) (W.calls world.new) (Call.Requested ask.now ∷ []) }
+    ensures mends { W.mends world.new ≡ W.mends world.old }
 {
     match ask {
         Ask::Signal(sig, pid) => world.signal(*sig, *pid),
@@ -20,7 +21,8 @@ fn request_one<W: World>(world: &mut W, ask: &Ask)
 /// Passes the asks on, in order.
 pub(crate) fn request<W: World>(world: &mut W, asks: &[Ask])
     requires { All IsAsk asks.now }
-    ensures { ExtendedWhileKept (W.calls world.old) (W.calls world.new) (requested asks.now) }
+    ensures calls { ExtendedWhileKept (W.calls world.old) (W.calls world.new) (requested asks.now) }
+    ensures mends { W.mends world.new ≡ W.mends world.old }
 {
     for ask in asks {
         request_one(world, ask);

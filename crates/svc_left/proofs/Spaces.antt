@@ -1,7 +1,7 @@
 -- A number in front of a space.
 use Rattle.std.proofs.Common.{◌≡◌, ℕ, ◌==◌, ◌<◌, ◌^◌, ◌+◌, Bool, true, false, not, List, [], ◌∷◌, ◌++◌, suc, length}
 use Rattle.std.proofs.Common.{take, drop, refl, sym, ap, ◌∙◌, arith, decimal, position, Some, Option, ◌-◌}
-use Rattle.std.proofs.Common.{length-append, length-drop}
+use Rattle.std.proofs.Common.{append_assoc, length-append, length-drop}
 use Rattle.std.proofs.Math.Seq.{take-length}
 use Rattle.std.specs.List.{list_all, position_or_len}
 use Rattle.sup_core.proofs.Lines.{avoids, avoids-solid, decimal-solid}
@@ -43,3 +43,15 @@ rest_behind number rest text at is place =
     rw (← length-drop (at + 1) text) (take-length (drop (at + 1) text)) in
     let next : at + 1 ≡ suc (length (decimal number)) = omega (arith, same) in
     all ∙ rw (next, is) (behind (decimal number) 32 rest)
+
+-- words in front of spaces, and what is behind them
+pub two_in_front : (first second space rest : List ℕ)
+    → first ++ space ++ second ++ space ++ rest ≡ first ++ (space ++ (second ++ (space ++ rest)))
+two_in_front first second space rest =
+    append_assoc (first ++ space ++ second) space rest ∙ append_assoc (first ++ space) second (space ++ rest)
+    ∙ append_assoc first space (second ++ (space ++ rest))
+
+pub one_in_front : (first space second rest : List ℕ)
+    → first ++ space ++ second ++ rest ≡ first ++ (space ++ (second ++ rest))
+one_in_front first space second rest =
+    append_assoc (first ++ space) second rest ∙ append_assoc first space (second ++ rest)

@@ -1,2 +1,4 @@
 pub mod Process
 pub mod Opening
+pub mod Place
+pub mod Leftover

@@ -1,5 +1,5 @@
 -- How a service begins, by what an earlier svscan left of it.
-use Rattle.std.specs.Prelude.{◌≡◌, ◌==◌, ℕ, Bool, true, false, if◌then◌else◌, Option, Some, None}
+use Rattle.std.specs.Prelude.{◌≡◌, ◌==◌, ℕ, Bool, true, false, not, if◌then◌else◌, Option, Some, None}
 use Rattle.tai_status.specs.Label.{Tai64n, plus_second}
 use Rattle.tai_status.specs.Record.{Status}
 use Rattle.tai_status.specs.Full.{FullStatus}
@@ -88,5 +88,37 @@ opening_of record_left (Lives process) found = AsLeft (adopted record_left proce
 opening_of (Some (New full)) Gone found = without_process full
 opening_of record_left other found = ByRow
 
+-- whether both are the same
+abbrev pub is_want : Want → Want → Bool
+is_want want.Up want.Up = true
+is_want want.Down want.Down = true
+is_want want.Once want.Once = true
+is_want one other = false
+
+-- A record is stale if the place of the service, which is written first, wants something else, or there is no record.
+abbrev pub is_stale : Option Loaded → Want → Bool
+is_stale None wanted = true
+is_stale (Some loaded) wanted = not (is_want (status_in loaded).want wanted)
+
+abbrev pub was_exiting : Option Loaded → Bool
+was_exiting None = false
+was_exiting (Some loaded) = exiting_in loaded
+
+-- How a service begins whose record is stale, as this is wanted: a process that lives is up since it was found. Without
+-- a process it begins up or down.
+abbrev pub by_want_of : Option Loaded → Found → (found : Tai64n) → Want → Opening
+by_want_of record_left (Lives process) found wanted =
+    AsLeft (up_since found process.pid false wanted (was_exiting record_left))
+by_want_of record_left Gone found wanted = Wanted (not (is_want wanted want.Up))
+by_want_of record_left Unknown found wanted = ByRow
+
+abbrev pub by_want : Left → Want → Opening
+by_want left wanted = by_want_of left.record left.process left.label wanted
+
+abbrev pub opening_by : (wanted : Option Want) → Left → Opening
+opening_by None left = opening_of left.record left.process left.label
+opening_by (Some wanted) left =
+    if is_stale left.record wanted then by_want left wanted else opening_of left.record left.process left.label
+
 abbrev pub opening_left : Left → Opening
-opening_left left = opening_of left.record left.process left.label
+opening_left left = opening_by left.want left

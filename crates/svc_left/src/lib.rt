@@ -5,8 +5,12 @@
 //! it is wanted, or as it was left. A process that lives on is adopted, with the machine that the record says.
 #![tactic(auto)]
 
+mod leftover;
 mod opening;
+mod place;
 mod process;
 
+pub use leftover::{Intent, Leftover, Seen, find_any_here, find_leftover};
 pub use opening::{Left, Opening};
+pub use place::{PLACE_BYTES, Place, PlaceLine, first_line, place_line, read_place};
 pub use process::{BootId, Found, ProcessId, ProcessLine, find, process_line, read_process};

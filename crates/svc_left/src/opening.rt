@@ -3,7 +3,8 @@ ghost use Rattle.std.specs.Prelude.{◌≡◌, ◌<◌, ◌⊎◌};
 ghost use Rattle.tai_status.specs.declared.phase.Phase.{Phase};
 ghost use Rattle.tai_status.specs.Loading.{status_in};
 ghost use Rattle.svc_left.specs.Process.{IsLiving};
-ghost use Rattle.svc_left.specs.Opening.{adopted, as_recorded, exiting_in, running, up_since, without_process};
+ghost use Rattle.svc_left.specs.Opening.{adopted, as_recorded, by_want, exiting_in, is_stale, is_want, opening_of};
+ghost use Rattle.svc_left.specs.Opening.{running, up_since, was_exiting, without_process};
 ghost use Rattle.svc_left.specs.declared.opening.Opening.{Opening};
 
 use crate::process::Found;
@@ -129,11 +130,80 @@ fn without_process(full: &Full) -> Opening
     }
 }
 
+/// Whether a status record is stale: the place of the service says that something else is wanted. The place is written
+/// first.
+fn is_stale(record: &Option<Loaded>, want: Want) -> bool
+    ensures { result ≡ is_stale record.now want }
+{
+    match record {
+        Some(loaded) => !is_want(loaded.view().want, want),
+        None => true,
+    }
+}
+
+/// Whether both are the same.
+fn is_want(one: Want, other: Want) -> bool
+    ensures { result ≡ is_want one other }
+{
+    match (one, other) {
+        (Want::Up, Want::Up) | (Want::Down, Want::Down) | (Want::Once, Want::Once) => true,
+        _ => false,
+    }
+}
+
+/// Whether supervise was to end, as far as a record says that was left.
+fn was_exiting(record: &Option<Loaded>) -> bool
+    ensures { result ≡ was_exiting record.now }
+{
+    match record {
+        Some(loaded) => exiting_in(loaded),
+        None => false,
+    }
+}
+
+/// How a service begins whose record is stale, and of which this is wanted.
+fn by_want(left: &Left, want: Want) -> Opening
+    requires { IsLiving left.now.process }
+    ensures { result ≡ by_want left.now want }
+{
+    match &left.process {
+        Found::Lives(process) => {
+            let view = View {
+                label: left.label,
+                pid: process.pid,
+                paused: false,
+                want,
+            };
+            Opening::AsLeft(up(view, was_exiting(&left.record)))
+        }
+        Found::Gone => Opening::Wanted {
+            down: !is_want(want, Want::Up),
+        },
+        Found::Unknown => Opening::ByRow,
+    }
+}
+
+/// How a service begins whose record is not stale.
+fn by_record(left: &Left) -> Opening
+    requires { IsLiving left.now.process }
+    ensures { result ≡ opening_of left.now.record left.now.process left.now.label }
+{
+    match (&left.process, &left.record) {
+        (Found::Lives(process), record) => {
+            Opening::AsLeft(adopted(record, process.pid, left.label))
+        }
+        (Found::Gone, Some(Loaded::New(full))) => without_process(full),
+        _ => Opening::ByRow,
+    }
+}
+
 /// What an earlier svscan left of a service.
 #[derive(Clone, Copy, Debug, PartialEq, Eq)]
 pub struct Left {
     /// Its status record, where that could be read.
     pub record: Option<Loaded>,
+    /// What its place says is wanted, where that could be read and is of this boot.
+    pub want: Option<Want>,
     /// What became of its process.
     pub process: Found,
     /// When this was found.
@@ -145,13 +215,16 @@ impl Left {
     ghost use Rattle.svc_left.specs.Process.{IsLiving};
     ghost use Rattle.svc_left.specs.Opening.{opening_left};
 
-    /// How the service begins. A record counts in the boot alone in which a process was recorded.
+    /// How the service begins. A record counts in the boot alone in which a process was recorded. What the place says is
+    /// wanted counts more than what the record says, since the place is written first, and also if the record can't be.
     ///
     /// | process | record | it begins |
     /// |---|---|---|
     /// | lives | names it | as the record says |
     /// | lives | names another, or none | up since it was found, wanted as the record says |
     /// | lives | there is none | up since it was found, wanted up |
+    /// | lives | the place wants something else | up since it was found, wanted as the place says |
+    /// | gone | the place wants something else | up or down, as the place says |
     /// | gone | exiting or gone | by its row |
     /// | gone | down | as the record says |
     /// | gone | any other, wanted up | up |
@@ -162,12 +235,9 @@ impl Left {
         requires { IsLiving self.now.process }
         ensures { result ≡ opening_left self.now }
     {
-        match (&self.process, &self.record) {
-            (Found::Lives(process), record) => {
-                Opening::AsLeft(adopted(record, process.pid, self.label))
-            }
-            (Found::Gone, Some(Loaded::New(full))) => without_process(full),
-            _ => Opening::ByRow,
+        match self.want {
+            Some(want) if is_stale(&self.record, want) => by_want(self, want),
+            _ => by_record(self),
         }
     }
 }

@@ -39,8 +39,8 @@ pub enum Found {
 }
 
 /// Writes a number and a space at the end of a line.
-fn push_number(line: &mut ProcessLine, number: u64)
-    requires { array_vec_len line.old + 21 ≤ 80 }
+pub(crate) fn push_number<const N: usize>(line: &mut ArrayVec<u8, N>, number: u64)
+    requires { array_vec_len line.old + 21 ≤ N }
     ensures text { line.new.items ≡ line.old.items ++ decimal number ++ codes " " }
     ensures len { array_vec_len line.new ≤ array_vec_len line.old + 21 }
 {
@@ -71,7 +71,7 @@ fn space_at(text: &[u8]) -> Option<usize>
 }
 
 /// The number in front of the first space, and what stands behind that.
-fn split_number(text: &[u8]) -> Option<(u64, &[u8])>
+pub(crate) fn split_number(text: &[u8]) -> Option<(u64, &[u8])>
     ensures only { (number : ℕ) (rest : List ℕ) → number < 2 ^ 64 → text.now ≡ decimal number ++ 32 ∷ rest
         → IsSomeAnd result (AreParts number rest) }
 {
@@ -81,7 +81,7 @@ fn split_number(text: &[u8]) -> Option<(u64, &[u8])>
 }
 
 /// The boot that a line ends with.
-fn read_boot(text: &[u8]) -> Option<BootId>
+pub(crate) fn read_boot(text: &[u8]) -> Option<BootId>
     ensures only { (boot : List ℕ) → length boot ≡ 36 → text.now ≡ boot ++ codes "\n" → result ≡ Some boot }
 {
     BootId::try_from(text.strip_suffix(b"\n")?).ok()

@@ -3,7 +3,7 @@ use Rattle.std.specs.Prelude.{◌≡◌, Bool, List, [], ◌∷◌, Option, Some
 use Rattle.std.specs.Prelude.{flat_map, is_some}
 use Rattle.std.specs.List.{list_any}
 use Rattle.std.specs.Option.{option_map_or}
-use Rattle.cmd_base.specs.declared.cause.Cause.{Cause}
+use Rattle.tai_status.specs.declared.cause.Cause.{Cause}
 use Rattle.svc_host.specs.declared.host.Unmade.{Unmade}
 use Rattle.svc_host.specs.declared.maker.PartFault.TheVariants as part
 use Rattle.svc_house.specs.Calls.{ExtendedWhileKept}

@@ -5,7 +5,7 @@ use Rattle.std.specs.Option.{option_copied, option_map}
 use Rattle.std.specs.Result.{result_err}
 use Rattle.std.specs.declared.io.PipeReader.{PipeReader}
 use Rattle.std.specs.declared.fs.File.{File}
-use Rattle.cmd_base.specs.declared.cause.Cause.{Cause}
+use Rattle.tai_status.specs.declared.cause.Cause.{Cause}
 use Rattle.scan_table.specs.Slots.{Row}
 use Rattle.svc_house.specs.Calls.{ExtendedWhileKept}
 use Rattle.svc_world.specs.declared.output.OutputEnds.{OutputEnds}
@@ -14,7 +14,7 @@ use Rattle.svc_left.specs.declared.opening.Left.{Left}
 use Rattle.svc_world.specs.declared.folder.FolderFault.{FolderFault}
 use Rattle.svc_maker.specs.declared.part_system.NotAdmitted.{NotAdmitted}
 
--- One call, with its answer: what the outputs of the services of these rows of a folder lacked was made, as far as it
+-- One call, with its answer: so many descriptors are allowed from now on; what the outputs of the services of these rows of a folder lacked was made, as far as it
 -- could be; a pipe was to be made, and these are its two ends, or this came of it; the output of the
 -- service in the folder at a path was to be opened, and these are its ends, or this came of it; the folder at a path
 -- was to be opened and locked, and was, or this came of it; this was found left of the service in the folder at a path;
@@ -25,9 +25,10 @@ use Rattle.svc_maker.specs.declared.part_system.NotAdmitted.{NotAdmitted}
 -- was or not; svscan's own folder at a path was to be opened and locked, and was, or this came of it; a status record
 -- was to be written in the folder at a path, and was or not; all outputs were to look after their flows.
 pub data Call : Type 0 where
+  Allowed : (descriptors : ℕ) → Call
   Prepared : (folder : List ℕ) → (rows : List Row) → Call
   MadePipe : (ends : Result (PipeReader × LoggerInput) Cause) → Call
-  OpenedOutput : (path : List ℕ) → (ends : Result OutputEnds Cause) → Call
+  OpenedOutput : (path : List ℕ) → (ends : Result OutputEnds FolderFault) → Call
   Opened : (path : List ℕ) → (fault : Option FolderFault) → Call
   FoundLeft : (path : List ℕ) → (left : Left) → Call
   MadeWorld : (path name : List ℕ) → (left : Left) → (input : Option PipeReader) → (output : Option File)

@@ -9,8 +9,8 @@ use Rattle.std.specs.declared.fs.File.{File}
 use Rattle.scan_table.specs.declared.part.PartId.{PartId}
 use Rattle.scan_table.specs.declared.part.Role.{Role}
 use Rattle.scan_table.specs.declared.part.Role.TheVariants.{Main, Log}
-use Rattle.cmd_base.specs.declared.cause.Cause.{Cause}
-use Rattle.cmd_base.specs.declared.cause.Cause.TheVariants.{NoMemory}
+use Rattle.tai_status.specs.declared.cause.Cause.{Cause}
+use Rattle.tai_status.specs.declared.cause.Cause.TheVariants.{NoMemory}
 use Rattle.svc_host.specs.declared.maker.PartFault.{PartFault}
 use Rattle.svc_host.specs.declared.maker.PartFault.TheVariants as part
 use Rattle.svc_house.specs.Calls.{ExtendedWhileKept}
@@ -23,7 +23,7 @@ use Rattle.svc_world.specs.declared.flow.LoggerInput.{LoggerInput}
 use Rattle.svc_world.specs.declared.flow.ServiceOutput.{ServiceOutput}
 use Rattle.svc_maker.specs.Calls.{Call, MadePipe, OpenedOutput, Opened, FoundLeft, MadeWorld, Admitted, Dismissed}
 use Rattle.svc_maker.specs.Calls.{KeptTrace}
-use Rattle.svc_maker.specs.Calls.{OpenedOwn, Prepared, Recorded, WatchedOutputs}
+use Rattle.svc_maker.specs.Calls.{Allowed, OpenedOwn, Prepared, Recorded, WatchedOutputs}
 use Rattle.scan_table.specs.Slots.{Row}
 use Rattle.svc_maker.specs.declared.holder.OwnFault.{OwnFault}
 use Rattle.svc_maker.specs.declared.holder.OwnFault.TheVariants as own
@@ -169,32 +169,29 @@ pub record JoinsPair (name : List ℕ) (slot : ℕ) (read : ServiceOutput) (outl
         ++ record { slot = slot; output = ends.write; input = input; flow = ends.flow } ∷ [];
   }
 
--- An output at this path and a pipe were not made, for this cause: for want of memory none was tried, or the first or
--- the second one was refused.
-abbrev pub HaveFailed : (path : List ℕ) → Cause → List Call → Type 0
-HaveFailed path cause [] = cause ≡ NoMemory
-HaveFailed path cause (OpenedOutput there (Err refused) ∷ []) = (there ≡ path) × (cause ≡ refused)
-HaveFailed path cause (OpenedOutput there (Ok ends) ∷ MadePipe (Err refused) ∷ []) =
-    (there ≡ path) × (cause ≡ refused)
-HaveFailed path cause calls = ⊥
+-- An output at this path and a pipe were not made, and the host is reported this: for want of memory none was tried, or
+-- the first or the second one was refused.
+abbrev pub HaveFailed : (path : List ℕ) → PartFault → List Call → Type 0
+HaveFailed path fault [] = fault ≡ part.Refused NoMemory
+HaveFailed path fault (OpenedOutput there (Err refused) ∷ []) =
+    (there ≡ path) × (fault ≡ part_fault (why.Unopened refused))
+HaveFailed path fault (OpenedOutput there (Ok ends) ∷ MadePipe (Err refused) ∷ []) =
+    (there ≡ path) × (fault ≡ part.Refused refused)
+HaveFailed path fault calls = ⊥
 
--- The pipes of a pair were not made, for this cause, and nothing else came of it: an output that was opened is let go.
-pub record LacksPair (name : List ℕ) (cause : Cause) (old new : Making) : Type 0 where
+-- The pipes of a pair were not made, the host is reported this, and nothing else came of it: an output that was opened
+-- is let go.
+pub record LacksPair (name : List ℕ) (fault : PartFault) (old new : Making) : Type 0 where
   pub tried : List Call
-  pub failed : HaveFailed (part_path old.folder name Main) cause tried
+  pub failed : HaveFailed (part_path old.folder name Main) fault tried
   pub calls : ExtendedWhileKept old.calls new.calls tried
   pub stands : new ≡ record old { calls = new.calls }
-
--- The pipes of a pair were not made, and the host is reported so.
-abbrev pub LacksPairFor : (name : List ℕ) → PartFault → (old new : Making) → Type 0
-LacksPairFor name part.Locked old new = ⊥
-LacksPairFor name (part.Refused cause) old new = LacksPair name cause old new
 
 -- The pipes of a pair were to be made.
 abbrev pub MakesPair : (name : List ℕ) (slot : ℕ) → Result (ServiceOutput × PairOutlets) PartFault
     → (old new : Making) → Type 0
 MakesPair name slot made old new = MatchResult made
-    (λ ends. JoinsPair name slot ends.0 ends.1 old new) (λ fault. LacksPairFor name fault old new)
+    (λ ends. JoinsPair name slot ends.0 ends.1 old new) (λ fault. LacksPair name fault old new)
 
 -- Traces and ends
 
@@ -265,6 +262,11 @@ LeavesOwn bytes old new = MatchOption old.own (new ≡ old) (λ path.
 -- The outputs of the services of these rows were prepared, in the folder that is scanned, and nothing else.
 pub record Prepares (rows : List Row) (old new : Making) : Type 0 where
   pub calls : ExtendedWhileKept old.calls new.calls (Prepared old.folder rows ∷ [])
+  pub stands : new ≡ record old { calls = new.calls }
+
+-- So many descriptors are allowed from now on, and nothing else.
+pub record AllowsDescriptors (descriptors : ℕ) (old new : Making) : Type 0 where
+  pub calls : ExtendedWhileKept old.calls new.calls (Allowed descriptors ∷ [])
   pub stands : new ≡ record old { calls = new.calls }
 
 -- The outputs were reported to look after their flows, and nothing else.

@@ -1,10 +1,10 @@
 //! A maker of parts over the folders of a folder.
-use cmd_base::Cause;
 use scan_table::DirRow;
 use std::alloc::AllocError;
 use svc_host::{Maker, Unmade};
 use svc_house::ControlSender;
 use svc_world::FolderFault;
+use tai_status::Cause;
 
 /// Why svscan itself is not served.
 #[derive(Clone, Copy, Debug, PartialEq, Eq)]
@@ -20,6 +20,9 @@ pub trait FolderHolder: Maker {
     /// The folders of services are sought in this folder from now on. At want of memory they are sought where they
     /// were.
     fn set_folder(&mut self, folder: &str) -> Result<(), AllocError>;
+
+    /// This process may have so many descriptors from now on.
+    fn set_allowed(&mut self, descriptors: u64);
 
     /// What the outputs of the services of these rows lack is made, all at once, as far as it can be.
     fn prepare(&mut self, rows: &[DirRow]);

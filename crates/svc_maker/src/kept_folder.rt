@@ -5,12 +5,12 @@ ghost use Rattle.svc_maker.specs.Admission.{AdmitsEach, refusals};
 ghost use Rattle.svc_maker.specs.Making.{IsNowhere, IsPlace};
 
 use crate::part_system::{NotAdmitted, PartSystem};
-use cmd_base::Cause;
 use scan_table::PartId;
 use std::alloc::Global;
 use std::marker::Model;
 use svc_host::{PartFault, Unmade};
 use svc_house::ControlSender;
+use tai_status::Cause;
 
 /// The folder of a part, open and locked. Contracts see the path by which it was opened (`path`).
 pub trait LockedFolder {

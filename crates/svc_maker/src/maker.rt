@@ -10,7 +10,6 @@ use crate::kept_folder::{KeptFolder, LockedFolder, admit_each, place_of, refusal
 use crate::part_system::PartSystem;
 use crate::pipes::{PairOutlets, PairPipes, leave_pipes, pipes_of};
 use crate::set_up::{MakeFault, PartSetup, part_fault, part_name, part_path, set_up};
-use cmd_base::Cause;
 use scan_table::{DirRow, PartId};
 use std::alloc::{AllocError, Global};
 use std::marker::Model;
@@ -18,7 +17,7 @@ use std::sync::Arc;
 use svc_host::{Maker, PartFault, PartResources, Unmade};
 use svc_house::{ControlSender, Notifier, OpenGate};
 use svc_world::{LoggerInput, OutputEnds, ServiceOutput, drain, is_read};
-use tai_status::Output;
+use tai_status::{Cause, Output};
 
 /// The number at the door of svscan itself. No life has it.
 const OWN_NUMBER: u64 = u64::MAX;
@@ -176,7 +175,7 @@ where
             flow,
         } = match self.system.output(path.as_str()) {
             Ok(ends) => ends,
-            Err(cause) => return Err(PartFault::Refused(cause)),
+            Err(fault) => return Err(part_fault(MakeFault::Unopened(fault))),
         };
         let (input, to_logger) = match self.system.pipe(&flow) {
             Ok(ends) => ends,
@@ -269,7 +268,7 @@ where
     ghost use Rattle.std.specs.Result.{result_err};
     ghost use mathlib.Core.List.{IsPrefix};
     ghost use Rattle.svc_maker.specs.Admission.{AdmitsAll, any_waits, refusals};
-    ghost use Rattle.svc_maker.specs.Making.{LeavesOwn, Prepares, ServesOwn};
+    ghost use Rattle.svc_maker.specs.Making.{AllowsDescriptors, LeavesOwn, Prepares, ServesOwn};
 
     /// The folders of services are sought in this folder from now on. At want of memory they are sought where they
     /// were.
@@ -279,6 +278,13 @@ where
     {
         self.folder = String::from_str(self.alloc, folder)?;
         Ok(())
+    }
+
+    /// This process may have so many descriptors from now on.
+    fn set_allowed(&mut self, descriptors: u64)
+        ensures { AllowsDescriptors descriptors self.old self.new }
+    {
+        self.system.set_allowed(descriptors);
     }
 
     /// What the outputs of the services of these rows lack, in the folder that is scanned, is made at once, as far as

@@ -1,6 +1,5 @@
 //! What the operating system does for the parts of services.
 use crate::kept_folder::LockedFolder;
-use cmd_base::Cause;
 use scan_table::DirRow;
 use std::alloc::Global;
 use std::fs::File;
@@ -10,6 +9,7 @@ use svc_host::Reaper;
 use svc_house::{ControlSender, Notifier, World};
 use svc_left::Left;
 use svc_world::{Flow, FolderFault, LoggerInput, OutputEnds};
+use tai_status::Cause;
 
 /// What is given back of a part that was not admitted to the door.
 #[derive(Drop)]
@@ -29,8 +29,8 @@ pub trait PartSystem {
     ghost use Rattle.svc_host.specs.Answers.{answered};
     ghost use Rattle.svc_house.specs.Calls.{ExtendedWhileKept};
     ghost use Rattle.svc_left.specs.Process.{IsLiving};
-    ghost use Rattle.svc_maker.specs.Calls.{Call, MadePipe, OpenedOutput, Opened, FoundLeft, Admitted, Dismissed};
-    ghost use Rattle.svc_maker.specs.Calls.{KeptTrace, MakesWorld, OpenedOwn, Prepared, Recorded, WatchedOutputs};
+    ghost use Rattle.svc_maker.specs.Calls.{Call, Allowed, MadePipe, OpenedOutput, Opened, FoundLeft, Admitted};
+    ghost use Rattle.svc_maker.specs.Calls.{Dismissed, KeptTrace, MakesWorld, OpenedOwn, Prepared, Recorded, WatchedOutputs};
     ghost use Rattle.svc_maker.specs.Calls.{why_refused};
 
     ghost calls: { Self → Option (List Call) } = { λ _. None };
@@ -41,6 +41,10 @@ pub trait PartSystem {
 
     type Reaper: Reaper + Drop;
 
+    /// This process may have so many descriptors from now on.
+    fn set_allowed(&mut self, descriptors: u64)
+        ensures calls { ExtendedWhileKept (calls self.old) (calls self.new) (Allowed descriptors ∷ []) };
+
     /// Makes what the outputs of the services of these rows of a folder need and lack, all at once, as far as it can:
     /// each is made by itself else, as it is opened.
     fn prepare(&mut self, folder: &str, rows: &[DirRow])
@@ -50,8 +54,8 @@ pub trait PartSystem {
     fn pipe(&mut self, flow: &Arc<Flow, Global>) -> Result<(PipeReader, LoggerInput), Cause>
         ensures calls { ExtendedWhileKept (calls self.old) (calls self.new) (MadePipe result ∷ []) };
 
-    /// Opens the output of the service in the folder at a path.
-    fn output(&mut self, path: &str) -> Result<OutputEnds, Cause>
+    /// Opens the output of the service in the folder at a path, or says why that can't be done in this round.
+    fn output(&mut self, path: &str) -> Result<OutputEnds, FolderFault>
         ensures calls { ExtendedWhileKept (calls self.old) (calls self.new) (OpenedOutput path.now result ∷ []) };
 
     /// Opens the folder at a path and takes its lock. Both are kept until the folder is let go.

@@ -8,7 +8,6 @@ ghost use Rattle.svc_maker.specs.Making.{SetsUpAt, behind, part_fault, part_name
 use crate::kept_folder::LockedFolder;
 use crate::part_system::PartSystem;
 use crate::pipes::{PairPipes, input_of, output_of, pipes_of};
-use cmd_base::Cause;
 use scan_table::{PartId, Role};
 use std::alloc::{AllocError, Global};
 use std::sync::Arc;
@@ -16,6 +15,7 @@ use svc_host::PartFault;
 use svc_house::Notifier;
 use svc_left::Opening;
 use svc_world::FolderFault;
+use tai_status::Cause;
 
 /// Why a part was not made.
 #[derive(Clone, Copy, Debug, PartialEq, Eq)]

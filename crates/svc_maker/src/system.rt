@@ -1,16 +1,16 @@
 //! The system's own parts of services. It says nothing to contracts.
 ghost use Rattle.std.specs.Prelude.{◌≡◌, string_bytes, IfOk};
+ghost use Rattle.svc_left.specs.Leftover.{HasNumber};
 
 use crate::kept_folder::LockedFolder;
 use crate::part_system::{NotAdmitted, PartSystem};
 use crate::reaper::PartReaper;
 use crate::set_up::part_path;
-use cmd_base::{Cause, SystemClock};
+use cmd_base::SystemClock;
 use mio::net::UnixListener;
 use scan_table::DirRow;
 use std::alloc::{AllocError, Global};
 use std::fs::{File, Files};
-use std::io;
 use std::io::{PipeReader, PipeWriter};
 use std::net::Net;
 use std::os::fd::AsRawFd;
@@ -18,14 +18,16 @@ use std::process::{Processes, SystemProcess};
 use std::snapshot::Snapshot;
 use std::sync::{Arc, Wait};
 use std::time::Clock;
+use std::{io, process};
 use svc_door::Door;
 use svc_house::{ControlSender, Notifier};
-use svc_left::{BootId, Found, Left};
+use svc_left::{Found, Left, Leftover, Place};
 use svc_world::{
-    AdoptionWatch, ChildReaper, ChildWorld, Flow, FolderFault, LoggerInput, OutputEnds,
-    ServiceFolder, SignalShell, Streams, SystemChildren, boot_id, open_output, prepare_outputs,
+    AdoptionWatch, ChildReaper, ChildWorld, Flow, FolderFault, LoggerInput, Neighbours, OutputEnds,
+    OwnRun, Patience, ServiceFolder, SignalShell, Streams, Surroundings, SystemChildren,
+    open_output, prepare_outputs,
 };
-use tai_status::TimeSource;
+use tai_status::{Cause, TimeSource};
 
 /// How many sockets a part has.
 const SOCKETS: u64 = 2;
@@ -53,11 +55,11 @@ where
     runtime: R,
     files: HostRuntime,
     alloc: Global,
-    boot: Option<BootId>,
     clock: SystemClock<R>,
-    shell: Arc<SignalShell<R>, Global>,
+    shared: Surroundings<R>,
     door: Door<ControlSender>,
-    adoptions: AdoptionWatch,
+    // Until when locks are tried in this round.
+    patience: Patience,
     // How many descriptors this process may have, and how many parts were opened in this round, at whose end they get
     // their sockets.
     allowed: u64,
@@ -71,27 +73,31 @@ impl<R> SystemParts<R>
 where
     R: Files + Net + Processes<Started = SystemProcess> + Wait + Clock + Copy + Drop,
 {
-    /// With a door at which parts are called, what looks after the processes that are adopted, and as many descriptors
-    /// as this process may have. Its shell for signals is started.
+    /// With a door at which parts are called, and what looks after the processes that are adopted. Its shell for
+    /// signals is started.
     pub fn new(
         runtime: R,
         files: HostRuntime,
         alloc: Global,
         door: Door<ControlSender>,
         adoptions: AdoptionWatch,
-        allowed: u64,
     ) -> io::Result<SystemParts<R>> {
         let (watch, unwatched) = io::pipe(&runtime)?;
+        let shared = Surroundings {
+            own: OwnRun::find(&files, process::id(files.process())),
+            shell: Arc::new(alloc, SignalShell::new(runtime, alloc))?,
+            neighbours: Arc::new(alloc, Neighbours::new(files, alloc))?,
+            adoptions: Arc::new(alloc, adoptions)?,
+        };
         Ok(SystemParts {
             runtime,
             files,
             alloc,
-            boot: boot_id(&files),
             clock: SystemClock::new(runtime),
-            shell: Arc::new(alloc, SignalShell::new(runtime, alloc))?,
+            shared,
             door,
-            adoptions,
-            allowed,
+            patience: Patience::new(&runtime),
+            allowed: 0,
             waiting: 0,
             watch: Arc::new(alloc, watch)?,
             unwatched: Some(unwatched),
@@ -106,7 +112,7 @@ where
         streams: Streams,
         notifier: Arc<Notifier, Global>,
     ) -> Result<(SystemChildren<R>, ChildReaper), AllocError> {
-        let shell = Arc::try_clone(&self.shell)?;
+        let shared = self.shared.try_clone()?;
         let own = Arc::try_clone(&folder.folder)?;
         SystemChildren::new(
             self.runtime,
@@ -116,7 +122,7 @@ where
             name,
             streams,
             notifier,
-            shell,
+            shared,
         )
     }
 
@@ -152,6 +158,22 @@ where
         Ok(lowest.saturating_add(sockets) > self.allowed)
     }
 
+    // What is left over of the start that the place of a service intends. While it is not sure, it is looked again, as
+    // long as there is patience: what an svscan that was killed had started for itself ends soon.
+    fn leftover(&self, folder: &ServiceFolder, place: &Place) -> Leftover
+        ensures { HasNumber result }
+    {
+        for _ in self.runtime.forever() {
+            let found = self
+                .shared
+                .leftover(&self.runtime, self.alloc, folder, place);
+            if !matches!(found, Leftover::Unsure(_)) || !self.patience.wait(&self.runtime) {
+                return found;
+            }
+        }
+        unreachable!()
+    }
+
     // The sockets of a folder: `control` and `ok`.
     fn sockets(&self, folder: &ServiceFolder) -> io::Result<(UnixListener, UnixListener)> {
         Ok((folder.control(&self.runtime)?, folder.ok(&self.runtime)?))
@@ -181,8 +203,14 @@ where
 
     type Reaper = PartReaper;
 
+    fn set_allowed(&mut self, descriptors: u64) {
+        self.allowed = descriptors;
+    }
+
     fn prepare(&mut self, folder: &str, rows: &[DirRow]) {
         self.waiting = 0;
+        self.patience = Patience::new(&self.runtime);
+        let _ = self.shared.neighbours.set_folder(&self.runtime, folder);
         let _ = self.try_prepare(folder, rows);
     }
 
@@ -192,12 +220,19 @@ where
         Ok((reader, LoggerInput::new(writer, flow)))
     }
 
-    fn output(&mut self, path: &str) -> Result<OutputEnds, Cause> {
-        Ok(open_output(&self.runtime, &self.files, self.alloc, path, &self.watch)?)
+    fn output(&mut self, path: &str) -> Result<OutputEnds, FolderFault> {
+        open_output(
+            &self.runtime,
+            &self.files,
+            self.alloc,
+            path,
+            &self.patience,
+            &self.watch,
+        )
     }
 
     fn open(&mut self, path: String) -> Result<OpenFolder, FolderFault> {
-        let folder = ServiceFolder::open(self.files, path.as_str())?;
+        let folder = ServiceFolder::open(&self.runtime, self.files, path.as_str(), &self.patience)?;
         if self.lacks_descriptors()? {
             return Err(FolderFault::NotOpened(Cause::NoDescriptor));
         }
@@ -206,7 +241,7 @@ where
     }
 
     fn open_own(&mut self, path: String) -> Result<OpenFolder, FolderFault> {
-        let folder = ServiceFolder::open_own(self.files, path.as_str())?;
+        let folder = ServiceFolder::open_own(&self.runtime, self.files, path.as_str())?;
         self.keep(folder, &path)
     }
 
@@ -219,7 +254,11 @@ where
     }
 
     fn left(&mut self, folder: &OpenFolder) -> Left {
-        folder.folder.left(self.boot.as_ref(), self.clock.now())
+        let over = match folder.folder.intended(&self.shared.own) {
+            Some(place) => Some(self.leftover(&folder.folder, &place)),
+            None => None,
+        };
+        folder.folder.left(&self.shared.own, over, self.clock.now())
     }
 
     fn world(
@@ -233,19 +272,20 @@ where
     ) -> Result<(ChildWorld<SystemChildren<R>>, PartReaper), Cause> {
         let streams = copies(input, output)?;
         let _ = folder.folder.remove_counts();
-        let theirs = Arc::try_clone(&notifier)?;
         let (mut children, reaper) = self.children(folder, name, streams, notifier)?;
-        let adopted = match &left.process {
+        let own = &self.shared.own;
+        let (place, is_open, adopted) = match &left.process {
             Found::Lives(process) => {
-                self.adoptions
-                    .add(&self.runtime, self.files, process, theirs)?;
-                children.adopt(process);
-                Some(process.pid)
+                children.try_adopt(process.pid, process.tick)?;
+                let place = own.vacant().occupied(process.pid, process.tick);
+                (place, false, Some(process.pid))
             }
-            Found::Gone | Found::Unknown => None,
+            Found::Gone | Found::Unknown => match folder.folder.intended(own) {
+                Some(place) => (place, true, None),
+                None => (own.vacant(), false, None),
+            },
         };
-        let earlier = folder.folder.earlier(self.alloc, adopted);
-        let world = ChildWorld::new(children, self.boot, earlier, adopted);
+        let world = ChildWorld::new(children, own.session, place, is_open, adopted);
         Ok((world, PartReaper { reaper }))
     }
 

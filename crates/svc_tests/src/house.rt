@@ -11,6 +11,7 @@ use std::alloc::{Allocator, Global};
 use std::process::Abort;
 use std::sync::Wait;
 use std::test::Fail;
+use std::time::Duration;
 use sup_core::{Ask, Asks, Event, Machine, Phase, Sig, took_text};
 use svc_house::{
     House, HouseFault, MailInbox, NotWound, OpenGate, Pending, StartAnswer, Turned, WindFault,
@@ -95,6 +96,12 @@ impl World for Script {
 
     fn clock(&mut self) -> Label {
         self.clock
+    }
+
+    fn mend(&mut self) {}
+
+    fn longest_rest(&self) -> Option<Duration> {
+        None
     }
 }
 

@@ -6,6 +6,7 @@ use std::process::Abort;
 use std::sync::atomic::{AtomicU64, Ordering};
 use std::sync::{Arc, Wait};
 use std::test::Fail;
+use std::time::Duration;
 use sup_core::{Machine, Sig};
 use svc_house::{Gate, House, Inbox, StartAnswer, World};
 use svc_station::station::Station;
@@ -91,6 +92,12 @@ impl World for NotedWorld {
 
     fn clock(&mut self) -> Label {
         self.clock
+    }
+
+    fn mend(&mut self) {}
+
+    fn longest_rest(&self) -> Option<Duration> {
+        None
     }
 }
 

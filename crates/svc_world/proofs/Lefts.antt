@@ -1,5 +1,5 @@
 -- What an earlier svscan left.
-use Rattle.std.proofs.Common.{◌≡◌, ◌<◌, ℕ, List, Option, Some, None, ap, sym, ◌∙◌, subst, rules}
+use Rattle.std.proofs.Common.{◌<◌, ℕ, List, Option, Some, None, ap, sym, ◌∙◌, subst, rules}
 use Rattle.std.specs.Prelude.{IfSome}
 use Rattle.svc_left.specs.Process.{IsLiving}
 use Rattle.svc_left.specs.declared.process.ProcessId.{ProcessId}

@@ -6,8 +6,12 @@ use Rattle.tai_status.specs.declared.loading.Loaded.{Loaded}
 use Rattle.tai_status.specs.declared.record.RecordFault.{RecordFault}
 use Rattle.std.specs.declared.io.ErrorKind.{ErrorKind}
 use Rattle.std.specs.declared.io.ErrorKind.TheVariants as io
-use Rattle.svc_world.specs.declared.begin.Begin.{Begin}
-use Rattle.svc_world.specs.declared.begin.Begin.TheVariants.{Run, StillRuns}
+use Rattle.tai_status.specs.declared.cause.Cause.{Cause}
+use Rattle.tai_status.specs.Causes.{cause_words}
+use Rattle.svc_world.specs.declared.paper.Paper.{Paper}
+use Rattle.svc_world.specs.declared.paper.Paper.TheVariants as paper
+use Rattle.svc_world.specs.declared.paper.Remark.{Remark}
+use Rattle.svc_world.specs.declared.paper.Remark.TheVariants.{StillRuns, Unwritten, AllWritten}
 
 -- what the kernel has of a process under this name
 abbrev pub path_of_process : (pid : ℕ) (name : List ℕ) → List ℕ
@@ -30,19 +34,25 @@ process_loaded (Err fault) = None
 abbrev pub process_in : (bytes : List ℕ) → Option ℕ
 process_in bytes = process_loaded (loaded_from bytes)
 
--- what is said where the process of this number still runs
+-- the name of the file of a paper, in `supervise/`
+abbrev pub paper_name : Paper → List ℕ
+paper_name paper.Place = codes "place"
+paper_name paper.Process = codes "process"
+paper_name paper.Status = codes "status"
+paper_name paper.Exit = codes "exit"
+paper_name paper.Counts = codes "counts"
+
+-- what is said while the process of this number may still run; 0: processes can't be looked at
 abbrev pub still_runs : (pid : ℕ) → List ℕ
-still_runs pid = codes "process " ++ decimal pid ++ codes " still runs"
+still_runs pid =
+    if pid == 0 then codes "unable to look for its process"
+    else codes "process " ++ decimal pid ++ codes " still runs"
 
--- The program that a child runs at first: the service's own, or a shell that says that another process still runs.
-abbrev pub first_program : Begin → List ℕ
-first_program Run = codes "./run"
-first_program (StillRuns pid) = codes "/bin/sh"
-
--- its words, where the shell says things by this script
-abbrev pub first_words : (script name : List ℕ) → Begin → List (List ℕ)
-first_words script name Run = []
-first_words script name (StillRuns pid) = codes "-c" ∷ script ∷ codes "sh" ∷ name ∷ still_runs pid ∷ []
+-- what is said of a service, where this is the cause of a paper that can't be written
+abbrev pub remark_text : Remark → Cause → List ℕ
+remark_text (StillRuns pid) cause = still_runs pid
+remark_text (Unwritten which) cause = codes "unable to write " ++ paper_name which ++ codes ": " ++ cause_words cause
+remark_text AllWritten cause = codes "all records are written again"
 
 -- what is said of a run that can't be executed, by the kind of the fault; None: a shell may still run it
 abbrev pub unable_to_run : ErrorKind → Option (List ℕ)

@@ -1,6 +1,5 @@
 -- What an earlier svscan left: its process, where this boot may be unknown, and a start that it did not record.
-use Rattle.std.specs.Prelude.{◌≡◌, ⊤, ℕ, Bool, true, false, if◌then◌else◌, List, Option, Some, None, IsSome}
-use Rattle.tai_status.specs.Record.{Status}
+use Rattle.std.specs.Prelude.{◌≡◌, ⊤, ℕ, Bool, true, false, List, Option, Some, None, IsSome}
 use Rattle.tai_status.specs.declared.loading.Loaded.{Loaded}
 use Rattle.tai_status.specs.declared.loading.Loaded.TheVariants.{New}
 use Rattle.tai_status.specs.declared.phase.Phase.{Phase}
@@ -32,11 +31,7 @@ abbrev pub is_starting : Phase → Bool
 is_starting Starting = true
 is_starting other = false
 
--- what a record says of a service whose start was asked for and not answered
-abbrev pub starting : Option Loaded → Option Status
-starting (Some (New full)) = if is_starting full.phase then Some full.status else None
-starting other = None
-
--- the same, but of this process
-abbrev pub named : Status → (pid : ℕ) → Status
-named status pid = record status { pid = pid; paused = false }
+-- the same of a record
+abbrev pub is_starting_in : Option Loaded → Bool
+is_starting_in (Some (New full)) = is_starting full.phase
+is_starting_in other = false

@@ -6,3 +6,5 @@ pub mod Shell
 pub mod Stats
 pub mod Left
 pub mod Flow
+pub mod Owed
+pub mod Linger

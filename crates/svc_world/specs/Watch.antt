@@ -1,147 +1,271 @@
 -- What a service's world knows between two calls, and what each call does.
-use Rattle.std.specs.Prelude.{◌≡◌, ◌⊎◌, ℕ, Bool, true, false, List, [], ◌∷◌, ◌++◌, Option, Some, None}
+use Rattle.std.specs.Prelude.{◌≡◌, ◌⊎◌, ℕ, Bool, true, false, not, List, [], ◌∷◌, Option, Some, None, Result}
+use Rattle.std.specs.Prelude.{Ok, Err, option_map}
 use Rattle.tai_status.specs.Label.{Tai64n}
 use Rattle.tai_status.specs.Counted.{Rose}
+use Rattle.tai_status.specs.Loading.{loaded_from, status_in}
+use Rattle.tai_status.specs.declared.loading.Loaded.{Loaded}
+use Rattle.tai_status.specs.declared.record.RecordFault.{RecordFault}
+use Rattle.tai_status.specs.declared.record.Want.{Want}
 use Rattle.sup_core.specs.declared.asks.Sig.{Sig}
 use Rattle.svc_house.specs.declared.call.StartAnswer.{StartAnswer}
 use Rattle.svc_house.specs.declared.call.StartAnswer.TheVariants.{Started, Failed}
 use Rattle.svc_house.specs.Calls.{ExtendedWhileKept}
-use Rattle.svc_world.specs.declared.begin.Begin.{Begin}
-use Rattle.svc_world.specs.declared.begin.Begin.TheVariants.{Run, StillRuns}
 use Rattle.svc_exit.specs.declared.exit.Exit.{Exit}
 use Rattle.svc_exit.specs.Exits.{exit_text}
 use Rattle.svc_exit.specs.declared.counts.Counts.{Counts}
 use Rattle.svc_exit.specs.Counts.{counts_text, no_counts, one_ended, one_started}
+use Rattle.svc_left.specs.Process.{process_line}
+use Rattle.svc_left.specs.Place.{intending, occupied, place_line, process_in, wanting}
+use Rattle.svc_left.specs.declared.place.Place.{Place}
+use Rattle.svc_left.specs.declared.leftover.Leftover.{Leftover}
+use Rattle.svc_left.specs.declared.leftover.Leftover.TheVariants.{Nobody, Process, Unsure}
 use Rattle.svc_world.specs.declared.begin.Death.{Death}
 use Rattle.svc_world.specs.declared.begin.LastChild.{LastChild}
 use Rattle.svc_world.specs.declared.begin.LastChild.TheVariants.{Gone, Alive, Dead}
-use Rattle.svc_world.specs.Calls.{Call, Spawned, SoughtDeath, Signalled, Recorded, SoughtProcess, ReadClock}
-use Rattle.svc_world.specs.Calls.{RecordedExit, RecordedCounts, RecordedProcess, SoughtTick}
-use Rattle.svc_left.specs.Process.{process_line}
+use Rattle.svc_world.specs.declared.paper.Owed.{Owed}
+use Rattle.svc_world.specs.declared.paper.Paper.{Paper}
+use Rattle.svc_world.specs.declared.paper.Paper.TheVariants as paper
+use Rattle.svc_world.specs.declared.paper.Remark.{Remark}
+use Rattle.svc_world.specs.declared.paper.Remark.TheVariants.{StillRuns, Unwritten, AllWritten}
+use Rattle.svc_world.specs.Owed.{first_owed, is_owed, nothing_owed, with_owed}
+use Rattle.svc_world.specs.Calls.{Call, Spawned, SoughtDeath, Lingered, Signalled, Wrote, Said, SoughtLeftover, Adopted}
+use Rattle.svc_world.specs.Calls.{SoughtTick, ReadTick, ReadClock}
 
 pub record Watch : Type 0 where
   -- what the system was asked, where that is kept
   pub calls : Option (List Call)
-  -- the boot, where it is known
-  pub boot : Option (List ℕ)
-  -- the process of an earlier svscan that is not adopted, until it was found gone
-  pub earlier : Option ℕ
+  -- the session of this svscan
+  pub session : ℕ
+  -- the place of the service, as it is to be on disk
+  pub place : Place
+  -- whether that is the intent of an earlier svscan, of whose start something may be left over
+  pub is_open : Bool
   -- how the last start ended, until that is reported
   pub answer : Option StartAnswer
   -- the child that was spawned last, or the process that was adopted
   pub child : LastChild
+  -- the status record that was to be written last
+  pub status : Option (List ℕ)
+  -- how the last child ended
+  pub exit : Option Exit
   -- how many children began and ended
   pub counts : Counts
-  -- how many status records could not be written
+  -- which papers are still to be written, and whether that was said
+  pub owed : Owed
+  pub is_said : Bool
+  -- how many status records could not be written when they were new
   pub unwritten : ℕ
-
--- Starts
-
--- the search for the process of an earlier svscan, where one was left
-abbrev pub search_for : (earlier : Option ℕ) (runs : Bool) → List Call
-search_for None runs = []
-search_for (Some pid) runs = SoughtProcess pid runs ∷ []
-
--- How a start is begun: while the process of an earlier svscan still runs, no second copy of the service is made.
-abbrev pub begin_beside : (earlier : Option ℕ) (runs : Bool) → Begin
-begin_beside None runs = Run
-begin_beside (Some pid) true = StillRuns pid
-begin_beside (Some pid) false = Run
-
--- the process of an earlier svscan that is still looked for
-abbrev pub left_of : (earlier : Option ℕ) (runs : Bool) → Option ℕ
-left_of None runs = None
-left_of (Some pid) true = Some pid
-left_of (Some pid) false = None
-
--- How a start is to be begun was found: where an earlier svscan left a process, that was sought.
-pub record SeeksEarlier (begin : Begin) (old new : Watch) : Type 0 where
-  pub runs : Bool
-  pub calls : ExtendedWhileKept old.calls new.calls (search_for old.earlier runs)
-  pub begins : begin ≡ begin_beside old.earlier runs
-  pub stands : new ≡ record old { calls = new.calls; earlier = left_of old.earlier runs }
-
--- how a start ended that made this child, or none
-abbrev pub answer_of : (child : Option ℕ) (label : Tai64n) → StartAnswer
-answer_of None label = Failed label
-answer_of (Some pid) label = Started pid label
 
 -- the child that was spawned last, after a start that made this one, or none
 abbrev pub child_of : (child : Option ℕ) → LastChild
 child_of None = Gone
 child_of (Some pid) = Alive pid
 
--- what is recorded of the process of a start that made this child, or none, in this boot, which began at this tick
-abbrev pub process_recorded : (child : Option ℕ) (boot : Option (List ℕ)) (tick : Option ℕ) (written : Bool) → List Call
-process_recorded (Some pid) (Some boot) (Some tick) written =
-    SoughtTick pid (Some tick)
-    ∷ RecordedProcess (process_line (record { pid = pid; tick = tick; boot = boot })) written ∷ []
-process_recorded (Some pid) (Some boot) None written = SoughtTick pid None ∷ []
-process_recorded child boot tick written = []
-
--- The process was recorded where a start made this child, or none: once, and before anything else is asked.
-pub record RecordsProcess (child : Option ℕ) (old new : Watch) : Type 0 where
-  pub tick : Option ℕ
-  pub written : Bool
-  pub calls : ExtendedWhileKept old.calls new.calls (process_recorded child old.boot tick written)
-  pub stands : new ≡ record old { calls = new.calls }
-
--- a world that begins in this boot: an earlier svscan left one process, if any, that can't be adopted, and one that is
-abbrev pub begun : Option (List Call) → (boot : Option (List ℕ)) → (earlier adopted : Option ℕ) → Watch
-begun calls boot earlier adopted = record {
+-- a world that begins in this session, with this place, which may be the open intent of an earlier svscan, and with
+-- this process that is adopted, or none
+abbrev pub begun : Option (List Call) → (session : ℕ) → Place → (is_open : Bool) → (adopted : Option ℕ) → Watch
+begun calls session place is_open adopted = record {
   calls = calls;
-  boot = boot;
-  earlier = earlier;
+  session = session;
+  place = place;
+  is_open = is_open;
   answer = None;
   child = child_of adopted;
+  status = None;
+  exit = None;
   counts = no_counts;
+  owed = nothing_owed;
+  is_said = false;
   unwritten = 0;
 }
 
--- the counts after a start that made this child, or none
-abbrev pub counts_after : (child : Option ℕ) → Counts → Counts
-counts_after None counts = counts
-counts_after (Some pid) counts = one_started counts
+-- Papers
 
--- what is recorded of counts after a start that made this child, or none
-abbrev pub counts_recorded : (child : Option ℕ) → Counts → (written : Bool) → List Call
-counts_recorded None counts written = []
-counts_recorded (Some pid) counts written = RecordedCounts (counts_text (one_started counts)) written ∷ []
+-- A paper of this content was to be written, once, and was or not. It is owed exactly if it was not.
+pub record WritesAs (paper : Paper) (content : List ℕ) (written : Bool) (old new : Watch) : Type 0 where
+  pub calls : ExtendedWhileKept old.calls new.calls (Wrote paper content written ∷ [])
+  pub stands : new ≡ record old { calls = new.calls; owed = with_owed paper (not written) old.owed }
 
--- The counts were recorded where a start made this child, or none.
-pub record CountsStart (child : Option ℕ) (old new : Watch) : Type 0 where
-  pub written : Bool
-  pub calls : ExtendedWhileKept old.calls new.calls (counts_recorded child old.counts written)
-  pub stands : new ≡ record old { calls = new.calls; counts = counts_after child old.counts }
+abbrev pub Writes : (paper : Paper) (content : List ℕ) (old new : Watch) → Type 0
+Writes paper content old new = (written : Bool) × WritesAs paper content written old new
 
--- A start that made this child, or none, was recorded: its process, and then the counts.
-pub record RecordsStart (child : Option ℕ) (old new : Watch) : Type 0 where
+-- A paper was to be written, once, if there is content for it.
+abbrev pub WritesIfSome : (paper : Paper) (content : Option (List ℕ)) (old new : Watch) → Type 0
+WritesIfSome paper None old new = new ≡ old
+WritesIfSome paper (Some content) old new = Writes paper content old new
+
+-- the content of a paper, as it is now
+abbrev pub content_of : Paper → Watch → Option (List ℕ)
+content_of paper.Place w = Some (place_line w.place)
+content_of paper.Process w = option_map process_line (process_in w.place)
+content_of paper.Status w = w.status
+content_of paper.Exit w = option_map exit_text w.exit
+content_of paper.Counts w = Some (counts_text w.counts)
+
+-- This was said, once, or nothing was.
+pub record Says (remark : Remark) (old new : Watch) : Type 0 where
+  pub calls : ExtendedWhileKept old.calls new.calls (Said remark ∷ [])
+  pub stands : new ≡ record old { calls = new.calls }
+
+-- Mending
+
+-- A paper was to be written again, as it is now, if this holds.
+abbrev pub WritesIf : (owed : Bool) (paper : Paper) (old new : Watch) → Type 0
+WritesIf false paper old new = new ≡ old
+WritesIf true paper old new = WritesIfSome paper (content_of paper old) old new
+
+-- A paper was to be written again, as it is now, if it is owed.
+abbrev pub WritesAgain : (paper : Paper) (old new : Watch) → Type 0
+WritesAgain paper old new = WritesIf (is_owed paper old.owed) paper old new
+
+-- It is said once that a paper can't be written, and once that all is written again.
+abbrev pub SaysChange : (first : Option Paper) (is_said : Bool) (old new : Watch) → Type 0
+SaysChange (Some paper) false old new = Says (Unwritten paper) (record old { is_said = true }) new
+SaysChange None true old new = Says AllWritten (record old { is_said = false }) new
+SaysChange first is_said old new = new ≡ old
+
+-- Each paper that is owed was to be written again, once, as it is now. Then it is said if that changed.
+pub record Mends (old new : Watch) : Type 0 where
+  pub first : Watch
+  pub second : Watch
+  pub third : Watch
+  pub fourth : Watch
+  pub all : Watch
+  pub place : WritesAgain paper.Place old first
+  pub process : WritesAgain paper.Process first second
+  pub status : WritesAgain paper.Status second third
+  pub exit : WritesAgain paper.Exit third fourth
+  pub counts : WritesAgain paper.Counts fourth all
+  pub says : SaysChange (first_owed all.owed) all.is_said all new
+
+-- Starts
+
+-- What is left over of the start that an earlier svscan intended was sought, if that is open. It stays open while it is
+-- not sure.
+abbrev pub stays_open : Leftover → Bool
+stays_open (Unsure pid) = true
+stays_open other = false
+
+pub record SoughtOpen (found : Leftover) (old new : Watch) : Type 0 where
+  pub calls : ExtendedWhileKept old.calls new.calls (SoughtLeftover old.place found ∷ [])
+  pub stands : new ≡ record old { calls = new.calls; is_open = stays_open found }
+
+abbrev pub SeeksLeftover : (is_open : Bool) (found : Leftover) (old new : Watch) → Type 0
+SeeksLeftover false found old new = (found ≡ Nobody) × (new ≡ old)
+SeeksLeftover true found old new = SoughtOpen found old new
+
+-- The clock was read, once.
+pub record ReadsClock (label : Tai64n) (old new : Watch) : Type 0 where
+  pub calls : ExtendedWhileKept old.calls new.calls (ReadClock label ∷ [])
+  pub stands : new ≡ record old { calls = new.calls }
+
+-- The present tick was read, once.
+pub record ReadsTick (tick : ℕ) (old new : Watch) : Type 0 where
+  pub calls : ExtendedWhileKept old.calls new.calls (ReadTick tick ∷ [])
+  pub stands : new ≡ record old { calls = new.calls }
+
+-- how a start ended that made this child, or none
+abbrev pub answer_of : (child : Option ℕ) (label : Tai64n) → StartAnswer
+answer_of None label = Failed label
+answer_of (Some pid) label = Started pid label
+
+-- a world whose place is this
+abbrev pub with_place : Place → Watch → Watch
+with_place place w = record w { place = place }
+
+-- The intent of a start was to be written into the place, once, and was or not.
+pub record Intends (written : Bool) (old new : Watch) : Type 0 where
+  pub tick : ℕ
+  pub timed : Watch
+  pub reads : ReadsTick tick old timed
+  pub writes : WritesAs paper.Place (place_line (intending timed.place tick timed.session)) written
+      (with_place (intending timed.place tick timed.session) timed) new
+
+-- One child was spawned, if the intent stands in the place, and else none.
+pub record Spawns (child : Option ℕ) (old new : Watch) : Type 0 where
+  pub calls : ExtendedWhileKept old.calls new.calls (Spawned child ∷ [])
+  pub stands : new ≡ record old { calls = new.calls }
+
+abbrev pub SpawnsIf : (intended : Bool) (child : Option ℕ) (old new : Watch) → Type 0
+SpawnsIf false child old new = (child ≡ None) × (new ≡ old)
+SpawnsIf true child old new = Spawns child old new
+
+-- The process of this number was recorded in the place, and then as the process of the service, if the tick at which it
+-- began was found. Else the intent stays in the place.
+abbrev pub RecordsAt : (tick : Option ℕ) (pid : ℕ) (old new : Watch) → Type 0
+RecordsAt None pid old new = new ≡ old
+RecordsAt (Some tick) pid old new =
+    (mid : Watch)
+    × Writes paper.Place (place_line (occupied old.place pid tick)) (with_place (occupied old.place pid tick) old) mid
+    × WritesIfSome paper.Process (content_of paper.Process mid) mid new
+
+-- The tick at which a process began was sought.
+pub record SeeksTick (pid : ℕ) (tick : Option ℕ) (old new : Watch) : Type 0 where
+  pub calls : ExtendedWhileKept old.calls new.calls (SoughtTick pid tick ∷ [])
+  pub stands : new ≡ record old { calls = new.calls }
+
+pub record RecordsProcess (pid : ℕ) (old new : Watch) : Type 0 where
   pub tick : Option ℕ
-  pub recorded : Bool
-  pub written : Bool
-  pub calls : ExtendedWhileKept old.calls new.calls
-      (process_recorded child old.boot tick recorded ++ counts_recorded child old.counts written)
-  pub stands : new ≡ record old { calls = new.calls; counts = counts_after child old.counts }
+  pub sought : Watch
+  pub seeks : SeeksTick pid tick old sought
+  pub records : RecordsAt tick pid sought new
 
--- A start: where an earlier svscan left a process, that is sought; the clock is read, and then one child is spawned.
--- Its process is recorded, once; it is counted, and the counts are recorded, once.
-pub record Starts (old new : Watch) : Type 0 where
-  pub runs : Bool
+-- a world in which one child more has begun
+abbrev pub with_start : Watch → Watch
+with_start w = record w { counts = one_started w.counts }
+
+-- A start that made this child was recorded: its process, and then the counts, in which it is one more.
+pub record RecordsChild (pid : ℕ) (old new : Watch) : Type 0 where
+  pub mid : Watch
+  pub process : RecordsProcess pid old mid
+  pub counts : Writes paper.Counts (counts_text (one_started mid.counts)) (with_start mid) new
+
+abbrev pub RecordsStart : (child : Option ℕ) (old new : Watch) → Type 0
+RecordsStart None old new = new ≡ old
+RecordsStart (Some pid) old new = RecordsChild pid old new
+
+-- A child, or none, is the answer to a start at this time.
+abbrev pub answered : (child : Option ℕ) (label : Tai64n) → Watch → Watch
+answered child label w = record w { answer = Some (answer_of child label); child = child_of child }
+
+-- The service was run: the intent was written into its place, and only then, if that stands there, one child was
+-- spawned. That was recorded.
+pub record Runs (label : Tai64n) (old new : Watch) : Type 0 where
+  pub written : Bool
   pub child : Option ℕ
+  pub intended : Watch
+  pub spawned : Watch
+  pub intends : Intends written old intended
+  pub spawns : SpawnsIf written child intended spawned
+  pub records : RecordsStart child (answered child label spawned) new
+
+-- The process that was left over was adopted, as the one that the start made, and recorded. None was spawned.
+pub record Adopts (pid tick : ℕ) (old new : Watch) : Type 0 where
+  pub calls : ExtendedWhileKept old.calls new.calls (Adopted pid tick ∷ [])
+  pub stands : new ≡ record old { calls = new.calls }
+
+pub record TakesUp (pid tick : ℕ) (label : Tai64n) (old new : Watch) : Type 0 where
+  pub adopted : Watch
+  pub adopts : Adopts pid tick old adopted
+  pub records : RecordsStart (Some pid) (answered (Some pid) label adopted) new
+
+-- How a start goes by what is left over: the service is run, or what is left over is adopted, or it is said that this
+-- process may still run, and the start fails.
+abbrev pub StartsBy : Leftover → (label : Tai64n) (old new : Watch) → Type 0
+StartsBy Nobody label old new = Runs label old new
+StartsBy (Process pid tick) label old new = TakesUp pid tick label old new
+StartsBy (Unsure pid) label old new = Says (StillRuns pid) (answered None label old) new
+
+-- A start: what is left over of an earlier one is sought, if that is open; the clock is read; and it goes by that.
+pub record Starts (old new : Watch) : Type 0 where
+  pub found : Leftover
   pub label : Tai64n
-  pub tick : Option ℕ
-  pub recorded : Bool
-  pub written : Bool
-  pub calls : ExtendedWhileKept old.calls new.calls (search_for old.earlier runs
-      ++ (ReadClock label ∷ Spawned (begin_beside old.earlier runs) child
-      ∷ process_recorded child old.boot tick recorded ++ counts_recorded child old.counts written))
-  pub stands : new ≡ record old {
-    calls = new.calls;
-    earlier = left_of old.earlier runs;
-    answer = Some (answer_of child label);
-    child = child_of child;
-    counts = counts_after child old.counts;
-  }
+  pub sought : Watch
+  pub timed : Watch
+  pub seeks : SeeksLeftover old.is_open found old sought
+  pub reads : ReadsClock label sought timed
+  pub starts : StartsBy found label timed new
 
 -- Signals
 
@@ -168,18 +292,16 @@ pub record SignalsChild (sig : Sig) (pid : ℕ) (old new : Watch) : Type 0 where
 
 -- Deaths
 
--- what is recorded of a child that ended so
-abbrev pub death_recorded : Exit → Counts → (exit_written counts_written : Bool) → List Call
-death_recorded exit counts exit_written counts_written =
-    RecordedExit (exit_text exit) exit_written ∷ RecordedCounts (counts_text (one_ended counts)) counts_written ∷ []
+-- a world in which a child has ended so
+abbrev pub bereft : Exit → Watch → Watch
+bereft exit w = record w { child = Gone; exit = Some exit; counts = one_ended w.counts }
 
--- A death is reported, and no more kept to be reported: how the child ended is recorded, once, and it is counted, and
--- the counts are recorded, once.
+-- A death is reported, and no more kept to be reported: how the child ended is to be written, once, and then the
+-- counts, in which it is one more that ended.
 pub record ReportsDeath (exit : Exit) (old new : Watch) : Type 0 where
-  pub exit_written : Bool
-  pub counts_written : Bool
-  pub calls : ExtendedWhileKept old.calls new.calls (death_recorded exit old.counts exit_written counts_written)
-  pub stands : new ≡ record old { calls = new.calls; child = Gone; counts = one_ended old.counts }
+  pub mid : Watch
+  pub exit_written : Writes paper.Exit (exit_text exit) (bereft exit old) mid
+  pub counts_written : Writes paper.Counts (counts_text (one_ended old.counts)) mid new
 
 -- The death of the child was sought, and there was none.
 pub record LivesOn (death : Option Tai64n) (old new : Watch) : Type 0 where
@@ -187,42 +309,76 @@ pub record LivesOn (death : Option Tai64n) (old new : Watch) : Type 0 where
   pub calls : ExtendedWhileKept old.calls new.calls (SoughtDeath None ∷ [])
   pub stands : new ≡ record old { calls = new.calls }
 
--- The death of the child of this number was sought, found and reported.
+-- a world whose child is dead, which is not reported yet
+abbrev pub with_death : Exit → Watch → Watch
+with_death exit w = record w { child = Dead exit }
+
+-- A death that is known is kept while control bytes come, and else reported.
+abbrev pub KeepsOrReports : (waits : Bool) → Exit → (death : Option Tai64n) (old new : Watch) → Type 0
+KeepsOrReports true exit death old new = (death ≡ None) × (new ≡ with_death exit old)
+KeepsOrReports false exit death old new = (death ≡ Some exit.label) × ReportsDeath exit old new
+
+-- It was asked once whether a death waits.
+pub record AsksLinger (waits : Bool) (old new : Watch) : Type 0 where
+  pub calls : ExtendedWhileKept old.calls new.calls (Lingered waits ∷ [])
+  pub stands : new ≡ record old { calls = new.calls }
+
+-- A death is known: it is asked once whether it waits.
+pub record KnowsDeath (exit : Exit) (death : Option Tai64n) (old new : Watch) : Type 0 where
+  pub waits : Bool
+  pub asked : Watch
+  pub asks : AsksLinger waits old asked
+  pub does : KeepsOrReports waits exit death asked new
+
+-- The death of the child of this number was sought and found.
 pub record FindsDeath (pid : ℕ) (death : Option Tai64n) (old new : Watch) : Type 0 where
   pub died : Death
-  pub reported : death ≡ Some died.label
-  pub exit_written : Bool
-  pub counts_written : Bool
-  pub calls : ExtendedWhileKept old.calls new.calls
-      (SoughtDeath (Some died) ∷ death_recorded (exit_of pid died) old.counts exit_written counts_written)
-  pub stands : new ≡ record old { calls = new.calls; child = Gone; counts = one_ended old.counts }
+  pub sought : Watch
+  pub calls : ExtendedWhileKept old.calls sought.calls (SoughtDeath (Some died) ∷ [])
+  pub same : sought ≡ record old { calls = sought.calls }
+  pub knows : KnowsDeath (exit_of pid died) death sought new
 
--- The death of a child that lives was sought: there was none, or it was found and reported.
+-- The death of a child that lives was sought: there was none, or it was found.
 abbrev pub SeeksDeath : (pid : ℕ) (death : Option Tai64n) (old new : Watch) → Type 0
 SeeksDeath pid death old new = LivesOn death old new ⊎ FindsDeath pid death old new
 
 -- What a poll for a death reports: one that was found already, else what the system finds of a child that lives. Each
--- death is reported once.
+-- death is reported once, and no sooner than it waits for control bytes.
 abbrev pub PollsDeath : LastChild → (death : Option Tai64n) → (old new : Watch) → Type 0
 PollsDeath Gone death old new = (death ≡ None) × (new ≡ old)
-PollsDeath (Dead exit) death old new = (death ≡ Some exit.label) × ReportsDeath exit old new
+PollsDeath (Dead exit) death old new = KnowsDeath exit death old new
 PollsDeath (Alive pid) death old new = SeeksDeath pid death old new
 
 -- Records
+
+-- what is wanted by a status record that was read, or what was wanted before if it could not be
+abbrev pub want_loaded : Result Loaded RecordFault → (before : Want) → Want
+want_loaded (Ok loaded) before = (status_in loaded).want
+want_loaded (Err fault) before = before
 
 -- the count rises for a record that was not written
 abbrev pub CountsUnwritten : (written : Bool) → ℕ → ℕ → Type 0
 CountsUnwritten true old new = new ≡ old
 CountsUnwritten false old new = Rose old new
 
--- A status record is to be written, once. One that can't be written is counted, and nothing else comes of it.
-pub record Records (bytes : List ℕ) (old new : Watch) : Type 0 where
-  pub written : Bool
-  pub calls : ExtendedWhileKept old.calls new.calls (Recorded bytes written ∷ [])
-  pub counts : CountsUnwritten written old.unwritten new.unwritten
-  pub stands : new ≡ record old { calls = new.calls; unwritten = new.unwritten }
+-- a world with this status record, which is wanted so
+abbrev pub with_want : (bytes : List ℕ) → Watch → Watch
+with_want bytes w = with_place (wanting w.place (want_loaded (loaded_from bytes) w.place.want)) w
 
--- The clock was read, once.
-pub record ReadsClock (label : Tai64n) (old new : Watch) : Type 0 where
-  pub calls : ExtendedWhileKept old.calls new.calls (ReadClock label ∷ [])
-  pub stands : new ≡ record old { calls = new.calls }
+abbrev pub with_status : (bytes : List ℕ) → Watch → Watch
+with_status bytes w = record w { status = Some bytes }
+
+-- A record that was not written when it was new is counted.
+pub record CountsRecord (written : Bool) (old new : Watch) : Type 0 where
+  pub counts : CountsUnwritten written old.unwritten new.unwritten
+  pub stands : new ≡ record old { unwritten = new.unwritten }
+
+-- A status record is to be written, once, and before it the place, with what is wanted now. A record that can't be
+-- written is counted and owed, and nothing else comes of it.
+pub record Records (bytes : List ℕ) (old new : Watch) : Type 0 where
+  pub placed : Watch
+  pub done : Watch
+  pub written : Bool
+  pub place : Writes paper.Place (place_line (with_want bytes old).place) (with_want bytes old) placed
+  pub status : WritesAs paper.Status bytes written (with_status bytes placed) done
+  pub counts : CountsRecord written done new

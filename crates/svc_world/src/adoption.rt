@@ -2,7 +2,7 @@
 ghost use Rattle.std.specs.Prelude.{◌≡◌};
 ghost use Rattle.svc_world.specs.Adopted.{glimpse_of};
 
-use crate::processes::{AdoptedProcess, folder_of};
+use crate::processes::{AdoptedProcess, folder_of, has_ended};
 use std::alloc::{AllocError, Global};
 use std::io;
 use std::sync::atomic::{AtomicBool, Ordering};
@@ -10,13 +10,11 @@ use std::sync::{Arc, Mutex, Wait};
 use std::thread::{Builder, Threads};
 use std::time::Duration;
 use svc_house::{News, Notifier};
-use svc_left::ProcessId;
 
 /// After how many seconds is looked again whether the adopted processes live.
 const LOOK_SECONDS: u64 = 1;
 
-/// At every which look the lines of all processes are read, whatever their folders: one that died and that nobody
-/// waited for has its folder still.
+/// At every which look the lines of all processes are read, whatever their folders.
 const LINES_EVERY: u64 = 5;
 
 /// A process that was adopted, and what its service waits for.
@@ -60,7 +58,8 @@ impl Adopted {
         };
         match glimpse_of(self.folder, folder) {
             Glimpse::Gone => false,
-            Glimpse::Same if !reads_line => true,
+            Glimpse::Same if !reads_line && !has_ended(&self.process.files, self.process.pid) =>
+                true,
             _ => {
                 // The line is read behind the folder: where it is the process's own, so is the folder.
                 self.folder = folder;
@@ -109,18 +108,12 @@ impl AdoptionWatch {
     }
 
     /// Looks after a process from now on, and notifies once it is gone.
-    pub fn add<R: Wait>(
+    pub(crate) fn add<R: Wait>(
         &self,
         rt: &R,
-        files: HostRuntime,
-        process: &ProcessId,
+        process: AdoptedProcess,
         notifier: Arc<Notifier, Global>,
     ) -> Result<(), AllocError> {
-        let process = AdoptedProcess {
-            files,
-            pid: process.pid,
-            tick: process.tick,
-        };
         let adopted = Adopted {
             process,
             folder: None,

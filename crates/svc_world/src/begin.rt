@@ -1,15 +1,6 @@
-//! How a child is begun, and what is known of it.
+//! What is known of a child.
 use svc_exit::{Ending, Exit};
 use tai_status::Label;
-
-/// How a child is begun.
-#[derive(Clone, Copy, Debug, PartialEq, Eq)]
-pub enum Begin {
-    /// It runs the service.
-    Run,
-    /// It says that the process of this number still runs, and fails.
-    StillRuns(u32),
-}
 
 /// How a child ended, and when.
 #[derive(Clone, Copy, Debug, PartialEq, Eq)]

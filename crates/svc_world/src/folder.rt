@@ -1,29 +1,40 @@
 //! The folder of a service on this system.
 ghost use Rattle.std.specs.Prelude.{◌≡◌, ◌<◌, ◌≤◌, ◌↔◌, IsTrue, length, option_copied, IfSome};
 ghost use Rattle.svc_world.specs.Commands.{process_in};
-ghost use Rattle.svc_world.specs.Left.{IsFoundIn, IsOfBoot, IsOneFile, named, starting};
-ghost use Rattle.tai_status.specs.Record.{status_record};
+ghost use Rattle.svc_world.specs.Left.{IsFoundIn, IsOfBoot, IsOneFile, is_starting_in};
+ghost use Rattle.svc_left.specs.Leftover.{HasNumber};
 ghost use Rattle.svc_left.specs.Process.{IsLiving};
 
-use crate::processes::{find_orphan, path_of_process, read_front, tick_of};
+use crate::processes::{OwnRun, path_of_process, read_front, see_all, tick_of};
 use arrayvec::ArrayString;
-use cmd_base::{Cause, StatusFront, path_by_descriptor, read_status_front};
+use cmd_base::{StatusFront, path_by_descriptor, read_status_front};
 use mio::net::UnixListener;
 use std::alloc::Global;
 use std::fs::{DirBuilder, File, Files, Metadata, OpenOptions, Permissions, TryLockError};
 use std::io::{Error, ErrorKind, Write};
 use std::net::Net;
 use std::os::fd::AsRawFd;
-use std::os::unix::fs::{DirBuilderExt, MetadataExt, OpenOptionsExt, PermissionsExt};
-use std::{fs, io};
-use svc_left::{BootId, Found, Left, ProcessId, find, read_process};
-use tai_status::{Label, Loaded, Phase, View, decode_front, encode};
+use std::os::unix::fs::{DirBuilderExt, FileExt, MetadataExt, OpenOptionsExt, PermissionsExt};
+use std::sync::Wait;
+use std::time::{Clock, Duration};
+use std::{fs, io, thread};
+use svc_left::{
+    BootId, Found, Intent, Left, Leftover, PLACE_BYTES, Place, ProcessId, find, find_any_here,
+    find_leftover, first_line, read_place, read_process,
+};
+use tai_status::{Cause, Label, Loaded, Phase, decode_front};
 use thiserror::Error;
 
 /// The modes of what is made, whatever the umask.
 const FOLDER_MODE: u32 = 0o700;
 
 const FILE_MODE: u32 = 0o600;
+
+/// The bits of a mode by which somebody may execute the file.
+const EXECUTABLE: u32 = 0o111;
+
+/// How many bytes a status record has at least.
+const STATUS_BYTES: u64 = 20;
 
 /// How long the path of a name in a folder is at most, by descriptor.
 const PATH_BYTES: usize = 64;
@@ -155,13 +166,31 @@ pub(crate) fn open_lock<R: Files<File = File>>(runtime: &R, path: &str) -> io::R
     Ok(file)
 }
 
-/// Makes a file of this content, which is its owner's alone.
+/// Makes a file of this content, which is its owner's alone. What has its name is removed first, and no link is
+/// followed.
 fn write_private<R: Files<File = File>>(runtime: &R, path: &str, content: &[u8]) -> io::Result<()> {
+    remove(runtime, path)?;
     let mut how = OpenOptions::new();
-    how.write(true).create(true).truncate(true).mode(FILE_MODE);
+    how.write(true).create_new(true).mode(FILE_MODE);
     let mut file = how.open(runtime, path)?;
     file.set_permissions(Permissions::from_mode(FILE_MODE))?;
     file.write_all(content)
+}
+
+/// Writes over the front of a file that is there and has so many bytes at least. It takes no room on the device.
+fn overwrite<R: Files<File = File>>(
+    runtime: &R,
+    path: &str,
+    content: &[u8],
+    least: u64,
+) -> io::Result<()> {
+    let mut how = OpenOptions::new();
+    how.write(true);
+    let file = how.open(runtime, path)?;
+    if file.metadata()?.len() < least {
+        return Err(Error::from(ErrorKind::UnexpectedEof));
+    }
+    file.write_all_at(content, 0)
 }
 
 /// Removes a file, where it is there.
@@ -180,25 +209,14 @@ fn process_in(bytes: &[u8]) -> Option<u32>
     if view.pid > 0 { Some(view.pid) } else { None }
 }
 
-/// What the record says of a service whose start was asked for and not answered. None where it says of another one.
-fn starting(recorded: Option<Loaded>) -> Option<View>
-    ensures { result ≡ starting recorded }
+/// Whether a record says that a start was asked for and not answered.
+fn is_starting(recorded: &Option<Loaded>) -> bool
+    ensures { result ≡ is_starting_in recorded.now }
 {
     match recorded {
-        Some(Loaded::New(full)) if full.phase == Phase::Starting => Some(full.view),
-        _ => None,
+        Some(Loaded::New(full)) => matches!(full.phase, Phase::Starting),
+        _ => false,
     }
-}
-
-/// The record that names this process, and reports else what it reported.
-fn naming(view: View, pid: u32) -> [u8; 18]
-    ensures { result ≡ status_record (named view pid) }
-{
-    encode(&View {
-        pid,
-        paused: false,
-        ..view
-    })
 }
 
 /// What became of the process that was recorded: `boot` is this boot, where it is known, and `tick` when the process of
@@ -212,6 +230,25 @@ fn find_in(recorded: Option<ProcessId>, boot: Option<&BootId>, tick: Option<u64>
     }
 }
 
+/// What became of the last process: what is left over of a start, if that was intended after it.
+fn found_over(found: Found, over: Option<Leftover>, boot: Option<&BootId>) -> Found
+    requires living { IsLiving found }
+    requires of_boot { IsOfBoot (option_copied boot) found }
+    requires over { IfSome over HasNumber }
+    ensures living { IsLiving result }
+    ensures of_boot { IsOfBoot (option_copied boot.entry) result }
+{
+    match (over, boot) {
+        (Some(Leftover::Process(pid, tick)), Some(boot)) => Found::Lives(ProcessId {
+            pid,
+            tick,
+            boot: *boot,
+        }),
+        (Some(_), Some(_)) => Found::Gone,
+        _ => found,
+    }
+}
+
 /// Makes a folder that is its owner's alone, where there is none.
 fn make_missing<R: Files<File = File>>(runtime: &R, path: &str) -> io::Result<()> {
     let mut how = DirBuilder::new();
@@ -220,6 +257,58 @@ fn make_missing<R: Files<File = File>>(runtime: &R, path: &str) -> io::Result<()
         Ok(()) => fs::set_permissions(runtime, path, Permissions::from_mode(FOLDER_MODE)),
         Err(fault) if fault.kind() == ErrorKind::AlreadyExists => Ok(()),
         Err(fault) => Err(fault),
+    }
+}
+
+/// Until when a lock is tried that is held elsewhere. A child that a killed svscan has just made holds its locks until
+/// it executes its program.
+#[derive(Clone, Copy, Debug, PartialEq, Eq)]
+pub struct Patience {
+    until: Option<Duration>,
+}
+
+/// How long a lock is tried, in seconds, and how long svscan's own, without which nothing else is to be done.
+const PATIENCE: u64 = 1;
+
+const OWN_PATIENCE: u64 = 5;
+
+/// How long is waited between two tries, in milliseconds.
+const LOCK_REST: u64 = 2;
+
+impl Patience {
+    /// One second from now on, by the running clock.
+    pub fn new<R: Clock>(rt: &R) -> Patience {
+        Patience::of(rt, PATIENCE)
+    }
+
+    /// So many seconds from now on.
+    fn of<R: Clock>(rt: &R, seconds: u64) -> Patience {
+        let now = rt.monotonic().ok();
+        Patience {
+            until: now.map_or(None, |now| now.checked_add(Duration::from_secs(seconds))),
+        }
+    }
+
+    /// Waits for a moment before the next try. Whether there is to be one.
+    pub fn wait<R: Clock + Wait>(&self, rt: &R) -> bool {
+        match (rt.monotonic(), self.until) {
+            (Ok(now), Some(until)) if now < until => {
+                thread::sleep(rt, Duration::from_millis(LOCK_REST));
+                true
+            }
+            _ => false,
+        }
+    }
+
+    /// Takes a lock, which is tried again and again while it is held elsewhere.
+    pub(crate) fn lock<R: Clock + Wait>(&self, rt: &R, file: &File) -> Result<(), TryLockError> {
+        for _ in rt.forever() {
+            match file.try_lock() {
+                Err(TryLockError::WouldBlock) if self.wait(rt) => {}
+                tried => return tried,
+            }
+        }
+        unreachable!()
     }
 }
 
@@ -239,24 +328,50 @@ fn is_held<R: Files<File = File>>(runtime: &R, path: &str) -> bool {
     }
 }
 
+/// Waits while the lock in the folder at a path is held, as long as there is patience.
+fn while_held<R: Clock + Wait>(
+    rt: &R,
+    files: &HostRuntime,
+    path: &str,
+    patience: &Patience,
+) -> Result<(), FolderFault> {
+    for _ in rt.forever() {
+        if !is_held(files, path) {
+            return Ok(());
+        }
+        if !patience.wait(rt) {
+            return Err(FolderFault::Locked);
+        }
+    }
+    unreachable!()
+}
+
 impl ServiceFolder {
     /// Opens svscan's own folder at a path as that of a service. It is made where it is missing. While another svscan
     /// holds it nothing is changed there, not even a time.
-    pub fn open_own(files: HostRuntime, path: &str) -> Result<ServiceFolder, FolderFault> {
-        if is_held(&files, path) {
-            return Err(FolderFault::Locked);
-        }
+    pub fn open_own<R: Clock + Wait>(
+        rt: &R,
+        files: HostRuntime,
+        path: &str,
+    ) -> Result<ServiceFolder, FolderFault> {
+        let patience = Patience::of(rt, OWN_PATIENCE);
+        while_held(rt, &files, path, &patience)?;
         make_missing(&files, path)?;
-        ServiceFolder::open(files, path)
+        ServiceFolder::open(rt, files, path, &patience)
     }
 
-    /// Opens the folder at a path, makes its folder `supervise`, and takes the lock in that, without waiting for
-    /// another that has it. The lock is held until this is let go.
-    pub fn open(files: HostRuntime, path: &str) -> Result<ServiceFolder, FolderFault> {
+    /// Opens the folder at a path, makes its folder `supervise`, and takes the lock in that, which is tried while it is
+    /// held elsewhere as long as there is patience. The lock is held until this is let go.
+    pub fn open<R: Clock + Wait>(
+        rt: &R,
+        files: HostRuntime,
+        path: &str,
+        patience: &Patience,
+    ) -> Result<ServiceFolder, FolderFault> {
         let service = open_folder(&files, path)?;
         make_supervise(&files, files.alloc(), path_in(&service, ".").as_str())?;
         let lock = open_lock(&files, path_in(&service, "supervise/lock").as_str())?;
-        match lock.try_lock() {
+        match patience.lock(rt, &lock) {
             Ok(()) => Ok(ServiceFolder {
                 files,
                 service,
@@ -316,9 +431,36 @@ impl ServiceFolder {
         fs::rename(&self.files, new.as_str(), self.path(file).as_str())
     }
 
-    /// Puts these bytes in the place of the status record. After a fault the old ones stand there.
-    pub fn replace_status(&self, bytes: &[u8; 20]) -> io::Result<()> {
-        self.replace("supervise/status", "supervise/status.new", bytes)
+    /// Puts these bytes in the place of the status record. If they can't replace it, as on a full device, they are
+    /// written over it. After a fault the old ones are there.
+    pub fn replace_status(&self, bytes: &[u8]) -> io::Result<()> {
+        match self.replace("supervise/status", "supervise/status.new", bytes) {
+            Ok(()) => Ok(()),
+            Err(fault) => {
+                let path = self.path("supervise/status");
+                overwrite(&self.files, path.as_str(), bytes, STATUS_BYTES).map_err(|_| fault)
+            }
+        }
+    }
+
+    /// Writes a line over the one in `supervise/place`, which is made where it is missing, with room for any other
+    /// line.
+    #[inline(never)]
+    pub fn write_place(&self, line: &[u8]) -> io::Result<()> {
+        let path = self.path("supervise/place");
+        match overwrite(&self.files, path.as_str(), line, PLACE_BYTES as u64) {
+            Ok(()) => Ok(()),
+            Err(_) => self.make_place(line),
+        }
+    }
+
+    /// Makes `supervise/place` with this line.
+    #[inline(never)]
+    fn make_place(&self, line: &[u8]) -> io::Result<()> {
+        let mut content = [b'\n'; PLACE_BYTES];
+        let room = &mut content[..line.len().min(PLACE_BYTES)];
+        room.copy_from_slice(&line[..line.len().min(PLACE_BYTES)]);
+        self.replace("supervise/place", "supervise/place.new", &content)
     }
 
     /// Puts this line, how the last process ended, in the place of the one before. After a fault that stands there.
@@ -347,58 +489,23 @@ impl ServiceFolder {
         self.replace("supervise/trace", "supervise/trace.new", text)
     }
 
-    /// The process that the record in a file names, while it runs in this folder, with that record.
-    fn process_of(&self, file: &str) -> Option<(u32, StatusFront)>
+    /// Whether a process runs in this folder that the record in a file names.
+    fn has_process_of(&self, file: &str) -> bool
         requires { length file.now ≤ 23 }
     {
-        let record = read_status_front(&self.files, self.path(file).as_str()).ok()?;
-        let pid = process_in(record.as_slice())?;
-        if self.is_running(pid) {
-            Some((pid, record))
-        } else {
-            None
-        }
+        let Ok(record) = read_status_front(&self.files, self.path(file).as_str()) else {
+            return false;
+        };
+        process_in(record.as_slice()).map_or(false, |pid| self.is_running(pid))
     }
 
-    /// The process that an earlier svscan left running in this folder, and that can't be adopted. The status record
-    /// that stands there names it, where no process is adopted. Since that record is soon replaced, a copy is kept as
-    /// `supervise/earlier` while the process runs, and names it to the next svscan too, also where that adopts a child
-    /// which only says that it runs. None where no such process runs, and none was being started.
-    pub fn earlier(&self, alloc: Global, adopted: Option<u32>) -> Option<u32> {
-        if let Some((pid, _kept)) = self.process_of("supervise/earlier") {
-            return Some(pid);
-        }
-        if adopted.is_some() {
-            return None;
-        }
-        match self.process_of("supervise/status") {
-            Some((pid, record)) => {
-                let _ = self.replace(
-                    "supervise/earlier",
-                    "supervise/earlier.new",
-                    record.as_slice(),
-                );
-                Some(pid)
-            }
-            None => {
-                let _ = remove(&self.files, self.path("supervise/earlier").as_str());
-                self.unrecorded(alloc)
-            }
-        }
-    }
-
-    /// The process of a start that was asked for and is not recorded, where svscan was killed between the two: one that
-    /// runs in this folder and has lost its parent. It is kept as `supervise/earlier` then, for the next svscan.
-    fn unrecorded(&self, alloc: Global) -> Option<u32> {
-        let view = starting(self.record())?;
-        let runs_here = |pid: u32| self.is_running(pid);
-        let pid = find_orphan(&self.files, alloc, runs_here).ok()??;
-        let _ = self.replace(
-            "supervise/earlier",
-            "supervise/earlier.new",
-            &naming(view, pid),
-        );
-        Some(pid)
+    /// Whether an svscan that wrote no place may have left a process that is not recorded: one that runs in this folder
+    /// and that the status record, or the copy of an earlier one, names, or one of a start that was asked for and not
+    /// answered.
+    fn has_unplaced(&self) -> bool {
+        is_starting(&self.record())
+            || self.has_process_of("supervise/earlier")
+            || self.has_process_of("supervise/status")
     }
 
     /// The status record.
@@ -416,24 +523,117 @@ impl ServiceFolder {
         read_process(line.as_slice())
     }
 
-    /// What an earlier svscan left of the service, in this boot, at this time.
+    /// What `supervise/place` says, if it is of this run of the system. What is no line of a place is an intent of which
+    /// nothing more is known.
+    fn place(&self, own: &OwnRun) -> Option<Place> {
+        let path = self.path("supervise/place");
+        let text = read_front::<HostRuntime, PLACE_BYTES>(&self.files, path.as_str()).ok()?;
+        if text.is_empty() {
+            return None;
+        }
+        if own.boot.is_none() {
+            return None;
+        }
+        let vacant = own.vacant();
+        match read_place(first_line(text.as_slice())) {
+            Some(place) if place.is_of_run(&vacant) => Some(place),
+            Some(_) => None,
+            None => Some(vacant.intending_unknown()),
+        }
+    }
+
+    /// The process that the place names, or that was recorded at the last start if the place names none.
+    fn last_process(&self, place: &Option<Place>) -> Option<ProcessId>
+        ensures { IfSome result (λ process. 0 < process.pid) }
+    {
+        match place {
+            Some(place) if place.pid > 0 => place.process(),
+            _ => self.process(),
+        }
+    }
+
+    /// What an earlier svscan left of the service, in this run of the system, at this time. `over` is what is left over
+    /// of a start that it intended, if it did.
     #[tactic(auto, using(crate::proofs::Lefts::found_living, crate::proofs::Lefts::found_of_boot))]
-    pub fn left(&self, boot: Option<&BootId>, label: Label) -> Left
+    pub fn left(&self, own: &OwnRun, over: Option<Leftover>, label: Label) -> Left
+        requires over { IfSome over HasNumber }
         ensures living { IsLiving result.process }
-        ensures boot { IsOfBoot (option_copied boot.entry) result.process }
+        ensures boot { IsOfBoot own.now.boot result.process }
         ensures label { result.label ≡ label }
     {
-        let process = self.process();
-        let tick = match &process {
+        let place = self.place(own);
+        let recorded = self.last_process(&place);
+        let tick = match &recorded {
             // Where the kernel can't be asked, it lives.
             Some(process) => tick_of(&self.files, process.pid).unwrap_or(Some(process.tick)),
             None => None,
         };
+        let found = find_in(recorded, own.boot.as_ref(), tick);
         Left {
             record: self.record(),
-            process: find_in(process, boot, tick),
+            want: place.map_or(None, |place| Some(place.want)),
+            process: found_over(found, over, own.boot.as_ref()),
             label,
         }
+    }
+
+    /// The start that an earlier svscan intended, and of whose process nothing is recorded, if there is one.
+    pub fn intended(&self, own: &OwnRun) -> Option<Place> {
+        match self.place(own) {
+            Some(place) if place.is_intent() => Some(place),
+            Some(_) => None,
+            None if self.has_unplaced() => Some(own.vacant().intending_unknown()),
+            None => None,
+        }
+    }
+
+    /// What is left over of a start that an earlier svscan intended, by one look at all processes. Where they can't be
+    /// looked at, it is not sure.
+    #[inline(never)]
+    pub fn leftover(
+        &self,
+        alloc: Global,
+        own: &OwnRun,
+        place: &Place,
+        known: &[ProcessId],
+    ) -> Leftover
+        ensures { HasNumber result }
+    {
+        let intent = Intent {
+            tick: place.tick,
+            session: place.session,
+            begins_session: self.begins_session(),
+            until: own.tick,
+        };
+        let output = FileId::found(fs::metadata(&self.files, self.path("supervise/out").as_str()));
+        let is_here = |pid: u32| self.is_running(pid) || self.has_output(pid, output);
+        let Ok(all) = see_all(&self.files, alloc, own, &intent, known, is_here) else {
+            return Leftover::Unsure(0);
+        };
+        if place.is_unknown() {
+            return find_any_here(&all).numbered();
+        }
+        find_leftover(&intent, &all).numbered()
+    }
+
+    /// Whether the service begins a session of its own: its folder has a file `setsid`.
+    pub(crate) fn begins_session(&self) -> bool {
+        fs::metadata(&self.files, self.path("setsid").as_str()).is_ok()
+    }
+
+    /// Why nobody can execute `run`, if that shows without an attempt.
+    pub(crate) fn look_at_run(&self) -> io::Result<()> {
+        let found = fs::metadata(&self.files, self.path("run").as_str())?;
+        if found.permissions().mode() & EXECUTABLE == 0 {
+            return Err(Error::from(ErrorKind::PermissionDenied));
+        }
+        Ok(())
+    }
+
+    /// Whether this file is the standard output of a process.
+    fn has_output(&self, pid: u32, output: Option<FileId>) -> bool {
+        let there = fs::metadata(&self.files, path_of_process(pid, "fd/1").as_str());
+        is_one_file(FileId::found(there), output)
     }
 
     /// Whether a process runs in this folder.

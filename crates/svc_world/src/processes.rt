@@ -1,10 +1,9 @@
 //! Processes of this system that are no children of this one.
 ghost use Rattle.std.specs.Prelude.{◌≡◌, ◌<◌, ◌≤◌, length, take, option_and_then, false, true, IfErr, IfOk, IfSome};
-ghost use Rattle.std.specs.Option.{option_map_or};
 ghost use Rattle.std.specs.Io.{ReadsAtMost};
 ghost use Rattle.std.specs.Io.KnownBytes.{Consumes, IsAtEnd};
 ghost use Rattle.svc_world.specs.Commands.{path_of_process};
-ghost use Rattle.svc_world.specs.Stats.{LivesSince, is_orphan, living_tick};
+ghost use Rattle.svc_world.specs.Stats.{LivesSince, living_tick};
 
 use crate::folder::ShortPath;
 use crate::stat::Stat;
@@ -16,7 +15,8 @@ use std::io::Read;
 use std::os::unix::fs::MetadataExt;
 use std::{fs, io};
 use sup_core::read_number;
-use svc_left::BootId;
+use svc_left::{BootId, Intent, Place, ProcessId, Seen};
+use tai_status::Want;
 
 /// The error number of a process that is gone (errno(3)).
 const ESRCH: i32 = 3;
@@ -142,36 +142,103 @@ fn lives<S: StatSource>(processes: &S, pid: u32, tick: u64) -> bool
     lives_by(processes.stat_of(pid), tick)
 }
 
-/// Whether the process of this number lives and has lost its parent, or why the kernel can't be asked.
-fn is_orphan<S: StatSource>(processes: &S, pid: u32) -> io::Result<bool>
-    ensures { IfOk result (λ is.
-        IfSome (S.stat_at processes.now pid) (λ reported. is ≡ option_map_or is_orphan reported false)) }
-{
-    match processes.stat_of(pid)? {
-        Some(stat) => Ok(stat.is_orphan()),
-        None => Ok(false),
+/// This process, of which an svscan is one: in which boot and since which first process it runs, and its session.
+#[derive(Clone, Copy, Debug, PartialEq, Eq)]
+pub struct OwnRun {
+    pub boot: Option<BootId>,
+    /// The tick at which the first process began.
+    pub init: u64,
+    pub session: u64,
+    pub pid: u32,
+    /// The tick at which this process began.
+    pub tick: u64,
+}
+
+/// What the kernel says of the process of this number, if it says anything.
+fn known_stat(files: &HostRuntime, pid: u32) -> Option<Stat> {
+    match files.stat_of(pid) {
+        Ok(found) => found,
+        Err(_) => None,
     }
 }
 
-/// The first process that has lost its parent and of which this holds.
-pub(crate) fn find_orphan<R: Files<File = File> + StatSource, F: Fn(u32) -> bool>(
-    files: &R,
-    alloc: Global,
-    holds: F,
-) -> io::Result<Option<u32>>
-    requires { F.IsAlwaysCallable holds }
-{
-    for entry in fs::read_dir(&(files, &alloc), "/proc")? {
-        let entry = entry?;
-        if let Some(number) = read_number(entry.file_name().as_bytes()) {
-            if let Ok(pid) = u32::try_from(number) {
-                if is_orphan(files, pid)? && holds(pid) {
-                    return Ok(Some(pid));
-                }
-            }
+/// The boot in the place of a service, if the kernel does not name it. Such a place counts for no svscan.
+const UNKNOWN_BOOT: BootId = [b'-'; 36];
+
+/// The number of the first process.
+const INIT: u32 = 1;
+
+impl OwnRun {
+    /// Whether this is the boot.
+    pub(crate) fn is_in(&self, boot: &BootId) -> bool {
+        match self.boot {
+            Some(own) => own == *boot,
+            None => false,
         }
     }
-    Ok(None)
+
+    /// The place of a service that has not been started in this run of the system.
+    pub fn vacant(&self) -> Place {
+        Place {
+            pid: 0,
+            tick: 0,
+            session: self.session,
+            init: self.init,
+            want: Want::Up,
+            boot: self.boot.unwrap_or(UNKNOWN_BOOT),
+        }
+    }
+
+    /// What the kernel says of this process, whose number this is. What it does not say is 0.
+    pub fn find(files: &HostRuntime, pid: u32) -> OwnRun {
+        let own = known_stat(files, pid);
+        let init = known_stat(files, INIT);
+        OwnRun {
+            boot: boot_id(files),
+            init: init.map_or(0, |stat| stat.tick()),
+            session: own.map_or(0, |stat| stat.session()),
+            pid,
+            tick: own.map_or(0, |stat| stat.tick()),
+        }
+    }
+}
+
+/// All processes of the system, as they are seen now. Of those that began since the intent `is_here` says whether they
+/// are the service's.
+#[inline(never)]
+pub(crate) fn see_all<R: Files<File = File> + StatSource, F: Fn(u32) -> bool>(
+    files: &R,
+    alloc: Global,
+    own: &OwnRun,
+    intent: &Intent,
+    known: &[ProcessId],
+    is_here: F,
+) -> io::Result<Vec<Seen>>
+    requires { F.IsAlwaysCallable is_here }
+{
+    let mut all = Vec::new(alloc);
+    for entry in fs::read_dir(&(files, &alloc), "/proc")? {
+        let entry = entry?;
+        let Some(pid) = read_number(entry.file_name().as_bytes()) else {
+            continue;
+        };
+        let Ok(pid) = u32::try_from(pid) else {
+            continue;
+        };
+        if let Some(stat) = files.stat_of(pid)? {
+            let mut seen = stat.seen(pid);
+            seen.is_known = pid == own.pid || is_among(known, pid, seen.tick);
+            seen.is_late = seen.session == own.session && seen.tick > own.tick;
+            seen.is_here = seen.tick >= intent.tick && is_here(pid);
+            all.push(seen)?;
+        }
+    }
+    Ok(all)
+}
+
+/// Whether the process of this number, which began at this tick, is one of these.
+fn is_among(known: &[ProcessId], pid: u32, tick: u64) -> bool {
+    known.iter().any(|one| one.pid == pid && one.tick == tick)
 }
 
 /// The boot, where the kernel names it.
@@ -188,6 +255,12 @@ pub(crate) fn folder_of<R: Files<File = File>>(files: &R, pid: u32) -> io::Resul
         Err(fault) if fault.kind() == io::ErrorKind::NotFound => Ok(None),
         Err(fault) => Err(fault),
     }
+}
+
+/// Whether the process of this number may have ended and wait for its parent: it runs in no folder any more. One look,
+/// that needs no descriptor. Where the kernel does not say it, it may have.
+pub(crate) fn has_ended<R: Files<File = File>>(files: &R, pid: u32) -> bool {
+    fs::metadata(files, path_of_process(pid, "cwd").as_str()).is_err()
 }
 
 /// A process that is no child of this one, and is not mistaken for another.

@@ -31,7 +31,11 @@ fn start_shell<R: Processes<Started = SystemProcess>>(
     alloc: Global,
 ) -> io::Result<Child<SystemProcess>> {
     let mut command = Command::new(alloc, "/bin/sh")?;
-    command.arg("-c")?.arg(SCRIPT)?.current_dir("/")?;
+    command
+        .arg("-c")?
+        .arg(SCRIPT)?
+        .current_dir("/")?
+        .env_clear();
     command
         .stdin(Stdio::piped())
         .stdout(Stdio::null())

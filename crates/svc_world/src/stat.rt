@@ -4,6 +4,7 @@ ghost use Rattle.sup_core.specs.Reading.{fields};
 ghost use Rattle.svc_world.specs.Stats.{behind_name, is_dead};
 
 use sup_core::{read_number, split_field};
+use svc_left::Seen;
 
 /// What the line of a process reports of it (proc(5), `stat`).
 #[derive(Clone, Copy, Debug, PartialEq, Eq)]
@@ -12,6 +13,8 @@ pub(crate) struct Stat {
     has_died: bool,
     /// The number of its parent.
     parent: u64,
+    /// Its session.
+    session: u64,
     /// The tick of the kernel's clock at which it began.
     tick: u64,
 }
@@ -50,7 +53,7 @@ fn is_dead(state: &[u8]) -> bool
 
 impl Stat {
     ghost use Rattle.std.specs.Prelude.{◌≡◌, ◌↔◌, IsTrue, IfSome, Some};
-    ghost use Rattle.svc_world.specs.Stats.{FitsStat, SaysStat, is_orphan, living_tick};
+    ghost use Rattle.svc_world.specs.Stats.{FitsStat, SaysStat, living_tick, seen_as};
 
     /// What the line of a process reports. None where it is no such line.
     pub(crate) fn read(line: &[u8]) -> Option<Stat>
@@ -61,6 +64,7 @@ impl Stat {
         Some(Stat {
             has_died: is_dead(field_at(behind, 1)?),
             parent: read_number(field_at(behind, 2)?)?,
+            session: read_number(field_at(behind, 4)?)?,
             tick: read_number(field_at(behind, 20)?)?,
         })
     }
@@ -79,10 +83,33 @@ impl Stat {
         self.living_tick() == Some(tick)
     }
 
-    /// Whether the process lives and has lost its parent.
-    pub(crate) fn is_orphan(&self) -> bool
-        ensures { result ≡ is_orphan self.now }
+    /// The process of this number, as it is seen in a look at all processes.
+    pub(crate) fn seen(&self, pid: u32) -> Seen
+        ensures { result ≡ seen_as pid self.now }
     {
-        !self.has_died && self.parent == 1
+        Seen {
+            pid,
+            parent: self.parent,
+            tick: self.tick,
+            session: self.session,
+            has_died: self.has_died,
+            is_here: false,
+            is_known: false,
+            is_late: false,
+        }
+    }
+
+    /// Its session.
+    pub(crate) fn session(&self) -> u64
+        ensures { result ≡ self.now.session }
+    {
+        self.session
+    }
+
+    /// The tick at which it began.
+    pub(crate) fn tick(&self) -> u64
+        ensures { result ≡ self.now.tick }
+    {
+        self.tick
     }
 }

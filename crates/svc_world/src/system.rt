@@ -2,14 +2,17 @@
 ghost use Rattle.std.specs.Prelude.{◌≡◌, [], ◌∷◌, codes, option_copied, IfOk};
 ghost use Rattle.std.specs.IoError.{error_kind};
 ghost use Rattle.std.specs.Process.{command_args, command_program};
-ghost use Rattle.svc_world.specs.Commands.{first_program, first_words, still_runs, unable_to_run};
+ghost use Rattle.svc_world.specs.Commands.{paper_name, remark_text, unable_to_run};
+ghost use Rattle.svc_left.specs.Leftover.{HasNumber};
 
-use crate::begin::{Begin, Death};
+use crate::begin::Death;
 use crate::child_reaper::{ChildReaper, ChildSlot, DeathSlot, WatchedChild};
 use crate::child_system::ChildSystem;
 use crate::folder::ServiceFolder;
+use crate::linger::Linger;
+use crate::paper::{Paper, Remark};
 use crate::processes::{AdoptedProcess, tick_of};
-use crate::shell::SignalShell;
+use crate::surroundings::Surroundings;
 use arrayvec::ArrayString;
 use cmd_base::{SystemClock, push_number};
 use std::alloc::{AllocError, Global};
@@ -18,12 +21,12 @@ use std::io;
 use std::io::{ErrorKind, PipeReader, Write};
 use std::process::{Child, Command, Processes, SystemProcess};
 use std::sync::{Arc, OnceLock, Wait};
-use std::time::Clock;
+use std::time::{Clock, Duration};
 use sup_core::Sig;
 use svc_exit::Ending;
 use svc_house::Notifier;
-use svc_left::ProcessId;
-use tai_status::{Label, TimeSource};
+use svc_left::{Leftover, Place};
+use tai_status::{Cause, Label, TimeSource};
 
 /// What the children of a service have as standard input and output, each one after the other. What is None they have
 /// from this process.
@@ -58,10 +61,14 @@ where
     folder: Arc<ServiceFolder, Global>,
     name: String,
     streams: Streams,
-    shell: Arc<SignalShell<R>, Global>,
+    shared: Surroundings<R>,
+    notifier: Arc<Notifier, Global>,
     clock: SystemClock<R>,
     slot: ChildSlot,
     death: DeathSource,
+    // Why a paper could not be written last.
+    cause: Cause,
+    linger: Linger,
 }
 
 /// What a shell does in the place of a service that can't be run.
@@ -74,6 +81,19 @@ fn run(alloc: Global) -> Result<Command, AllocError>
 {
     Command::new(alloc, "./run")
 }
+
+/// Runs the service in a session of its own (setsid(1)).
+fn run_in_session(alloc: Global) -> Result<Command, AllocError>
+    ensures program { IfOk result (λ command. command_program command ≡ codes "/usr/bin/setsid") }
+    ensures words { IfOk result (λ command. command_args command ≡ codes "./run" ∷ []) }
+{
+    let mut command = Command::new(alloc, "/usr/bin/setsid")?;
+    command.arg("./run")?;
+    Ok(command)
+}
+
+/// What is said of a service that begins a session, if there is no program for that.
+const NO_SETSID: &str = "unable to run setsid: No such file or directory";
 
 /// A shell that runs the service, or says why that can't be and fails.
 fn run_by_shell(alloc: Global) -> Result<Command, AllocError>
@@ -97,30 +117,48 @@ fn say(alloc: Global, name: &str, what: &str) -> Result<Command, AllocError>
         .arg(SAY)?
         .arg("sh")?
         .arg(name)?
-        .arg(what)?;
+        .arg(what)?
+        .env_clear();
     Ok(command)
 }
 
-/// What is said where the process of this number still runs.
-fn still_runs(pid: u32) -> ArrayString<64>
-    ensures { result.bytes ≡ still_runs pid }
+/// The name of a paper's file.
+fn paper_name(paper: Paper) -> &'static str
+    ensures { result.now ≡ paper_name paper }
 {
-    let mut text = ArrayString::new();
-    text.push_str("process ");
-    push_number(&mut text, u64::from(pid));
-    text.push_str(" still runs");
-    text
+    match paper {
+        Paper::Place => "place",
+        Paper::Process => "process",
+        Paper::Status => "status",
+        Paper::Exit => "exit",
+        Paper::Counts => "counts",
+    }
 }
 
-/// What a child that is begun so runs at first, of the service of this name.
-fn first_command(alloc: Global, name: &str, begin: Begin) -> Result<Command, AllocError>
-    ensures program { IfOk result (λ command. command_program command ≡ first_program begin) }
-    ensures words { IfOk result (λ command. command_args command ≡ first_words SAY.now name.now begin) }
+/// How long what is said of a service is at most.
+const REMARK_BYTES: usize = 96;
+
+/// What is said of a service: of a paper that can't be written, the cause.
+fn remark_text(remark: Remark, cause: Cause) -> ArrayString<REMARK_BYTES>
+    ensures { result.bytes ≡ remark_text remark cause }
 {
-    match begin {
-        Begin::Run => run(alloc),
-        Begin::StillRuns(pid) => say(alloc, name, still_runs(pid).as_str()),
+    let mut text = ArrayString::new();
+    match remark {
+        Remark::StillRuns(0) => text.push_str("unable to look for its process"),
+        Remark::StillRuns(pid) => {
+            text.push_str("process ");
+            push_number(&mut text, u64::from(pid));
+            text.push_str(" still runs");
+        }
+        Remark::Unwritten(paper) => {
+            text.push_str("unable to write ");
+            text.push_str(paper_name(paper));
+            text.push_str(": ");
+            text.push_str(cause.words());
+        }
+        Remark::AllWritten => text.push_str("all records are written again"),
     }
+    text
 }
 
 /// What is said of a `run` that can't be executed, or none where a shell may still run it.
@@ -132,6 +170,22 @@ fn unable_to_run(fault: &io::Error) -> Option<&'static str>
         ErrorKind::PermissionDenied => Some("unable to run ./run: Permission denied"),
         _ => None,
     }
+}
+
+/// How many ticks of the kernel's clock a second has, as it reports times (sysconf(3), `_SC_CLK_TCK`).
+const TICKS_A_SECOND: u64 = 100;
+
+const NANOS_A_SECOND: u64 = 1_000_000_000;
+
+/// The tick at this time of the running clock: it is not behind the one that the kernel would report of a process that
+/// begins now. The first tick, where the time is not known.
+fn present_tick(now: Option<Duration>) -> u64 {
+    let Some(now) = now else {
+        return 1;
+    };
+    let seconds = now.as_secs().saturating_mul(TICKS_A_SECOND);
+    let parts = u64::from(now.subsec_nanos()) * TICKS_A_SECOND / NANOS_A_SECOND;
+    seconds.saturating_add(parts).max(1)
 }
 
 impl<R> SystemChildren<R>
@@ -148,9 +202,10 @@ where
         name: &str,
         streams: Streams,
         notifier: Arc<Notifier, Global>,
-        shell: Arc<SignalShell<R>, Global>,
+        shared: Surroundings<R>,
     ) -> Result<(SystemChildren<R>, ChildReaper), AllocError> {
-        let (slot, reaper) = ChildReaper::open(alloc, notifier)?;
+        let theirs = Arc::try_clone(&notifier)?;
+        let (slot, reaper) = ChildReaper::open(alloc, theirs)?;
         let children = SystemChildren {
             runtime,
             files,
@@ -158,21 +213,39 @@ where
             folder,
             name: String::from_str(alloc, name)?,
             streams,
-            shell,
+            shared,
+            notifier,
             clock: SystemClock::new(runtime),
             slot,
             death: DeathSource::None,
+            cause: Cause::Other,
+            linger: Linger::new(),
         };
         Ok((children, reaper))
     }
 
-    /// The process is adopted that runs for the service already. That it is gone is found when its death is sought.
-    pub fn adopt(&mut self, process: &ProcessId) {
-        self.death = DeathSource::Process(AdoptedProcess {
+    /// Adopts the process that runs for the service already. That it is gone is found when its death is sought, and
+    /// the notifier is notified then.
+    pub fn try_adopt(&mut self, pid: u32, tick: u64) -> Result<(), AllocError> {
+        let process = AdoptedProcess {
             files: self.files,
-            pid: process.pid,
-            tick: process.tick,
-        });
+            pid,
+            tick,
+        };
+        self.death = DeathSource::Process(process);
+        let notifier = Arc::try_clone(&self.notifier)?;
+        self.shared.adoptions.add(&self.runtime, process, notifier)
+    }
+
+    // Writes this content of a paper into its file.
+    fn try_write(&self, paper: Paper, content: &[u8]) -> io::Result<()> {
+        match paper {
+            Paper::Place => self.folder.write_place(content),
+            Paper::Process => self.folder.replace_process(content),
+            Paper::Status => self.folder.replace_status(content),
+            Paper::Exit => self.folder.replace_exit(content),
+            Paper::Counts => self.folder.replace_counts(content),
+        }
     }
 
     /// Starts a command in the folder, with the streams.
@@ -195,12 +268,27 @@ where
         }
     }
 
-    /// Makes a child. Where `./run` can't be executed it is a shell, which says why.
-    fn make(&self, begin: Begin) -> io::Result<Child<SystemProcess>> {
-        let first = first_command(self.alloc, self.name.as_str(), begin)?;
-        match (self.launch(first), begin) {
-            (Err(fault), Begin::Run) => self.launch(self.in_place_of_run(&fault)?),
-            (made, _) => made,
+    /// Makes a child in a session of its own. If there is no program for that it is a shell, which says so.
+    fn make_in_session(&self) -> io::Result<Child<SystemProcess>> {
+        self.folder.look_at_run()?;
+        match self.launch(run_in_session(self.alloc)?) {
+            Err(fault) if fault.kind() == ErrorKind::NotFound => {
+                self.launch(say(self.alloc, self.name.as_str(), NO_SETSID)?)
+            }
+            made => made,
+        }
+    }
+
+    /// Makes a child. If `./run` can't be executed it is a shell, which says why.
+    fn make(&self) -> io::Result<Child<SystemProcess>> {
+        let made = if self.folder.begins_session() {
+            self.make_in_session()
+        } else {
+            self.launch(run(self.alloc)?)
+        };
+        match made {
+            Err(fault) => self.launch(self.in_place_of_run(&fault)?),
+            made => made,
         }
     }
 
@@ -212,10 +300,10 @@ where
     }
 
     /// Makes a child, and hands it to the reaper.
-    fn make_watched(&mut self, begin: Begin) -> io::Result<u32> {
+    fn make_watched(&mut self) -> io::Result<u32> {
         let death = Arc::new(self.alloc, OnceLock::new())?;
         let theirs = Arc::try_clone(&death)?;
-        let child = self.make(begin)?;
+        let child = self.make()?;
         let pid = child.id();
         let watched = WatchedChild {
             child,
@@ -232,9 +320,10 @@ where
     R: Processes<Started = SystemProcess> + Wait + Clock + Copy + Drop,
 {
     #[inline(never)]
-    fn spawn(&mut self, begin: Begin) -> Option<u32> {
+    fn spawn(&mut self) -> Option<u32> {
         self.death = DeathSource::None;
-        match self.make_watched(begin) {
+        self.linger.begin(self.notifier.letters());
+        match self.make_watched() {
             Ok(pid) if pid > 0 => Some(pid),
             _ => None,
         }
@@ -254,36 +343,50 @@ where
         Some(death)
     }
 
-    fn signal(&mut self, sig: Sig, pid: u32) {
-        self.shell.signal(sig, pid)
-    }
-
-    fn replace_status(&mut self, bytes: &[u8; 20]) -> io::Result<()> {
-        let replaced = self.folder.replace_status(bytes);
-        if replaced.is_err() {
-            self.report("unable to write status");
+    fn lingers(&mut self) -> bool {
+        let letters = self.notifier.letters();
+        match self.runtime.monotonic() {
+            Ok(now) => self.linger.look(letters, now),
+            Err(_) => false,
         }
-        replaced
     }
 
-    fn replace_exit(&mut self, line: &[u8]) -> io::Result<()> {
-        self.folder.replace_exit(line)
+    fn signal(&mut self, sig: Sig, pid: u32) {
+        self.shared.shell.signal(sig, pid)
     }
 
-    fn replace_counts(&mut self, line: &[u8]) -> io::Result<()> {
-        self.folder.replace_counts(line)
+    #[inline(never)]
+    fn write(&mut self, paper: Paper, content: &[u8]) -> bool {
+        match self.try_write(paper, content) {
+            Ok(()) => true,
+            Err(fault) => {
+                self.cause = Cause::of(&fault);
+                false
+            }
+        }
     }
 
-    fn replace_process(&mut self, line: &[u8]) -> io::Result<()> {
-        self.folder.replace_process(line)
+    #[inline(never)]
+    fn say(&mut self, remark: Remark) {
+        self.report(remark_text(remark, self.cause).as_str());
+    }
+
+    #[inline(never)]
+    fn leftover(&mut self, place: &Place) -> Leftover {
+        self.shared
+            .leftover(&self.runtime, self.alloc, &self.folder, place)
+    }
+
+    fn adopt(&mut self, pid: u32, tick: u64) {
+        let _ = self.try_adopt(pid, tick);
+    }
+
+    fn present_tick(&mut self) -> u64 {
+        present_tick(self.runtime.monotonic().ok())
     }
 
     fn tick(&mut self, pid: u32) -> Option<u64> {
         tick_of(&self.files, pid).unwrap_or(None)
-    }
-
-    fn is_running(&mut self, pid: u32) -> bool {
-        self.folder.is_running(pid)
     }
 
     fn now(&mut self) -> Label {

@@ -1,31 +1,50 @@
 //! The world of one service, over its children.
 ghost use Rattle.std.specs.Prelude.{◌≡◌, ◌<◌, IfSome};
 ghost use Rattle.svc_house.specs.Calls.{IsAnswer};
-ghost use Rattle.svc_world.specs.Watch.{answer_of, child_of};
+ghost use Rattle.svc_world.specs.Watch.{answer_of, child_of, want_loaded};
+ghost use Rattle.tai_status.specs.Loading.{loaded_from};
 
-use crate::begin::{Begin, LastChild};
+use crate::begin::{Death, LastChild};
 use crate::child_system::ChildSystem;
+use crate::paper::{Owed, Paper, Remark};
 use std::marker::Model;
+use std::time::Duration;
 use sup_core::Sig;
 use svc_exit::{Counts, Exit, counts_text, exit_text};
 use svc_house::{StartAnswer, World};
-use svc_left::{ProcessId, process_line};
-use tai_status::Label;
+use svc_left::{Leftover, Place, place_line, process_line};
+use tai_status::{Label, Want, decode_front};
+
+/// How long a service that owes a paper rests at most before its next turn, in seconds.
+const OWING_REST: u64 = 1;
+
+/// How long a service rests at most before it looks again whether a death is to be reported, in milliseconds.
+const LINGERING_REST: u64 = 3;
 
 /// The world of one service. Contracts see it as `Watch` (specs/Watch).
 ///
-/// The process that an earlier svscan left running is adopted, or else not started a second time beside. A signal goes
-/// to the child that was made last, or to the process that was adopted, while its death is not known. Which process the
-/// service has is recorded at each start. A status record that can't be written is counted, and the service goes on; so
-/// it does where the lines of a process, of an exit or of counts can't be, which the next ones replace.
+/// A process of the service runs only if its number, or the intent to start it, is in the place of the service on disk:
+/// the intent is written before a child is spawned, and none is spawned if it can't be. What an earlier svscan left
+/// over of a start that it intended is adopted if it is sure which process that is; while it is not sure, no child is
+/// spawned.
+///
+/// Each paper that can't be written is owed: `mend` tries again to write it, as it is then, and says once that it is
+/// owed and once that all is written.
+///
+/// A signal goes to the child that was made last, or to the process that was adopted, while its death is not known.
 #[derive(Drop)]
 pub struct ChildWorld<C: ChildSystem + Drop> {
     system: C,
-    boot: Option<[u8; 36]>,
-    earlier: Option<u32>,
+    session: u64,
+    place: Place,
+    is_open: bool,
     answer: Option<StartAnswer>,
     child: LastChild,
+    status: Option<[u8; 20]>,
+    exit: Option<Exit>,
     counts: Counts,
+    owed: Owed,
+    is_said: bool,
     unwritten: u64,
 }
 
@@ -38,11 +57,16 @@ impl<C: ChildSystem + Drop> Model for ChildWorld<C> {
 
     ghost view = { λ w. record {
       calls = C.calls w.system;
-      boot = w.boot;
-      earlier = w.earlier;
+      session = w.session;
+      place = w.place;
+      is_open = w.is_open;
       answer = w.answer;
       child = w.child;
+      status = w.status;
+      exit = w.exit;
       counts = w.counts;
+      owed = w.owed;
+      is_said = w.is_said;
       unwritten = w.unwritten;
     } };
 
@@ -71,110 +95,408 @@ fn child_of(child: Option<u32>) -> LastChild
     }
 }
 
-impl<C: ChildSystem + Drop> ChildWorld<C> {
-    ghost use Rattle.std.specs.Prelude.{◌≡◌};
-    ghost use Rattle.svc_world.specs.Watch.{CountsStart, RecordsProcess, RecordsStart, SeeksDeath, SeeksEarlier};
-    ghost use Rattle.svc_world.specs.Watch.{ReportsDeath, begun};
+/// What is wanted by a status record, or what was wanted before if these bytes are none.
+fn want_in(bytes: &[u8; 20], before: Want) -> Want
+    ensures { result ≡ want_loaded (loaded_from bytes.now) before }
+{
+    match decode_front(bytes) {
+        Ok(loaded) => loaded.view().want,
+        Err(_) => before,
+    }
+}
 
-    /// The world over these children, in this boot. `adopted` is the process that runs for the service already, and
-    /// `earlier` one that an earlier svscan left, if there is one, and that can't be adopted.
+impl<C: ChildSystem + Drop> ChildWorld<C> {
+    ghost use Rattle.std.specs.Prelude.{◌≡◌, ◌<◌, ◌≤◌, false, length, IfSome};
+    ghost use Rattle.svc_exit.specs.Counts.{counts_text, one_started};
+    ghost use Rattle.svc_exit.specs.Exits.{exit_text};
+    ghost use Rattle.svc_left.specs.Place.{place_line};
+    ghost use Rattle.svc_world.specs.declared.paper.Paper.TheVariants as paper;
+    ghost use Rattle.svc_left.specs.Leftover.{HasNumber};
+    ghost use Rattle.svc_world.specs.Owed.{first_owed};
+    ghost use Rattle.svc_world.specs.Watch.{Adopts, AsksLinger, CountsRecord, Intends, KeepsOrReports, KnowsDeath};
+    ghost use Rattle.svc_world.specs.Watch.{ReadsTick, RecordsAt, with_death};
+    ghost use Rattle.svc_world.specs.Watch.{RecordsChild, RecordsProcess, RecordsStart, ReportsDeath, Runs, SaysChange};
+    ghost use Rattle.svc_world.specs.Watch.{SeeksDeath, SeeksLeftover, SeeksTick, SpawnsIf, StartsBy, TakesUp, Writes};
+    ghost use Rattle.svc_world.specs.Watch.{WritesAgain, WritesAs, WritesIf, WritesIfSome, answered, begun, bereft};
+    ghost use Rattle.svc_world.specs.Watch.{content_of, with_place, with_start, with_status, with_want};
+
+    /// The world over these children, for an svscan of this session. `place` is the place of the service as it is on
+    /// disk: with `is_open` it is the intent of an earlier svscan, of whose start something may be left over. `adopted`
+    /// is the process that runs for the service already.
     pub fn new(
         system: C,
-        boot: Option<[u8; 36]>,
-        earlier: Option<u32>,
+        session: u64,
+        place: Place,
+        is_open: bool,
         adopted: Option<u32>,
     ) -> ChildWorld<C>
-        ensures { result ≡ begun (C.calls system) boot earlier adopted }
+        ensures { result ≡ begun (C.calls system) session place is_open adopted }
     {
         ChildWorld {
             system,
-            boot,
-            earlier,
+            session,
+            place,
+            is_open,
             answer: None,
             child: child_of(adopted),
+            status: None,
+            exit: None,
             counts: Counts::none(),
+            owed: Owed::nothing(),
+            is_said: false,
             unwritten: 0,
         }
     }
 
-    /// How many status records could not be written. The count stands still at its end.
+    /// How many status records could not be written when they were new. The count stands still at its end.
     pub fn unwritten(&self) -> u64
         ensures { result ≡ self.now.unwritten }
     {
         self.unwritten
     }
 
-    // How a start is to be begun.
-    fn begin(&mut self) -> Begin
-        ensures { SeeksEarlier result self.old self.new }
+    /// Which papers are still to be written.
+    pub fn owed(&self) -> Owed
+        ensures { result ≡ self.now.owed }
     {
-        match self.earlier {
-            None => Begin::Run,
-            Some(pid) if self.system.is_running(pid) => Begin::StillRuns(pid),
-            Some(_gone) => {
-                self.earlier = None;
-                Begin::Run
+        self.owed
+    }
+
+    // Writes this content of a paper, which is owed if it can't be written. Returns whether it is written.
+    fn write_paper(&mut self, paper: Paper, content: &[u8]) -> bool
+        requires { length content.now ≤ 160 }
+        ensures { WritesAs paper content.now result self.old self.new }
+    {
+        let written = self.system.write(paper, content);
+        self.owed = self.owed.with(paper, !written);
+        written
+    }
+
+    // Writes the place.
+    fn write_place(&mut self) -> bool
+        ensures { WritesAs paper.Place (place_line self.old.place) result self.old self.new }
+    {
+        let line = place_line(&self.place);
+        self.write_paper(Paper::Place, line.as_slice())
+    }
+
+    // Writes which process the service has, if that is known.
+    fn write_process(&mut self)
+        ensures { WritesIfSome paper.Process (content_of paper.Process self.old) self.old self.new }
+    {
+        if let Some(process) = self.place.process() {
+            self.write_paper(Paper::Process, process_line(&process).as_slice());
+        }
+    }
+
+    // Writes the status record, if there is one.
+    fn write_status(&mut self) -> bool
+        ensures { WritesIfSome paper.Status self.old.status self.old self.new }
+    {
+        match self.status {
+            Some(bytes) => self.write_paper(Paper::Status, &bytes),
+            None => true,
+        }
+    }
+
+    // Writes how the last child ended, if one has.
+    fn write_exit(&mut self)
+        ensures { WritesIfSome paper.Exit (content_of paper.Exit self.old) self.old self.new }
+    {
+        if let Some(exit) = self.exit {
+            self.write_paper(Paper::Exit, exit_text(&exit).as_slice());
+        }
+    }
+
+    // Writes how many children began and ended.
+    fn write_counts(&mut self)
+        ensures { Writes paper.Counts (counts_text self.old.counts) self.old self.new }
+    {
+        let text = counts_text(&self.counts);
+        self.write_paper(Paper::Counts, text.as_bytes());
+    }
+
+    // Writes a paper again, if it is owed.
+    fn write_again(&mut self, paper: Paper)
+        ensures { WritesAgain paper self.old self.new }
+    {
+        let owed = self.owed.has(paper);
+        self.write_if(owed, paper)
+    }
+
+    // Writes a paper again, if this holds.
+    fn write_if(&mut self, owed: bool, paper: Paper)
+        ensures { WritesIf owed paper self.old self.new }
+    {
+        if !owed {
+            return;
+        }
+        match paper {
+            Paper::Place => {
+                self.write_place();
             }
-        }
-    }
-
-    // Records the process of a start that made a child.
-    fn record_process(&mut self, child: Option<u32>)
-        ensures { RecordsProcess child self.old self.new }
-    {
-        if let (Some(pid), Some(boot)) = (child, self.boot) {
-            if let Some(tick) = self.system.tick(pid) {
-                let process = ProcessId { pid, tick, boot };
-                let _ = self
-                    .system
-                    .replace_process(process_line(&process).as_slice());
+            Paper::Process => self.write_process(),
+            Paper::Status => {
+                self.write_status();
             }
+            Paper::Exit => self.write_exit(),
+            Paper::Counts => self.write_counts(),
         }
     }
 
-    // Counts a start that made a child.
-    fn count_start(&mut self, child: Option<u32>)
-        ensures { CountsStart child self.old self.new }
+    // Says once that a paper is owed, and once that none is owed any more.
+    fn say_change(&mut self)
+        ensures { SaysChange (first_owed self.old.owed) self.old.is_said self.old self.new }
     {
-        if child.is_some() {
-            self.counts = self.counts.one_started();
-            let _ = self
-                .system
-                .replace_counts(counts_text(&self.counts).as_bytes());
+        match (self.owed.first(), self.is_said) {
+            (Some(paper), false) => {
+                self.is_said = true;
+                self.system.say(Remark::Unwritten(paper));
+            }
+            (None, true) => {
+                self.is_said = false;
+                self.system.say(Remark::AllWritten);
+            }
+            _ => {}
         }
     }
 
-    // Records the process of a start that made a child, and counts it.
+    // What is left over of the start that an earlier svscan intended. Nobody, if that is not open.
+    fn leftover(&mut self) -> Leftover
+        ensures seeks { SeeksLeftover self.old.is_open result self.old self.new }
+        ensures number { HasNumber result }
+    {
+        if !self.is_open {
+            return Leftover::Nobody;
+        }
+        let found = self.system.leftover(&self.place);
+        self.is_open = matches!(found, Leftover::Unsure(_));
+        found
+    }
+
+    // Writes the intent of a start into the place. Returns whether it is there.
+    fn intend(&mut self) -> bool
+        ensures { Intends result self.old self.new }
+    {
+        let tick = self.read_tick();
+        let place = self.place.intending(tick, self.session);
+        self.set_place(place);
+        self.write_place()
+    }
+
+    // Reads the present tick.
+    fn read_tick(&mut self) -> u64
+        ensures { ReadsTick result self.old self.new }
+    {
+        self.system.present_tick()
+    }
+
+    // Has this as the place of the service.
+    fn set_place(&mut self, place: Place)
+        ensures { self.new ≡ with_place place self.old }
+    {
+        self.place = place;
+    }
+
+    // Spawns a child, if a start was intended.
+    fn spawn_if(&mut self, intended: bool) -> Option<u32>
+        ensures spawns { SpawnsIf intended result self.old self.new }
+        ensures number { IfSome result (λ pid. 0 < pid) }
+    {
+        if intended { self.system.spawn() } else { None }
+    }
+
+    // The tick at which a process began, if that can be found.
+    fn seek_tick(&mut self, pid: u32) -> Option<u64>
+        ensures { SeeksTick pid result self.old self.new }
+    {
+        self.system.tick(pid)
+    }
+
+    // Records the process of this number in the place, and as that of the service, if the tick at which it began is
+    // known.
+    fn record_at(&mut self, tick: Option<u64>, pid: u32)
+        ensures { RecordsAt tick pid self.old self.new }
+    {
+        if let Some(tick) = tick {
+            let place = self.place.occupied(pid, tick);
+            self.set_place(place);
+            self.write_place();
+            self.write_process();
+        }
+    }
+
+    // Records the process of this number.
+    fn record_process(&mut self, pid: u32)
+        ensures { RecordsProcess pid self.old self.new }
+    {
+        let tick = self.seek_tick(pid);
+        self.record_at(tick, pid);
+    }
+
+    // Counts one child more that has begun.
+    fn count_start(&mut self)
+        ensures { self.new ≡ with_start self.old }
+    {
+        self.counts = self.counts.one_started();
+    }
+
+    // Records a start that made the child of this number, and counts it.
+    fn record_child(&mut self, pid: u32)
+        ensures { RecordsChild pid self.old self.new }
+    {
+        self.record_process(pid);
+        self.count_start();
+        self.write_counts();
+    }
+
+    // Records a start that made this child, or none.
     #[inline(never)]
     fn record_start(&mut self, child: Option<u32>)
         ensures { RecordsStart child self.old self.new }
     {
-        self.record_process(child);
-        self.count_start(child);
+        if let Some(pid) = child {
+            self.record_child(pid);
+        }
     }
 
-    // Records how the child ended whose death is reported, and counts it. Answers when it ended.
+    // This child, or none, is the answer to a start at this time.
+    fn answer(&mut self, child: Option<u32>, label: Label)
+        requires { IfSome child (λ pid. 0 < pid) }
+        ensures { self.new ≡ answered child label self.old }
+    {
+        self.answer = Some(answer_of(child, label));
+        self.child = child_of(child);
+    }
+
+    // Runs the service: intends the start, and then spawns a child.
+    fn run(&mut self, label: Label)
+        ensures { Runs label self.old self.new }
+    {
+        let intended = self.intend();
+        let child = self.spawn_if(intended);
+        self.answer(child, label);
+        self.record_start(child);
+    }
+
+    // Adopts the process that was left over, as the one of this start.
+    fn take_up(&mut self, pid: u32, tick: u64, label: Label)
+        requires { 0 < pid }
+        ensures { TakesUp pid tick label self.old self.new }
+    {
+        self.adopt(pid, tick);
+        self.answer(Some(pid), label);
+        self.record_start(Some(pid));
+    }
+
+    // Adopts a process.
+    fn adopt(&mut self, pid: u32, tick: u64)
+        requires { 0 < pid }
+        ensures { Adopts pid tick self.old self.new }
+    {
+        self.system.adopt(pid, tick);
+    }
+
+    // Goes on with a start by what is left over.
+    fn start_by(&mut self, found: Leftover, label: Label)
+        requires { HasNumber found }
+        ensures { StartsBy found label self.old self.new }
+    {
+        match found {
+            Leftover::Nobody => self.run(label),
+            Leftover::Process(pid, tick) => self.take_up(pid, tick, label),
+            Leftover::Unsure(pid) => {
+                self.answer(None, label);
+                self.system.say(Remark::StillRuns(pid));
+            }
+        }
+    }
+
+    // Records how the child ended whose death is reported, and counts it. Returns when it ended.
     #[inline(never)]
     fn report_death(&mut self, exit: Exit) -> Label
         ensures label { result ≡ exit.label }
         ensures reports { ReportsDeath exit self.old self.new }
     {
-        self.child = LastChild::Gone;
-        self.counts = self.counts.one_ended();
-        let _ = self.system.replace_exit(exit_text(&exit).as_slice());
-        let _ = self
-            .system
-            .replace_counts(counts_text(&self.counts).as_bytes());
+        self.bereave(exit);
+        self.write_paper(Paper::Exit, exit_text(&exit).as_slice());
+        self.write_counts();
         exit.label
     }
 
-    // Seeks the death of the child of this number, and reports it where there is one.
+    // Has no child any more, which ended so.
+    fn bereave(&mut self, exit: Exit)
+        ensures { self.new ≡ bereft exit self.old }
+    {
+        self.child = LastChild::Gone;
+        self.exit = Some(exit);
+        self.counts = self.counts.one_ended();
+    }
+
+    // Has what is wanted by a status record in the place.
+    fn set_want(&mut self, bytes: &[u8; 20])
+        ensures { self.new ≡ with_want bytes.now self.old }
+    {
+        self.place = self.place.wanting(want_in(bytes, self.place.want));
+    }
+
+    // Has this as the status record.
+    fn set_status(&mut self, bytes: &[u8; 20])
+        ensures { self.new ≡ with_status bytes.now self.old }
+    {
+        self.status = Some(*bytes);
+    }
+
+    // Counts a status record that is not written.
+    fn count_record(&mut self, written: bool)
+        ensures { CountsRecord written self.old self.new }
+    {
+        if !written {
+            self.unwritten = self.unwritten.saturating_add(1);
+        }
+    }
+
+    // Whether the report of a death waits.
+    fn ask_linger(&mut self) -> bool
+        ensures { AsksLinger result self.old self.new }
+    {
+        self.system.lingers()
+    }
+
+    // Keeps a death that is not reported yet.
+    fn keep_death(&mut self, exit: Exit)
+        ensures { self.new ≡ with_death exit self.old }
+    {
+        self.child = LastChild::Dead(exit);
+    }
+
+    // Reports a death, or keeps it if it waits.
+    fn keep_or_report(&mut self, waits: bool, exit: Exit) -> Option<Label>
+        ensures { KeepsOrReports waits exit result self.old self.new }
+    {
+        if waits {
+            self.keep_death(exit);
+            None
+        } else {
+            Some(self.report_death(exit))
+        }
+    }
+
+    // Reports a death that is known, or keeps it while control bytes come.
+    fn know_death(&mut self, exit: Exit) -> Option<Label>
+        ensures { KnowsDeath exit result self.old self.new }
+    {
+        let waits = self.ask_linger();
+        self.keep_or_report(waits, exit)
+    }
+
+    // Seeks the death of the child of this number.
     fn seek_death(&mut self, pid: u32) -> Option<Label>
         ensures { SeeksDeath pid result self.old self.new }
     {
         let death = self.system.death();
         match death {
-            Some(death) => Some(self.report_death(death.exit_of(pid))),
+            Some(death) => self.know_death(death.exit_of(pid)),
             None => None,
         }
     }
@@ -184,7 +506,7 @@ impl<C: ChildSystem + Drop> World for ChildWorld<C> {
     ghost use Rattle.std.specs.Prelude.{◌≡◌, ◌≢◌, ◌<◌, None, IfSome};
     ghost use Rattle.svc_house.specs.Calls.{IsAnswer};
     ghost use Rattle.svc_world.specs.declared.begin.LastChild.TheVariants.{Alive};
-    ghost use Rattle.svc_world.specs.Watch.{Watch, Starts, SignalsChild, PollsDeath, Records, ReadsClock};
+    ghost use Rattle.svc_world.specs.Watch.{Mends, PollsDeath, ReadsClock, Records, SignalsChild, Starts, Watch};
 
     /// Sends a signal to the child that was spawned last and whose death is not known. Its death is sought just before,
     /// and one that is found keeps the signal back. To any other process nothing is sent.
@@ -202,26 +524,26 @@ impl<C: ChildSystem + Drop> World for ChildWorld<C> {
         }
     }
 
-    /// Spawns a child, once. While a process of an earlier svscan still runs, it is one that says so and fails. The
-    /// clock is read just before, so that no child dies before its start, as long as the clock is not set back.
+    /// Starts the service once: what an earlier svscan left over is adopted, or one child is spawned, or none while it
+    /// is not sure what is left over. No child is spawned whose intent is not in the place. The clock is read just
+    /// before, so that no child dies before its start, as long as the clock is not set back.
     fn start(&mut self)
         ensures { Starts self.old self.new }
     {
-        let begin = self.begin();
+        let found = self.leftover();
         let label = self.system.now();
-        let child = self.system.spawn(begin);
-        self.answer = Some(answer_of(child, label));
-        self.child = child_of(child);
-        self.record_start(child);
+        self.start_by(found, label);
     }
 
-    /// Replaces the status record.
+    /// Writes the status record, and before it the place, with what is wanted now.
     fn write(&mut self, bytes: &[u8; 20])
         ensures { Records bytes.now self.old self.new }
     {
-        if self.system.replace_status(bytes).is_err() {
-            self.unwritten = self.unwritten.saturating_add(1);
-        }
+        self.set_want(bytes);
+        self.write_place();
+        self.set_status(bytes);
+        let written = self.write_paper(Paper::Status, bytes);
+        self.count_record(written);
     }
 
     /// How the last start ended. It is reported once.
@@ -234,12 +556,13 @@ impl<C: ChildSystem + Drop> World for ChildWorld<C> {
     }
 
     /// When the child that was spawned last died, once it has. It is reported once, and how it ended is recorded then.
+    /// While control bytes come one after the other they are taken first.
     fn poll_death(&mut self) -> Option<Label>
         ensures { PollsDeath self.old.child result self.old self.new }
     {
         match self.child {
             LastChild::Gone => None,
-            LastChild::Dead(exit) => Some(self.report_death(exit)),
+            LastChild::Dead(exit) => self.know_death(exit),
             LastChild::Alive(pid) => self.seek_death(pid),
         }
     }
@@ -249,5 +572,27 @@ impl<C: ChildSystem + Drop> World for ChildWorld<C> {
         ensures { ReadsClock result self.old self.new }
     {
         self.system.now()
+    }
+
+    /// Writes each paper that is owed again, as it is now, and says if something came to be owed or nothing is owed any
+    /// more.
+    fn mend(&mut self)
+        ensures { Mends self.old self.new }
+    {
+        self.write_again(Paper::Place);
+        self.write_again(Paper::Process);
+        self.write_again(Paper::Status);
+        self.write_again(Paper::Exit);
+        self.write_again(Paper::Counts);
+        self.say_change();
+    }
+
+    /// While a death waits 3 ms, and while something is owed a second.
+    fn longest_rest(&self) -> Option<Duration> {
+        match (self.child, self.owed.first()) {
+            (LastChild::Dead(_), _) => Some(Duration::from_millis(LINGERING_REST)),
+            (_, Some(_)) => Some(Duration::from_secs(OWING_REST)),
+            (_, None) => None,
+        }
     }
 }

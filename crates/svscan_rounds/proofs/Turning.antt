@@ -1,6 +1,6 @@
 -- Rounds, one after the other.
 use Rattle.std.proofs.Common.{◌≡◌, ℕ, ◌+◌, ◌<◌, ◌≤◌, List, [], ◌∷◌, ◌++◌, length, flat_map, Option, Some, None, refl}
-use Rattle.std.proofs.Common.{sym, ap, ◌∙◌, subst, append-nil, arith, inl, inr, length-append}
+use Rattle.std.proofs.Common.{sym, ap, ◌∙◌, subst, append-nil, append_assoc, Bool, true, arith, inl, inr, length-append}
 use Rattle.std.specs.Prelude.{All, IfSome, ◌-◌, map}
 use Rattle.std.proofs.lemmas.List.Elements.{All-push}
 use Rattle.std.proofs.lemmas.Grind.{flat_map-append}
@@ -14,7 +14,8 @@ use Rattle.tai_status.specs.Extended.{Extended}
 use Rattle.svscan_rounds.specs.declared.orders.Order.TheVariants as order
 use Rattle.svscan_rounds.specs.Rounds.{Effects, Round, GoesOn, Makes, Runs, EndsBy, ReportsAll, Turn, IsFollowed, Rests}
 use Rattle.svscan_rounds.specs.Rounds.{Leaves, EndsAll, Close, Ends, EndsAsAsked, LeavesAsAsked, effects}
-use Rattle.svscan_rounds.specs.Rounds.{calls_of, lines_of, calls_of_turn, lines_of_turn, calls_of_rest, calls_of_close}
+use Rattle.svscan_rounds.specs.Rounds.{calls_of, lines_of, calls_of_turn, calls_of_rest, calls_of_close}
+use Rattle.svscan_rounds.specs.Rounds.{lines_along, listed_after, listed_along}
 use Rattle.svscan_rounds.specs.Rounds.{lines_of_close, remaining_report, unlogged_report}
 use Rattle.svscan_rounds.proofs.Reporting.{extended-then, extended-none, reports-then}
 
@@ -25,15 +26,32 @@ IsLeft (Some n) None count = ⊥
 IsLeft (Some n) (Some m) count = (0 < m) × (m + count ≡ n)
 
 -- the rounds so far go on, each with its rest
-pub record IsUnderWay (folder : List ℕ) (limit left : Option ℕ) (old now : Effects) : Type 0 where
+pub record IsUnderWay (folder : List ℕ) (limit left : Option ℕ) (is_listed : Bool) (old now : Effects) : Type 0 where
   pub turns : List Turn
   pub followed : All IsFollowed turns
   pub calls : Extended old.calls now.calls (flat_map (calls_of_turn folder) turns)
-  pub reported : ReportsAll (flat_map lines_of_turn turns) old.faults now.faults
+  pub reported : ReportsAll (lines_along folder true turns) old.faults now.faults
+  pub listed_is : is_listed ≡ listed_along true turns
   pub left_is : IsLeft limit left (length turns)
 
 flat_map-push : {X A : Type 0} (f : X → List A) (xs : List X) (x : X) → flat_map f (xs ++ x ∷ []) ≡ flat_map f xs ++ f x
 flat_map-push f xs x = flat_map-append f xs (x ∷ []) ∙ ap (λ l. flat_map f xs ++ l) (append-nil (f x))
+
+-- the lines of one more turn
+lines_along-push : (folder : List ℕ) (was : Bool) (turns : List Turn) (turn : Turn)
+    → lines_along folder was (turns ++ turn ∷ [])
+    ≡ lines_along folder was turns ++ lines_of folder (listed_along was turns) turn.round
+lines_along-push folder was [] turn = append-nil (lines_of folder was turn.round)
+lines_along-push folder was (first ∷ turns) turn =
+    let after = listed_after was first.round in
+    ap (λ l. lines_of folder was first.round ++ l) (lines_along-push folder after turns turn)
+    ∙ sym (append_assoc (lines_of folder was first.round) (lines_along folder after turns)
+    (lines_of folder (listed_along after turns) turn.round))
+
+listed_along-push : (was : Bool) (turns : List Turn) (turn : Turn)
+    → listed_along was (turns ++ turn ∷ []) ≡ listed_after (listed_along was turns) turn.round
+listed_along-push was [] turn = refl
+listed_along-push was (first ∷ turns) turn = listed_along-push (listed_after was first.round) turns turn
 
 all_left : (limit : Option ℕ) → IfSome limit (λ rounds. 0 < rounds) → IsLeft limit limit 0
 all_left None some = refl
@@ -41,22 +59,30 @@ all_left (Some n) some = (some, omega arith)
 
 -- no round was made yet
 pub way_none : (folder : List ℕ) (limit : Option ℕ) (old : Effects) → IfSome limit (λ rounds. 0 < rounds)
-    → IsUnderWay folder limit limit old old
+    → IsUnderWay folder limit limit true old old
 way_none folder limit old some = record {
   turns = [];
   followed = (λ k d less. absurd (omega (arith, less)));
   calls = extended-none old.calls;
   reported = refl;
+  listed_is = refl;
   left_is = all_left limit some;
 }
 
+-- the lines of the next round
+reports_of : (folder : List ℕ) (limit left : Option ℕ) (was : Bool) (old mid now : Effects) (round : Round)
+    → (way : IsUnderWay folder limit left was old mid) → Makes folder was round mid now
+    → ReportsAll (lines_of folder (listed_along true way.turns) round) mid.faults now.faults
+reports_of folder limit left was old mid now round way makes =
+    subst (λ (b : Bool). ReportsAll (lines_of folder b round) mid.faults now.faults) way.listed_is makes.reported
+
 -- one more round that goes on, and its rest
-pub way_more : (folder : List ℕ) (limit left after : Option ℕ) (old mid now new : Effects) (round : Round)
-    → IsUnderWay folder limit left old mid
-    → Makes folder round mid now → GoesOn round → Rests order.Round now.calls new.calls → new.faults ≡ now.faults
+pub way_more : (folder : List ℕ) (limit left after : Option ℕ) (was is : Bool) (old mid now new : Effects) (round : Round)
+    → IsUnderWay folder limit left was old mid
+    → Makes folder was round mid now → is ≡ listed_after was round → GoesOn round → Rests order.Round now.calls new.calls → new.faults ≡ now.faults
     → ((count : ℕ) → IsLeft limit left count → IsLeft limit after (count + 1))
-    → IsUnderWay folder limit after old new
-way_more folder limit left after old mid now new round way makes on rests same less =
+    → IsUnderWay folder limit after is old new
+way_more folder limit left after was is old mid now new round way makes listed on rests same less =
     let turn : Turn = record { round = round; rest = rests.rest } in
     record {
       turns = way.turns ++ turn ∷ [];
@@ -65,23 +91,26 @@ way_more folder limit left after old mid now new round way makes on rests same l
           (sym (flat_map-push (calls_of_turn folder) way.turns turn))
           (extended-then old.calls mid.calls new.calls _ _ way.calls
           (extended-then mid.calls now.calls new.calls _ _ makes.calls rests.calls));
-      reported = subst (λ (d : Device). ReportsAll (flat_map lines_of_turn (way.turns ++ turn ∷ [])) old.faults d)
+      reported = subst (λ (d : Device). ReportsAll (lines_along folder true (way.turns ++ turn ∷ [])) old.faults d)
           (sym same)
           (subst (λ (l : List (List ℕ)). ReportsAll l old.faults now.faults)
-          (sym (flat_map-push lines_of_turn way.turns turn))
-          (reports-then _ _ old.faults mid.faults now.faults way.reported makes.reported));
+          (sym (lines_along-push folder true way.turns turn))
+          (reports-then _ _ old.faults mid.faults now.faults way.reported
+          (reports_of folder limit left was old mid now round way makes)));
+      listed_is = listed ∙ ap (λ (b : Bool). listed_after b round) way.listed_is
+          ∙ sym (listed_along-push true way.turns turn);
       left_is = subst (λ (n : ℕ). IsLeft limit after n) (sym (length-append way.turns (turn ∷ [])))
           (less (length way.turns) way.left_is);
     }
 
 -- the last round, and the close
-pub way_closes : (folder : List ℕ) (limit left : Option ℕ) (status : ℕ) (old mid now new : Effects) (round : Round)
+pub way_closes : (folder : List ℕ) (limit left : Option ℕ) (was : Bool) (status : ℕ) (old mid now new : Effects) (round : Round)
     (close : Close)
-    → (way : IsUnderWay folder limit left old mid) → Makes folder round mid now
+    → (way : IsUnderWay folder limit left was old mid) → Makes folder was round mid now
     → Extended now.calls new.calls (calls_of_close close)
     → ReportsAll (lines_of_close close) now.faults new.faults → EndsBy limit (length way.turns + 1) round close status
     → Runs folder limit status old new
-way_closes folder limit left status old mid now new round close way makes closed reported ends = record {
+way_closes folder limit left was status old mid now new round close way makes closed reported ends = record {
   turns = way.turns;
   last = round;
   close = close;
@@ -89,7 +118,8 @@ way_closes folder limit left status old mid now new round close way makes closed
   calls = extended-then old.calls mid.calls new.calls _ _ way.calls
       (extended-then mid.calls now.calls new.calls _ _ makes.calls closed);
   reported = reports-then _ _ old.faults mid.faults new.faults way.reported
-      (reports-then _ _ mid.faults now.faults new.faults makes.reported reported);
+      (reports-then _ _ mid.faults now.faults new.faults
+      (reports_of folder limit left was old mid now round way makes) reported);
   ends = ends;
 }
 
@@ -99,11 +129,11 @@ within (Some n) None count is = absurd is
 within (Some n) (Some m) count is = omega arith
 
 -- the last round does not go on
-pub way_fails : (folder : List ℕ) (limit left : Option ℕ) (old mid now new : Effects) (round : Round)
-    → IsUnderWay folder limit left old mid
-    → Makes folder round mid now → (GoesOn round → ⊥) → EndsAll now new → Runs folder limit 111 old new
-way_fails folder limit left old mid now new round way makes off ended =
-    way_closes folder limit left 111 old mid now new round (Ends ended.left ended.unlogged) way makes ended.calls
+pub way_fails : (folder : List ℕ) (limit left : Option ℕ) (was : Bool) (old mid now new : Effects) (round : Round)
+    → IsUnderWay folder limit left was old mid
+    → Makes folder was round mid now → (GoesOn round → ⊥) → EndsAll now new → Runs folder limit 111 old new
+way_fails folder limit left was old mid now new round way makes off ended =
+    way_closes folder limit left was 111 old mid now new round (Ends ended.left ended.unlogged) way makes ended.calls
     ended.reported
     (inr (refl, off, within limit left (length way.turns) way.left_is))
 
@@ -112,35 +142,35 @@ last None count is = absurd cc
 last (Some n) count is = let e : n ≡ count + 1 = omega arith in ap Some e
 
 -- it was the last round that was asked for
-pub way_done : (folder : List ℕ) (limit : Option ℕ) (old mid now new : Effects) (round : Round)
-    → IsUnderWay folder limit (Some 1) old mid
-    → Makes folder round mid now → GoesOn round → EndsAll now new → Runs folder limit 0 old new
-way_done folder limit old mid now new round way makes on ended =
-    way_closes folder limit (Some 1) 0 old mid now new round (Ends ended.left ended.unlogged) way makes ended.calls
+pub way_done : (folder : List ℕ) (limit : Option ℕ) (was : Bool) (old mid now new : Effects) (round : Round)
+    → IsUnderWay folder limit (Some 1) was old mid
+    → Makes folder was round mid now → GoesOn round → EndsAll now new → Runs folder limit 0 old new
+way_done folder limit was old mid now new round way makes on ended =
+    way_closes folder limit (Some 1) was 0 old mid now new round (Ends ended.left ended.unlogged) way makes ended.calls
     ended.reported
     (inl (refl, on, last limit (length way.turns) way.left_is))
 
 -- the end of all was asked for in the rest
-pub way_report : (folder : List ℕ) (limit left : Option ℕ) (old mid now rested new : Effects) (round : Round)
-    → IsUnderWay folder limit left old mid
-    → Makes folder round mid now → GoesOn round → Rests order.End now.calls rested.calls → rested.faults ≡ now.faults
+pub way_report : (folder : List ℕ) (limit left : Option ℕ) (was : Bool) (old mid now rested new : Effects) (round : Round)
+    → IsUnderWay folder limit left was old mid
+    → Makes folder was round mid now → GoesOn round → Rests order.End now.calls rested.calls → rested.faults ≡ now.faults
     → EndsAll rested new
     → Runs folder limit 0 old new
-way_report folder limit left old mid now rested new round way makes on rests same ended =
-    way_closes folder limit left 0 old mid now new round (EndsAsAsked rests.rest ended.left ended.unlogged) way makes
+way_report folder limit left was old mid now rested new round way makes on rests same ended =
+    way_closes folder limit left was 0 old mid now new round (EndsAsAsked rests.rest ended.left ended.unlogged) way makes
     (extended-then now.calls rested.calls new.calls _ _ rests.calls ended.calls)
     (subst (λ (d : Device). ReportsAll (lines_of_close (EndsAsAsked rests.rest ended.left ended.unlogged)) d new.faults)
     same ended.reported)
     (refl, on, rests.decides)
 
 -- svscan's own end was asked for in the rest
-pub way_left : (folder : List ℕ) (limit left : Option ℕ) (old mid now rested new : Effects) (round : Round)
-    → IsUnderWay folder limit left old mid
-    → Makes folder round mid now → GoesOn round → Rests order.Leave now.calls rested.calls → rested.faults ≡ now.faults
+pub way_left : (folder : List ℕ) (limit left : Option ℕ) (was : Bool) (old mid now rested new : Effects) (round : Round)
+    → IsUnderWay folder limit left was old mid
+    → Makes folder was round mid now → GoesOn round → Rests order.Leave now.calls rested.calls → rested.faults ≡ now.faults
     → Leaves rested new
     → Runs folder limit 0 old new
-way_left folder limit left old mid now rested new round way makes on rests same leaves =
-    way_closes folder limit left 0 old mid now new round (LeavesAsAsked rests.rest leaves.unlogged) way makes
+way_left folder limit left was old mid now rested new round way makes on rests same leaves =
+    way_closes folder limit left was 0 old mid now new round (LeavesAsAsked rests.rest leaves.unlogged) way makes
     (extended-then now.calls rested.calls new.calls _ _ rests.calls leaves.calls)
     (subst (λ (d : Device). ReportsAll (map unlogged_report leaves.unlogged) d new.faults) same leaves.reported)
     (refl, on, rests.decides)

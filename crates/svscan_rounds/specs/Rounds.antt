@@ -6,20 +6,23 @@ use Rattle.scan_table.specs.Slots.{Row}
 use Rattle.scan_table.specs.declared.fault.ScanFault.{ScanFault}
 use Rattle.scan_table.specs.declared.fault.ScanFault.TheVariants.{Unsorted, Twice, Exhausted, OutOfMemory}
 use Rattle.cmd_base.specs.Usage.{usage_text}
-use Rattle.cmd_base.specs.Causes.{cause_words}
-use Rattle.cmd_base.specs.declared.cause.Cause.{Cause}
+use Rattle.cmd_base.specs.declared.command.Command.TheVariants.{Svscan}
+use Rattle.tai_status.specs.Causes.{cause_note}
+use Rattle.tai_status.specs.declared.cause.Cause.{Cause}
 use Rattle.svc_host.specs.declared.maker.PartFault.{PartFault}
 use Rattle.svc_host.specs.declared.maker.PartFault.TheVariants as part
 use Rattle.svscan_rounds.specs.declared.orders.Order.{Order}
 use Rattle.svscan_rounds.specs.declared.orders.Order.TheVariants as order
 use Rattle.svscan_rounds.specs.declared.service_set.Begun.{Begun}
-use Rattle.svscan_rounds.specs.declared.service_set.Begun.TheVariants.{Served, Unserved, Locked}
+use Rattle.svscan_rounds.specs.declared.service_set.Begun.TheVariants.{Served, Unserved, Locked, Unread, Refused}
 use Rattle.svscan_rounds.specs.declared.service_set.ListFault.{ListFault}
 use Rattle.svscan_rounds.specs.declared.service_set.ListFault.TheVariants as list
 use Rattle.svscan_rounds.specs.declared.service_set.Listing.{Listing}
 use Rattle.svscan_rounds.specs.declared.service_set.Remaining.{Remaining}
 use Rattle.svscan_rounds.specs.declared.service_set.RoundOut.{RoundOut}
 use Rattle.svscan_rounds.specs.declared.service_set.Shortage.{Shortage}
+use Rattle.svscan_rounds.specs.declared.service_set.Unfinished.{Unfinished}
+use Rattle.svscan_rounds.specs.declared.service_set.Unfinished.TheVariants.{Bytes, Records}
 use Rattle.svscan_rounds.specs.declared.service_set.Unlogged.{Unlogged}
 use Rattle.svscan_rounds.specs.declared.service_set.Unmade.{Unmade}
 use Rattle.svscan_rounds.specs.declared.service_set.Untaken.{Untaken}
@@ -69,10 +72,24 @@ kind_name (Twice place) = codes "Twice"
 kind_name Exhausted = codes "Exhausted"
 kind_name OutOfMemory = codes "OutOfMemory"
 
--- what is reported of a folder that was not listed
-abbrev pub unlisted : ListFault → List ℕ
-unlisted list.Unlisted = codes "svscan: unable to list" ++ 10 ∷ []
-unlisted list.OutOfMemory = codes "svscan: OutOfMemory" ++ 10 ∷ []
+-- A folder counts as listed until it can't be listed, and then until it is listed again.
+abbrev pub is_listed_after : (was_listed : Bool) → ListFault → Bool
+is_listed_after was_listed (list.Unlisted cause) = false
+is_listed_after was_listed list.OutOfMemory = was_listed
+
+-- a folder can't be listed, for this cause
+abbrev pub unable_to_list : (folder : List ℕ) → Cause → List ℕ
+unable_to_list folder cause = codes "svscan: unable to list " ++ (folder ++ cause_note cause)
+
+-- what is reported of a folder that was not listed: the cause, unless it was not listed before either
+abbrev pub lines_of_unlisted : (folder : List ℕ) (was_listed : Bool) → ListFault → List (List ℕ)
+lines_of_unlisted folder was_listed (list.Unlisted cause) = if was_listed then unable_to_list folder cause ∷ [] else []
+lines_of_unlisted folder was_listed list.OutOfMemory = (codes "svscan: OutOfMemory" ++ 10 ∷ []) ∷ []
+
+-- what is reported of a folder that is listed, and was not before
+abbrev pub lines_of_listed : (folder : List ℕ) (was_listed : Bool) → List (List ℕ)
+lines_of_listed folder was_listed =
+    if was_listed then [] else (codes "svscan: " ++ (folder ++ (codes " is listed again" ++ 10 ∷ []))) ∷ []
 
 -- what is reported of a name
 abbrev pub name_report : (what : List ℕ) (name : List ℕ) → List ℕ
@@ -83,7 +100,7 @@ too_many = codes ": TooMany" ++ 10 ∷ []
 
 -- a part can't be supervised, for this cause
 abbrev pub unable_to_supervise : Cause → List ℕ
-unable_to_supervise cause = codes ": unable to supervise: " ++ (cause_words cause ++ 10 ∷ [])
+unable_to_supervise cause = codes ": unable to supervise" ++ cause_note cause
 
 -- why a part was not made
 abbrev pub not_made : PartFault → List ℕ
@@ -134,11 +151,19 @@ lines_of_listing unnamed shortage = lines_of_unnamed unnamed ++ lines_of_shortag
 abbrev pub lines_of_fault : ScanFault → List (List ℕ)
 lines_of_fault fault = (codes "svscan: " ++ (kind_name fault ++ 10 ∷ [])) ∷ []
 
--- the lines that a round reports
-abbrev pub lines_of : Round → List (List ℕ)
-lines_of (Unlisted fault) = unlisted fault ∷ []
-lines_of (Scan listing out) = lines_of_listing listing.unnamed listing.shortage ++ lines_of_out out
-lines_of (Fails listing fault) = lines_of_listing listing.unnamed listing.shortage ++ lines_of_fault fault
+-- whether the folder counts as listed after a round
+abbrev pub listed_after : (was_listed : Bool) → Round → Bool
+listed_after was_listed (Unlisted fault) = is_listed_after was_listed fault
+listed_after was_listed (Scan listing out) = true
+listed_after was_listed (Fails listing fault) = true
+
+-- the lines that a round reports, by whether the folder counted as listed before
+abbrev pub lines_of : (folder : List ℕ) (was_listed : Bool) → Round → List (List ℕ)
+lines_of folder was_listed (Unlisted fault) = lines_of_unlisted folder was_listed fault
+lines_of folder was_listed (Scan listing out) =
+    lines_of_listed folder was_listed ++ (lines_of_listing listing.unnamed listing.shortage ++ lines_of_out out)
+lines_of folder was_listed (Fails listing fault) =
+    lines_of_listed folder was_listed ++ (lines_of_listing listing.unnamed listing.shortage ++ lines_of_fault fault)
 
 -- These lines were reported, one after the other.
 abbrev pub ReportsAll : List (List ℕ) → (old new : Device) → Type 0
@@ -146,13 +171,15 @@ ReportsAll [] old new = new ≡ old
 ReportsAll (line ∷ lines) old new = (middle : Device) × (Reports old middle line × ReportsAll lines middle new)
 
 -- This round was made, and nothing else.
-pub record Makes (folder : List ℕ) (round : Round) (old new : Effects) : Type 0 where
+pub record Makes (folder : List ℕ) (was_listed : Bool) (round : Round) (old new : Effects) : Type 0 where
   pub calls : Extended old.calls new.calls (calls_of folder round)
-  pub reported : ReportsAll (lines_of round) old.faults new.faults
+  pub reported : ReportsAll (lines_of folder was_listed round) old.faults new.faults
 
--- A round was made, and this is whether svscan goes on.
-abbrev pub TakesRound : (folder : List ℕ) (on : Bool) (old new : Effects) → Type 0
-TakesRound folder on old new = (round : Round) × Answers on round × Makes folder round old new
+-- A round was made, this is whether svscan goes on, and this is whether the folder counts as listed now.
+abbrev pub TakesRound : (folder : List ℕ) (was_listed is_listed on : Bool) (old new : Effects) → Type 0
+TakesRound folder was_listed is_listed on old new =
+    (round : Round) × Answers on round × Makes folder was_listed round old new
+    × (is_listed ≡ listed_after was_listed round)
 
 -- A round, and the rest behind it.
 pub record Turn : Type 0 where
@@ -169,8 +196,16 @@ calls_of_rest rest = map (λ byte. Heard (Some byte)) rest.passed ++ Heard rest.
 abbrev pub calls_of_turn : (folder : List ℕ) → Turn → List Call
 calls_of_turn folder turn = calls_of folder turn.round ++ calls_of_rest turn.rest
 
-abbrev pub lines_of_turn : Turn → List (List ℕ)
-lines_of_turn turn = lines_of turn.round
+-- whether the folder counts as listed after these turns
+abbrev pub listed_along : (was_listed : Bool) → List Turn → Bool
+listed_along was_listed [] = was_listed
+listed_along was_listed (turn ∷ turns) = listed_along (listed_after was_listed turn.round) turns
+
+-- the lines that the rounds of turns report, one round after the other
+abbrev pub lines_along : (folder : List ℕ) (was_listed : Bool) → List Turn → List (List ℕ)
+lines_along folder was_listed [] = []
+lines_along folder was_listed (turn ∷ turns) =
+    lines_of folder was_listed turn.round ++ lines_along folder (listed_after was_listed turn.round) turns
 
 -- The end
 
@@ -181,12 +216,13 @@ still_runs pid = codes ": process " ++ (decimal pid ++ (codes " still runs" ++ 1
 abbrev pub remaining_report : Remaining → List ℕ
 remaining_report remaining = name_report (still_runs remaining.pid) remaining.name
 
--- so many bytes were not logged
-abbrev pub not_logged : ℕ → List ℕ
-not_logged count = codes ": " ++ (decimal count ++ (codes " bytes were not logged" ++ 10 ∷ []))
+-- so many bytes were not logged, or records are not written
+abbrev pub unfinished : Unfinished → List ℕ
+unfinished (Bytes count) = codes ": " ++ (decimal count ++ (codes " bytes were not logged" ++ 10 ∷ []))
+unfinished Records = codes ": unable to write its records" ++ 10 ∷ []
 
 abbrev pub unlogged_report : Unlogged → List ℕ
-unlogged_report unlogged = name_report (not_logged unlogged.count) unlogged.name
+unlogged_report unlogged = name_report (unfinished unlogged.what) unlogged.name
 
 -- How a run closes behind its last round: all services are ended, and meanwhile these still ran each five seconds; or
 -- that was asked for in a rest; or svscan's own end was. In the end it leaves the services, and these bytes were not
@@ -242,7 +278,8 @@ EndsBy limit count last (EndsAsAsked rest left unlogged) status =
 EndsBy limit count last (LeavesAsAsked rest unlogged) status =
     (status ≡ 0) × GoesOn last × Decides rest order.Leave
 
--- Rounds that go on, each followed by a rest, and then the last one and the close.
+-- Rounds that go on, each followed by a rest, and then the last one and the close. The folder counts as listed before
+-- the first one.
 pub record Runs (folder : List ℕ) (limit : Option ℕ) (status : ℕ) (old new : Effects) : Type 0 where
   pub turns : List Turn
   pub last : Round
@@ -250,20 +287,30 @@ pub record Runs (folder : List ℕ) (limit : Option ℕ) (status : ℕ) (old new
   pub followed : All IsFollowed turns
   pub calls : Extended old.calls new.calls
       (flat_map (calls_of_turn folder) turns ++ (calls_of folder last ++ calls_of_close close))
-  pub reported : ReportsAll (flat_map lines_of_turn turns
-      ++ (lines_of last ++ lines_of_close close)) old.faults new.faults
+  pub reported : ReportsAll (lines_along folder true turns
+      ++ (lines_of folder (listed_along true turns) last ++ lines_of_close close)) old.faults new.faults
   pub ends : EndsBy limit (length turns + 1) last close status
+
+-- what is reported of a folder that can't be read
+abbrev pub unread_report : (folder : List ℕ) → Cause → List ℕ
+unread_report folder cause = codes "svscan: unable to read " ++ (folder ++ cause_note cause)
+
+abbrev pub locked_report : (folder : List ℕ) → List ℕ
+locked_report folder = codes "svscan: unable to lock " ++ (folder ++ 10 ∷ [])
 
 -- What is reported where svscan is to be served in a folder.
 abbrev pub lines_of_begun : (folder : List ℕ) → Begun → List (List ℕ)
 lines_of_begun folder Served = []
 lines_of_begun folder (Unserved cause) = name_report (unable_to_supervise cause) (codes ".svscan") ∷ []
-lines_of_begun folder Locked = (codes "svscan: unable to lock " ++ (folder ++ 10 ∷ [])) ∷ []
+lines_of_begun folder (Refused cause) = name_report (unable_to_supervise cause) (codes ".svscan") ∷ []
+lines_of_begun folder (Unread cause) = unread_report folder cause ∷ []
+lines_of_begun folder Locked = locked_report folder ∷ []
 
--- It runs, unless another svscan has the folder.
-abbrev pub RunsUnlessLocked : Begun → (folder : List ℕ) (limit : Option ℕ) (status : ℕ) (old new : Effects) → Type 0
-RunsUnlessLocked Locked folder limit status old new = (status ≡ 111) × (new ≡ old)
-RunsUnlessLocked begun folder limit status old new = Runs folder limit status old new
+-- It runs, unless another svscan has the folder, or that can't be read, or no service could be kept running.
+abbrev pub RunsIfBegun : Begun → (folder : List ℕ) (limit : Option ℕ) (status : ℕ) (old new : Effects) → Type 0
+RunsIfBegun Served folder limit status old new = Runs folder limit status old new
+RunsIfBegun (Unserved cause) folder limit status old new = Runs folder limit status old new
+RunsIfBegun ends folder limit status old new = (status ≡ 111) × (new ≡ old)
 
 -- It begins, and runs.
 pub record BeginsAndRuns (folder : List ℕ) (limit : Option ℕ) (status : ℕ) (old new : Effects) : Type 0 where
@@ -271,14 +318,14 @@ pub record BeginsAndRuns (folder : List ℕ) (limit : Option ℕ) (status : ℕ)
   pub middle : Effects
   pub calls : Extended old.calls middle.calls (Began folder begun ∷ [])
   pub reported : ReportsAll (lines_of_begun folder begun) old.faults middle.faults
-  pub runs : RunsUnlessLocked begun folder limit status middle new
+  pub runs : RunsIfBegun begun folder limit status middle new
 
 -- Words that ask for nothing: the usage is reported, and nothing is asked of the system.
 pub record RefusesWords (words : List (List ℕ)) (status : ℕ) (old new : Effects) : Type 0 where
   pub wrong : AskNothing words
   pub status_is : status ≡ 100
   pub unasked : new.calls ≡ old.calls
-  pub reported : Reports old.faults new.faults usage_text
+  pub reported : Reports old.faults new.faults (usage_text Svscan)
 
 -- It runs as its words ask.
 pub record RunsWords (words : List (List ℕ)) (status : ℕ) (old new : Effects) : Type 0 where

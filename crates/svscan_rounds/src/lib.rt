@@ -19,5 +19,6 @@ pub use orders::Order;
 pub use rounds::run_svscan;
 pub use rows::{Entry, Folder, rows_of};
 pub use service_set::{
-    Begun, ListFault, Listing, Remaining, RoundOut, ServiceSet, Shortage, Unlogged, Unmade, Untaken,
+    Begun, ListFault, Listing, Remaining, RoundOut, ServiceSet, Shortage, Unfinished, Unlogged,
+    Unmade, Untaken,
 };

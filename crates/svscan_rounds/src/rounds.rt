@@ -1,27 +1,32 @@
 //! The command `svscan`.
-ghost use Rattle.std.specs.Prelude.{◌≡◌, ◌<◌, ◌++◌, ◌∷◌, [], ℕ, map, true, false, IfSome};
+ghost use Rattle.std.specs.Prelude.{◌≡◌, ◌<◌, ◌++◌, ◌∷◌, [], ℕ, codes, map, true, false, IfSome};
 ghost use Rattle.tai_status.specs.Counted.{Reports};
 ghost use Rattle.tai_status.specs.Extended.{Extended};
-ghost use Rattle.svscan_rounds.specs.Rounds.{effects, kind_name, name_report, not_taken, unlisted, untaken_report};
+ghost use Rattle.svscan_rounds.specs.Rounds.{effects, kind_name, name_report, not_taken, untaken_report};
+ghost use Rattle.svscan_rounds.specs.Rounds.{is_listed_after, lines_of_listed, lines_of_unlisted, unable_to_list};
 ghost use Rattle.svscan_rounds.specs.Rounds.{lines_of_listing, lines_of_out, lines_of_shortage, lines_of_unnamed};
-ghost use Rattle.svscan_rounds.specs.Rounds.{lines_of_begun, not_logged, remaining_report, still_runs, unlogged_report};
-ghost use Rattle.svscan_rounds.specs.Rounds.{not_made, not_text, too_few, unable_to_supervise, unmade_report};
+ghost use Rattle.svscan_rounds.specs.Rounds.{lines_of_begun, remaining_report, still_runs, unfinished, unlogged_report};
+ghost use Rattle.svscan_rounds.specs.Rounds.{locked_report, not_made, not_text, too_few, unable_to_supervise, unmade_report};
+ghost use Rattle.svscan_rounds.specs.Rounds.{unread_report};
 ghost use Rattle.svscan_rounds.specs.Rounds.{BeginsAndRuns, EndsAll, Leaves, Rests, Runs, SvscanEnds, TakesRound};
 ghost use Rattle.svscan_rounds.specs.Rounds.{ReportsAll};
 ghost use Rattle.svscan_rounds.specs.Words.{texts};
 
 use crate::orders::{Order, order_of};
 use crate::service_set::{
-    Begun, ListFault, Listing, Remaining, RoundOut, ServiceSet, Shortage, Unlogged, Unmade, Untaken,
+    Begun, ListFault, Listing, Remaining, RoundOut, ServiceSet, Shortage, Unfinished, Unlogged,
+    Unmade, Untaken,
 };
 use crate::words::read_words;
 use arrayvec::ArrayString;
-use cmd_base::{Cause, DONE, TROUBLE, print_fault, push_number, report, report_parts, usage};
+use cmd_base::{
+    Command, DONE, TROUBLE, cause_note, print_fault, push_number, report, report_parts, usage,
+};
 use scan_table::ScanFault;
 use std::io::Write;
 use std::sync::Wait;
 use svc_host::PartFault;
-use tai_status::{Name, Output};
+use tai_status::{Cause, Name, Output};
 
 /// The name of a fault.
 fn kind(fault: ScanFault) -> &'static [u8]
@@ -66,14 +71,13 @@ fn report_untaken<E: Write>(all: &[Untaken], faults: &mut Output<E>)
     }
 }
 
-/// What is reported of a part that can't be supervised, behind its name.
+/// The end of the line of a part that can't be supervised, after its name.
 fn unable_to_supervise(cause: Cause) -> ArrayString<64>
     ensures { result.bytes ≡ unable_to_supervise cause }
 {
     let mut text = ArrayString::new();
-    text.push_str(": unable to supervise: ");
-    text.push_str(cause.words());
-    text.push_str("\n");
+    text.push_str(": unable to supervise");
+    text.push_str(&cause_note(cause));
     text
 }
 
@@ -166,27 +170,78 @@ fn report_out<E: Write>(out: &RoundOut, faults: &mut Output<E>)
     report_unmade(&out.unmade, faults);
 }
 
-/// What is reported of a folder that was not listed.
-fn unlisted(fault: ListFault) -> &'static [u8]
-    ensures { result.now ≡ unlisted fault }
+/// Whether a folder counts as listed after a fault of its listing.
+fn is_listed_after(was_listed: bool, fault: ListFault) -> bool
+    ensures { result ≡ is_listed_after was_listed fault }
 {
     match fault {
-        ListFault::Unlisted => b"svscan: unable to list\n",
-        ListFault::OutOfMemory => b"svscan: OutOfMemory\n",
+        ListFault::Unlisted(_) => false,
+        ListFault::OutOfMemory => was_listed,
     }
 }
 
-/// One round: lists the folder, scans its rows, and says what could not be done. Answers whether svscan goes on.
+/// Reports that a folder can't be listed, for this cause.
+fn report_unable_to_list<E: Write>(folder: &str, cause: Cause, faults: &mut Output<E>)
+    ensures { ReportsAll (unable_to_list folder.now cause ∷ []) faults.old faults.new }
+{
+    let note = cause_note(cause);
+    report_parts(
+        faults,
+        b"svscan: unable to list ",
+        folder.as_bytes(),
+        note.as_bytes(),
+        DONE,
+    );
+}
+
+/// Reports that a folder was not listed: if it was listed before, or for want of memory.
+fn report_unlisted<E: Write>(
+    folder: &str,
+    was_listed: bool,
+    fault: ListFault,
+    faults: &mut Output<E>,
+)
+    ensures { ReportsAll (lines_of_unlisted folder.now was_listed fault) faults.old faults.new }
+{
+    match fault {
+        ListFault::Unlisted(cause) => {
+            if was_listed {
+                report_unable_to_list(folder, cause, faults);
+            }
+        }
+        ListFault::OutOfMemory => print_fault(faults, b"svscan: OutOfMemory\n"),
+    }
+}
+
+/// Reports that a folder is listed, if it was not before.
+fn report_listed<E: Write>(folder: &str, was_listed: bool, faults: &mut Output<E>)
+    ensures { ReportsAll (lines_of_listed folder.now was_listed) faults.old faults.new }
+{
+    if !was_listed {
+        report_parts(
+            faults,
+            b"svscan: ",
+            folder.as_bytes(),
+            b" is listed again\n",
+            DONE,
+        );
+    }
+}
+
+/// One round: lists the folder, scans its rows, and says what could not be done. Returns whether svscan goes on. That
+/// the folder can't be listed is said in the first of such rounds, and once it is listed again.
 fn take_round<K: ServiceSet, E: Write>(
     services: &mut K,
     folder: &str,
+    is_listed: &mut bool,
     faults: &mut Output<E>,
 ) -> bool
     requires ready { K.ready services.old }
     ensures ready { K.ready services.new }
-    ensures round { TakesRound folder.now result
+    ensures round { TakesRound folder.now is_listed.old is_listed.new result
         (effects (K.calls services.old) faults.old) (effects (K.calls services.new) faults.new) }
 {
+    let was_listed = *is_listed;
     let Listing {
         rows,
         unnamed,
@@ -194,10 +249,13 @@ fn take_round<K: ServiceSet, E: Write>(
     } = match services.list(folder) {
         Ok(listing) => listing,
         Err(fault) => {
-            print_fault(faults, unlisted(fault));
+            report_unlisted(folder, was_listed, fault, faults);
+            *is_listed = is_listed_after(was_listed, fault);
             return true;
         }
     };
+    *is_listed = true;
+    report_listed(folder, was_listed, faults);
     report_listing(unnamed, shortage, faults);
     match services.round(folder, rows) {
         Ok(out) => {
@@ -233,23 +291,28 @@ fn report_remaining<E: Write>(all: &[Remaining], faults: &mut Output<E>)
     }
 }
 
-/// What is reported of so many bytes that were not logged, behind a service's name.
-fn not_logged(count: u64) -> ArrayString<64>
-    ensures { result.bytes ≡ not_logged count }
+/// What is reported of what svscan could not finish, behind a name.
+fn unfinished(what: Unfinished) -> ArrayString<64>
+    ensures { result.bytes ≡ unfinished what }
 {
     let mut text = ArrayString::new();
-    text.push_str(": ");
-    push_number(&mut text, count);
-    text.push_str(" bytes were not logged\n");
+    match what {
+        Unfinished::Bytes(count) => {
+            text.push_str(": ");
+            push_number(&mut text, count);
+            text.push_str(" bytes were not logged\n");
+        }
+        Unfinished::Records => text.push_str(": unable to write its records\n"),
+    }
     text
 }
 
-/// Reports bytes that were not logged, a line for each service.
+/// Reports what svscan could not finish, a line for each.
 fn report_unlogged<E: Write>(all: &[Unlogged], faults: &mut Output<E>)
     ensures { ReportsAll (map unlogged_report all.now) faults.old faults.new }
 {
     for unlogged in all {
-        let text = not_logged(unlogged.count);
+        let text = unfinished(unlogged.what);
         let name = unlogged.name.as_str();
         report_parts(faults, b"svscan: ", name.as_bytes(), text.as_bytes(), DONE);
     }
@@ -318,8 +381,9 @@ fn take_rounds<R: Wait, K: ServiceSet, E: Write>(
         (effects (K.calls services.old) faults.old) (effects (K.calls services.new) faults.new) }
 {
     let mut left = rounds;
+    let mut is_listed = true;
     for _ in rt.forever() {
-        if !take_round(services, folder, faults) {
+        if !take_round(services, folder, &mut is_listed, faults) {
             end_all(rt, services, faults);
             return TROUBLE;
         }
@@ -345,29 +409,56 @@ fn take_rounds<R: Wait, K: ServiceSet, E: Write>(
     unreachable!()
 }
 
+/// Reports that svscan itself is not served, for this cause.
+fn report_unserved<E: Write>(cause: Cause, faults: &mut Output<E>)
+    ensures { ReportsAll (name_report (unable_to_supervise cause) (codes ".svscan") ∷ []) faults.old faults.new }
+{
+    let text = unable_to_supervise(cause);
+    report_parts(faults, b"svscan: ", b".svscan", text.as_bytes(), DONE);
+}
+
+/// Reports that a folder can't be read, for this cause.
+fn report_unread<E: Write>(folder: &str, cause: Cause, faults: &mut Output<E>)
+    ensures { ReportsAll (unread_report folder.now cause ∷ []) faults.old faults.new }
+{
+    let note = cause_note(cause);
+    report_parts(
+        faults,
+        b"svscan: unable to read ",
+        folder.as_bytes(),
+        note.as_bytes(),
+        DONE,
+    );
+}
+
+/// Reports that another svscan has a folder.
+fn report_locked<E: Write>(folder: &str, faults: &mut Output<E>)
+    ensures { ReportsAll (locked_report folder.now ∷ []) faults.old faults.new }
+{
+    report_parts(
+        faults,
+        b"svscan: unable to lock ",
+        folder.as_bytes(),
+        b"\n",
+        DONE,
+    );
+}
+
 /// Says whether svscan itself is served in a folder.
 fn report_begun<E: Write>(folder: &str, begun: Begun, faults: &mut Output<E>)
     ensures { ReportsAll (lines_of_begun folder.now begun) faults.old faults.new }
 {
     match begun {
         Begun::Served => {}
-        Begun::Unserved(cause) => {
-            let text = unable_to_supervise(cause);
-            report_parts(faults, b"svscan: ", b".svscan", text.as_bytes(), DONE);
-        }
-        Begun::Locked => {
-            report_parts(
-                faults,
-                b"svscan: unable to lock ",
-                folder.as_bytes(),
-                b"\n",
-                DONE,
-            );
-        }
+        Begun::Unserved(cause) => report_unserved(cause, faults),
+        Begun::Refused(cause) => report_unserved(cause, faults),
+        Begun::Unread(cause) => report_unread(folder, cause, faults),
+        Begun::Locked => report_locked(folder, faults),
     }
 }
 
-/// svscan is served in the folder, and makes its rounds, unless another svscan has the folder.
+/// svscan is served in the folder, and makes its rounds, unless another svscan has the folder, or that can't be read, or
+/// no service could be kept running.
 fn begin_and_run<R: Wait, K: ServiceSet, E: Write>(
     rt: &R,
     services: &mut K,
@@ -383,7 +474,7 @@ fn begin_and_run<R: Wait, K: ServiceSet, E: Write>(
     let begun = services.begin(folder);
     report_begun(folder, begun, faults);
     match begun {
-        Begun::Locked => TROUBLE,
+        Begun::Locked | Begun::Unread(_) | Begun::Refused(_) => TROUBLE,
         Begun::Served | Begun::Unserved(_) => take_rounds(rt, services, folder, rounds, faults),
     }
 }
@@ -395,9 +486,11 @@ fn begin_and_run<R: Wait, K: ServiceSet, E: Write>(
 /// first of these two counts. With N, which is 1 to 4294967295 without leading zeros, it ends all services after N
 /// rounds; else it doesn't come back, unless by these two or a fault.
 ///
-/// Reported on `faults`: `svscan: unable to lock DIR`, where another svscan has the folder; `svscan: .svscan: unable to
-/// supervise: CAUSE`, where it can't be served itself; `svscan: unable to list`, where the folder can't be read, and
-/// `svscan: OutOfMemory` of want of memory: the round does nothing more, and the next one tries again; `svscan: N names
+/// Reported on `faults`: `svscan: unable to lock DIR`, where another svscan has the folder; `svscan: unable to read DIR:
+/// CAUSE`, where the folder can't be read at the beginning; `svscan: .svscan: unable to supervise: CAUSE`, where it can't
+/// be served itself; `svscan: unable to list DIR: CAUSE`, in the first round in which the folder can't be read, `svscan: DIR
+/// is listed again`, in the first one after that in which it can, and `svscan: OutOfMemory` if there is no memory: the
+/// round does nothing more, and the next one tries again; `svscan: N names
 /// are not text` of names that get no service; `svscan: N descriptors are needed, M are allowed`, where the first
 /// listing has more services than that; `svscan: NAME: N bytes were not taken` of control bytes that came to a service
 /// which ended without them, and `svscan: NAME: unable to write the trace` of one whose last trace is not whole;
@@ -405,8 +498,9 @@ fn begin_and_run<R: Wait, K: ServiceSet, E: Write>(
 /// svscan has, and `svscan: NAME: unable to supervise: CAUSE` of each other one that a round could not begin, or that
 /// runs without its sockets, where CAUSE is what the C library says of it; `svscan: KIND` of another fault of the scan,
 /// which ends all services; `svscan: NAME: process PID still runs`, each five seconds, of what does not end; `svscan:
-/// NAME: N bytes were not logged`, of lines that did not reach their logger. Answers the status: 0; 111 after such a
-/// fault, and where another svscan has the folder; 100 for wrong words: then nothing is asked of the system.
+/// NAME: N bytes were not logged`, of lines that did not reach their logger, and `svscan: NAME: unable to write its
+/// records` of a part that svscan leaves so. Answers the status: 0; 111 after such a fault, where another svscan has the
+/// folder or it can't be read, and where no service could be kept running; 100 for wrong words: then nothing is asked of the system.
 pub fn run_svscan<R: Wait, K: ServiceSet, E: Write>(
     rt: &R,
     services: &mut K,
@@ -419,6 +513,6 @@ pub fn run_svscan<R: Wait, K: ServiceSet, E: Write>(
 {
     match read_words(words) {
         Some(options) => begin_and_run(rt, services, options.folder, options.rounds, faults),
-        None => usage(faults),
+        None => usage(faults, Command::Svscan),
     }
 }

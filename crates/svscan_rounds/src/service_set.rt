@@ -1,8 +1,7 @@
 //! The services of a folder.
-use cmd_base::Cause;
 use scan_table::{DirRow, ScanFault};
 use svc_host::PartFault;
-use tai_status::{Name, Names};
+use tai_status::{Cause, Name, Names};
 
 /// More descriptors than there may be are needed for the services of a folder.
 #[derive(Clone, Copy, Debug, PartialEq, Eq)]
@@ -25,8 +24,8 @@ pub struct Listing {
 /// Why a folder was not listed.
 #[derive(Clone, Copy, Debug, PartialEq, Eq)]
 pub enum ListFault {
-    /// It can't be read.
-    Unlisted,
+    /// It can't be read, for this cause.
+    Unlisted(Cause),
     /// There is no memory for its rows.
     OutOfMemory,
 }
@@ -71,6 +70,10 @@ pub enum Begun {
     Unserved(Cause),
     /// Another svscan is.
     Locked,
+    /// The folder of the services can't be read. svscan ends.
+    Unread(Cause),
+    /// The system refused something without which no service can be kept running. svscan ends.
+    Refused(Cause),
 }
 
 /// A process that still runs, where all services are to end.
@@ -82,13 +85,22 @@ pub struct Remaining {
     pub pid: u32,
 }
 
-/// Bytes of a service's output that did not reach its logger.
+/// What svscan could not finish as it left.
+#[derive(Clone, Copy, Debug, PartialEq, Eq)]
+pub enum Unfinished {
+    /// So many bytes of a service's output did not reach its logger.
+    Bytes(u64),
+    /// What is recorded of a part could not be written.
+    Records,
+}
+
+/// What svscan could not finish for a service as it left.
 #[derive(Drop)]
 pub struct Unlogged {
-    /// The name of the service.
+    /// The name of the service, or of the part.
     pub name: Name,
-    /// How many there are.
-    pub count: u64,
+    /// What it is.
+    pub what: Unfinished,
 }
 
 /// The services of a folder, which it keeps running. Contracts see which calls were made and what came of them, where
@@ -138,7 +150,7 @@ pub trait ServiceSet {
             (Ended (option_map (λ left. left.items) result) ∷ []) };
 
     /// The services are left: what was read of their outputs is given to their loggers first, for five seconds at most.
-    /// svscan itself is served no more. Answers what was not logged.
+    /// svscan itself is served no more. Answers what was not logged, and whose records could not be written.
     fn leave(&mut self) -> Vec<Unlogged>
         requires { ready self.old }
         ensures ready { ready self.new }

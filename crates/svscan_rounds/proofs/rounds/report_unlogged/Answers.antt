@@ -2,7 +2,7 @@ use Rattle.std.proofs.Common.{rules, ◌≡◌, ◌+◌, ◌<◌, ℕ, List, [],
 use Rattle.std.proofs.lemmas.List.{take_more, map-append}
 use Rattle.tai_status.specs.Counted.{Reports}
 use Rattle.svscan_rounds.specs.declared.service_set.Unlogged.{Unlogged}
-use Rattle.svscan_rounds.specs.Rounds.{name_report, not_logged, unlogged_report, ReportsAll}
+use Rattle.svscan_rounds.specs.Rounds.{name_report, unfinished, unlogged_report, ReportsAll}
 use Rattle.svscan_rounds.proofs.Reporting.{reports-then, reports-one}
 use Rattle.svscan_rounds.proofs.rounds.report_unlogged.Goals as goal
 
@@ -17,7 +17,7 @@ loop-unlogged-preserved g c =
     let within : i < length all = search rules in
     let text = c.as_bytes-in-loop-unlogged.result.now in
     let name : c.as_bytes.result.now ≡ item.name = search rules in
-    let what : text ≡ not_logged item.count = search rules in
+    let what : text ≡ unfinished item.what = search rules in
     let reported : Reports middle new (unlogged_report item) =
     subst (λ (t : List ℕ). Reports middle new (name_report t item.name)) what
     (subst (λ (n : List ℕ). Reports middle new (name_report text n)) name c.report_parts.ensures.reported) in

@@ -20,7 +20,7 @@ returns-then-not-take_round g c =
     let calls = g.K.ServiceSet.calls in
     let made = c.take_round.ensures.round in
     let off = subst (λ (on : Bool). Answers on made.0) c.if-not-take_round.true made.1 in
-    way_fails c.args.folder.now c.args.rounds c.loop.left (effects (calls c.args.services.now) c.args.faults.now)
+    way_fails c.args.folder.now c.args.rounds c.loop.left c.loop.is_listed (effects (calls c.args.services.now) c.args.faults.now)
     (effects (calls c.loop.services) c.loop.faults)
     (effects (calls c.take_round.new.services) c.take_round.new.faults)
     (effects (calls c.end_all.new.services) c.end_all.new.faults) made.0 c.loop.invariant.0 made.2 off
@@ -34,9 +34,9 @@ returns-then-number-eq1 g c =
     let one : c.loop.left ≡ Some 1 = c.in-Some-left.is ∙ ap Some c.if-number-eq1.true in
     let old = effects (calls c.args.services.now) c.args.faults.now in
     let mid = effects (calls c.loop.services) c.loop.faults in
-    let way = subst (λ (left : Option ℕ). IsUnderWay c.args.folder.now c.args.rounds left old mid) one
+    let way = subst (λ (left : Option ℕ). IsUnderWay c.args.folder.now c.args.rounds left c.loop.is_listed old mid) one
     c.loop.invariant.0 in
-    way_done c.args.folder.now c.args.rounds old mid
+    way_done c.args.folder.now c.args.rounds c.loop.is_listed old mid
     (effects (calls c.take_round.new.services) c.take_round.new.faults)
     (effects (calls c.end_all-then-number-eq1.new.services) c.end_all-then-number-eq1.new.faults) made.0 way made.2
     on c.end_all-then-number-eq1.ensures.ends
@@ -60,10 +60,10 @@ loop-preserved g c =
           w.in-Some-left.is w.left-is w.if-number-eq1.false
       | in_default w ↦ less-none c.args.rounds c.loop.left c.match-left.left w.in_default.is w.left-is
     ] in (
-      way_more c.args.folder.now c.args.rounds c.loop.left c.match-left.left
-          (effects (calls c.args.services.now) c.args.faults.now) (effects (calls c.loop.services) c.loop.faults)
+      way_more c.args.folder.now c.args.rounds c.loop.left c.match-left.left c.loop.is_listed
+          c.take_round.new.is_listed (effects (calls c.args.services.now) c.args.faults.now) (effects (calls c.loop.services) c.loop.faults)
           (effects (calls c.take_round.new.services) c.take_round.new.faults)
-          (effects (calls c.rest.new.services) c.take_round.new.faults) made.0 c.loop.invariant.0 made.2 on
+          (effects (calls c.rest.new.services) c.take_round.new.faults) made.0 c.loop.invariant.0 made.2 made.3 on
           c.in-Round.ensures.rests refl less,
       c.rest.ensures.ready,
     )
@@ -73,7 +73,7 @@ returns-in-End g c =
     let calls = g.K.ServiceSet.calls in
     let made = c.take_round.ensures.round in
     let on = subst (λ (on : Bool). Answers on made.0) c.if-not-take_round.false made.1 in
-    way_report c.args.folder.now c.args.rounds c.loop.left (effects (calls c.args.services.now) c.args.faults.now)
+    way_report c.args.folder.now c.args.rounds c.loop.left c.loop.is_listed (effects (calls c.args.services.now) c.args.faults.now)
     (effects (calls c.loop.services) c.loop.faults)
     (effects (calls c.take_round.new.services) c.take_round.new.faults)
     (effects (calls c.rest.new.services) c.take_round.new.faults)
@@ -85,7 +85,7 @@ returns-in-Leave g c =
     let calls = g.K.ServiceSet.calls in
     let made = c.take_round.ensures.round in
     let on = subst (λ (on : Bool). Answers on made.0) c.if-not-take_round.false made.1 in
-    way_left c.args.folder.now c.args.rounds c.loop.left (effects (calls c.args.services.now) c.args.faults.now)
+    way_left c.args.folder.now c.args.rounds c.loop.left c.loop.is_listed (effects (calls c.args.services.now) c.args.faults.now)
     (effects (calls c.loop.services) c.loop.faults)
     (effects (calls c.take_round.new.services) c.take_round.new.faults)
     (effects (calls c.rest.new.services) c.take_round.new.faults)

@@ -23,7 +23,8 @@ loop-place-preserved g c =
     record {
       collected = collected_next c.args.self.now c.loop-place.self c.reap.new.self
           place within at.collected at.count at.left step c.reap.result
-          c.reap.ensures.ended c.reap.ensures.table c.reap.ensures.ran c.reap.ensures.returned;
+          c.reap.ensures.ended c.reap.ensures.table c.reap.ensures.ran c.reap.ensures.returned
+          c.reap.ensures.joined c.reap.ensures.gone c.reap.ensures.same;
       count = ap length step.parts ∙ set_length mids place step.part ∙ at.count;
       left = λ k d less. ap (λ l. slice_index_or l k d) step.parts
           ∙ others_stay mids place step.part k d (omega (arith, less)) ∙ at.left k d (omega (arith, less));

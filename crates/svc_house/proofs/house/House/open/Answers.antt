@@ -9,7 +9,7 @@ invariant_of-result g c =
       bytes = ap (λ l. bytes_in (l ++ [])) c.requires.published ∙ sym c.requires.given;
       outcomes = answers-extended (g.W.World.calls c.args.world) (g.W.World.calls c.request.new.world)
           (requested asks) [] _
-          c.request.ensures
+          c.request.ensures.calls
           (answered-none (g.W.World.calls c.args.world) c.requires.answered)
           (ap (λ l. outcomes_in (l ++ [])) c.requires.published ∙ sym (answers_in-requested asks));
       ready = tt;

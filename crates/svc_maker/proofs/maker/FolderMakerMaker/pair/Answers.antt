@@ -16,8 +16,8 @@ own path text folder lent name same made lends =
 
 pub returns-in-Err : goal.returns-in-Err
 returns-in-Err g c = rw (← c.self.view_is, c.reserve.ensures.items) (record {
-  tried = OpenedOutput c.as_str-2.result.now (Err c.in-Err.cause) ∷ [];
-  failed = (own _ _ _ _ _ c.as_str-2.ensures.value c.in-Ok.ensures c.as_str.ensures.value, refl);
+  tried = OpenedOutput c.as_str-2.result.now (Err c.in-Err.fault) ∷ [];
+  failed = (own _ _ _ _ _ c.as_str-2.ensures.value c.in-Ok.ensures c.as_str.ensures.value, c.part_fault.ensures);
   calls = c.in-Err.ensures.calls;
   stands = refl;
 })

@@ -1,0 +1,122 @@
+-- What is left over of a start that an earlier svscan intended, among the processes of the system.
+use Rattle.std.specs.Prelude.{◌≡◌, ◌<◌, ⊤, ◌==◌, ◌&&◌, ◌||◌, ℕ, zero, suc, Bool, true, false, not, if◌then◌else◌, List, find}
+use Rattle.std.specs.Prelude.{is_none, nat_le, Option, Some, None}
+use Rattle.std.specs.List.{list_any}
+use Rattle.std.specs.Option.{option_map_or}
+use Rattle.svc_left.specs.declared.leftover.Seen.{Seen}
+use Rattle.svc_left.specs.declared.leftover.Intent.{Intent}
+use Rattle.svc_left.specs.declared.leftover.Leftover.{Leftover}
+use Rattle.svc_left.specs.declared.leftover.Leftover.TheVariants.{Nobody, Process, Unsure}
+
+-- the process of this number among these
+abbrev pub process_at : (pid : ℕ) → List Seen → Option Seen
+process_at pid all = find (λ other. other.pid == pid) all
+
+-- the parent that a process has among these
+abbrev pub parent_in : List Seen → Seen → Option Seen
+parent_in all one = process_at one.parent all
+
+-- A process is new if it lives and began since the intent.
+abbrev pub is_new : Intent → Seen → Bool
+is_new intent one = not one.has_died && nat_le intent.tick one.tick
+
+-- the parent, if it is new
+abbrev pub if_new : Intent → Option Seen → Option Seen
+if_new intent None = None
+if_new intent (Some parent) = if is_new intent parent then Some parent else None
+
+-- the topmost of a process and its new ancestors, so many generations up at most
+unfoldable pub topmost : (generations : ℕ) → Intent → List Seen → Seen → Seen
+topmost zero intent all one = one
+topmost (suc n) intent all one = option_map_or (topmost n intent all) (if_new intent (parent_in all one)) one
+
+-- whether a process is known, or an ancestor of it, so many generations up at most
+unfoldable pub is_known : (generations : ℕ) → List Seen → Seen → Bool
+is_known zero all one = false
+is_known (suc n) all one = one.is_known || option_map_or (is_known n all) (parent_in all one) false
+
+-- A process is open if it is new and neither it nor an ancestor is known: it may be what is left over.
+abbrev pub is_open : (generations : ℕ) → Intent → List Seen → Seen → Bool
+is_open generations intent all one = is_new intent one && not (is_known generations all one)
+
+-- whether the process of this number is the topmost of an open one that is in the service's folder or has its output
+abbrev pub is_above_here : (generations : ℕ) → Intent → List Seen → (pid : ℕ) → Bool
+is_above_here generations intent all pid =
+    list_any (λ other. other.is_here && (is_open generations intent all other
+    && (topmost generations intent all other).pid == pid)) all
+
+-- A root is the topmost open process above one that is here.
+abbrev pub is_root : (generations : ℕ) → Intent → List Seen → Seen → Bool
+is_root generations intent all one =
+    is_open generations intent all one && is_above_here generations intent all one.pid
+
+-- whether a process began a session of its own, and is not younger than this svscan
+abbrev pub leads : Intent → Seen → Bool
+leads intent one = (one.session == one.pid) && nat_le one.tick intent.until
+
+-- By its session a process may be the one of the start: it has the session of the svscan that intended the start, or,
+-- if the service begins a session, it leads one.
+abbrev pub may_be_started : Intent → Seen → Bool
+may_be_started intent one = (one.session == intent.session) || (intent.begins_session && leads intent one)
+
+-- A stray is the topmost of open processes, may by its session be the one of the start, and none of them is here. A
+-- process of this svscan's own session that began after this svscan is no stray.
+abbrev pub is_stray : (generations : ℕ) → Intent → List Seen → Seen → Bool
+is_stray generations intent all one =
+    may_be_started intent one && (not one.is_late && (is_open generations intent all one
+    && ((topmost generations intent all one).pid == one.pid && not (is_above_here generations intent all one.pid))))
+
+-- whether another process than the one of this number is a root
+abbrev pub has_other_root : (generations : ℕ) → Intent → List Seen → (pid : ℕ) → Bool
+has_other_root generations intent all pid =
+    list_any (λ one. not (one.pid == pid) && is_root generations intent all one) all
+
+-- the first root, and the first stray
+abbrev pub first_root : (generations : ℕ) → Intent → List Seen → Option Seen
+first_root generations intent all = find (λ one. is_root generations intent all one) all
+
+abbrev pub first_stray : (generations : ℕ) → Intent → List Seen → Option Seen
+first_stray generations intent all = find (λ one. is_stray generations intent all one) all
+
+-- what is left over, where this is the first stray
+abbrev pub without_root : (stray : Option Seen) → Leftover
+without_root None = Nobody
+without_root (Some stray) = Unsure stray.pid
+
+-- what is left over, where this is the first root: it, if it is sure
+abbrev pub with_root : (is_sure : Bool) (root : Seen) → Leftover
+with_root true root = Process root.pid root.tick
+with_root false root = Unsure root.pid
+
+-- A root is sure if it may by its session be the process of the start, and there is no other root and no stray.
+abbrev pub is_sure : (generations : ℕ) → Intent → List Seen → (root : Seen) → Bool
+is_sure generations intent all root =
+    may_be_started intent root && (not (has_other_root generations intent all root.pid)
+    && is_none (first_stray generations intent all))
+
+-- What is left over, by the first root: nobody, if there is neither a root nor a stray.
+abbrev pub left_by : (generations : ℕ) → Intent → List Seen → (root : Option Seen) → Leftover
+left_by generations intent all None = without_root (first_stray generations intent all)
+left_by generations intent all (Some root) = with_root (is_sure generations intent all root) root
+
+abbrev pub find_leftover : (generations : ℕ) → Intent → List Seen → Leftover
+find_leftover generations intent all = left_by generations intent all (first_root generations intent all)
+
+-- the first process that lives, is here and is not known
+abbrev pub first_here : List Seen → Option Seen
+first_here all = find (λ one. one.is_here && (not one.has_died && not one.is_known)) all
+
+-- What is left over of a start of which neither the time nor the session is known: perhaps the first process that is
+-- here.
+abbrev pub find_any_here : List Seen → Leftover
+find_any_here all = without_root (first_here all)
+
+-- What is left over, if it is a process, has a number of at least 1.
+abbrev pub HasNumber : Leftover → Type 0
+HasNumber (Process pid tick) = 0 < pid
+HasNumber other = ⊤
+
+-- the same, but that a process without a number is nobody
+abbrev pub numbered : Leftover → Leftover
+numbered (Process pid tick) = if pid == 0 then Nobody else Process pid tick
+numbered other = other

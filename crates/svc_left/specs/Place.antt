@@ -1,0 +1,75 @@
+-- The place of a service: which process was started last, or that one is about to be started, and what is wanted.
+use Rattle.std.specs.Prelude.{◌≡◌, ◌<◌, ◌+◌, ◌^◌, ◌==◌, ◌&&◌, ℕ, Bool, true, false, not, if◌then◌else◌, List, ◌++◌, ◌∷◌, codes}
+use Rattle.std.specs.Prelude.{decimal, length, position, take, Option, Some, None}
+use Rattle.std.specs.Borrow.{Bor}
+use Rattle.tai_status.specs.declared.record.Want.{Want}
+use Rattle.tai_status.specs.declared.record.Want.TheVariants as want
+use Rattle.svc_left.specs.declared.place.Place.{Place}
+use Rattle.svc_left.specs.declared.process.ProcessId.{ProcessId}
+
+-- the number that a place has for what is wanted
+abbrev pub want_number : Want → ℕ
+want_number want.Down = 0
+want_number want.Up = 1
+want_number want.Once = 2
+
+-- the line of a place: PID TICK SESSION INIT WANT BOOT, parted by spaces
+abbrev pub place_end : Place → List ℕ
+place_end place = decimal (want_number place.want) ++ codes " " ++ place.boot ++ codes "\n"
+
+abbrev pub place_rest : Place → List ℕ
+place_rest place = decimal place.session ++ codes " " ++ decimal place.init ++ codes " " ++ place_end place
+
+abbrev pub place_line : Place → List ℕ
+place_line place = decimal place.pid ++ codes " " ++ decimal place.tick ++ codes " " ++ place_rest place
+
+-- the numbers in front of the first two spaces, and what is behind these
+abbrev pub AreTwo : (first second : ℕ) (rest : List ℕ) → ℕ × ℕ × Bor (List ℕ) → Type 0
+AreTwo first second rest parts = (parts.0 ≡ first) × (parts.1 ≡ second) × (parts.2.now ≡ rest)
+
+-- Numbers fit their types, and the name of a boot has 36 bytes.
+pub record IsPlace (place : Place) : Type 0 where
+  pub pid : place.pid < 2 ^ 32
+  pub tick : place.tick < 2 ^ 64
+  pub session : place.session < 2 ^ 64
+  pub init : place.init < 2 ^ 64
+  pub boot : length place.boot ≡ 36
+
+-- the line up to this place of its newline, or all if there is none
+abbrev pub line_to : Option ℕ → List ℕ → List ℕ
+line_to None text = text
+line_to (Some at) text = take (at + 1) text
+
+-- The first line of a text, with its newline: behind it is what is left of a longer line before.
+abbrev pub first_line : List ℕ → List ℕ
+first_line text = line_to (position (λ byte. byte == 10) text) text
+
+-- the place of a service before a start that an svscan of this session intended at this tick
+abbrev pub intending : Place → (tick session : ℕ) → Place
+intending place tick session = record place { pid = 0; tick = tick; session = session }
+
+-- the place of a service after a start that made this process, which began at this tick
+abbrev pub occupied : Place → (pid tick : ℕ) → Place
+occupied place pid tick = record place { pid = pid; tick = tick }
+
+-- the place of a service of which this is wanted
+abbrev pub wanting : Place → Want → Place
+wanting place want = record place { want = want }
+
+-- whether a start was intended, and its process is not known
+abbrev pub is_intent : Place → Bool
+is_intent place = (place.pid == 0) && not (place.tick == 0)
+
+-- the process that a place names
+abbrev pub process_in : Place → Option ProcessId
+process_in place =
+    if place.pid == 0 then None else Some (record { pid = place.pid; tick = place.tick; boot = place.boot })
+
+-- Both are of one run of the system: the same boot, and the same first process in it.
+pub record AreOfOneRun (place here : Place) : Type 0 where
+  pub boot : place.boot ≡ here.boot
+  pub init : place.init ≡ here.init
+
+-- whether neither the time nor the session of the intended start is known
+abbrev pub is_unknown : Place → Bool
+is_unknown place = (place.pid == 0) && ((place.tick == 1) && (place.session == 0))

@@ -1,0 +1,113 @@
+//! What is written of a service, what of it is owed, and what is said of it.
+ghost use Rattle.std.specs.Prelude.{◌≡◌};
+ghost use Rattle.svc_world.specs.Owed.{first_owed, is_owed, with_owed};
+
+/// What is written of a service, each into a file of its own in `supervise/`.
+#[derive(Clone, Copy, Debug, PartialEq, Eq)]
+pub enum Paper {
+    /// Which process runs, or that one is about to be started, and what is wanted.
+    Place,
+    /// The process that was started last.
+    Process,
+    /// The status record.
+    Status,
+    /// How the last process ended.
+    Exit,
+    /// How many processes began and ended.
+    Counts,
+}
+
+/// What svscan says of a service on its standard error.
+#[derive(Clone, Copy, Debug, PartialEq, Eq)]
+pub enum Remark {
+    /// The service is not started, since the process of this number still runs.
+    StillRuns(u32),
+    /// A paper can't be written. It is tried again.
+    Unwritten(Paper),
+    /// All that was owed is written.
+    AllWritten,
+}
+
+/// Which papers are still to be written, as they are now.
+#[derive(Clone, Copy, Debug, PartialEq, Eq)]
+pub struct Owed {
+    pub place: bool,
+    pub process: bool,
+    pub status: bool,
+    pub exit: bool,
+    pub counts: bool,
+}
+
+impl Owed {
+    ghost use Rattle.svc_world.specs.Owed.{nothing_owed};
+
+    /// None.
+    pub(crate) fn nothing() -> Owed
+        ensures { result ≡ nothing_owed }
+    {
+        Owed {
+            place: false,
+            process: false,
+            status: false,
+            exit: false,
+            counts: false,
+        }
+    }
+
+    /// The same, but that this paper is owed or not.
+    pub(crate) fn with(self, paper: Paper, owed: bool) -> Owed
+        ensures { result ≡ with_owed paper owed self }
+    {
+        match paper {
+            Paper::Place => Owed {
+                place: owed,
+                ..self
+            },
+            Paper::Process => Owed {
+                process: owed,
+                ..self
+            },
+            Paper::Status => Owed {
+                status: owed,
+                ..self
+            },
+            Paper::Exit => Owed { exit: owed, ..self },
+            Paper::Counts => Owed {
+                counts: owed,
+                ..self
+            },
+        }
+    }
+
+    /// Whether this paper is owed.
+    pub(crate) fn has(&self, paper: Paper) -> bool
+        ensures { result ≡ is_owed paper self.now }
+    {
+        match paper {
+            Paper::Place => self.place,
+            Paper::Process => self.process,
+            Paper::Status => self.status,
+            Paper::Exit => self.exit,
+            Paper::Counts => self.counts,
+        }
+    }
+
+    /// The first paper that is owed.
+    pub(crate) fn first(&self) -> Option<Paper>
+        ensures { result ≡ first_owed self.now }
+    {
+        if self.place {
+            Some(Paper::Place)
+        } else if self.process {
+            Some(Paper::Process)
+        } else if self.status {
+            Some(Paper::Status)
+        } else if self.exit {
+            Some(Paper::Exit)
+        } else if self.counts {
+            Some(Paper::Counts)
+        } else {
+            None
+        }
+    }
+}
