@@ -3,9 +3,10 @@
 # processors, and builds it.
 # test: the gate.
 # check: runs the worked scripts and the scripts of tests/ on PROGRAM, which needs neither the kit nor a compiler.
-# install: copies PROGRAM to PREFIX/bin/dtools, with svscan-run, dtools-service and a wrapper or script for each command of daemontools in
-# PREFIX/lib/dtools/bin, and with NAMES=1 those in PREFIX/bin too; the manual, a unit of systemd over the folder SERVICES,
-# which is not enabled, and the completion of bash; all of it below DESTDIR. uninstall: takes that away again.
+# install: copies PROGRAM to PREFIX/bin/dtools, with svscan-run, svscan-stop, dtools-service and a wrapper or script for each command of
+# daemontools in PREFIX/lib/dtools/bin, and with NAMES=1 those in PREFIX/bin too; the manual, the folder SERVICES with a unit of
+# systemd over it, which is not enabled, and the completion of bash; all of it below DESTDIR. The scripts run tools of the
+# system by the paths that they have here, or all in the folder TOOLS. uninstall: takes that away again.
 # package, tarball: both in the folder `packages`, from PROGRAM. release: makes release/ anew.
 SHELL = bash
 .SHELLFLAGS = -o pipefail -c
@@ -16,18 +17,26 @@ JOBS ?=
 PROGRAM ?= crates/dtools/out/dtools
 COMMANDS = svscan svc svstat svok svwait tai64n tai64nlocal readproctitle
 # Scripts that stand in a place of their own: multilog and envdir over the program, the others over tools of the system.
-SCRIPTS = multilog envdir setuidgid envuidgid softlimit setlock
+SCRIPTS = multilog envdir setuidgid envuidgid softlimit setlock pgrphack fghack
+# Scripts that no other suite has a name of.
+OWN_SCRIPTS = svscan-run svscan-stop dtools-service
+TOOLS ?=
 BIN = $(DESTDIR)$(PREFIX)/bin
 WRAPPERS = $(DESTDIR)$(PREFIX)/lib/dtools/bin
 COMPLETIONS = $(DESTDIR)$(PREFIX)/share/bash-completion/completions
 MANUAL = $(DESTDIR)$(PREFIX)/share/man
 UNITS ?= $(PREFIX)/lib/systemd/system
-SERVICES ?= /service
+SERVICES ?= /etc/dtools/service
 PAGES = $(notdir $(wildcard man/*.[1-8])) dtools-formats.5
 # The folders in which wrappers stand.
 PLACES = $(WRAPPERS) $(if $(filter 1,$(NAMES)),$(BIN))
-# A script as it is installed: the path of the program is absolute.
-SCRIPT = sed 's|^dtools() .*|dtools() { $(PREFIX)/bin/dtools "$$@"; }|; s|^dtools=.*|dtools=$(PREFIX)/bin/dtools|' contrib/$(1)
+# The tools of the system that scripts run, each as an edit of its path.
+USED = env flock getent nice prlimit setpriv setsid sleep
+PATHS = $(foreach tool,$(USED),s|/usr/bin/$(tool) |$(or $(if $(TOOLS),$(TOOLS)/$(tool)),$(shell PATH=/usr/bin:/bin:/usr/sbin:/sbin:$$PATH command -v $(tool)),/usr/bin/$(tool)) |g;)
+# A script as it is installed: the paths of the program, of the tools and of the folder of services are absolute.
+SCRIPT = sed '$(PATHS) s|"$${DTOOLS:-dtools}"|$(PREFIX)/bin/dtools|g; s|$${DTOOLS:-dtools}|$(PREFIX)/bin/dtools|g; s|/etc/dtools/service|$(SERVICES)|g' contrib/$(1)
+# Whose completion is that of dtools.
+COMPLETED = svc svstat svok svwait setuidgid envuidgid softlimit setlock pgrphack fghack
 
 .PHONY: try build test check install uninstall package tarball release
 
@@ -54,7 +63,9 @@ install:
 	@[ -x $(PROGRAM) ] || { echo "There is no $(PROGRAM) yet: make build makes it." >&2; exit 1; }
 	@[ "$(NAMES)" != 1 ] || ! dpkg -s daemontools >/dev/null 2>&1 || \
 	  echo "Warning: daemontools is installed, and $(PREFIX)/bin/svscan may be found before its own." >&2
-	install -d $(BIN) $(PLACES) $(COMPLETIONS) $(DESTDIR)$(UNITS) $(addprefix $(MANUAL)/man,1 5 7 8)
+	@[ -n "$(DESTDIR)" ] || $(PROGRAM) version >/dev/null 2>&1 || \
+	  { echo "$(PROGRAM) does not run here: it needs Linux on x86_64, and glibc 2.34 or later." >&2; exit 1; }
+	install -d $(BIN) $(PLACES) $(COMPLETIONS) $(DESTDIR)$(UNITS) $(DESTDIR)$(SERVICES) $(addprefix $(MANUAL)/man,1 5 7 8)
 	install -m 755 $(PROGRAM) $(BIN)/dtools
 	for place in $(PLACES); do for command in $(COMMANDS); do \
 	  case $$command in svwait) word=wait ;; *) word=$$command ;; esac; \
@@ -63,10 +74,10 @@ install:
 	for place in $(PLACES); do for script in $(SCRIPTS); do \
 	  $(call SCRIPT,$$script) >$$place/$$script && chmod 755 $$place/$$script; \
 	done; done
-	sed 's|^dtools=.*|dtools=$(PREFIX)/bin/dtools\nexport PATH=$(PREFIX)/lib/dtools/bin:$$PATH|' contrib/svscan-run >$(WRAPPERS)/svscan-run
-	sed 's|^dtools=.*|dtools=$(PREFIX)/bin/dtools|; s|:-/service}|:-$(SERVICES)}|' contrib/dtools-service >$(WRAPPERS)/dtools-service
-	chmod 755 $(WRAPPERS)/svscan-run $(WRAPPERS)/dtools-service
-	sed 's|/usr/local|$(PREFIX)|; s| /service$$| $(SERVICES)|; s| /service/| $(SERVICES)/|; s| /service,| $(SERVICES),|' contrib/dtools.service >$(DESTDIR)$(UNITS)/dtools.service
+	for script in $(OWN_SCRIPTS); do $(call SCRIPT,$$script) >$(WRAPPERS)/$$script && chmod 755 $(WRAPPERS)/$$script; done
+	sed -i 's|^dtools=.*|&\nexport PATH="$(PREFIX)/lib/dtools/bin:$$PATH"|' $(WRAPPERS)/svscan-run
+	sed 's|/usr/local/lib|$(PREFIX)/lib|g; s|/usr/local/bin/dtools|$(PREFIX)/bin/dtools|; s|/etc/dtools/service|$(SERVICES)|' \
+	  contrib/dtools.service >$(DESTDIR)$(UNITS)/dtools.service
 	chmod 644 $(DESTDIR)$(UNITS)/dtools.service
 	for page in $(PAGES); do \
 	  if [ -e man/$$page ]; then cat man/$$page; else awk -f man/formats.awk docs/FORMATS.md; fi | \
@@ -74,8 +85,9 @@ install:
 	    gzip -9n >$(MANUAL)/man$${page##*.}/$$page.gz; \
 	done
 	chmod 644 $(MANUAL)/man*/*
-	install -m 644 contrib/dtools.bash $(COMPLETIONS)/dtools
-	for command in svc svstat svok svwait; do ln -sf dtools $(COMPLETIONS)/$$command; done
+	sed 's|/etc/dtools/service|$(SERVICES)|' contrib/dtools.bash >$(COMPLETIONS)/dtools
+	chmod 644 $(COMPLETIONS)/dtools
+	for command in $(COMPLETED); do ln -sf dtools $(COMPLETIONS)/$$command; done
 
 # Of PREFIX/bin it takes away only wrappers of this program.
 uninstall:
@@ -87,7 +99,9 @@ uninstall:
 	  rm -f $(WRAPPERS)/$$script; \
 	  ! $(call SCRIPT,$$script) | cmp -s - $(BIN)/$$script || rm $(BIN)/$$script; \
 	done
-	rm -f $(BIN)/dtools $(WRAPPERS)/svscan-run $(WRAPPERS)/dtools-service $(DESTDIR)$(UNITS)/dtools.service
+	rm -f $(BIN)/dtools $(addprefix $(WRAPPERS)/,$(OWN_SCRIPTS)) $(DESTDIR)$(UNITS)/dtools.service
 	for page in $(PAGES); do rm -f $(MANUAL)/man$${page##*.}/$$page.gz; done
-	for command in dtools svc svstat svok svwait; do rm -f $(COMPLETIONS)/$$command; done
-	for folder in $(WRAPPERS) $(DESTDIR)$(UNITS) $(COMPLETIONS) $(addprefix $(MANUAL)/man,1 5 7 8); do ! [ -d $$folder ] || rmdir -p --ignore-fail-on-non-empty $$folder; done
+	for command in dtools $(COMPLETED); do rm -f $(COMPLETIONS)/$$command; done
+	for folder in $(WRAPPERS) $(DESTDIR)$(UNITS) $(DESTDIR)$(SERVICES) $(COMPLETIONS) $(addprefix $(MANUAL)/man,1 5 7 8); do \
+	  ! [ -d $$folder ] || rmdir -p --ignore-fail-on-non-empty $$folder; \
+	done

@@ -1,6 +1,6 @@
-# Completion of bash for dtools and its commands: letters, and the services of SVDIR, or else of /service.
+# Completion of bash for dtools and its commands: letters, and the services of SVDIR, or else of /etc/dtools/service.
 _dtools_services() {
-  local folder=${SVDIR:-/service} service
+  local folder=${SVDIR:-/etc/dtools/service} service
   local found=()
   for service in "$folder"/*/; do
     [ -d "$service" ] || continue
@@ -29,7 +29,7 @@ _dtools() {
     wait:*:-t | svwait:*:-t) ;;
     svc:* | svstat:* | svok:* | why:* | wait:* | svwait:*) _dtools_services ;;
     svscan:*) mapfile -t COMPREPLY < <(compgen -d -- "$word") ;;
-    help:*) mapfile -t COMPREPLY < <(compgen -W 'svscan svc svstat svok wait multilog tai64n tai64nlocal envdir readproctitle sim trace why' -- "$word") ;;
+    help:*) mapfile -t COMPREPLY < <(compgen -W 'svscan svc svstat svok wait multilog tai64n tai64nlocal envdir readproctitle sim trace why svscan-run svscan-stop dtools-service setuidgid envuidgid softlimit setlock pgrphack fghack' -- "$word") ;;
     sim:*) mapfile -t COMPREPLY < <(compgen -W 'table' -- "$word") ;;
     trace:*:--break)
       mapfile -t COMPREPLY < <(compgen -W 'byte: phase:up phase:down phase:gone signal:TERM signal:KILL' -- "$word")
@@ -39,3 +39,6 @@ _dtools() {
   esac
 }
 complete -o filenames -F _dtools dtools svc svstat svok svwait
+complete -u -c setuidgid envuidgid
+complete -f -c setlock
+complete -c softlimit pgrphack fghack
