@@ -3,14 +3,15 @@
 # daemontools has stands beside Debian's where that is installed, else beside the bytes that it prints, written down. Each
 # script prints its line, and before it what failed; the names of scripts as further words are those that are wanted.
 tests=$(dirname "$(realpath "$0")")
+. "$tests/tools.sh"
 program=$(realpath "$1")
 shift
-[ "$#" -gt 0 ] || set -- svc report machines envdir wrappers local why wait service input devices
+[ "$#" -gt 0 ] || set -- svc report machines envdir wrappers rts ends local why wait service input devices
 printed=$(mktemp -d)
 trap 'rm -rf "$printed"' EXIT
 declare -A running
 for script; do
-  "$tests/$script.sh" "$program" >"$printed/$script" 2>&1 </dev/null &
+  run "$script" >"$printed/$script" 2>&1 </dev/null &
   running[$script]=$!
 done
 status=0

@@ -99,13 +99,16 @@ scenario='devices that fail'
 echo abcdef >in
 over devices WRITE_MOST=3 ./log
 is 'three bytes a write' '0 abcdef' "$status $(cat tried/log/current)"
-for settings in 'WRITE_STOPS=2' 'WRITE_STOPS=2 WRITE_ERROR=5' 'WRITE_STOPS=2 WRITE_ERROR=28'; do
-  over devices "WRITE_MOST=3 $settings" ./log
-  is "three bytes, then $settings" '111 multilog: Store abc' "$status $reported $(cat tried/log/current)"
+# That nothing was taken has no cause of the system's.
+for row in 'WRITE_STOPS=2|unknown cause' 'WRITE_STOPS=2 WRITE_ERROR=5|Input/output error' \
+  'WRITE_STOPS=2 WRITE_ERROR=28|No space left on device'; do
+  over devices "WRITE_MOST=3 ${row%|*}" ./log
+  is "three bytes, then ${row%|*}" "111 multilog: Store: unable to write ./log/current: ${row#*|} abc" \
+    "$status $reported $(cat tried/log/current)"
 done
-for settings in 'WRITE_STOPS=1' 'WRITE_STOPS=1 WRITE_ERROR=5'; do
-  over devices "$settings" ./log
-  is "nothing, by $settings" '111 multilog: Store current 0 ' "$status $reported $(files log)"
+for row in 'WRITE_STOPS=1|unknown cause' 'WRITE_STOPS=1 WRITE_ERROR=5|Input/output error'; do
+  over devices "${row%|*}" ./log
+  is "nothing, by ${row%|*}" "111 multilog: Store: unable to write ./log/current: ${row#*|} current 0 " "$status $reported $(files log)"
 done
 as 2095 '\nx' >in
 over devices 'WRITE_MOST=3 INTERRUPTED=1' s4096 n2 ./log
@@ -113,36 +116,41 @@ is 'three bytes a write: files' "0  $first 2096 current 2 " "$status $reported $
 over devices 'WRITE_TO=2 WRITE_MOST=3 INTERRUPTED=1' e
 is 'three bytes a write: alerts' "0 $(as 200 '\nx')" "$status $reported"
 over faults 'FAULT=write:1:5 FAULT_MET=met' e
-is 'an alert that fails' '111 multilog: Store' "$status $reported"
+is 'an alert that fails' '111 multilog: Store: unable to write standard error: Input/output error' "$status $reported"
 over faults 'FAULT=rename:1:5 FAULT_MET=met' =st
-is 'a status file that fails' '111 multilog: Store none' "$status $reported $([ -e tried/st ] || echo none)"
+is 'a status file that fails' '111 multilog: Store: unable to write st: Input/output error none' "$status $reported $([ -e tried/st ] || echo none)"
 as 2095 '\n' >in
 over faults "FAULT=rename:1:5 FAULT_MET=met" s4096 n2 ./log
-is 'a file that is not finished' '111 multilog: Store current 2096 ' "$status $reported $(files log | tr -d '\0')"
+is 'a file that is not finished' '111 multilog: Store: unable to finish ./log/current: Input/output error current 2096 ' "$status $reported $(files log | tr -d '\0')"
 { as 2095 '\n'; as 2095 '\n'; } >in
 over faults "FAULT=unlink:1:5 FAULT_MET=met" s4096 n2 ./log
-is 'an old file that stays' '111 multilog: Store 2 x 2096 current 0 ' \
+is 'an old file that stays' '111 multilog: Store: unable to remove an old file of ./log: Input/output error 2 x 2096 current 0 ' \
   "$status $reported $(find tried/log -name '@*' -size 2096c | wc -l) x 2096 current $(size tried/log/current) "
 printf 'x\nab' >in
 over faults "FAULT=read:2:5 FAULT_MET=met" ./log
-is 'a read that fails' '111 multilog: Read x' "$status $reported $(head -n 1 tried/log/current)"
+is 'a read that fails' '111 multilog: Read: Input/output error x' "$status $reported $(head -n 1 tried/log/current)"
 is 'and a front of the rest' yes "$(printf 'x\nab\n' | head -c "$(size tried/log/current)" | cmp - tried/log/current && echo yes)"
+mkfifo channel
+over faults 'FAULT=poll:1:5 FAULT_MET=met DTOOLS_STOP_FD=7' ./log 7<>channel
+is 'a wait that fails' '111 multilog: Read: Input/output error 0' "$status $reported $(size tried/log/current)"
 for row in '1 5' '7 2'; do
   rm -rf tried
   by "READ_MOST=${row% *} FAULT=read:${row#* }:5" multilog ./tried
-  is "a read of ${row% *} that fails" '111 multilog: Read x' "$status $reported $(head -n 1 tried/current)"
+  is "a read of ${row% *} that fails" '111 multilog: Read: Input/output error x' "$status $reported $(head -n 1 tried/current)"
 done
 
 # fronts COUNT SAID WORDS..: the write of the first, the second, .. of so many bytes takes nothing, or fails: those before it
-# were printed, and this is said. Where all are written, they are those of the file `wanted`.
+# were printed, and this is reported, with the cause. If all are written, they are those of the file `wanted`.
 fronts() {
-  local count=$1 said=$2 written right=0 settings='WRITE_TO=1 WRITE_MOST=1 INTERRUPTED=1'
+  local count=$1 said=$2 written cause right=0 settings='WRITE_TO=1 WRITE_MOST=1 INTERRUPTED=1'
   shift 2
   by "$settings" "$@"
   is 'a byte a write' "0  $count bytes same" "$status $reported $(size out) bytes $(cmp wanted out && echo same)"
   for written in $(seq 0 $((count - 1))); do
     by "$settings WRITE_STOPS=$((written + 1)) WRITE_ERROR=$((written % 2 * 5))" "$@"
-    [ "$status $reported $(size out)" = "111 $said $written" ] && cmp -s <(head -c "$written" wanted) out && right=$((right + 1))
+    cause='unknown cause'
+    [ $((written % 2)) = 1 ] && cause='Input/output error'
+    [ "$status $reported $(size out)" = "111 $said: $cause $written" ] && cmp -s <(head -c "$written" wanted) out && right=$((right + 1))
   done
   is 'fronts where a write fails' "$count" "$right"
 }
@@ -153,9 +161,9 @@ fronts 335 'sim: write fault' sim
 by 'READ_MOST=1 INTERRUPTED=1' sim
 is 'a byte a read' '0  same' "$status $reported $(cmp wanted out && echo same)"
 by "READ_MOST=1 FAULT=read:$(($(size in) + 1)):5" sim
-is 'a read that fails' '111 sim: read fault same' "$status $reported $(cmp wanted out && echo same)"
+is 'a read that fails' '111 sim: read fault: Input/output error same' "$status $reported $(cmp wanted out && echo same)"
 by 'READ_MOST=1 FAULT=read:36:5' sim
-is 'a read that fails behind a line' '111 sim: read fault same' "$status $reported $(head -n 1 wanted | cmp - out && echo same)"
+is 'a read that fails behind a line' '111 sim: read fault: Input/output error same' "$status $reported $(head -n 1 wanted | cmp - out && echo same)"
 scenario=readproctitle
 printf abc >in
 echo ...bc >wanted
@@ -163,7 +171,7 @@ fronts 6 'readproctitle: write fault' readproctitle 12345
 by 'READ_MOST=1 INTERRUPTED=1' readproctitle 12345
 is 'a byte a read' '0  ...bc' "$status $reported $(cat out)"
 by 'READ_MOST=1 FAULT=read:4:5' readproctitle 12345
-is 'a read that fails' '111 readproctitle: read fault 0' "$status $reported $(size out)"
+is 'a read that fails' '111 readproctitle: read fault: Input/output error 0' "$status $reported $(size out)"
 scenario=trace
 cp "$tests/cases/trace_explained" text
 cp "$tests/cases/trace_explained.stdout" wanted
@@ -176,7 +184,7 @@ printf '@7fffffffffffffff00000000 a\n' >wanted
 export CLOCK=4611686018427387893
 fronts 28 'tai64n: Write' tai64n
 by 'READ_MOST=1 INTERRUPTED=1 FAULT=read:3:5' tai64n
-is 'a read that fails' '111 tai64n: Read same' "$status $reported $(cmp wanted out && echo same)"
+is 'a read that fails' '111 tai64n: Read: Input/output error same' "$status $reported $(cmp wanted out && echo same)"
 unset CLOCK
 # A line is stamped at its first byte, with one look at the clock, and what a read gave is written before the next: the first
 # line after one read; the second after three reads, two writes and one look, or in the same read after one look.

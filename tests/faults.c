@@ -96,6 +96,7 @@ ssize_t send(int fd, const void *from, size_t count, int flags) { REAL(send); re
 ssize_t recv(int fd, void *to, size_t count, int flags) { REAL(recv); return fails("recv") ? -1 : real(fd, to, count, flags); }
 int pipe2(int ends[2], int flags) { REAL(pipe2); return fails("pipe") ? -1 : real(ends, flags); }
 int eventfd(unsigned first, int flags) { REAL(eventfd); return fails("eventfd") ? -1 : real(first, flags); }
+int poll(struct pollfd *asked, nfds_t count, int limit) { REAL(poll); return fails("poll") ? -1 : real(asked, count, limit); }
 int epoll_create1(int flags) { REAL(epoll_create1); return fails("epoll_create") ? -1 : real(flags); }
 int epoll_ctl(int fd, int how, int which, struct epoll_event *event) { REAL(epoll_ctl); return fails("epoll_ctl") ? -1 : real(fd, how, which, event); }
 int kill(pid_t pid, int signal) { REAL(kill); return fails("kill") ? -1 : real(pid, signal); }

@@ -135,7 +135,9 @@ def unread(*words, given=b"a line\n", first=False):
 def logs(error, call):
     """multilog with each call of a kind failing in turn: its files hold a front of the lines, and all where it says nothing."""
     lines = b"".join(b"line %d of the log, which has some more words\n" % number for number in range(1, 301))
-    reported = re.compile(rb"multilog: (Read|Store|(word \d+: )?OutOfMemory|unable to open \./log)\n|dtools: OutOfMemory\n")
+    cause = os.strerror(error).encode()
+    reported = re.compile(rb"multilog: (Read: " + cause + rb"|Store: unable to (write|finish|remove) \S+: " + cause + rb"|(word \d+: )?OutOfMemory|"
+                          rb"unable to open \./log: " + cause + rb")\n|dtools: OutOfMemory\n")
     wrong, number = [], 1
     while True:
         shutil.rmtree("log", ignore_errors=True)
@@ -161,8 +163,9 @@ def logs(error, call):
 
 # The services of svscan, a pair among them.
 SERVICES = {"web": "exec sleep 1000", "db": "echo said\nexec sleep 1000", "db/log": "exec cat >>lines"}
-REPORTED = re.compile(r"svscan: (OutOfMemory|unable to list|\S+: (unable to (supervise: .*|lock|write status|write the trace)|\d+ bytes were not logged))|"
-                  r"dtools: OutOfMemory")
+REPORTED = re.compile(r"svscan: (OutOfMemory|unable to (list|read|lock) \S+(: .*)?|\S+ is listed again|\S+: (unable to (supervise: .*|lock|write (place|process|status|exit|"
+                  r"counts): .*|write the trace|write its records|look for its process)|all records are written again|process \d+ still runs|\d+ bytes were "
+                  r"not logged))|dtools: OutOfMemory")
 
 
 def make_services(folder):
@@ -188,8 +191,13 @@ def started(folder):
     return [int(line) for line in read(folder + "/started").split()]
 
 
-def is_alive(pid):
-    return read(f"/proc/{pid}/stat").rpartition(")")[2].split()[:1] not in ([], ["Z"])
+def is_alive(pid, folder):
+    """Whether the process lives, and runs in the folder: a number comes again soon where so many processes begin."""
+    try:
+        there = os.path.samefile(f"/proc/{pid}/cwd", folder)
+    except OSError:
+        return False
+    return there and read(f"/proc/{pid}/stat").rpartition(")")[2].split()[:1] not in ([], ["Z"])
 
 
 def until(seconds, is_so):
@@ -229,7 +237,7 @@ def supervised(fault, cycles):
     wrong = []
 
     def running():
-        return [len([pid for pid in started(folder) if is_alive(pid)]) for folder in folders]
+        return [len({pid for pid in started(folder) if is_alive(pid, folder)}) for folder in folders]
 
     def lines():
         return read(here + "/d/db/log/lines").count("said\n") == len(started(here + "/d/db"))
@@ -259,9 +267,8 @@ def supervised(fault, cycles):
     # It may end only before it has begun anything.
     if svscan.poll() is not None and (svscan.returncode != 111 or not reported or any(started(folder) for folder in folders)):
         wrong.append(f"it ended with {svscan.returncode}")
-    for pid in [pid for folder in folders for pid in started(folder)]:
-        if is_alive(pid):
-            os.kill(pid, signal.SIGKILL)
+    for pid in {pid for folder in folders for pid in started(folder) if is_alive(pid, folder)}:
+        os.kill(pid, signal.SIGKILL)
     if svscan.poll() is None:
         os.killpg(svscan.pid, signal.SIGKILL)
     svscan.wait()
@@ -283,7 +290,7 @@ def rounds(fault):
         wrong += ["reported: " + line for line in reported if not REPORTED.fullmatch(line)]
         if ran.returncode not in (0, 111) or (ran.returncode == 111 and not reported):
             wrong.append(f"it ended with {ran.returncode}")
-    left = [pid for name in SERVICES for pid in started(f"{here}/d/{name}") if is_alive(pid)]
+    left = [pid for name in SERVICES for pid in started(f"{here}/d/{name}") if is_alive(pid, f"{here}/d/{name}")]
     wrong += [f"process {pid} is left" for pid in left]
     for pid in left:
         os.kill(pid, signal.SIGKILL)
@@ -321,7 +328,7 @@ def commands():
     for words in ["tai64n", "tai64nlocal", "sim table", "trace d/web/supervise/trace --break phase:gone",
                   "svstat d/web d/db nowhere", "svstat --json d/web d/db", "svstat --metrics d/web d/db", "svc -u d/web d/db",
                   "svc -W -u d/web", "svc -du -t -- -x d/web", "svok d/web", "why d/web",
-                  "wait -x -t 0 d/web", "envdir env true", "envdir --words env", "help svc"]:
+                  "wait -x -t 0 d/web", "envdir env true", "envdir --shell env", "help svc"]:
         starves(*words.split())
     for words in ["multilog s4096 n1 ./log", "multilog ./log t", "multilog ./log ./log", "svc -uy d/web"]:
         starves(*words.split(), are_wrong=True)

@@ -1,7 +1,7 @@
 #!/usr/bin/env bash
 # `tai64nlocal`: local times of several zones, hostile lines, lines in pieces, and a million lines. The wanted values
 # were written down from daemontools 0.76 (cr.yp.to/daemontools/tai64nlocal.html); where Debian's daemontools are
-# installed, also what their tai64nlocal makes. Then the times of `trace --local`.
+# installed, also what their tai64nlocal makes. Then the times of `trace --local`, and which trace is meant.
 top=$(realpath "$(dirname "$0")/..")
 . "$top/tests/checks.sh" "$1"
 leave() { rm -rf "$room"; }
@@ -52,6 +52,21 @@ is 'TZDIR' '2026-11-25 06:32:03.123456789' "$(echo "$noon" | TZDIR=$room/zones l
 printf 'no zone' >zones/Broken
 is 'a broken zone' '2026-11-25 01:02:03.123456789' "$(echo "$noon" | TZDIR=$room/zones localised Broken)"
 is 'a folder' '2026-11-25 01:02:03.123456789' "$(echo "$noon" | localised "$room/zones")"
+# Each growth of memory is refused in turn, where there is a C compiler: never is another zone shown, with status 0.
+if command -v cc >/dev/null && cc -O1 -shared -fPIC -o faults.so "$top/tests/faults.c" -ldl 2>/dev/null; then
+  for zone in Asia/Kolkata "$room/zones/Here" EST5EDT; do
+    right=$(echo "$noon" | localised "$zone")
+    for number in {1..60}; do
+      rm -f met
+      got=$(echo "$noon" | TZ=$zone FAULT=malloc:$number:12 FAULT_MET=met LD_PRELOAD=./faults.so timeout 20 "$program" tai64nlocal 2>reported)
+      status=$?
+      [ -e met ] || break
+      [ "$status" = 0 ] && is "memory refused, $zone, $number" "$right" "$got"
+      [ "$status" = 0 ] || is "memory refused, $zone, $number: reported" '111 dtools: OutOfMemory ' "$status $(cat reported) $got"
+    done
+    is "memory refused, $zone: growths were refused" yes "$([ "$number" -gt 1 ] && echo yes)"
+  done
+fi
 is 'no TZ' "$(date -d @1795568523 '+%Y-%m-%d %H:%M:%S.123456789')" "$(echo "$noon" | "$program" tai64nlocal)"
 
 # Labels: of the years 1900 to 9999, with any nanoseconds; no others.
@@ -106,13 +121,17 @@ wait
 # Words and faults.
 "$program" tai64nlocal word </dev/null >out 2>reported
 is 'a word: status' 100 "$?"
-is 'a word: reported' 'dtools: usage' "$(cat reported)"
+is 'a word: reported' 'dtools: usage
+dtools tai64nlocal' "$(cat reported)"
 echo "$noon" | "$program" tai64nlocal >/dev/full 2>reported
 is 'a full device: status' 111 "$?"
-is 'a full device: reported' 'tai64nlocal: Write' "$(cat reported)"
+is 'a full device: reported' 'tai64nlocal: Write: No space left on device' "$(cat reported)"
 "$program" tai64nlocal <. >out 2>reported
 is 'a folder for the input: status' 111 "$?"
-is 'a folder for the input: reported' 'tai64nlocal: Read' "$(cat reported)"
+is 'a folder for the input: reported' 'tai64nlocal: Read: Is a directory' "$(cat reported)"
+"$program" tai64nlocal <&- >out 2>reported
+is 'a closed input: status' 111 "$?"
+is 'a closed input: reported' 'tai64nlocal: Read: Bad file descriptor' "$(cat reported)"
 localised UTC </dev/null >out
 is 'no input: status' 0 "$?"
 is 'no input: printed' '' "$(cat out)"
@@ -167,4 +186,16 @@ is 'trace: half an hour' "$(reported '2026-03-29 06:29:59.999999999' '2026-03-29
   "$(traced Asia/Kolkata --local)"
 is 'trace: a break' 'break 3' "$(traced Asia/Kolkata --local --break phase:gone)"
 is 'trace: without the flag as ever' "$(traced UTC)" "$(traced Asia/Kolkata)"
+
+# The folder of a service: its trace is meant; and what can't be read, with the cause.
+mkdir -p web/supervise none
+cp trace web/supervise/trace
+is 'trace: of a service' "$(traced UTC)" "$(TZ=UTC "$program" trace web)"
+is 'trace: of a service, with a slash' 'break 3' "$("$program" trace web/ --break phase:gone)"
+"$program" trace none 2>reported
+is 'trace: of a service without one' '111 trace: unable to read none/supervise/trace: No such file or directory' "$? $(cat reported)"
+"$program" trace nosuch 2>reported
+is 'trace: of no service' '111 trace: unable to read nosuch: No such file or directory' "$? $(cat reported)"
+"$program" trace trace/x 2>reported
+is 'trace: below a file' '111 trace: unable to read trace/x: Not a directory' "$? $(cat reported)"
 counts local

@@ -33,6 +33,12 @@ is 'metrics: nothing else stays' 'file.prom' "$(echo file.prom*)"
 mkdir none
 sh ./dtools-metrics none.prom none
 is 'metrics: no service' 0 "$(grep -vc '^#' none.prom)"
+sh ./dtools-metrics file.prom nosuch 2>reported
+is 'metrics: no folder: status' 111 "$?"
+is 'metrics: no folder: reported' 'dtools-metrics: unable to read nosuch: No such file or directory' "$(cat reported)"
+is 'metrics: no folder keeps the file' '' "$(cmp file.prom kept)"
+sh ./dtools-metrics 2>reported
+is 'metrics: no words' '100 dtools-metrics: usage: dtools-metrics file [folder]' "$? $(cat reported)"
 
 if command -v promtool >/dev/null; then
   is 'promtool: metrics' '' "$(promtool check metrics <file.prom 2>&1 || echo "status $?")"
@@ -62,7 +68,7 @@ ruleset(name="in") { action(type="omfile" file="$room/arrived" template="raw") }
 END
   {
     echo "global(workDirectory=\"$room/ship\")"
-    sed "s|/service/|$room/service/|; s|logs.example.net|127.0.0.1|; s|port=\"514\"|port=\"$port\"|" \
+    sed "s|/etc/dtools/service/|$room/service/|; s|logs.example.net|127.0.0.1|; s|port=\"514\"|port=\"$port\"|" \
       "$top/contrib/rsyslog-dtools.conf"
   } >ship.conf
   rsyslogd -M "$modules" -n -f central.conf -i "$room/central.pid" >central.said 2>&1 &

@@ -56,11 +56,32 @@ ended 'no words' 0 ''
 ended 'empty input' 0 '' t '-*' '+* fatal: *' ./empty
 is 'empty input: current' 0 "$(size empty/current)"
 is 'empty input: names' 'current lock' "$(ls empty | tr '\n' ' ' | sed 's/ $//')"
-is 'mode of the folder' 755 "$(stat -c %a empty)"
+is 'mode of the folder' 700 "$(stat -c %a empty)"
 is 'mode of current' 644 "$(stat -c %a empty/current)"
-(umask 077 && ended 'umask' 0 '' ./closed)
+is 'mode of lock' 600 "$(stat -c %a empty/lock)"
+(umask 0 && ended 'umask' 0 '' ./closed)
 is 'umask: folder' 700 "$(stat -c %a closed)"
-is 'umask: current' 600 "$(stat -c %a closed/current)"
+is 'umask: lock' 600 "$(stat -c %a closed/lock)"
+(umask 077 && ended 'another umask' 0 '' ./closer)
+is 'another umask: folder' 700 "$(stat -c %a closer)"
+is 'another umask: current' 644 "$(stat -c %a closer/current)"
+# A folder that is there keeps its mode; a lock that others can open is closed to them, and current is as if it were new.
+mkdir -m 755 open
+: >open/lock
+: >open/current
+chmod 666 open/lock open/current
+ended 'an open folder' 0 '' ./open
+is 'an open folder: modes' '755 600 644' "$(stat -c %a open open/lock open/current | xargs)"
+# As nobody: it can't take the lock, and so can't keep the owner from it.
+if [ "$(id -u)" = 0 ] && command -v setpriv flock >/dev/null; then
+  chmod 711 .
+  mkdir -m 755 public
+  : >public/lock
+  chmod 644 public/lock
+  ended 'a public folder' 0 '' ./public
+  setpriv --reuid=65534 --regid=65534 --clear-groups flock -n public/lock true 2>/dev/null
+  is 'a public folder: its lock is not for others' no "$([ $? = 0 ] || echo no)"
+fi
 
 # A stamped line without its newline.
 printf 'fatal: x' >in
@@ -103,14 +124,21 @@ cp in wanted
 as 1001 >in
 ended 'a status of 1001' 0 '' =st
 is 'a status of 1001' "$(md5sum <wanted)" "$(md5sum <st)"
-is 'a status: mode' 644 "$(stat -c %a st)"
+is 'a status: mode' 600 "$(stat -c %a st)"
+chmod 640 st
+ended 'a status that is there' 0 '' =st
+is 'a status that is there: its mode stays' 640 "$(stat -c %a st)"
+: >elsewhere
+ln -s elsewhere st.new
+ended 'a link in place of the new status' 0 '' =st
+is 'a link in place of the new status: is not followed' '0 regular file' "$(size elsewhere) $(stat -c %F st)"
 is 'a status: no other file' no "$([ -e st.new ] && echo yes || echo no)"
 printf 'short\n' >in
 ended 'a short status' 0 '' =st
 is 'a short status' '1001 996' "$(size st) $(tr -dc '\n' <st | wc -c)"
 head -c 201 /dev/zero | tr '\0' x >in
 ended 'an alert' 0 "$(head -c 200 /dev/zero | tr '\0' x)" e
-ended 'a status that has no folder' 111 'multilog: Store' =nosuch/st
+ended 'a status that has no folder' 111 'multilog: Store: unable to write nosuch/st: No such file or directory' =nosuch/st
 
 # Where a file is full.
 as 2094 >in
@@ -122,7 +150,7 @@ ended 'full' 0 '' s4096 n2 ./edge
 is 'full' '0 1' "$(size edge/current) $(olds edge)"
 is 'full: old file' 2096 "$(stat -c %s edge/@*)"
 is 'full: name' 1 "$(ls edge | grep -c -E '^@[0-9a-f]{24}\.s$')"
-is 'full: mode' 644 "$(stat -c %a edge/@*)"
+is 'full: mode' 744 "$(stat -c %a edge/@*)"
 rm -r edge
 as 5000 >in
 ended 'cut' 0 '' s4096 n2 ./edge
@@ -164,14 +192,14 @@ is 'labels spent: appended' '2096 1' "$(size spent/current) $(olds spent)"
 # Folders that can't be opened: the first is reported, and those before it are opened, no more.
 : >file
 echo x >in
-ended 'a file for a folder' 111 'multilog: unable to open ./file' ./before ./file ./after
+ended 'a file for a folder' 111 'multilog: unable to open ./file: Not a directory' ./before ./file ./after
 is 'before' 'current lock 0' "$(ls before | tr '\n' ' ')$(size before/current)"
 is 'after' no "$([ -e after ] && echo yes || echo no)"
-ended 'a folder without a parent' 111 'multilog: unable to open ./no/such' ./no/such
+ended 'a folder without a parent' 111 'multilog: unable to open ./no/such: No such file or directory' ./no/such
 mkdir notext
 : >"notext/$(printf '\377')"
-ended 'a name that is no text' 111 'multilog: unable to open ./notext' ./notext
-ended 'one folder by two names' 111 'multilog: unable to open ./a/' ./a ./a/
+ended 'a name that is no text' 111 'multilog: unable to open ./notext: a name is no text' ./notext
+ended 'one folder by two names' 111 'multilog: unable to open ./a/: locked by another process' ./a ./a/
 
 # A second multilog is refused and harms nothing.
 mkfifo pipe
@@ -182,7 +210,7 @@ echo one >&3
 for _ in $(seq 100); do [ -s shared/current ] && break; sleep 0.05; done
 is 'what was read is appended' 1 "$(wc -l <shared/current)"
 before=$(md5sum <shared/current)
-ended 'a second one' 111 'multilog: unable to open ./shared' t ./shared
+ended 'a second one' 111 'multilog: unable to open ./shared: locked by another process' t ./shared
 is 'a second one: no harm' "$before" "$(md5sum <shared/current)"
 echo two >&3
 exec 3>&-
@@ -220,7 +248,7 @@ yes 'a line of text' | head -n 200000 >in
   ulimit -f 40
   timeout 20 "$program" multilog s16777215 ./limited <in 2>reported
   is 'a limit' 111 "$?"
-  is 'a limit: reported' 'multilog: Store' "$(cat reported)"
+  is 'a limit: reported' 'multilog: Store: unable to write ./limited/current: File too large' "$(cat reported)"
   cmp -s <(head -c "$(size limited/current)" in) limited/current
   is 'a limit: a front' '0 true' "$? $([ "$(size limited/current)" -ge 40000 ] && echo true)"
   [ "$failed" = 0 ]
@@ -228,7 +256,7 @@ yes 'a line of text' | head -n 200000 >in
 mkdir small
 if mount -t tmpfs -o size=64k none small 2>/dev/null; then
   mounted=yes
-  ended 'a full disk' 111 'multilog: Store' s16777215 ./small/log
+  ended 'a full disk' 111 'multilog: Store: unable to write ./small/log/current: No space left on device' s16777215 ./small/log
   cmp -s <(head -c "$(size small/log/current)" in) small/log/current
   is 'a full disk: a front' 0 "$?"
 fi
@@ -248,11 +276,11 @@ if command -v cc >/dev/null && cc -shared -fPIC -o calls.so "$calls" -ldl 2>/dev
   is 'calls: each opens the next' "$((finished + 1))" "$(grep -c '^open ./noting/current' main)"
   is 'calls: no log is written over' '' "$(grep -E '^(rename over|empty)' main)"
   grep -a status noted >statuses
-  is 'calls: status files' 0 "$(paste -sd ' ' statuses | sed -E 's/empty noted\.status\.new write noted\.status\.new( sync noted\.status\.new)? rename( over)? noted\.status\.new noted\.status ?//g' | wc -w)"
+  is 'calls: status files' 0 "$(paste -sd ' ' statuses | sed -E 's/open noted\.status\.new write noted\.status\.new( sync noted\.status\.new)? rename( over)? noted\.status\.new noted\.status ?//g' | wc -w)"
   is 'calls: there were status files' true "$([ "$(grep -c rename statuses)" -ge 10 ] && echo true)"
   # A file that another one made in the last moment has the name of the next old log.
   CALLS=again CALLS_MAKES=1 LD_PRELOAD=./calls.so timeout 20 "$program" multilog s4096 ./held <in 2>reported
-  is 'calls: a name that is there' '111 multilog: Store' "$? $(cat reported)"
+  is 'calls: a name that is there' '111 multilog: Store: unable to finish ./held/current: File exists' "$? $(cat reported)"
   is 'calls: it is not written over' kept "$(cat ./held/@*.s)"
   is 'calls: no log is renamed' '' "$(grep '^rename' again)"
 fi

@@ -62,7 +62,7 @@ object() {
   timeout 20 "$program" svstat --json "$@" >out 2>reported </dev/null
   status=$?
   is "$name: status" 0 "$status"
-  is "$name: reported" '' "$(cat reported)"
+  is "$name: reported" "${missing-}" "$(cat reported)"
   is "$name" "$wanted" "$(python3 members.py "$before" "$(date +%s)" "$@" <out 2>&1)"
 }
 
@@ -111,7 +111,9 @@ for row in "Length|" "Length|${label}67120000007500" "BadLabel|400000003a4fc88a3
 done
 rm s/supervise/status
 object 'no status' 'error="unable to read status"' s
-object 'nobody there' 'error="supervise not running"' nosuch
+# What is reported of folders that are not there.
+lacks() { printf 'svstat: %s: No such file or directory\n' "$@"; }
+missing=$(lacks nosuch) object 'nobody there' 'error="supervise not running"' nosuch
 if [ "$(id -u)" = 0 ] && command -v setpriv >/dev/null; then
   cp "$program" own
   chmod 711 "$room" own
@@ -159,7 +161,7 @@ metrics() {
   timeout 20 "$program" svstat --metrics "$@" >out 2>reported </dev/null
   status=$?
   is "$name: status" 0 "$status"
-  is "$name: reported" '' "$(cat reported)"
+  is "$name: reported" "${missing-}" "$(cat reported)"
   is "$name" "$wanted" "$(python3 samples.py "$before" "$(date +%s)" "$@" <out 2>&1)"
   if command -v promtool >/dev/null; then
     is "$name: promtool" '' "$(promtool check metrics <out 2>&1 || echo "status $?")"
@@ -197,8 +199,8 @@ bytes "${label}671200000078" >s/supervise/status
 metrics 'metrics: a bad record' 'supervised 0 1' s
 rm s/supervise/status
 metrics 'metrics: no status' 'supervised 0 1' s
-metrics 'metrics: nobody there' 'supervised 0 0' nosuch
-metrics 'metrics: two' "supervised 0 1
+missing=$(lacks nosuch) metrics 'metrics: nobody there' 'supervised 0 0' nosuch
+missing=$(lacks nosuch) metrics 'metrics: two' "supervised 0 1
 supervised 1 0" s nosuch
 
 # Counts.
@@ -239,7 +241,7 @@ names=('a b' '"' '\' '\"' "'" '{"path":"x"}' $'a\nb' $'\n' $'\t\r\b\f' $'\x01\x1
   "$(printf 'é%.0s' $(seq 127))")
 errors=() stands=()
 for name in "${names[@]}"; do errors+=('error="supervise not running"'); done
-object 'names: nobody there' "$(printf '%s\n' "${errors[@]}")" "${names[@]}"
+missing=$(lacks "${names[@]}") object 'names: nobody there' "$(printf '%s\n' "${errors[@]}")" "${names[@]}"
 for name in "${names[@]}"; do
   listen "./$name"
   bytes "${label}6712000000750003" >"./$name/supervise/status"
@@ -268,15 +270,15 @@ metrics 'metrics: all names' "$(
 # Words.
 object 'no service' ''
 metrics 'metrics: no service' ''
-object 'a service twice' "$(printf '%s\n' 'error="supervise not running"' 'error="supervise not running"')" nosuch nosuch
+missing=$(lacks nosuch nosuch) object 'a service twice' "$(printf '%s\n' 'error="supervise not running"' 'error="supervise not running"')" nosuch nosuch
 is 'a form is the first word alone' "nosuch: supervise not running
-$room/--json: unable to read status" "$(rm "$room/--json/supervise/status" && "$program" svstat nosuch "$room/--json")"
+$room/--json: unable to read status" "$(rm "$room/--json/supervise/status" && "$program" svstat nosuch "$room/--json" 2>/dev/null)"
 timeout 20 "$program" svstat --json nosuch >/dev/full 2>reported </dev/null
 is 'a full device: status' 111 "$?"
-is 'a full device: reported' 'svstat: write fault' "$(cat reported)"
+is 'a full device: reported' 'svstat: write fault: No space left on device' "$(cat reported)"
 timeout 20 "$program" svstat --metrics nosuch >/dev/full 2>reported </dev/null
 is 'metrics: a full device: status' 111 "$?"
-is 'metrics: a full device: reported' 'svstat: write fault' "$(cat reported)"
+is 'metrics: a full device: reported' 'svstat: write fault: No space left on device' "$(cat reported)"
 
 # A service that svscan keeps.
 mkdir -p services/web

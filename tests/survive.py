@@ -1,6 +1,8 @@
 """svscan is killed at any moment, and another one begins: no service is started twice or another time, each stands as before,
 and each line is logged once and in order, but for what svscan had in its memory. Works in the folder that it is in, on the
-program that its first word names, with so many kills as its second word says."""
+program that its first word names, with so many kills as its second word says. With the word `subreaper` behind them what loses
+its parent goes to this process and not to process 1, and for two seconds after each kill no write of svscan's succeeds."""
+import ctypes
 import json
 import os
 import random
@@ -10,7 +12,12 @@ import subprocess
 import sys
 import time
 
+from processes import is_alive, read
+
 program, kills = sys.argv[1], int(sys.argv[2])
+below = sys.argv[3:] == ["subreaper"]
+if below:
+    ctypes.CDLL(None).prctl(36, 1, 0, 0, 0)
 checked, failed = 0, 0
 # What svscan has in its memory of a pair's output, at most: what it read at once, its mailbox, and what it writes at once.
 BOUND = 131_072
@@ -24,26 +31,16 @@ def check(name, wanted, got):
         print(f"FAILED {name}\n  wanted {wanted}\n  got    {got}", flush=True)
 
 
-def service(folder, run):
-    """Makes a service whose folder appears with all it has."""
+def service(folder, run, files=()):
+    """Makes a service whose folder appears with all it has, these empty files among it."""
     made = os.path.dirname(folder) + "/.made"
     os.makedirs(made)
+    for name in files:
+        open(f"{made}/{name}", "w").close()
     with open(made + "/run", "w") as file:
         file.write("#!/bin/sh\necho $$ >>starts\n" + run)
     os.chmod(made + "/run", 0o755)
     os.rename(made, folder)
-
-
-def read(path):
-    try:
-        with open(path, "rb") as file:
-            return file.read()
-    except OSError:
-        return b""
-
-
-def is_alive(pid):
-    return read(f"/proc/{pid}/stat").rpartition(b")")[2].split()[:1] not in ([], [b"Z"])
 
 
 def living(name):
@@ -51,10 +48,23 @@ def living(name):
     return [int(line) for line in read(f"d/{name}/starts").split() if is_alive(int(line))]
 
 
+def reap():
+    """Waits for what has lost its parent and died, but for svscan itself."""
+    while below:
+        try:
+            found = os.waitid(os.P_ALL, 0, os.WEXITED | os.WNOHANG | os.WNOWAIT)
+        except ChildProcessError:
+            return
+        if not found or found.si_pid == (svscan and svscan.pid):
+            return
+        os.waitpid(found.si_pid, 0)
+
+
 def until(seconds, is_so):
     """Whether it is so within these seconds, three times as many on a busy machine."""
     end = time.monotonic() + 3 * seconds
     while not is_so():
+        reap()
         if time.monotonic() > end:
             return False
         time.sleep(0.05)
@@ -79,11 +89,13 @@ def stands(names):
 svscan = None
 
 
-def start():
+def start(writes=True):
     global svscan
+    run = ["sh", "-c", 'trap "" XFSZ; exec "$0" svscan d', program]
+    if not writes:
+        run = ["prlimit", "--fsize=0:", *run]
     with open("reported", "ab") as reported:
-        svscan = subprocess.Popen([program, "svscan", "d"], stdin=subprocess.DEVNULL, stdout=subprocess.DEVNULL, stderr=reported,
-                                  start_new_session=True)
+        svscan = subprocess.Popen(run, stdin=subprocess.DEVNULL, stdout=subprocess.DEVNULL, stderr=reported, start_new_session=True)
 
 
 def kill():
@@ -109,6 +121,9 @@ echo $i >last
 exec sleep 1000
 """
 
+# These begin a session of their own.
+APART = {f"s{number}" for number in range(15, 21)} | {"x1"}
+
 os.mkdir("d")
 up = [f"s{number}" for number in range(21)] + ["quiet"] + (["other"] if os.geteuid() == 0 else [])
 paused, put, once, dying = ["p0", "p1"], ["d0", "d1"], ["o0", "o1"], ["x0", "x1"]
@@ -116,7 +131,7 @@ pairs = [f"f{number}" for number in range(10)]
 loggers = [name + "/log" for name in pairs]
 steady = up + paused + put + once + pairs
 for name in up + paused + put + once + dying:
-    service("d/" + name, {"quiet": QUIET, "other": OTHER}.get(name, SLEEP))
+    service("d/" + name, {"quiet": QUIET, "other": OTHER}.get(name, SLEEP), ["setsid"] if name in APART else [])
 for name in pairs:
     service("d/" + name, FLOW)
     service(f"d/{name}/log", f"exec {program} multilog s16777215 ./main\n")
@@ -138,7 +153,10 @@ for number in range(kills):
         for pid in living("x0") + living("x1"):
             os.kill(pid, signal.SIGKILL)
     time.sleep(random.choice([0, 0, random.uniform(0, 0.5)]))
-    start()
+    start(writes=not below)
+    if below:
+        time.sleep(2)
+        subprocess.run(["prlimit", "--pid", str(svscan.pid), "--fsize=unlimited:"], capture_output=True)
     if not until(10, lambda: is_served(steady + dying + loggers)):
         wrong.append(f"kill {number}: not served")
     after = stands(steady)
@@ -158,7 +176,18 @@ for name in pairs:
     check(f"{name}: no line twice, and in order", [], [line for line, next in zip(whole, whole[1:]) if line >= next][:5])
     check(f"{name}: pieces of torn lines, of one a kill at most", True, len(lines) - len(whole) <= 2 * kills)
     check(f"{name}: missing bytes, within the bound", True, (last[name] - len(whole)) * 15 <= kills * BOUND)
-check("nothing was reported", b"", read("reported"))
+
+
+def unexpected(also=rb"(?!)"):
+    """What was reported, but for what a failing write has to report, and for what is expected besides."""
+    lines = re.sub(rb"svscan: \S+: " + also + rb"\n", b"", read("reported"))
+    if below:
+        lines = re.sub(rb"svscan: \S+: (unable to write .*|all records are written again|unable to supervise: .*)\n", b"", lines)
+        lines = re.sub(rb"multilog: .*\n", b"", lines)
+    return lines
+
+
+check("nothing was reported", b"", unexpected())
 
 kill()
 wrong = []
@@ -173,7 +202,7 @@ time.sleep(2)
 wrong += [f"last: {name} runs {living(name)}" for name in steady + dying if len(living(name)) > 1]
 check("killed soon after the start: never two copies", [], wrong[:10])
 # A process of which a kill kept the record from being written is reported; one that is being begun keeps the lock so long.
-check("nothing else was reported", b"", re.sub(rb"svscan: \S+: (process \d+ still runs|unable to lock)\n", b"", read("reported")))
+check("nothing else was reported", b"", unexpected(rb"process \d+ still runs"))
 
 kill()
 for name in steady + dying + loggers:

@@ -96,17 +96,29 @@ ended 'digits are letters' 0 '' '' svc -1q2 -q s
 arrived 'digits are letters' 's/control 1q2'
 ended 'a service twice' 0 '' '' svc -h s s
 arrived 'a service twice' 's/control h' 's/control h'
-ended 'no letter' 0 '' '' svc s nosuch
-ended 'a lone dash is a service' 0 '' 'svc: warning: unable to control -: not running' svc -d - s
-arrived 'no letter, and a lone dash' 's/control d'
+ended 'no letter' 0 '' 'svc: warning: unable to control nosuch: not running
+svc: nosuch: No such file or directory' svc s nosuch
+arrived 'no letter' 's/control '
+ended 'the dash is forgotten' 0 '' 'svc: warning: unable to control u: not running
+svc: u: No such file or directory' svc u s
+arrived 'the dash is forgotten' 's/control '
+ended 'a lone dash is a service' 0 '' 'svc: warning: unable to control -: not running
+svc: -: No such file or directory' svc -d - s
+arrived 'a lone dash' 's/control d'
 
 # svc: a letter that is unknown, and nobody hears anything.
 ended 'an unknown letter' 100 '' 'svc: unknown letter 7a' svc -uz s
 ended 'the first unknown letter' 100 '' 'svc: unknown letter 2d' svc -d --zx s
 ended 'a letter beyond ASCII' 100 '' 'svc: unknown letter c3' svc -$'\xc3\xa9' s
 ended 'an unknown letter, no service' 100 '' 'svc: unknown letter 7a' svc -z
-ended 'words that are no text' 100 '' 'dtools: usage' svc $'\xff' s
+ended 'an option that is no text' 100 '' 'svc: -\xff: no text' svc $'-\xff' s
 is 'refused: nothing was sent' '' "$(cat heard)"
+# A name that is no text is that of no service, and the others are served. The shell drops the zero byte at its end.
+ln -s s 'bad\xff'
+ended 'a name that is no text' 0 '' 'svc: warning: unable to control bad\xff: not running
+svc: bad\xff: Invalid argument' svc -d $'bad\xff' s 2>/dev/null
+arrived 'a name that is no text' 's/control d'
+rm 'bad\xff'
 ended 'no words' 0 '' '' svc
 ended 'no service' 0 '' '' svc -d
 
@@ -116,34 +128,44 @@ ended 'others are served' 0 '' "$warning nosuch: not running
 $warning none: not running
 $warning empty: not running
 $warning dead: not running
-$warning listener.py: not running" svc -u nosuch s none empty dead listener.py -x
+$warning listener.py: not running
+svc: nosuch: No such file or directory
+svc: listener.py: Not a directory" svc -u nosuch s none empty dead listener.py -x
 arrived 'others are served' 's/control u' './-x/control u'
 ended 'a long path' 0 '' '' svc -t "$long"
 arrived 'a long path' "$long/control t"
 ended 'a longer path' 0 '' '' svc -t "$room/$long"
 arrived 'a longer path' "$long/control t"
-ended 'a path beyond all' 0 '' "$warning $(printf '/%.0s' $(seq 5000)): not running" svc -t "$(printf '/%.0s' $(seq 5000))"
+far=$(printf '/%.0s' $(seq 5000))
+ended 'a path beyond all' 0 '' "$warning $far: not running
+svc: $far: File name too long" svc -t "$far"
 ended 'a slash behind' 0 '' '' svc -t s/
 arrived 'a slash behind' 's/control t'
 
 # svc -W: the same is sent and reported, and the status says whether each was reached.
 ended '-W: each was reached' 0 '' '' svc -W -d s -x
 arrived '-W: each was reached' 's/control d' './-x/control d'
-ended '-W: one was not' 111 '' "$warning nosuch: not running" svc -W -u nosuch s
+ended '-W: one was not' 111 '' "$warning nosuch: not running
+svc: nosuch: No such file or directory" svc -W -u nosuch s
 arrived '-W: one was not' 's/control u'
-ended '-W: not the last' 111 '' "$warning nosuch: not running" svc -W -u s nosuch
+ended '-W: not the last' 111 '' "$warning nosuch: not running
+svc: nosuch: No such file or directory" svc -W -u s nosuch
 arrived '-W: not the last' 's/control u'
 ended '-W: two were not' 111 '' "$warning nosuch: not running
-$warning dead: not running" svc -W -du -t -- nosuch s dead -x
+$warning dead: not running
+svc: nosuch: No such file or directory" svc -W -du -t -- nosuch s dead -x
 arrived '-W: two were not' 's/control dut' './-x/control dut'
-ended '-W: no letter' 0 '' '' svc -W s nosuch
+ended '-W: no letter' 111 '' "$warning nosuch: not running
+svc: nosuch: No such file or directory" svc -W s nosuch
+arrived '-W: no letter' 's/control '
 ended '-W: no service' 0 '' '' svc -W -d
 ended '-W: no words' 0 '' '' svc -W
 ended '-W: an unknown letter' 100 '' 'svc: unknown letter 7a' svc -W -uz s nosuch
 ended '-W behind a letter' 100 '' 'svc: unknown letter 57' svc -u -W s
 ended '-W twice' 100 '' 'svc: unknown letter 57' svc -W -W s
 ended '-W with a letter' 100 '' 'svc: unknown letter 57' svc -Wu s
-ended '-W behind --' 0 '' "$warning -W: not running" svc -d -- -W
+ended '-W behind --' 0 '' "$warning -W: not running
+svc: -W: No such file or directory" svc -d -- -W
 ended '-- behind -W' 0 '' '' svc -W -t -- s
 arrived '-- behind -W' 's/control t'
 ended 'a slash behind again' 0 '' '' svc -t s/
@@ -190,6 +212,10 @@ fi
 # svok: silent.
 ended 'supervised' 0 '' '' svok s
 ended 'supervised: a long path' 0 '' '' svok "$room/$long"
+ln -s s 'bad\xff'
+ended 'a name that is no text' 100 '' '' svok $'bad\xff'
+ended 'the name that it is shown as' 0 '' '' svok 'bad\xff'
+rm 'bad\xff'
 ended 'no such folder' 100 '' '' svok nosuch
 ended 'no socket' 100 '' '' svok empty
 ended 'a dead socket' 100 '' '' svok dead
@@ -267,16 +293,26 @@ mkdir s/supervise/status
 ended 'a status that is a folder' 0 's: unable to read status' '' svstat s
 rmdir s/supervise/status
 ended 'not supervised' 0 'nosuch: supervise not running
-dead: supervise not running' '' svstat nosuch dead
+dead: supervise not running' 'svstat: nosuch: No such file or directory' svstat nosuch dead
+ended 'a file in place of a folder' 0 'listener.py: supervise not running' 'svstat: listener.py: Not a directory' svstat listener.py
 bytes "${label}671200000078" >"$long/supervise/status"
 ended 'in order' 0 "nosuch: supervise not running
 $long: bad status record: WantByte
 s: unable to read status
-nosuch: supervise not running" '' svstat nosuch "$long" s nosuch
+nosuch: supervise not running" 'svstat: nosuch: No such file or directory
+svstat: nosuch: No such file or directory' svstat nosuch "$long" s nosuch
+# Control characters of a name: a line stays one line, and a terminal stays as it is.
+mkdir $'two\nlines' $'\e[31mred\x7f' 'back\slash' 'grün'
+ended 'a newline in a name' 0 'two\x0alines: supervise not running' '' svstat $'two\nlines'
+ended 'an escape in a name' 0 '\x1b[31mred\x7f: supervise not running' '' svstat $'\e[31mred\x7f'
+ended 'no control character in a name' 0 'back\slash: supervise not running
+grün: supervise not running' '' svstat 'back\slash' 'grün'
 ended 'a word with a dash' 0 '-x: unable to read status' '' svstat -x
+ended 'a name that is no text' 0 'bad\xff\x00: supervise not running
+s: unable to read status' 'svstat: bad\xff: Invalid argument' svstat $'bad\xff' s 2>/dev/null
 ended 'svstat without words' 0 '' '' svstat
 timeout 5 "$program" svstat nosuch >/dev/full 2>reported </dev/null
 is 'a full device: status' 111 "$?"
-is 'a full device: reported' 'svstat: write fault' "$(cat reported)"
+is 'a full device: reported' 'svstat: write fault: No space left on device' "$(cat reported)"
 
 counts svc

@@ -676,41 +676,42 @@ starved() {
   is 'each start by itself' '2 2' "$(count d/web/starts) $(count d/dies/starts)"
 }
 
-# A status record that can't be written is reported, and the service goes on; the next one that can be is.
+# A status record that can't be replaced is written over. Other records are tried again, and that is said once.
 unwritten() {
   sleeper d/web
   start reported d
   soon 'up' 5 is_settled d/web
   local web
   web=$(process d/web)
-  mkdir d/web/supervise/status.new
+  mkdir d/web/supervise/status.new d/web/supervise/exit.new
   svc -d d/web
   soon 'd ends it' 5 not lives "$web"
-  soon 'it is reported' 5 holds '^svscan: web: unable to write status$' reported
-  is 'the record stands' "$web" "$(process d/web)"
-  rmdir d/web/supervise/status.new
+  soon 'the record says so' 5 is_put_down d/web
+  soon 'it is reported' 5 holds '^svscan: web: unable to write exit: ' reported
+  rmdir d/web/supervise/status.new d/web/supervise/exit.new
+  soon 'it is written' 5 holds "^$web signal TERM " d/web/supervise/exit
+  soon 'that is said' 5 holds '^svscan: web: all records are written again$' reported
   svc -u d/web
   soon 'u' 5 is_another d/web "$web"
-  soon 'up again' 5 is_settled d/web
-  is 'nothing else was reported' 'svscan: web: unable to write status' "$(sort -u reported)"
+  is 'nothing else was reported' 2 "$(count reported)"
 }
 
 # svscan is killed soon after it starts, 30 times. There is never a second copy of a service. A process of which a kill kept the
-# record from being written is not adopted: that it still runs is reported.
+# record from being written is taken up, or it is said that it still runs.
 killed_early() {
   sleeper d/web
   sleeper d/pair
   logger d/pair/log
   local copies=
   for _ in $(seq 30); do
-    start reported d
+    start_session reported d
     sleep "0.0$((RANDOM % 60 + 10))"
     kill -KILL "$svscan"
     until_true 3 is_gone "$svscan"
     copies+=$(copies_of web pair)
   done
   is 'second copies' '' "$copies"
-  start reported2 d
+  start_session reported2 d
   soon 'the logger is up' 10 is_settled d/pair/log
   local name
   for name in web pair; do
@@ -745,12 +746,12 @@ new_boot() {
   local web
   web=$(process d/web)
   # Another boot, and a process that began at another time.
-  sed -i 's/ [^ ]*$/ 00000000-0000-0000-0000-000000000000/' d/put/supervise/process
-  sed -i 's/ [0-9]* / 1 /' d/web/supervise/process
+  sed -i '1s/ [^ ]*$/ 00000000-0000-0000-0000-000000000000/' d/put/supervise/process d/put/supervise/place
+  sed -i '1s/ [0-9]* / 1 /' d/web/supervise/process d/web/supervise/place
   kill -KILL "$web"
   (cd / && exec sleep 1000) &
   local other=$!
-  sed -i "s/^[0-9]*/$other/" d/web/supervise/process
+  sed -i "1s/^[0-9]*/$other/" d/web/supervise/process d/web/supervise/place
   start reported2 d
   soon 'by its row' 8 is_settled d/put
   soon 'not another process' 8 has_lines 2 d/web/starts
@@ -804,7 +805,10 @@ earlier_record() {
   is 'it has 18 bytes' 18 "$(stat -c %s d/web/supervise/status)"
   start reported d
   soon 'it is reported' 8 holds "^svscan: web: process $old still runs$" reported
-  is 'the record is kept as it was' 18 "$(stat -c %s d/web/supervise/earlier)"
+  kill -KILL "$svscan"
+  soon 'svscan is dead' 3 is_gone "$svscan"
+  start_session reported2 d
+  soon 'it is reported by the next one' 8 holds "^svscan: web: process $old still runs$" reported2
   is 'no second copy' 0 "$(count d/web/starts)"
   kill -KILL "$old"
   soon 'then it starts' 4 has_lines 1 d/web/starts
@@ -1002,7 +1006,7 @@ END
   soon 'up again' 4 is_settled "$folder/${all[4]}"
   kill -KILL "$svscan"
   soon 'svscan is dead' 3 is_gone "$svscan"
-  rm "$folder/${all[4]}/supervise/process"
+  rm "$folder/${all[4]}/supervise/process" "$folder/${all[4]}/supervise/place"
   start reported2 "$folder"
   soon 'reported by its name' 8 grep -q -F "svscan: ${all[4]}: process " reported2
 }
@@ -1259,16 +1263,15 @@ END
   so 'two rounds: the trace has x' trace_has d/web 'byte x: took record:'
   mkdir none
   ended 'an empty folder' 0 '' none 1
-  local words
+  local words usage
+  usage=$'dtools: usage\ndtools svscan [DIR [ROUNDS]], over the working directory where no DIR is given'
   for words in 'd 0' 'd 00' 'd 01' 'd -1' 'd +1' 'd x' 'd 4294967296' 'a b c' 'd 1 1'; do
     # shellcheck disable=SC2086
-    ended "usage: $words" 100 'dtools: usage' $words
+    ended "usage: $words" 100 "$usage" $words
   done
-  ended 'usage: an empty number' 100 'dtools: usage' d ''
-  ended 'no such folder' 0 'svscan: .svscan: unable to supervise: No such file or directory
-svscan: unable to list' "$room/nonexistent" 1
-  ended 'no folder' 0 'svscan: .svscan: unable to supervise: Not a directory
-svscan: unable to list' d/web/run 1
+  ended 'usage: an empty number' 100 "$usage" d ''
+  ended 'no such folder' 111 "svscan: unable to read $room/nonexistent: No such file or directory" "$room/nonexistent" 1
+  ended 'no folder' 111 'svscan: unable to read d/web/run: Not a directory' d/web/run 1
   cd d || return
   start ../reported.inside
   cd ..
@@ -1359,11 +1362,13 @@ ends_gone() {
 # What is posted to a service that ends without it is reported, once: here d and x are taken after the second of its start,
 # and the rest never. So is a trace that can't be written.
 untaken() {
-  service d/short <<<'exit 0'
+  sleeper d/short
+  : >d/short/down
   sleeper d/other
   start reported d
   soon 'both are served' 10 all_are is_served d/short d/other
-  python3 ../say.py d/short/supervise/control dxccc
+  # It is gone at once behind x, since it is down.
+  python3 ../say.py d/short/supervise/control xccc
   soon 'bytes are reported' 15 holds '^svscan: short: 3 bytes were not taken$' reported
   soon 'it begins anew' 10 is_served d/short
   mkdir d/other/supervise/trace.new
@@ -1625,8 +1630,8 @@ END
   is 'reported' '' "$(cat reported)"
   start reported2 d
   soon 'the next svscan begins each' 10 all_are is_settled d/web d/web/log 'd/two words'
-  is 'a bad folder: status' 143 "$(DTOOLS=$program "$contrib/svscan-run" none/at/all 2>none & sleep 1; kill -TERM $!; wait $!; echo $?)"
-  so 'a bad folder: reported' holds '^svscan-run: ' none
+  is 'a bad folder: status' 111 "$(DTOOLS=$program "$contrib/svscan-run" none/at/all 2>none & sleep 1; kill -TERM $!; wait $!; echo $?)"
+  so 'a bad folder: reported' holds '^svscan: unable to read none/at/all: Not a directory$' none
   is 'a folder that another svscan has' '111 svscan: unable to lock d' "$(DTOOLS=$program "$contrib/svscan-run" d 2>locked; echo "$? $(cat locked)")"
 }
 
@@ -1875,7 +1880,321 @@ resting() {
   soon 'fifty more run' 30 pairs_run 60
   sleep 2
   after=$(memory "$svscan")
-  lies 'KB a pair' 40 130 "$(((after - before) / 50))"
+  lies 'KB a pair' 40 140 "$(((after - before) / 50))"
+}
+
+# fill and room_again: the folder of services has no room for another byte, and has it again. On a small file system of its
+# own, if one may be mounted; else svscan may write no file at all. SIGXFSZ is ignored by who starts svscan.
+small_folder() {
+  mkdir d
+  if mount -t tmpfs -o size=400k none d 2>/dev/null; then
+    echo "$PWD/d" >>"$room/$scenario.mounts"
+    full=mount
+  else
+    full=limit
+  fi
+  echo "svscan: $scenario: full by $full"
+}
+fill() {
+  if [ "$full" = mount ]; then
+    dd if=/dev/zero of=d/.fill bs=1k 2>/dev/null
+    until ! echo x >>d/.fill2; do :; done 2>/dev/null
+  else
+    prlimit --pid "$svscan" --fsize=0:
+  fi
+}
+room_again() {
+  if [ "$full" = mount ]; then rm -f d/.fill d/.fill2; else prlimit --pid "$svscan" --fsize=unlimited:; fi
+}
+# counted FOLDER NAME: a service that notes each start outside of the folder of services
+counted() {
+  service "$1" <<END
+echo \$\$ >>'$PWD/$2.starts'
+exec sleep 1000
+END
+}
+run_of() { while read -r number; do lives "$number" && echo "$number"; done <"$1.starts"; }
+
+# On a full disk a service that dies starts again, its record says so, and the next svscan takes up the same process. What
+# could not be written is said once, and once that it is written again.
+full_disk() {
+  local full
+  small_folder
+  counted d/web web
+  trap '' XFSZ
+  start_session reported1 d
+  trap - XFSZ
+  soon 'up' 5 is_settled d/web
+  local web
+  web=$(process d/web)
+  fill
+  kill -KILL "$web"
+  soon 'it starts again' 8 has_lines 2 web.starts
+  web=$(tail -n 1 web.starts)
+  soon 'the record says so' 5 begins "d/web: up (pid $web)" d/web
+  soon 'it is said' 5 holds '^svscan: web: unable to write [a-z]*: \(No space left on device\|unknown cause\)$' reported1
+  is 'once' 1 "$(grep -c 'unable to write' reported1)"
+  room_again
+  soon 'it is whole again' 5 holds '^svscan: web: all records are written again$' reported1
+  so 'its process is recorded' holds "^$web " d/web/supervise/process
+  svc -q d/.svscan
+  soon 'q ends svscan' 8 is_gone "$svscan"
+  start_session reported2 d
+  soon 'the same process' 8 begins "d/web: up (pid $web)" d/web
+  sleep 2
+  is 'one process' "$web" "$(run_of web)"
+  is 'nothing else was reported' '' "$(grep -v 'unable to write\|all records' reported1 reported2)"
+}
+
+# What is put down on a full disk stays down: for svstat, and for the next svscan.
+full_put_down() {
+  local full
+  small_folder
+  counted d/web web
+  trap '' XFSZ
+  start_session reported1 d
+  soon 'up' 5 is_settled d/web
+  local web
+  web=$(process d/web)
+  fill
+  svc -d d/web
+  soon 'd ends it' 5 not lives "$web"
+  soon 'the record says down' 5 begins 'd/web: down' d/web
+  kill -KILL "$svscan"
+  soon 'svscan is dead' 3 is_gone "$svscan"
+  [ "$full" = mount ] || room_again
+  start_session reported2 d
+  trap - XFSZ
+  soon 'the next one serves it' 8 is_served d/web
+  sleep 2
+  is 'it was not started' "1 " "$(count web.starts) $(run_of web)"
+  room_again
+  svc -u d/web
+  soon 'u starts it' 5 has_lines 2 web.starts
+}
+
+# Where the place of a service can't be written no process begins: it is said, and it begins as soon as it can be.
+placeless() {
+  sleeper d/web
+  mkdir -p d/web/supervise/place
+  start_session reported d
+  soon 'it is said' 8 holds '^svscan: web: unable to write place: ' reported
+  sleep 2
+  is 'no process' 0 "$(count d/web/starts)"
+  rmdir d/web/supervise/place
+  soon 'it starts' 5 is_settled d/web
+  soon 'it is whole again' 5 holds '^svscan: web: all records are written again$' reported
+  is 'once' 1 "$(count d/web/starts)"
+  so 'its place names it' holds "^$(process d/web) " d/web/supervise/place
+}
+
+# Locks that are held for a moment as svscan begins: its own, that of a pair's service, and that of another service.
+held_locks() {
+  service d/flow <<'END'
+echo $$ >>starts
+while echo line; do sleep 0.05; done
+END
+  logger d/flow/log
+  sleeper d/web
+  start_session reported1 d
+  soon 'up' 8 all_are is_settled d/flow d/flow/log d/web
+  kill -KILL "$svscan"
+  soon 'svscan is dead' 3 is_gone "$svscan"
+  local lock before
+  for lock in d/.svscan d/flow d/web; do flock -n "$lock/supervise/lock" sleep 0.6 & done
+  sleep 0.1
+  start_session reported2 d
+  soon 'the next one serves all' 8 all_are is_served d/flow d/flow/log d/web
+  before=$(wc -c <d/flow/log/main/current)
+  sleep 1
+  lies 'the log has grown' 10 1000000 "$(($(wc -c <d/flow/log/main/current) - before))"
+  is 'nothing was reported' '' "$(cat reported1 reported2)"
+  is 'no second copies' '1 1' "$(count d/flow/starts) $(count d/web/starts)"
+}
+
+# A pair's lock that stays held: the pair is said to be locked each round, and its output is never another one.
+held_pair() {
+  sleeper d/pair
+  logger d/pair/log
+  mkdir -p d/pair/supervise
+  flock d/pair/supervise/lock sleep 7 &
+  local holder=$!
+  sleep 0.2
+  start reported d
+  soon 'it is said' 8 holds '^svscan: pair: unable to lock$' reported
+  is 'nothing began' 0 "$(count d/pair/starts)"
+  wait "$holder"
+  soon 'then it begins' 12 is_settled d/pair
+  is 'its output is the FIFO' "$(realpath d/pair/supervise/out)" "$(readlink "/proc/$(process d/pair)/fd/1")"
+}
+
+# A service that exits at once has 4,096 control bytes waiting: svscan ends as soon as it is asked to.
+many_bytes() {
+  service d/web <<<'exit 1'
+  start reported d
+  soon 'it runs' 5 is_served d/web
+  sleep 1.2
+  python3 -c 'import socket
+s = socket.socket(socket.AF_UNIX); s.connect("d/web/supervise/control"); s.sendall(b"z" * 4096)'
+  sleep 0.2
+  svc -x d/.svscan
+  soon 'x ends svscan' 10 is_gone "$svscan"
+}
+
+# The limit of descriptors is raised while svscan runs: what could not begin begins.
+raised_limit() {
+  local name
+  for name in $(seq 20); do sleeper "d/s$name"; done
+  (ulimit -Sn 60; start_session reported d; echo "$svscan" >number)
+  svscan=$(cat number)
+  soon 'some wait' 10 holds 'unable to supervise: Too many open files$' reported
+  prlimit --pid "$svscan" --nofile="$(ulimit -Hn):"
+  soon 'all run' 15 sh -c '[ "$(cat d/s*/starts | wc -l)" = 20 ]'
+}
+
+# A word that is no number in OPTIND ends dash before its first line: svscan's own shells don't get it.
+odd_environment() {
+  service d/web <<'END'
+END
+  printf '#!/usr/bin/env -S -u OPTIND sh\necho $$ >>starts\nexec sleep 1000\n' >d/web/run
+  local under=(env OPTIND=x)
+  start reported d
+  soon 'up' 5 is_settled d/web
+  local web
+  web=$(process d/web)
+  svc -t d/web
+  soon 't ends it, and it starts again' 6 is_another d/web "$web"
+}
+
+# An adopted service that died and for which nobody waited has ended: it is started again within a second or two.
+unreaped() {
+  local number
+  for number in 1 2 3 4 5; do sleeper "d/w$number"; done
+  python3 - "$program" <<'END' &
+import ctypes, os, subprocess, sys, time
+ctypes.CDLL(None).prctl(36, 1, 0, 0, 0)
+svscan = subprocess.Popen([sys.argv[1], "svscan", "d"], stdin=subprocess.DEVNULL, start_new_session=True)
+open("first", "w").write(str(svscan.pid))
+svscan.wait()
+svscan = subprocess.Popen([sys.argv[1], "svscan", "d"], stdin=subprocess.DEVNULL, start_new_session=True)
+open("second.new", "w").write(str(svscan.pid)); os.rename("second.new", "second")
+time.sleep(60)
+END
+  local reaper=$! web
+  for number in 1 2 3 4 5; do soon "w$number is up" 8 is_settled "d/w$number"; done
+  cat first >>"$room/$scenario.groups"
+  kill -KILL "$(cat first)"
+  soon 'the next one' 5 test -e second
+  cat second >>"$room/$scenario.groups"
+  for number in 1 2 3 4 5; do soon "w$number is adopted" 8 is_served "d/w$number"; done
+  sleep 1.5
+  # At five moments of the five seconds between two rounds.
+  for number in 1 2 3 4 5; do
+    web=$(process "d/w$number")
+    kill -KILL "$web"
+    sleep 0.1
+    is "w$number is a zombie" Z "$(state "$web")"
+    sleep 2.3
+    is "w$number was started again" 2 "$(count "d/w$number/starts")"
+    sleep 0.6
+  done
+  kill "$reaper"
+}
+
+# The end has a bound: a logger that is down, and a service whose output is full and that ignores TERM. KILL ends it.
+bounded_end() {
+  service d/full <<'END'
+trap '' TERM
+echo $$ >>starts
+while :; do echo 'a line that nobody reads'; done
+END
+  logger d/full/log
+  start reported d
+  soon 'up' 8 all_are is_settled d/full d/full/log
+  svc -d d/full/log
+  soon 'the logger is down' 5 is_put_down d/full/log
+  sleep 1
+  local full
+  full=$(process d/full)
+  svc -x d/.svscan
+  soon 'it is said' 10 holds "^svscan: full: process $full still runs$" reported
+  svc -k d/full
+  soon 'svscan ends' 15 is_gone "$svscan"
+  is 'nothing is left' '' "$(copies_alive d/full/starts d/full/log/starts)"
+}
+# the processes of these starts that live
+copies_alive() { cat "$@" | while read -r number; do lives "$number" && echo "$number"; done; }
+
+# A folder that can't be read ends svscan.
+no_folder() {
+  ended 'no folder' 111 'svscan: unable to read nosuch: No such file or directory' nosuch
+  : >file
+  ended 'a file' 111 'svscan: unable to read file: Not a directory' file
+}
+
+# A folder that goes away while svscan runs: that is said once, and once more when it is back.
+folder_away() {
+  sleeper d/web
+  start reported d
+  soon 'up' 5 is_up d/web
+  local pid
+  pid=$(process d/web)
+  mv d e
+  svc -a e/.svscan
+  soon 'said that it is away' 8 holds '^svscan: unable to list d: No such file or directory$' reported
+  for _ in 1 2 3; do
+    svc -a e/.svscan
+    sleep 0.5
+  done
+  is 'said once' 1 "$(grep -c 'unable to list' reported)"
+  is 'the service runs on' "$pid" "$(process e/web)"
+  mv e d
+  svc -a d/.svscan
+  soon 'said that it is back' 8 holds '^svscan: d is listed again$' reported
+  mv d e
+  svc -a e/.svscan
+  soon 'said again' 8 has_lines 3 reported
+  is 'the same line' 2 "$(grep -c '^svscan: unable to list d: No such file or directory$' reported)"
+  mv e d
+}
+
+# the session of a process
+session_of() { sed 's/.*) //' "/proc/$1/stat" | cut -d ' ' -f 4; }
+
+# Services that begin a session of their own, since their folder has a file `setsid`.
+apart() {
+  local name pid
+  for name in alone common; do sleeper "d/$name"; done
+  : >d/alone/setsid
+  mkdir -p d/missing d/closed
+  : >d/missing/setsid
+  : >d/closed/setsid
+  : >d/closed/run
+  start reported d
+  for name in alone common; do soon "$name is up" 5 is_settled "d/$name"; done
+  pid=$(process d/alone)
+  is 'it leads a session' "$pid" "$(session_of "$pid")"
+  is 'it is run itself' sleep "$(cat "/proc/$pid/comm")"
+  is 'another one is in the session of svscan' "$(session_of "$svscan")" "$(session_of "$(process d/common)")"
+  soon 'reported of missing' 5 holds '^svscan: missing: unable to run ./run: No such file or directory$' reported
+  soon 'reported of closed' 5 holds '^svscan: closed: unable to run ./run: Permission denied$' reported
+  mkdir -p d/.group
+  printf '#!/bin/sh\necho >>starts\nkill -KILL 0\n' >d/.group/run
+  chmod 755 d/.group/run
+  : >d/.group/setsid
+  mv d/.group d/group
+  svc -a d/.svscan
+  soon 'one that kills its group starts again' 8 has_lines 2 d/group/starts
+  so 'svscan lives' lives "$svscan"
+  is 'another one runs on' "$(process d/common)" "$(cat d/common/starts)"
+  kill -KILL "$svscan"
+  soon 'svscan is gone' 3 is_gone "$svscan"
+  start reported d
+  soon 'another svscan' 5 all_are is_served d/.svscan d/alone
+  is 'it is adopted' "$pid" "$(process d/alone)"
+  is 'it started once' 1 "$(count d/alone/starts)"
+  svc -k d/alone
+  soon 'it starts again' 5 has_lines 2 d/alone/starts
 }
 
 # play SCENARIO: in a folder of its own
@@ -1919,7 +2238,8 @@ play_all() {
 
 scenarios=(life modes_kept exits endings no_run links stubborn killed_service killed_svscan killed_early starved unwritten new_boot other_user earlier_record elsewhere changes twice names silent
   connections no_supervise unheard rounds untaken own refused last_words upgraded unread ordered first_process two_services child begins_anew shortage
-  descriptors_reported unchanged resting)
+  descriptors_reported unchanged resting full_disk full_put_down placeless held_locks held_pair many_bytes raised_limit
+  odd_environment unreaped bounded_end no_folder folder_away apart)
 # These keep every processor busy, and have the machine for themselves.
 crowds=(killed_logger late_logger last_entries given_back many)
 shift

@@ -58,16 +58,16 @@ is 'once' started "$(cat starts)"
 ended 'exit 7' 7 '' "$program" envdir d sh -c 'exit 7'
 ended 'exit 255' 255 '' "$program" envdir d sh -c 'exit 255'
 ended 'a signal' 111 '' "$program" envdir d sh -c 'kill -KILL $$'
-ended 'no child' 111 'envdir: unable to run /nosuch/child' "$program" envdir d /nosuch/child
+ended 'no child' 111 'envdir: unable to run /nosuch/child: No such file or directory' "$program" envdir d /nosuch/child
 mkdir bin
 printf '#!/bin/sh\nexit 5\n' >bin/only_here
 chmod 755 bin/only_here
-ended 'not in PATH' 111 'envdir: unable to run only_here' "$program" envdir d only_here
+ended 'not in PATH' 111 'envdir: unable to run only_here: No such file or directory' "$program" envdir d only_here
 printf '%s' "$room/bin" >d/PATH
 ended 'in the changed PATH' 5 '' "$program" envdir d only_here
 
 # Faults of a folder, the first one reported.
-ended 'no folder' 111 'envdir: unable to read nosuch' "$program" envdir nosuch true
+ended 'no folder' 111 'envdir: unable to read nosuch: No such file or directory' "$program" envdir nosuch true
 mkdir e
 printf '' >'e/F=G'
 printf '\xff' >e/Z
@@ -75,10 +75,10 @@ ended 'a name with =' 111 'envdir: F=G: NameHasEquals' "$program" envdir e true
 printf '\xff' >e/B
 ended 'a value that is no text' 111 'envdir: B: NotText' "$program" envdir e true
 mkdir e/A
-ended 'a folder for a file' 111 'envdir: unable to read e' "$program" envdir e true
+ended 'a folder for a file' 111 'envdir: unable to read e/A: Is a directory' "$program" envdir e true
 mkdir f
 : >"f/$(printf '\377')"
-ended 'a name that is no text' 111 'envdir: unable to read f' "$program" envdir f true
+ended 'a name that is no text' 111 'envdir: unable to read f: a name is no text' "$program" envdir f true
 
 # A large file: a trace holds 65,536 entries, and no more.
 head='base 2 up 400000000000000b00000000671200000075 stay -'
@@ -131,10 +131,10 @@ if [ -w /dev/full ]; then
   printf 'begin up @400000000000000a00000000\n' >begin
   "$program" sim <begin >/dev/full 2>reported
   is 'a full device' 111 "$?"
-  is 'a full device: reported' 'sim: write fault' "$(cat reported)"
+  is 'a full device: reported' 'sim: write fault: No space left on device' "$(cat reported)"
   "$program" version >/dev/full 2>reported
   is 'version on a full device' 111 "$?"
-  is 'version on a full device: reported' 'version: write fault' "$(cat reported)"
+  is 'version on a full device: reported' 'version: write fault: No space left on device' "$(cat reported)"
 fi
 
 counts system

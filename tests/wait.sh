@@ -85,9 +85,33 @@ status() {
   bytes "$2" >"$1/supervise/status.new"
   mv "$1/supervise/status.new" "$1/supervise/status"
 }
-# The front of each record: a label, and then the process number.
+# The front of each record: a label, and then the process number: of one that lives and soon has lived for two seconds; of one
+# that has ended, and has not been waited for; and of one that is gone.
+# number PID: its four bytes in a record
+number() { printf '%02x%02x%02x%02x' $(($1 & 255)) $((($1 >> 8) & 255)) $((($1 >> 16) & 255)) $((($1 >> 24) & 255)); }
 label=4000000065000000000000ff
-some=67120000 none=00000000 up=75 down=64 once=00
+sleep 1000 &
+lasting=$!
+listeners+=("$lasting")
+disown
+python3 -c '
+import os, time
+child = os.fork()
+if child == 0:
+    os._exit(0)
+open("zombie.new", "w").write(str(child))
+os.rename("zombie.new", "zombie")
+time.sleep(1000)
+' &
+listeners+=($!)
+disown
+until_true test -e zombie
+sleep 0 &
+ended=$!
+wait "$ended"
+some=$(number "$lasting") zombie=$(number "$(cat zombie)") ended=$(number "$ended")
+none=00000000 up=75 down=64 once=00
+sleep 2.2
 starting=00 settling=01 resting=02 phase_up=03 phase_down=04 gone=05
 
 # Records: which of them each goal takes. With -t 0 one look is taken.
@@ -115,8 +139,20 @@ found 'down after once' "$label$none"00$once"00$phase_down" 99 0
 found 'gone' "$label$none"00$down"01$gone" 99 0
 found 'gone, wanted up' "$label$none"00$up"01$gone" 99 0
 found 'of 18 bytes, with a process' "$label$some"00$up 0 99
-found 'of 18 bytes, process 16777216' "$label"00000001"00$down" 0 99
+found 'of 18 bytes, process 16777216, which is not there' "$label"00000001"00$down" 99 99
 found 'of 18 bytes, without one' "$label$none"00$up 99 0
+# A record that says up, of a process that has ended, is no service that is up: supervise has not taken the death yet.
+found 'up, and its process is gone' "$label$ended"00$up"00$phase_up" 99 99
+found 'up, and its process is a zombie' "$label$zombie"00$up"00$phase_up" 99 99
+found 'of 18 bytes, and its process is gone' "$label$ended"00$up 99 99
+sleep 1000 &
+young=$!
+listeners+=("$young")
+disown
+found 'up, and its process is young' "$label$(number "$young")"00$up"00$phase_up" 99 99
+ended 'up, and its process grows older' 0 '' -t 100 s
+status s "$label$zombie"00$up"00$phase_up"
+ended 'a dead one does not come up' 99 'wait: s: not up in time' -t 3 s
 
 # Statuses that are none. For -x they do not matter.
 # bad NAME DIGITS KIND
@@ -200,10 +236,14 @@ status t "$label$some"00$up"00$phase_up"
 ended 'the one that is left' 99 'wait: s: not up in time' -t 0 t s
 ended 'one twice' 99 'wait: s: not up in time
 wait: s: not up in time' -t 0 s t s
-ended 'the first that is not supervised' 102 'wait: nosuch: supervise not running' -t 0 s t nosuch nowhere
+ended 'the first that is not supervised' 102 'wait: nosuch: supervise not running
+wait: nosuch: No such file or directory
+wait: nowhere: No such file or directory' -t 0 s t nosuch nowhere
 status t 00
-ended 'the first fault' 111 'wait: t: bad status record: Length' s t nosuch
-ended 'the first fault, the other way round' 102 'wait: nosuch: supervise not running' s nosuch t
+ended 'the first fault' 111 'wait: t: bad status record: Length
+wait: nosuch: No such file or directory' s t nosuch
+ended 'the first fault, the other way round' 102 'wait: nosuch: supervise not running
+wait: nosuch: No such file or directory' s nosuch t
 status t "$label$some"00$up"00$phase_up"
 
 # Its supervision ends meanwhile.
@@ -221,7 +261,10 @@ listen s
 ok=$listener
 begun 'nobody answers any more: -x, of two' -x nosuch s
 kill -KILL "$ok"
-over 'nobody answers any more: -x, of two' 0 ''
+over 'nobody answers any more: -x, of two' 0 'wait: nosuch: No such file or directory'
+: >file
+ended 'a file in place of a folder' 102 'wait: file: supervise not running
+wait: file: Not a directory' file
 
 # Somebody is there, and takes no more connections: it is looked at again.
 mkdir -p full/supervise
@@ -271,11 +314,14 @@ done
 long=$room/$(printf 'n%.0s' $(seq 200))
 ended 'a long path' 0 '' "$long"
 far=$(printf '/%.0s' $(seq 5000))
-ended 'a path beyond all' 102 "wait: $far: supervise not running" "$far"
-ended 'no name' 102 'wait: : supervise not running' ''
+ended 'a path beyond all' 102 "wait: $far: supervise not running
+wait: $far: File name too long" "$far"
+ended 'no name' 102 'wait: : supervise not running
+wait: : No such file or directory' ''
 
 # Words.
-usage='dtools: usage'
+usage='dtools: usage
+dtools wait [-u|-d|-x] [-t SECONDS] SERVICE.., with u up, d down, x no longer supervised'
 ended 'no words' 100 "$usage"
 ended 'no service' 100 "$usage" -u
 ended 'no service behind --' 100 "$usage" -t 1 --
@@ -290,8 +336,12 @@ ended 'one goal twice' 100 "$usage" -u -u t
 ended 'two times' 100 "$usage" -t 1 -u -t 1 t
 ended 'an unknown letter' 100 "$usage" -y t
 ended 'letters together' 100 "$usage" -ud t
-ended 'an option behind a service is one' 102 'wait: -d: supervise not running' t -d
-ended 'words that are no text' 100 "$usage" $'\xff'
+ended 'an option behind a service is one' 102 'wait: -d: supervise not running
+wait: -d: No such file or directory' t -d
+# A name that is no text is that of no service. The shell drops the zero byte at its end.
+ended 'a name that is no text' 102 'wait: \xff: supervise not running
+wait: \xff: Invalid argument' $'\xff' 2>/dev/null
+ended 'an option that is no text' 100 'wait: -\xff: no text' $'-\xff' t
 
 # A real svscan, and services that are brought up and down. The folder is renamed once it is whole.
 mkdir -p made/web made/db
@@ -322,6 +372,22 @@ is 'both go down: svstat' 'services/web: down services/db: down' "$("$program" s
 ended 'both are down' 0 '' -t 0 -d services/web services/db
 ended 'both are up: not so' 99 'wait: services/web: not up in time
 wait: services/db: not up in time' -t 0 services/web services/db
+
+# A service that ends at once, or within two seconds, and is started again and again, is never up: svwait -u returned 0 for
+# it, since for a moment before each death is taken the record says up. Each is looked at for six seconds.
+mkdir -p made/loop made/slower
+printf '#!/bin/sh\nexit 1\n' >made/loop/run
+printf '#!/bin/sh\nexec sleep 1.3\n' >made/slower/run
+chmod 755 made/loop/run made/slower/run
+mv made/loop made/slower services
+until_true has_status services/loop
+until_true has_status services/slower
+for turn in 1 2 3; do
+  ended "a crash loop, $turn" 99 'wait: services/loop: not up in time
+wait: services/slower: not up in time' -u -t 6 services/loop services/slower
+done
+"$program" svc -d services/loop services/slower
+ended 'a crash loop goes down' 0 '' -d -t 100 services/loop services/slower
 
 # They end, and come again.
 mv services/web services/db .

@@ -72,14 +72,14 @@ trace() {
   } >s/supervise/trace
 }
 
-# said NAME STATUS LINE [FOLDER]: what is said; {M} is the local time of the moment M, and how long ago that was
+# said NAME STATUS LINE [FOLDER [REPORTED]]: what is said; {M} is the local time of the moment M, and how long ago that was
 said() {
-  local name=$1 wanted_status=$2 line=$3 folder=${4-s} before got_status moment time found=no second
+  local name=$1 wanted_status=$2 line=$3 folder=${4-s} missing=${5-} before got_status moment time found=no second
   before=$(date +%s)
   timeout 5 "$program" why "$folder" >out 2>reported </dev/null
   got_status=$?
   is "$name: status" "$wanted_status" "$got_status"
-  is "$name: reported" '' "$(cat reported)"
+  is "$name: reported" "$missing" "$(cat reported)"
   moment=$(printf '%s' "$line" | sed -n 's/.*{\([0-9]*\)}.*/\1/p')
   if [ -n "$moment" ]; then
     time=$(date -u -d "@$((start + moment))" '+%Y-%m-%d %H:%M:%S')
@@ -238,6 +238,40 @@ ended_so '4710 status 1' 89.3
 said 'the one before' 0 's is up since {90}, process 4711. Before it process 4710 ran 3.0 s and ended with status 1 without a control byte. 2 starts in the last 60 s.'
 rm s/supervise/exit
 
+# The last end of a process is the later one of that in the trace and that in the file exit.
+again
+status 90 4712 0 $up 0 3
+trace 0 starting "$begun" - 'started 4710 86' 'clock 87' 'death 88'
+ended_so '4711 status 3' 89
+said 'a trace that lags' 0 's is up since {90}, process 4712. Before it process 4711 ended with status 3. At least 1 start in the last 60 s.'
+status 90 0 0 $up 0 0
+ended_so '4711 status 3' 90
+said 'at once after a death' 0 's is down since {90}, being started, wanted up, normally up. Process 4711 ended with status 3. At least 1 start in the last 60 s.'
+ended_so '4711 unknown' 90
+said 'at once after a death, unknown' 0 's is down since {90}, being started, wanted up, normally up. Process 4711 ended. At least 1 start in the last 60 s.'
+status 91 4712 0 $up 0 3
+trace 0 starting "$begun" - 'started 4711 86' 'clock 87' 'death 90'
+ended_so '4711 status 3' 90
+said 'a trace that lags by a start' 0 's is up since {91}, process 4712. Before it process 4711 ran 4.0 s and ended with status 3 without a control byte. At least 1 start in the last 60 s.'
+ended_so '4710 status 3' 85
+said 'an exit that lags' 0 's is up since {91}, process 4712. Before it process 4711 ran 4.0 s and ended without a control byte. At least 1 start in the last 60 s.'
+rm s/supervise/exit
+said 'no exit, and a trace that lags' 0 's is up since {91}, process 4712. At least 1 start in the last 60 s.'
+# Put down long ago, and the trace is of a later svscan, or gone.
+status 50 0 0 $down 0 4
+trace 0 down "$(record 50 0 0 $down)" -
+ended_so '4711 status 0' 1
+said 'an end before the trace' 0 's is down since {50}, normally up. Process 4711 ended with status 0. It has not run since supervise began.'
+rm s/supervise/trace
+said 'an end, and no trace' 0 's is down since {50}, normally up. Process 4711 ended with status 0.'
+ended_so '4711 signal KILL' 50
+said 'an end by a signal, and no trace' 0 's is down since {50}, normally up. Process 4711 ended by SIGKILL.'
+# It ended after its record was read.
+status 90 4711 0 $up 0 3
+ended_so '4711 status 3' 91
+said 'an end after the record' 0 's is up since {90}, process 4711. Process 4711 ended with status 3.'
+rm s/supervise/exit
+
 # Starts: those of the last 60 seconds, 5 or more of which are flapping.
 again
 crash() { printf '%s\n' "started $1 $2" "clock $(($2 + 1))" "death $(($2 + 1))"; }
@@ -248,6 +282,14 @@ said 'flapping: five' 0 's is down since {90}, being started, wanted up, normall
 mapfile -t entries < <(for start_at in 20 60 70 80 89; do crash $((4700 + start_at)) $start_at; done)
 trace 0 starting "$begun" - "${entries[@]}"
 said 'four are not flapping' 0 's is down since {90}, being started, wanted up, normally up. Process 4789 ran 1.0 s and ended without a control byte. 4 starts in the last 60 s.'
+# Starts that an operator asked for are none that flap: there is a control byte since the start before.
+asked() { printf '%s\n' "started $1 $2" "clock $(($2 + 1))" 'byte t' "death $(($2 + 2))"; }
+mapfile -t entries < <(for start_at in 50 60 65 70 75 80; do asked $((4700 + start_at)) $start_at; done; crash 4789 89)
+trace 0 starting "$begun" - "${entries[@]}"
+said 'restarts that were asked for are not flapping' 0 's is down since {90}, being started, wanted up, normally up. Process 4789 ran 1.0 s and ended without a control byte. 7 starts in the last 60 s.'
+mapfile -t entries < <(asked 4740 40; for start_at in 50 60 65 70 75 89; do crash $((4700 + start_at)) $start_at; done)
+trace 0 starting "$begun" - "${entries[@]}"
+said 'one of six was asked for' 0 's is down since {90}, being started, wanted up, normally up. Process 4789 ran 1.0 s and ended without a control byte. It is flapping: 6 starts in the last 60 s.'
 # Events before the entries were folded: where the machine before them is of the last 60 seconds, there may be more.
 mapfile -t entries < <(for start_at in 60 70 80 89; do crash $((4700 + start_at)) $start_at; done)
 trace 7 starting "$(record 55 0 0 $up)" - "${entries[@]}"
@@ -428,13 +470,13 @@ rm s/supervise/status
 said 'no status' 111 "s is supervised, but its status can't be read."
 mkdir -p dead/supervise empty closed
 python3 -c 'import socket; s = socket.socket(socket.AF_UNIX); s.bind("dead/supervise/ok")'
-said 'no such folder' 111 'nosuch is not supervised: there is no such folder.' nosuch
+said 'no such folder' 111 'nosuch is not supervised: there is no such folder.' nosuch 'why: nosuch: No such file or directory'
 said 'an empty folder' 0 'empty is not supervised: nobody answers at its supervise/ok.' empty
 said 'a dead socket' 0 'dead is not supervised: nobody answers at its supervise/ok.' dead
 : >file
-said 'a file' 111 'file is not supervised: there is no such folder.' file
+said 'a file' 111 'file is not supervised: there is no such folder.' file 'why: file: Not a directory'
 ln -s self self
-said 'a folder that can not be looked at' 111 "self can't be reached." self
+said 'a folder that can not be looked at' 111 "self can't be reached." self 'why: self: Too many levels of symbolic links'
 mkdir -p full/supervise
 python3 -c '
 import socket, time
@@ -464,14 +506,14 @@ fi
 for name in 'a b' '%s%n' '*' "it's" $'two\nlines' 'ä€' '-x' '$HOME' '{x}' "$(printf 'n%.0s' $(seq 200))"; do
   case $name in -*) listen "./$name" ;; *) listen "$name" ;; esac
   bytes 7fffffffffffffff3b9ac9ff671200000075 >"./$name/supervise/status"
-  said "the name $name" 0 "$name is up since @7fffffffffffffff3b9ac9ff (0 s), process 4711." "$name"
+  said "the name $name" 0 "${name//$'\n'/\\x0a} is up since @7fffffffffffffff3b9ac9ff (0 s), process 4711." "$name"
 done
 bytes 7fffffffffffffff3b9ac9ff671200000075 >s/supervise/status
 long=$room/$(printf 'n%.0s' $(seq 200))
 said 'a long path' 0 "$long is up since @7fffffffffffffff3b9ac9ff (0 s), process 4711." "$long"
 far=$(printf '/%.0s' $(seq 5000))
-said 'a path beyond all' 111 "$far can't be reached." "$far"
-said 'no name' 111 ' is not supervised: there is no such folder.' ''
+said 'a path beyond all' 111 "$far can't be reached." "$far" "why: $far: File name too long"
+said 'no name' 111 ' is not supervised: there is no such folder.' '' 'why: : No such file or directory'
 
 # Words.
 reported() {
@@ -487,7 +529,7 @@ status=$?
 reported 'in order' 111 's is up since @7fffffffffffffff3b9ac9ff (0 s), process 4711.
 nosuch is not supervised: there is no such folder.
 -x is up since @7fffffffffffffff3b9ac9ff (0 s), process 4711.
-empty is not supervised: nobody answers at its supervise/ok.' ''
+empty is not supervised: nobody answers at its supervise/ok.' 'why: nosuch: No such file or directory'
 timeout 5 "$program" why --timeline >out 2>reported </dev/null
 status=$?
 reported 'a timeline of nothing' 0 '' ''
@@ -497,21 +539,44 @@ reported 'timelines in order' 111 "s is up since @7fffffffffffffff3b9ac9ff (0 s)
 $unreported
 nosuch is not supervised: there is no such folder.
 -x is up since @7fffffffffffffff3b9ac9ff (0 s), process 4711.
-$unreported" ''
+$unreported" 'why: nosuch: No such file or directory'
 timeout 5 "$program" why empty --timeline >out 2>reported </dev/null
 status=$?
 reported 'a service of that name' 111 'empty is not supervised: nobody answers at its supervise/ok.
---timeline is not supervised: there is no such folder.' ''
+--timeline is not supervised: there is no such folder.' 'why: --timeline: No such file or directory'
 timeout 5 "$program" why --timeline s >/dev/full 2>reported </dev/null
 status=$?
 : >out
-reported 'a full device for a timeline' 111 '' 'why: write fault'
-timeout 5 "$program" why $'\xff' >out 2>reported </dev/null
+reported 'a full device for a timeline' 111 '' 'why: write fault: No space left on device'
+# A word that is no text names no service: it is shown escaped, with the zero byte that no name has, and the others are
+# shown as ever.
+timeout 5 "$program" why $'bad\xff' s >out 2>reported </dev/null
 status=$?
-reported 'words that are no text' 100 '' 'dtools: usage'
+tr -d '\0' <reported >reported.text && mv reported.text reported
+reported 'a word that is no text' 111 "bad\\xff\\x00 can't be reached.
+s is up since @7fffffffffffffff3b9ac9ff (0 s), process 4711." 'why: bad\xff: Invalid argument'
 timeout 5 "$program" why s >/dev/full 2>reported </dev/null
 status=$?
 : >out
-reported 'a full device' 111 '' 'why: write fault'
+reported 'a full device' 111 '' 'why: write fault: No space left on device'
+
+# A service that ends at once, under svscan: each look names its last end, at whatever moment it comes.
+mkdir -p scanned/flap
+printf '#!/bin/sh\nexit 3\n' >scanned/flap/run
+chmod +x scanned/flap/run
+"$program" svscan scanned >/dev/null 2>&1 </dev/null &
+listeners+=($!)
+for _ in $(seq 200); do [ -e scanned/flap/supervise/exit ] && break; sleep 0.05; done
+last_end() { cut -d ' ' -f 1 scanned/flap/supervise/exit; }
+named=0
+for look in $(seq 60); do
+  before=$(last_end)
+  line=$(timeout 5 "$program" why scanned/flap)
+  if [[ $line =~ rocess\ ([0-9]+)\ (ran\ [0-9.]+\ s\ and\ )?ended\ with\ status\ 3 ]]; then
+    case ${BASH_REMATCH[1]} in "$before" | "$(last_end)") named=$((named + 1)) ;; esac
+  fi
+  sleep 0.0$((look % 10))
+done
+is 'each look names the last end' 60 "$named"
 
 counts why
