@@ -1,5 +1,7 @@
 """What soak.py and survive.py see of processes: the files below /proc, and the state of a process."""
 
+import os
+
 
 def read(path):
     """All bytes of a file, none if it can't be read."""
@@ -18,3 +20,11 @@ def state(pid):
 
 def is_alive(pid):
     return state(pid) not in ("", "Z", "X")
+
+
+def runs_in(pid, folder):
+    """Whether the folder that a process is in is this one."""
+    try:
+        return os.path.realpath(f"/proc/{pid}/cwd") == os.path.realpath(folder)
+    except OSError:
+        return False

@@ -14,7 +14,7 @@ import subprocess
 import sys
 import time
 
-from processes import is_alive, read, state
+from processes import is_alive, read, runs_in, state
 
 words = argparse.ArgumentParser()
 words.add_argument("program")
@@ -29,7 +29,9 @@ BOUND = 131_072
 SERVICES = [f"s{number}" for number in range(20)]
 PAIRS = [f"f{number}" for number in range(8)]
 PARTS = SERVICES + PAIRS + [name + "/log" for name in PAIRS]
-LINE = re.compile(rb"line 1\d{8}")
+# The lines of a life have numbers of their own, so many at most.
+LIFE = 10_000_000
+LINE = re.compile(rb"line 1\d{10}")
 
 
 def check(name, wanted, got):
@@ -45,15 +47,14 @@ def starts(name):
 
 
 def living(name):
-    """The processes of the starts of a part that live: the last ones, since a number may come again."""
-    return [pid for pid in dict.fromkeys(starts(name)[-40:]) if is_alive(pid) and runs_in(pid, name)]
+    """The processes of the starts of a part that live: the last ones, since a number may come again. One that came again in the
+    folder of a flow is a child of it."""
+    return [pid for pid in dict.fromkeys(starts(name)[-40:]) if is_alive(pid) and runs_in(pid, "d/" + name) and not is_child_of(name, pid)]
 
 
-def runs_in(pid, name):
-    try:
-        return os.path.realpath(f"/proc/{pid}/cwd") == os.path.realpath("d/" + name)
-    except OSError:
-        return False
+def is_child_of(name, pid):
+    """Whether a process is no flow itself, but a child that one of this name has for a moment."""
+    return name in PAIRS and read(f"/proc/{pid}/comm") != b"run\n"
 
 
 def make(folder, run):
@@ -70,11 +71,11 @@ def make(folder, run):
 def flow(name):
     kept = f"{os.getcwd()}/flow/{name}"
     return f"""i=$(cat {kept} 2>/dev/null)
-i=$((${{i:-0}} + 100000))
+i=$((${{i:-0}} + {LIFE}))
 echo $i >{kept}
 while :; do
   i=$((i + 1))
-  echo "line $((100000000 + i))"
+  echo "line $((10000000000 + i))"
   [ $((i % 20)) -ne 0 ] || sleep 0.02
 done
 """
@@ -227,7 +228,7 @@ while time.monotonic() < end:
     random.choices([work for work, _ in WORK], [weight for _, weight in WORK])[0]()
     time.sleep(random.uniform(0, 0.15))
     looks += 1
-    copies += [f"{name}: {living(name)}" for name in PARTS if len(living(name)) > 1]
+    copies += [f"{name}: {found}" for name, found in ((name, living(name)) for name in PARTS) if len(found) > 1]
 check("never two copies", [], copies[:5])
 svc("ucu", *PARTS)
 up = until(30, all_up)
@@ -255,9 +256,9 @@ for name in PAIRS:
     check(f"{name}: in order, and at most once", [], [pair for pair in zip(whole, whole[1:]) if pair[0] >= pair[1]][:3])
     check(f"{name}: something was logged", True, len(whole) > 100)
     # Within one life of the service the lines have the numbers one after the other, but for what a kill lost.
-    lost += sum(next - line - 1 for line, next in zip(whole, whole[1:]) if next // 100000 == line // 100000) * 15
+    lost += sum(next - line - 1 for line, next in zip(whole, whole[1:]) if next // LIFE == line // LIFE) * 17
 check(f"lost bytes: {lost}, within the bound", True, lost <= kills * BOUND)
-for pid in [pid for name in PARTS for pid in starts(name)[-40:] if runs_in(pid, name)]:
+for pid in [pid for name in PARTS for pid in starts(name)[-40:] if runs_in(pid, "d/" + name)]:
     os.kill(pid, signal.SIGKILL)
 if failed:
     print("reported last:\n" + read("reported")[-3000:].decode(errors="replace"), f"status of svscan: {svscan.returncode}")

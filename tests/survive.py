@@ -12,7 +12,7 @@ import subprocess
 import sys
 import time
 
-from processes import is_alive, read
+from processes import is_alive, read, runs_in
 
 program, kills = sys.argv[1], int(sys.argv[2])
 below = sys.argv[3:] == ["subreaper"]
@@ -44,8 +44,8 @@ def service(folder, run, files=()):
 
 
 def living(name):
-    """The processes of the starts of a service that live."""
-    return [int(line) for line in read(f"d/{name}/starts").split() if is_alive(int(line))]
+    """The processes of the starts of a service that live: those in its folder, since a number may come again."""
+    return [int(line) for line in read(f"d/{name}/starts").split() if is_alive(int(line)) and runs_in(int(line), f"d/{name}")]
 
 
 def reap():
