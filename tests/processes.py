@@ -2,6 +2,9 @@
 
 import os
 
+# What svscan has in its memory of a pair's output, at most: what it read at once, its mailbox, and what it writes at once.
+BOUND = 131_072
+
 
 def read(path):
     """All bytes of a file, none if it can't be read."""

@@ -14,7 +14,7 @@ import subprocess
 import sys
 import time
 
-from processes import is_alive, read, runs_in, state
+from processes import BOUND, is_alive, read, runs_in, state
 
 words = argparse.ArgumentParser()
 words.add_argument("program")
@@ -24,8 +24,6 @@ words = words.parse_args()
 program = os.path.realpath(words.program)
 random.seed(words.seed)
 checked, failed = 0, 0
-# What svscan has in its memory of a pair's output, at most: what it read at once, its mailbox, and what it writes at once.
-BOUND = 131_072
 SERVICES = [f"s{number}" for number in range(20)]
 PAIRS = [f"f{number}" for number in range(8)]
 PARTS = SERVICES + PAIRS + [name + "/log" for name in PAIRS]

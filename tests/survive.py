@@ -12,15 +12,13 @@ import subprocess
 import sys
 import time
 
-from processes import is_alive, read, runs_in
+from processes import BOUND, is_alive, read, runs_in
 
 program, kills = sys.argv[1], int(sys.argv[2])
 below = sys.argv[3:] == ["subreaper"]
 if below:
     ctypes.CDLL(None).prctl(36, 1, 0, 0, 0)
 checked, failed = 0, 0
-# What svscan has in its memory of a pair's output, at most: what it read at once, its mailbox, and what it writes at once.
-BOUND = 131_072
 
 
 def check(name, wanted, got):
