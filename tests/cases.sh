@@ -2,6 +2,7 @@
 # Runs the worked scripts in tests/cases on the program that the first word names, without the kit: NAME is a case's
 # standard input, or the file that the word {} stands for, NAME.args its words, one a line, NAME.stdout what it must print.
 # What it prints, reports and ends with is compared with tests/cases.expected.
+# gate: 15 seconds
 here=$(realpath "$(dirname "$0")")
 . "$here/checks.sh" "$1"
 trap 'rm -rf "$room"' EXIT

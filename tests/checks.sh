@@ -16,6 +16,16 @@ is() {
   printf 'FAILED %s%s\n  wanted %q\n  got    %q\n' "${scenario:+$scenario: }" "$1" "$2" "$3"
 }
 
+# kill_group NUMBER: kills a process group that this script started. If the system has given the number to another script's
+# process since then, that one is in another folder next to `room`, and is left alone.
+kill_group() {
+  case $(readlink "/proc/$1/cwd" 2>/dev/null) in
+    "$room" | "$room"/*) ;;
+    "${room%/*}"/*) return ;;
+  esac
+  kill -KILL -- "-$1" 2>/dev/null
+}
+
 # counts NAME: how many checks there were, and how many failed; fails where one did
 counts() {
   echo "$1: $checked checks, $failed failed"

@@ -1,11 +1,12 @@
 #!/usr/bin/env bash
 # The scripts that end all services in order: svscan-run under a burst of signals, with its limit of open files, and svscan-stop,
 # with services that pass over TERM, and as systemd runs it. Runs on the program that the first word names.
+# gate: 30 seconds
 top=$(realpath "$(dirname "$0")/..")
 . "$top/tests/checks.sh" "$1"
 groups=()
 leave() {
-  for group in "${groups[@]}"; do kill -KILL -- "-$group" 2>/dev/null; done
+  for group in "${groups[@]}"; do kill_group "$group"; done
   [ -e numbers ] && xargs kill -KILL <numbers 2>/dev/null
   rm -rf "$room"
 }

@@ -2,6 +2,7 @@
 # The commands of `envdir --shell`, as a shell reads them, and the script contrib/envdir, which starts a program in its own
 # place, below dash and bash. Runs the program that the first word names. The wanted values are those of docs/FORMATS.md and of
 # the page cr.yp.to/daemontools/envdir.html; if Debian's daemontools are installed, also what their envdir makes.
+# gate: 25 seconds
 top=$(realpath "$(dirname "$0")/..")
 . "$top/tests/checks.sh" "$1"
 export DTOOLS=$program
@@ -236,4 +237,10 @@ mv s/web made/web
 "$program" svc -dx made/web
 none() { [ -z "$(alive)" ]; }
 is 'none after -dx' yes "$(until_true none && echo yes)"
+# Variables of 9,000 and 100,000 bytes, and those around them, are as they were.
+long=$(printf '%09000d' 7)
+longer=$(printf '%0100000d' 7)
+is 'long variables' "100007 9005 A=1 B=3 Z=2" \
+  "$(env -i A=1 LONG="$long" Z=2 LONGER="$longer" B=3 "$program" envdir empty "$(command -v env)" |
+    awk 'length($0) > 99 { print length($0); next } { print }' | LC_ALL=C sort | xargs)"
 counts envdir

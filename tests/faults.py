@@ -25,11 +25,15 @@ def check(name, wrong, count):
         print(f"FAILED {name}, {count} times:", *wrong[:10], sep="\n  ", flush=True)
 
 
-def faulted(fault, met, words, given=b""):
-    """Runs the program with a fault, CALL:N:ERROR. Gives the run, or None where it came to no end."""
+def faulted(fault, met, words, given=b"", channel=None):
+    """Runs the program with a fault, CALL:N:ERROR, and with the channel of a logger, if there is one. Gives the run, or None
+    where it came to no end."""
     around = dict(os.environ, FAULT=fault, FAULT_MET=met, LD_PRELOAD=room + "/faults.so")
+    passed = () if channel is None else (channel,)
+    if passed:
+        around["DTOOLS_STOP_FD"] = str(channel)
     try:
-        return subprocess.run([program, *words], input=given, capture_output=True, env=around, timeout=120)
+        return subprocess.run([program, *words], input=given, capture_output=True, env=around, pass_fds=passed, timeout=120)
     except subprocess.TimeoutExpired:
         return None
 
@@ -132,7 +136,7 @@ def unread(*words, given=b"a line\n", first=False):
     check("unread: " + " ".join(words), wrong, count)
 
 
-def logs(error, call):
+def logs(error, call, channel=None):
     """multilog with each call of a kind failing in turn: its files hold a front of the lines, and all where it says nothing."""
     lines = b"".join(b"line %d of the log, which has some more words\n" % number for number in range(1, 301))
     cause = os.strerror(error).encode()
@@ -141,7 +145,7 @@ def logs(error, call):
     wrong, number = [], 1
     while True:
         shutil.rmtree("log", ignore_errors=True)
-        ran = faulted(f"{call}:{number}:{error}", "met", ["multilog", "s4096", "n30", "./log", "=log.status"], lines)
+        ran = faulted(f"{call}:{number}:{error}", "met", ["multilog", "s4096", "n30", "./log", "=log.status"], lines, channel)
         if not os.path.exists("met"):
             break
         os.remove("met")
@@ -343,6 +347,12 @@ def commands():
     for error, call in [(5, "read"), (5, "write"), (5, "open"), (5, "fsync"), (5, "rename"), (5, "flock"), (5, "getdents"),
                         (28, "mkdir"), (28, "write"), (28, "open"), (24, "open"), (12, "malloc")]:
         logs(error, call)
+    # A logger waits only if it has a channel.
+    os.mkfifo("channel")
+    channel = os.open("channel", os.O_RDWR)
+    for error in [5, 12]:
+        logs(error, "poll", channel)
+    os.close(channel)
 
 
 def svscans():
@@ -352,7 +362,7 @@ def svscans():
     for call, error in [("thread", 11), ("spawn", 11), ("accept", 24), ("socket", 24), ("pipe", 24), ("open", 24), ("open", 5),
                         ("read", 5), ("write", 28), ("rename", 28), ("unlink", 5), ("mkdir", 28), ("fchmod", 5), ("flock", 5),
                         ("bind", 13), ("listen", 12), ("epoll_create", 24), ("epoll_ctl", 12), ("fcntl", 5), ("getdents", 5),
-                        ("eventfd", 24)]:
+                        ("eventfd", 24), ("poll", 12)]:
         trial = functools.partial(lambda call, error, number: supervised(f"{call}:{number}:{error}", True), call, error)
         waiting.append(in_turn(f"svscan: {call}, error {error}", trial, 4))
     for wait in waiting:

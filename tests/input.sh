@@ -3,7 +3,7 @@
 # each byte of a record in each of its values, each length, each front of a trace's text, the longest line, a thousand
 # services, and each script of tests/cases that `sim` answers, a byte a read. Runs the program that the first word names.
 # python3 says what must come, by the rules of docs/FORMATS.md.
-command -v python3 >/dev/null || { echo 'input: python3 is missing'; exit 1; }
+# gate: 20 seconds, needs python3
 tests=$(realpath "$(dirname "$0")")
 # A file system in memory, where there is one: this makes thirty thousand files.
 [ -w /dev/shm ] && export TMPDIR=/dev/shm

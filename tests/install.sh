@@ -1,6 +1,7 @@
 #!/usr/bin/env bash
 # What `make install` puts where, with which modes, and that `make uninstall` takes just that away. Runs on the program that
 # the first word names, below a folder of its own.
+# gate: 10 seconds
 top=$(realpath "$(dirname "$0")/..")
 . "$top/tests/checks.sh" "$1"
 trap 'rm -rf "$room"' EXIT
@@ -111,9 +112,18 @@ if [ -e "$top/packaging/stamp" ]; then
 fi
 is 'make check without a program' "There is no program $room/none yet: make build makes it." \
   "$("$top/tests/all.sh" "$room/none" 2>&1)"
-# without PROGRAM..: what becomes of a script that needs a tool which is not there, in the gate and elsewhere
-without() { (. "$top/tests/tools.sh"; tests=$top/tests; PATH=/nowhere; run "$@"; echo "status $?") 2>&1 | xargs; }
-is 'make check without python3' 'svc: skipped, python3 is missing status 0' "$(GATE= without svc)"
-is 'the gate without python3' 'svc: skipped, python3 is missing status 1' "$(GATE=1 without svc)"
-is 'the gate without a compiler' 'faults: skipped, cc is missing status 1' "$(GATE=1 without faults svscan)"
+# without TOOL WORDS..: what becomes of scripts in the gate and elsewhere if a tool that they need is missing
+mkdir lacking
+for tool in /usr/bin/* /bin/*; do [ -e "lacking/${tool##*/}" ] || ln -s "$tool" lacking; done
+without() {
+  rm -f "lacking/$1"
+  PATH=$room/lacking "$top/tests/all.sh" "$program" "${@:2}" 2>&1 | xargs
+  echo "status ${PIPESTATUS[0]}"
+}
+is 'make check without python3' $'svc: skipped, python3 is missing 0 passed, 0 failed, 1 skipped\nstatus 0' \
+  "$(GATE= without python3 svc)"
+is 'the gate without python3' $'svc: skipped, python3 is missing 0 passed, 0 failed, 1 skipped\nstatus 1' \
+  "$(GATE=1 without python3 svc)"
+is 'the gate without a compiler' $'devices: skipped, cc is missing 0 passed, 0 failed, 1 skipped\nstatus 1' \
+  "$(GATE=1 without cc devices)"
 counts install

@@ -2,6 +2,7 @@
 # `tai64nlocal`: local times of several zones, hostile lines, lines in pieces, and a million lines. The wanted values
 # were written down from daemontools 0.76 (cr.yp.to/daemontools/tai64nlocal.html); where Debian's daemontools are
 # installed, also what their tai64nlocal makes. Then the times of `trace --local`, and which trace is meant.
+# gate: 20 seconds
 top=$(realpath "$(dirname "$0")/..")
 . "$top/tests/checks.sh" "$1"
 leave() { rm -rf "$room"; }

@@ -1,6 +1,7 @@
 #!/usr/bin/env bash
 # The files in contrib/ that watch many machines, beside the program that the first word names: dtools-metrics; and where they
 # are installed promtool, systemd-analyze and rsyslogd, which here ships what multilog writes to another rsyslogd on loopback.
+# gate: 15 seconds
 top=$(realpath "$(dirname "$0")/..")
 . "$top/tests/checks.sh" "$1"
 shippers=()

@@ -2,10 +2,11 @@
 # Runs the examples of the manual pages, each as one session of a shell in a folder of its own, on the program that the first
 # word names: lines behind `$ ` are typed, and what stands under them must be printed. Numbers of processes and seconds may
 # differ. Where mandoc is there, the pages have no fault and no warning.
+# gate: 25 seconds
 top=$(realpath "$(dirname "$0")/..")
 . "$top/tests/checks.sh" "$1"
 leave() {
-  [ -e groups ] && while read -r group; do kill -KILL -- "-$group" 2>/dev/null; done <groups
+  [ -e groups ] && while read -r group; do kill_group "$group"; done <groups
   rm -rf "$room"
 }
 trap leave EXIT

@@ -2,6 +2,7 @@
 # What no contract can say of multilog: that the system's own folders are what the program takes them for. Runs the
 # program that the first word names over real folders, prints each check that fails, and ends with how many did not.
 # The wanted values are those of the multilog page of daemontools and of docs/FORMATS.md.
+# gate: 45 seconds, needs python3
 calls=$(realpath "$(dirname "$0")/calls.c")
 wrapper=$(realpath "$(dirname "$0")/../contrib/multilog")
 . "$(dirname "$0")/checks.sh" "$1"

@@ -3,6 +3,7 @@
 # to go while they run, and leaves nothing. Makes it of the program that the first word names, and installs it into a copy of
 # this machine's own system, which an overlay makes, or with the word `debootstrap` into a fresh Debian 12. Needs root, and
 # runs where a package can't be made or installed only what it can.
+# gate: 50 seconds, needs dpkg-deb strip
 top=$(realpath "$(dirname "$0")/..")
 . "$top/tests/checks.sh" "$1"
 from=${2:-overlay}

@@ -3,7 +3,7 @@
 # counts, names of any bytes, sockets at which python3 listens, and a service that a real svscan keeps. Runs the program that
 # the first word names. python3's own reader reads the lines of JSON, and a small one here the metrics, beside promtool where
 # that is installed; what they must then hold is written down from docs/FORMATS.md.
-command -v python3 >/dev/null || { echo 'report: python3 is missing'; exit 1; }
+# gate: 15 seconds, needs python3
 . "$(dirname "$0")/checks.sh" "$1"
 listeners=()
 leave() {
@@ -218,6 +218,7 @@ deaths_total 0 ${row#* }" s
 done
 for row in '' '\n' '7 6' '7\n' '7 6 5\n' '7  6\n' ' 7 6\n' '7 6 \n' '07 6\n' '7 06\n' '00 0\n' '+7 6\n' '-7 6\n' '7\t6\n' '7 x\n' \
   '7 6\n\n' '7 6\n8 7\n' '7 6\r\n' '18446744073709551616 0\n' '0 18446744073709551616\n' '99999999999999999999 0\n' \
+  '18446744073709551615 18446744073709551615\n\n' '18446744073709551615 18446744073709551615\nx' \
   '000000000000000000000000000000000000000000000001 1\n' '7 6\n\0' '0x7 6\n' '٧ 6\n'; do
   printf -- "$row" >s/supervise/counts
   metrics "counts: $row" "$some" s

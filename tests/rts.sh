@@ -3,10 +3,11 @@
 # faults and what it does. Each line runs on the program that the first word names, by the installed names, and if Debian's
 # daemontools is installed on that too. If the two differ on purpose, a row of docs/COMING-FROM-DAEMONTOOLS.md says so, and
 # this script looks for that row.
+# gate: 40 seconds
 top=$(realpath "$(dirname "$0")/..")
 . "$top/tests/checks.sh" "$1"
 leave() {
-  for suite in ours theirs; do [ -e "$suite.svscan" ] && kill -KILL -- "-$(cat $suite.svscan)" 2>/dev/null; done
+  for suite in ours theirs; do [ -e "$suite.svscan" ] && kill_group "$(cat $suite.svscan)"; done
   [ -e numbers ] && xargs kill -KILL <numbers 2>/dev/null
   rm -rf "$room"
 }
@@ -211,7 +212,7 @@ END
   for _ in $(seq 100); do "$bin/svok" .up || "$bin/svok" .kept || "$bin/svok" .pair || break; sleep 0.1; done
   echo "svok $("$bin/svok" .up; echo $?)"
   "$bin/svstat" .up
-  kill -KILL -- "-$(cat "../$(basename "$folder").svscan")" 2>/dev/null
+  kill_group "$(cat "../$(basename "$folder").svscan")"
 }
 cat >life <<'END'
 svok 0

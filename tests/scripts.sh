@@ -1,6 +1,7 @@
 #!/usr/bin/env bash
 # Every script that is installed or is of the package: a shell reads it, and shellcheck has nothing to say, if that is
 # installed. Takes the program that the first word names.
+# gate: 10 seconds
 top=$(realpath "$(dirname "$0")/..")
 . "$top/tests/checks.sh" "$1"
 trap 'rm -rf "$room"' EXIT

@@ -1,10 +1,11 @@
 #!/usr/bin/env bash
 # Services are added and removed by dtools-service, under a svscan that keeps their folder. Runs on the program that the first
 # word names.
+# gate: 30 seconds
 top=$(realpath "$(dirname "$0")/..")
 . "$top/tests/checks.sh" "$1"
 leave() {
-  [ -z "${svscan:-}" ] || kill -KILL -- "-$svscan" 2>/dev/null
+  [ -z "${svscan:-}" ] || kill_group "$svscan"
   rm -rf "$room"
 }
 trap leave EXIT

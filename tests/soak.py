@@ -65,12 +65,13 @@ def make(folder, run):
     os.rename(made, folder)
 
 
-# A counter that goes on where the last life of the service ended, so that a line that comes twice shows.
+# A counter that goes on where the last life of the service ended, so that a line that comes twice shows. It is replaced as a
+# whole, since a life may be killed at any moment, and no line comes before that.
 def flow(name):
     kept = f"{os.getcwd()}/flow/{name}"
     return f"""i=$(cat {kept} 2>/dev/null)
 i=$((${{i:-0}} + {LIFE}))
-echo $i >{kept}
+echo $i >{kept}.new && mv {kept}.new {kept} || exit
 while :; do
   i=$((i + 1))
   echo "line $((10000000000 + i))"

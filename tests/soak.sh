@@ -1,8 +1,8 @@
 #!/usr/bin/env bash
 # svscan under random work for a minute: soak.py on the program that the first word names. Further words are handed on, as
 # `--seconds 1200`.
+# gate: 90 seconds, needs python3
 tests=$(dirname "$(realpath "$0")")
-command -v python3 >/dev/null || { echo 'soak: python3 is missing'; exit 1; }
 . "$tests/checks.sh" "$1"
 shift
 trap 'rm -rf "$room"' EXIT

@@ -2,8 +2,8 @@
 # svscan is killed again and again, with 30 services and 10 pairs under it: survive.py on the program that the first word
 # names, and again, with half as many kills, below a process that takes what loses its parent, while no write of svscan's succeeds
 # for two seconds after each kill. A second word is how many kills there are, 20 without one.
+# gate: 130 seconds, needs python3
 tests=$(dirname "$(realpath "$0")")
-command -v python3 >/dev/null || { echo 'survive: python3 is missing'; exit 1; }
 . "$tests/checks.sh" "$1"
 trap 'rm -rf "$room"' EXIT
 status=0

@@ -3,7 +3,7 @@
 # them for. Runs the program that the first word names against real sockets, prints each check that fails, and ends with
 # how many did not. The wanted values are those of the daemontools pages and of docs/FORMATS.md. It needs python3, for
 # sockets to listen at.
-command -v python3 >/dev/null || { echo 'svc: python3 is missing'; exit 1; }
+# gate: 30 seconds, needs python3
 . "$(dirname "$0")/checks.sh" "$1"
 listeners=()
 

@@ -4,7 +4,7 @@
 # each check that fails, and ends with how many did not. Further words are the scenarios that are wanted, where not all
 # are. The wanted values are those of the daemontools pages and of docs/FORMATS.md. It needs python3, for clients that
 # send what svc never does.
-command -v python3 >/dev/null || { echo 'svscan: python3 is missing'; exit 1; }
+# gate: 100 seconds, needs python3
 contrib=$(realpath "$(dirname "$0")/../contrib")
 . "$(dirname "$0")/checks.sh" "$1"
 export LC_ALL=C
@@ -14,7 +14,7 @@ under=()
 # The numbers of the groups stand in a file.
 kill_groups() {
   local group
-  while read -r group; do kill -KILL -- "-$group" 2>/dev/null; done <"$1"
+  while read -r group; do kill_group "$group"; done <"$1"
 }
 
 leave() {

@@ -2,6 +2,7 @@
 # What no contract can say: that the system's own files, folders, children, pipes and clock are what the program takes
 # them for. Runs the program that the first word names, prints each check that fails, and ends with how many did not.
 # The wanted values are those of the daemontools pages and of docs/FORMATS.md.
+# gate: 10 seconds
 top=$(realpath "$(dirname "$0")/..")
 . "$top/tests/checks.sh" "$1"
 trap 'rm -rf "$room"' EXIT

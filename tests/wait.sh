@@ -2,7 +2,7 @@
 # When `dtools wait` returns, and what it says, over services of a real svscan and over folders that are made here: sockets at
 # which python3 listens, and status records of given bytes. Runs the program that the first word names. The wanted lines
 # and statuses are those of docs/FORMATS.md. No check rests on how fast this machine is: each waits for what it needs.
-command -v python3 >/dev/null || { echo 'wait: python3 is missing'; exit 1; }
+# gate: 60 seconds, needs python3
 . "$(dirname "$0")/checks.sh" "$1"
 export LC_ALL=C
 listeners=()

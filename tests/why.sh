@@ -3,8 +3,9 @@
 # at which python3 listens. Runs the program that the first word names. The wanted sentences are written by hand from the
 # rules in the doc of `why_line` (crates/cmd_why/src/sentences.rt), the pictures from those of `bar_of` (src/timeline.rt), the
 # records and traces from docs/FORMATS.md.
-command -v python3 >/dev/null || { echo 'why: python3 is missing'; exit 1; }
-. "$(dirname "$0")/checks.sh" "$1"
+# gate: 30 seconds, needs cc python3
+tests=$(dirname "$(realpath "$0")")
+. "$tests/checks.sh" "$1"
 export TZ=UTC
 listeners=()
 leave() {
@@ -237,6 +238,15 @@ trace 0 starting "$begun" - 'started 4710 86.25' 'clock 87.25' 'death 89.3' 'sta
 ended_so '4710 status 1' 89.3
 said 'the one before' 0 's is up since {90}, process 4711. Before it process 4710 ran 3.0 s and ended with status 1 without a control byte. 2 starts in the last 60 s.'
 rm s/supervise/exit
+
+# The clock is read once the trace was: here it is 1000 seconds later then.
+again
+cc -O1 -shared -fPIC -o devices.so "$tests/devices.c" -ldl || exit 1
+status 90 4711 0 $up 0 3
+trace 0 starting "$begun" - 'started 4711 90' 'clock 91'
+timeout 5 env LD_PRELOAD="$room/devices.so" CLOCK=$((start + 100)) CLOCK_OPENS=/supervise/trace "$program" why s >out
+is 'the clock after the trace' "s is up since $(date -u -d "@$((start + 90))" '+%F %T') (1010 s), process 4711." \
+  "$(grep -o '^s is up since [^(]*([0-9]* s), process 4711\.' out)"
 
 # The last end of a process is the later one of that in the trace and that in the file exit.
 again

@@ -2,6 +2,7 @@
 # The scripts that stand in for the other names of daemontools: setuidgid, envuidgid, softlimit, setlock, pgrphack, fghack. The
 # wanted values were written down from Debian's daemontools 0.76; if those are installed each line is compared with theirs
 # too.
+# gate: 25 seconds
 top=$(realpath "$(dirname "$0")/..")
 . "$top/tests/checks.sh" "$1"
 trap 'rm -rf "$room"' EXIT

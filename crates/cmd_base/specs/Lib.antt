@@ -5,3 +5,4 @@ pub mod Usage
 pub mod Known
 pub mod Paths
 pub mod Printed
+pub mod Times

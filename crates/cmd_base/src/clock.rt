@@ -1,5 +1,8 @@
 //! The clock of the system.
-use std::time::{Clock, SystemTime, UNIX_EPOCH};
+ghost use Rattle.std.specs.Prelude.{◌≡◌};
+ghost use Rattle.cmd_base.specs.Times.{millis_between};
+
+use std::time::{Clock, Duration, SystemTime, UNIX_EPOCH};
 use tai_status::{Label, TimeSource};
 
 /// The system's clock. Where it can't be read it repeats its last reading, at first the label of Unix
@@ -17,6 +20,16 @@ impl<R: Clock + Drop> SystemClock<R> {
             runtime,
             last: Label::from_unix(0, 0).unwrap_or(Label::MAX),
         }
+    }
+}
+
+/// How many milliseconds it is from one reading of the running clock to another; 0 if that is an earlier one.
+pub fn millis_between(begin: Duration, now: Duration) -> u64
+    ensures { result ≡ millis_between begin now }
+{
+    match now.checked_sub(begin) {
+        Some(time) => u64::try_from(time.as_millis()).unwrap_or(u64::MAX),
+        None => 0,
     }
 }
 

@@ -9,7 +9,7 @@ mod pages;
 mod reporting;
 mod status;
 
-pub use clock::SystemClock;
+pub use clock::{SystemClock, millis_between};
 pub use command::Command;
 pub use files::FileSource;
 pub use pages::page_of;

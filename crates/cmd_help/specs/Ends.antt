@@ -4,8 +4,7 @@ use Rattle.tai_status.specs.Counted.{Device, Fails, Reports, Works, Wrote, Wrote
 use Rattle.cmd_base.specs.Printed.{printed}
 use Rattle.cmd_base.specs.Usage.{usage_text}
 use Rattle.cmd_base.specs.Commands.{command_named}
-use Rattle.cmd_base.specs.Pages.{page}
-use Rattle.cmd_help.specs.Pages.{overview, tool_page}
+use Rattle.cmd_help.specs.Pages.{help_of, overview, tool_page}
 use Rattle.cmd_base.specs.declared.command.Command.{Command}
 use Rattle.cmd_base.specs.declared.command.Command.TheVariants as command
 use Rattle.cmd_help.specs.declared.source.TheConstants.{KIT, SOURCE}
@@ -46,9 +45,9 @@ abbrev pub PageEnds : (page : Option (List ℕ)) → (status : ℕ) (old new fau
 PageEnds None status old new faults reports = Refuses command.Help status old new faults reports
 PageEnds (Some text) status old new faults reports = Prints text help_name status old new faults reports
 
--- the page of the command that a word names, or of the installed program
+-- what is printed of the command that a word names, or of the installed program
 abbrev pub page_named : (word : List ℕ) → Option Command → Option (List ℕ)
-page_named word (Some command) = Some (page command)
+page_named word (Some command) = Some (help_of command)
 page_named word None = tool_page word
 
 -- `help`, by its words: none, the overview; one, the page of the command or the installed program that it names

@@ -1,8 +1,10 @@
 -- What `help` prints.
-use Rattle.std.specs.Prelude.{ℕ, List, [], ◌∷◌, ◌++◌, bytes_eq, codes, Option}
+use Rattle.std.specs.Prelude.{◌≡◌, ℕ, List, [], ◌∷◌, ◌++◌, bytes_eq, codes, map, Option}
 use Rattle.std.specs.Map.{lookup}
 use Rattle.cmd_base.specs.Printed.{printed}
 use Rattle.cmd_base.specs.Pages.{page}
+use Rattle.sup_core.specs.Rules.{Control, controls, letters}
+use Rattle.cmd_base.specs.declared.command.Command.{Command}
 use Rattle.cmd_base.specs.declared.command.Command.TheVariants as command
 
 -- the commands, a line each
@@ -24,6 +26,22 @@ overview = printed (
     codes "  why            says in plain words how a service stands, and why" ∷
     codes "  help COMMAND   shows the words of a command; man dtools-COMMAND has the rest" ∷
     codes "  version        says which dtools this is" ∷ [])
+
+-- the page of `svc`, with the letter of each control byte
+abbrev pub svc_page : List ℕ
+svc_page = codes "dtools svc [-W] [-" ++ letters ++ codes "] SERVICE.., with u up, d down, o once, x exit, and signals"
+
+abbrev pub SvcPageHasEachLetter : Type 0
+SvcPageHasEachLetter = page command.Svc ≡ printed (svc_page ∷ [])
+
+-- a control byte, and what it means
+abbrev pub letter_line : Control → List ℕ
+letter_line row = codes "  " ++ row.letter ++ codes "  " ++ row.meaning
+
+-- what `help` prints of a command: its page, and of `svc` a line for each control byte too
+abbrev pub help_of : Command → List ℕ
+help_of command.Svc = printed (svc_page ∷ map letter_line controls)
+help_of command = page command
 
 -- The programs that are installed next to `dtools` and are not its commands, each with what `help` prints of it.
 abbrev pub tools : List (List ℕ × List ℕ)

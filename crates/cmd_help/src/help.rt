@@ -4,10 +4,10 @@ ghost use Rattle.cmd_base.specs.Commands.{command_named};
 ghost use Rattle.std.specs.Option.{option_copied};
 ghost use Rattle.cmd_help.specs.Ends.{HelpEnds, PageEnds, Prints, VersionEnds, page_named, version_text};
 
-use crate::pages::{overview, tool_page};
+use crate::pages::{help_of, overview, tool_page};
 use crate::source::{KIT, SOURCE};
 use arrayvec::ArrayString;
-use cmd_base::{Command, DONE, page_of, report_device, usage};
+use cmd_base::{Command, DONE, report_device, usage};
 use std::io::Write;
 use tai_status::Output;
 
@@ -31,7 +31,7 @@ fn page_named(word: &str) -> Option<&'static [u8]>
     ensures { option_copied result ≡ page_named word.now (command_named word.now) }
 {
     match Command::named(word) {
-        Some(command) => Some(page_of(command)),
+        Some(command) => Some(help_of(command)),
         None => tool_page(word),
     }
 }
@@ -48,8 +48,8 @@ fn print_page<W: Write, E: Write>(word: &str, writer: &mut Output<W>, faults: &m
 }
 
 /// The command `help`: prints which commands there are, or with the name of one, or of a program that is installed
-/// beside this one, which words that takes. Answers the status: 0; 100 for a word that names neither, and for more
-/// words; 111 for a fault of the writer.
+/// next to this one, which words that takes; of `svc` also what each letter means. Returns the status: 0; 100 for a
+/// word that names neither, and for more words; 111 for a fault of the writer.
 pub fn run_help<W: Write, E: Write>(
     words: &[&str],
     writer: &mut Output<W>,

@@ -8,4 +8,4 @@ mod source;
 
 pub use asking::page_asked;
 pub use help::{run_help, run_version};
-pub use pages::{overview, tool_page};
+pub use pages::{overview, svc_page_has_each_letter, tool_page};

@@ -1,7 +1,7 @@
 //! What `help` prints.
 ghost use Rattle.std.specs.Prelude.{◌≡◌};
 ghost use Rattle.std.specs.Option.{option_copied};
-ghost use Rattle.cmd_help.specs.Pages.{overview, tool_page};
+ghost use Rattle.cmd_help.specs.Pages.{SvcPageHasEachLetter, help_of, overview, tool_page};
 
 use cmd_base::{Command, page_of};
 
@@ -27,6 +27,38 @@ pub fn overview() -> &'static [u8]
   version        says which dtools this is
 "
 }
+
+/// What `help` prints of a command: its page, and of `svc` a line for each control byte too.
+pub fn help_of(command: Command) -> &'static [u8]
+    ensures { result.now ≡ help_of command }
+{
+    match command {
+        Command::Svc => {
+            b"dtools svc [-W] [-udopchaitkx12q] SERVICE.., with u up, d down, o once, x exit, and signals
+  u  up: start it, and again whenever it ends
+  d  down: send TERM and CONT, and do not start it again
+  o  once: start it, and not again
+  p  pause: send STOP
+  c  continue: send CONT
+  h  send HUP
+  a  send ALRM
+  i  send INT
+  t  send TERM
+  k  send KILL
+  x  exit: supervise no more, once it is down
+  1  send USR1
+  2  send USR2
+  q  send QUIT
+"
+        }
+        command => page_of(command),
+    }
+}
+
+/// The page of `svc` names each control byte, and no other letter but `W`.
+pub fn svc_page_has_each_letter()
+    ensures { SvcPageHasEachLetter }
+{}
 
 /// What `help` prints of a program that is installed next to `dtools` and is not its command: which words it takes.
 /// None if there is no such program.

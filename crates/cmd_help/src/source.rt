@@ -4,4 +4,4 @@
 pub(crate) const KIT: &str = "rattle-kit-13f logic dac8208d650f15bf";
 
 /// The sum of its sources, as packaging/source-sum says it.
-pub(crate) const SOURCE: &str = "8c3ecb86f64d8e9cbcc17eb96a429e28ab0e762dfb039cd82b1157f1d9452ec8";
+pub(crate) const SOURCE: &str = "5a524abcbbb9f4e99d8603ab50bb4d3fbe48d416cde6f603eb00950c71caa9fe";

@@ -82,6 +82,7 @@ abbrev left_of : Bool → Bool → Option Coming → Option (List ℕ)
 left_of stopped in_line coming =
     left_in (record {
       coming = coming;
+      failures = 0;
       stopped = stopped;
       rotates = false;
       in_line = in_line;
@@ -94,6 +95,7 @@ abbrev behind_of : Bool → Bool → Bool → Option Coming → Option (List (Li
 behind_of stopped rotates in_line coming =
     behind_in (record {
       coming = coming;
+      failures = 0;
       stopped = stopped;
       rotates = rotates;
       in_line = in_line;
@@ -181,7 +183,7 @@ pub reads_on : {E : Type 0} (left : Option (List ℕ)) (old new : Listening) (r 
     → IfOk r (λ count. Changes old.coming new.coming (Reads (take count into)))
     → IfOk r (λ count. new.in_line ≡ is_in_line old.in_line (take count into))
     → IfOk r (λ count. count ≡ 0 → 0 < length into → IsOver new.coming)
-    → OnErr r (new ≡ old)
+    → OnErr r (new ≡ record old { failures = new.failures })
     → ReadConsumes left (left_in new) r into
 reads_on left old new (Ok count) into kept going same reads line over err =
     let bs = take count into in
@@ -206,7 +208,7 @@ pub reads_line : {E : Type 0} (left : Option (List ℕ)) (old new : Listening) (
     → IfOk r (λ count. Changes old.coming new.coming (Reads (take count into)))
     → IfOk r (λ count. new.in_line ≡ is_in_line old.in_line (take count into))
     → IfOk r (λ count. count ≡ 0 → 0 < length into → IsOver new.coming)
-    → OnErr r (new ≡ old)
+    → OnErr r (new ≡ record old { failures = new.failures })
     → ReadConsumes left (left_in new) r into
 reads_line left old new (Ok count) into kept stopped begun same one reads line over err =
     let bs = take count into in
@@ -231,7 +233,7 @@ pub behind_on : {E : Type 0} (behind : Option (List (List ℕ))) (old new : List
     → behind_in old ≡ behind → old.stopped ≡ false → new.stopped ≡ old.stopped
     → IfOk r (λ count. Changes old.coming new.coming (Reads (take count into)))
     → IfOk r (λ count. new.in_line ≡ is_in_line old.in_line (take count into))
-    → OnErr r (new ≡ old)
+    → OnErr r (new ≡ record old { failures = new.failures })
     → behind_in new ≡ behind
 behind_on behind old new (Ok count) into kept going same reads line err =
     let bs = take count into in
@@ -248,7 +250,7 @@ pub behind_to_line : {E : Type 0} (behind : Option (List (List ℕ))) (old new :
     → length into ≤ 1
     → IfOk r (λ count. Changes old.coming new.coming (Reads (take count into)))
     → IfOk r (λ count. new.in_line ≡ is_in_line old.in_line (take count into))
-    → OnErr r (new ≡ old)
+    → OnErr r (new ≡ record old { failures = new.failures })
     → behind_in new ≡ behind
 behind_to_line behind old new (Ok count) into kept stopped begun same word one reads line err =
     let bs = take count into in
@@ -282,6 +284,7 @@ pub opens_next : (old : Listening) → old.rotates ≡ true → old.stopped ≡ 
     → OpensNext (feed_of old)
     (feed_of (record {
       coming = old.coming;
+      failures = old.failures;
       stopped = false;
       rotates = false;
       in_line = false;

@@ -108,10 +108,12 @@ unread in_line (word ∷ words) =
     if word.rotates then unread (is_in_line false (next_line in_line word.bytes)) words
     else next_line in_line word.bytes ++ all_behind words
 
--- A reader that listens: what comes to it; whether it has heard a word in the part that is read, and whether that was
--- for a rotation; whether a line is in hand; how often it was read, and failed; and the cause of its last fault.
+-- A reader that listens: what comes to it, and how many calls of its input failed; whether it has heard a word in the
+-- part that is read, and whether that was for a rotation; whether a line is in hand; how often it was read, and failed;
+-- and the cause of its last fault.
 pub record Listening : Type 0 where
   pub coming : Option Coming
+  pub failures : ℕ
   pub stopped : Bool
   pub rotates : Bool
   pub in_line : Bool

@@ -1,4 +1,7 @@
 //! The clock of a logger, which is read once a read.
+ghost use Rattle.std.specs.Prelude.{◌≡◌, MatchOption};
+ghost use Rattle.cmd_multilog.specs.Rising.{later};
+
 use crate::rising::RisingLabels;
 use std::cell::Cell;
 use tai_status::{Label, TimeSource};
@@ -20,17 +23,10 @@ impl LineLabels {
 
     /// Goes on from this reading of the clock.
     pub(crate) fn renew(&self, reading: Label) {
-        let labels = match self.labels.get() {
-            Some(mut labels) => {
-                labels.renew(reading);
-                labels
-            }
-            None => RisingLabels::new(reading),
-        };
-        self.labels.set(Some(labels));
+        self.labels.set(Some(renewed(self.labels.get(), reading)));
     }
 
-    /// The label of the next line, where bytes came.
+    /// The label of the next line, if bytes came.
     fn give(&self) -> Option<Label> {
         let mut labels = self.labels.get()?;
         let label = labels.give();
@@ -39,8 +35,21 @@ impl LineLabels {
     }
 }
 
+/// Labels that go on from this reading: from the first reading, or as labels that rise do.
+fn renewed(labels: Option<RisingLabels>, reading: Label) -> RisingLabels
+    ensures { MatchOption labels (result ≡ reading) (λ old. result ≡ later old reading) }
+{
+    match labels {
+        Some(mut labels) => {
+            labels.renew(reading);
+            labels
+        }
+        None => RisingLabels::new(reading),
+    }
+}
+
 /// A clock that a logger's input renews: of lines that were read together each has a label of a nanosecond past the one
-/// before. Where no logger's input was read it is the clock that it stands on.
+/// before. If no logger's input was read, it is its own clock.
 #[derive(Drop)]
 pub struct LineClock<'l, C: TimeSource + Drop> {
     clock: C,

@@ -22,18 +22,23 @@ pub enum Heard {
 }
 
 /// The input of a logger, with the channel by which it is asked to stop or to rotate. Contracts see what comes, where
-/// it is reported.
+/// it is reported, and how many of its calls failed.
 pub trait LoggerInput {
-    ghost use Rattle.std.specs.Prelude.{◌≡◌, ◌<◌, Option, None, IfOk, OnErr, length, take};
+    ghost use Rattle.std.specs.Prelude.{◌≡◌, ◌<◌, ℕ, Option, None, IfOk, OnOk, OnErr, length, take};
     ghost use Rattle.std.specs.Io.{ReadsAtMost};
+    ghost use Rattle.tai_status.specs.Counted.{Rose};
     ghost use Rattle.cmd_multilog.specs.Stop.{Coming, Changes, Hears, Reads, IsOver};
 
     ghost coming: { Self → Option Coming } = { λ _. None };
 
+    ghost failures: { Self → ℕ };
+
     /// Waits until there is input, or its end, or a word is heard, which goes before.
     fn wait(&mut self) -> io::Result<Heard>
         ensures ok { IfOk result (λ heard. Changes (coming self.old) (coming self.new) (Hears heard)) }
-        ensures err { OnErr result (coming self.new ≡ coming self.old) };
+        ensures err { OnErr result (coming self.new ≡ coming self.old) }
+        ensures works { OnOk result (failures self.new ≡ failures self.old) }
+        ensures fails { OnErr result (Rose (failures self.old) (failures self.new)) };
 
     /// Reads once, and again where that is interrupted. It gives no byte only at the end of the input, or into an empty
     /// buffer.
@@ -42,7 +47,9 @@ pub trait LoggerInput {
         ensures ok { IfOk result (λ count.
             Changes (coming self.old) (coming self.new) (Reads (take count into.new))) }
         ensures end { IfOk result (λ count. count ≡ 0 → 0 < length into.new → IsOver (coming self.new)) }
-        ensures err { OnErr result (coming self.new ≡ coming self.old) };
+        ensures err { OnErr result (coming self.new ≡ coming self.old) }
+        ensures works { OnOk result (failures self.new ≡ failures self.old) }
+        ensures fails { OnErr result (Rose (failures self.old) (failures self.new)) };
 }
 
 /// A reader of whole lines. Once it hears a word it reads the line in hand to its newline, byte by byte, and its part
@@ -67,6 +74,7 @@ impl<S: LoggerInput + Drop> Model for Stoppable<S> {
 
     ghost view = { λ s. record {
       coming = S.coming s.input;
+      failures = S.failures s.input;
       stopped = s.stopped;
       rotates = s.rotates;
       in_line = s.in_line;
@@ -79,9 +87,10 @@ impl<S: LoggerInput + Drop> Model for Stoppable<S> {
 }
 
 impl<S: LoggerInput + Drop> Stoppable<S> {
-    ghost use Rattle.std.specs.Prelude.{◌≡◌, ◌<◌, false, None, IfOk, OnErr, length, take};
+    ghost use Rattle.std.specs.Prelude.{◌≡◌, ◌<◌, false, None, IfOk, OnOk, OnErr, length, take};
     ghost use Rattle.std.specs.Io.{ReadsAtMost};
     ghost use Rattle.std.specs.Io.KnownBytes.{ReadConsumes};
+    ghost use Rattle.tai_status.specs.Counted.{Rose};
     ghost use Rattle.cmd_multilog.specs.Stop.{Changes, Reads, IsOver, is_in_line, left_in, behind_in};
     ghost use Rattle.cmd_multilog.specs.Stop.{SameCounts, SameWord};
 
@@ -89,6 +98,7 @@ impl<S: LoggerInput + Drop> Stoppable<S> {
     pub fn new(input: S) -> Stoppable<S>
         ensures { result ≡ record {
           coming = S.coming input;
+          failures = S.failures input;
           stopped = false;
           rotates = false;
           in_line = false;
@@ -113,6 +123,8 @@ impl<S: LoggerInput + Drop> Stoppable<S> {
         ensures left { left_in self.new ≡ left_in self.old }
         ensures behind { behind_in self.new ≡ behind_in self.old }
         ensures counts { SameCounts self.old self.new }
+        ensures works { OnOk result (self.new.failures ≡ self.old.failures) }
+        ensures fails { OnErr result (Rose self.old.failures self.new.failures) }
     {
         if self.stopped {
             return Ok(());
@@ -136,7 +148,9 @@ impl<S: LoggerInput + Drop> Stoppable<S> {
         ensures end { IfOk result (λ count. count ≡ 0 → 0 < length into.new → IsOver self.new.coming) }
         ensures word { SameWord self.old self.new }
         ensures counts { SameCounts self.old self.new }
-        ensures err { OnErr result (self.new ≡ self.old) }
+        ensures err { OnErr result (self.new ≡ record self.old { failures = self.new.failures }) }
+        ensures works { OnOk result (self.new.failures ≡ self.old.failures) }
+        ensures fails { OnErr result (Rose self.old.failures self.new.failures) }
     {
         let count = self.input.read_once(into)?;
         if count > 0 {
@@ -151,6 +165,8 @@ impl<S: LoggerInput + Drop> Stoppable<S> {
         ensures bytes { ReadConsumes (left_in self.old) (left_in self.new) result into.new }
         ensures behind { behind_in self.new ≡ behind_in self.old }
         ensures counts { SameCounts self.old self.new }
+        ensures works { OnOk result (self.new.failures ≡ self.old.failures) }
+        ensures fails { OnErr result (Rose self.old.failures self.new.failures) }
     {
         self.listen()?;
         if !self.stopped {
@@ -164,11 +180,24 @@ impl<S: LoggerInput + Drop> Stoppable<S> {
 }
 
 impl<S: LoggerInput + Drop> PartedInput for Stoppable<S> {
+    ghost use Rattle.std.specs.Prelude.{◌≡◌, ◌≤◌, IfOk, IsSome, OnOk, OnErr, length};
+    ghost use Rattle.std.specs.Io.KnownBytes.{ReadConsumes};
+    ghost use Rattle.tai_status.specs.Counted.{CountsRead, Fails, Works};
     ghost use Rattle.cmd_multilog.specs.Stop.{feed_of};
 
     ghost feed = { feed_of };
 
-    fn read_part(&mut self, into: &mut [u8]) -> Result<usize, DeviceFault> {
+    /// Reads once of the part, as the trait says. It gives no byte and no end where a call of its input failed.
+    fn read_part(&mut self, into: &mut [u8]) -> Result<usize, DeviceFault>
+        ensures bound { IfOk result (λ count. count ≤ length into.new) }
+        ensures bytes { ReadConsumes (feed_of self.old).device.bytes (feed_of self.new).device.bytes result into.new }
+        ensures reads { OnOk result (CountsRead (feed_of self.old).device (feed_of self.new).device) }
+        ensures faults { OnOk result (Works (feed_of self.old).device (feed_of self.new).device) }
+        ensures fault { OnErr result (Fails (feed_of self.old).device (feed_of self.new).device) }
+        ensures why { OnErr result (IsSome (feed_of self.new).device.cause) }
+        ensures behind { (feed_of self.new).behind ≡ (feed_of self.old).behind }
+        ensures works { OnOk result (self.new.failures ≡ self.old.failures) }
+    {
         let mut cause = Cause::Other;
         if self.reads < MOST_READS {
             self.reads += 1;

@@ -1,4 +1,8 @@
 //! The system's own input, and the pipe by which a logger is asked to stop or to rotate its logs.
+ghost use Rattle.std.specs.Prelude.{◌≡◌};
+ghost use Rattle.std.specs.Io.{ReadsAtMost};
+ghost use Rattle.tai_status.specs.Counted.{Rose};
+
 use crate::line_clock::LineLabels;
 use crate::stop::{Heard, LoggerInput};
 use libc::net::{POLLIN, POLLNVAL, poll};
@@ -36,13 +40,14 @@ enum Word {
 }
 
 /// The standard input, and the channel where there is one. After each read, and where a rotation is heard, the clock is
-/// read for the labels of the lines. It says nothing to contracts.
+/// read for the labels of the lines. Contracts see how many of its calls failed, and nothing of what comes.
 #[derive(Drop)]
 pub struct SystemInput<'l, R: Read + Drop, C: TimeSource + Drop> {
     input: R,
     channel: Option<i32>,
     clock: C,
     labels: &'l LineLabels,
+    failures: u64,
 }
 
 /// The descriptor of the pipe that the environment names as the channel, where there is one. It is to be asked before
@@ -114,18 +119,30 @@ impl<'l, R: Read + Drop, C: TimeSource + Drop> SystemInput<'l, R, C> {
             channel,
             clock,
             labels,
+            failures: 0,
         }
     }
 
     /// Reads the clock for the lines that came.
-    fn renew(&mut self) {
+    fn renew(&mut self)
+        ensures { self.new.failures ≡ self.old.failures }
+    {
         let reading = self.clock.now();
         self.labels.renew(reading);
     }
-}
 
-impl<'l, R: Read + Drop, C: TimeSource + Drop> LoggerInput for SystemInput<'l, R, C> {
-    fn wait(&mut self) -> io::Result<Heard> {
+    /// Counts a call that failed so.
+    fn count(&mut self, fault: Error) -> Error
+        ensures { Rose self.old.failures self.new.failures }
+    {
+        self.failures = self.failures.saturating_add(1);
+        fault
+    }
+
+    /// Waits until there is input, or its end, or a word is heard.
+    fn hear(&mut self) -> io::Result<Heard>
+        ensures { self.new.failures ≡ self.old.failures }
+    {
         for _ in 0..TRIES {
             let Some(channel) = self.channel else {
                 return Ok(Heard::Input);
@@ -149,7 +166,11 @@ impl<'l, R: Read + Drop, C: TimeSource + Drop> LoggerInput for SystemInput<'l, R
         Err(Error::from(ErrorKind::Interrupted))
     }
 
-    fn read_once(&mut self, into: &mut [u8]) -> io::Result<usize> {
+    /// Reads once, and again where that is interrupted.
+    fn take(&mut self, into: &mut [u8]) -> io::Result<usize>
+        ensures bound { ReadsAtMost result into.new }
+        ensures same { self.new.failures ≡ self.old.failures }
+    {
         for _ in 0..TRIES {
             match self.input.read(into) {
                 Ok(count) => {
@@ -164,5 +185,23 @@ impl<'l, R: Read + Drop, C: TimeSource + Drop> LoggerInput for SystemInput<'l, R
             }
         }
         Err(Error::from(ErrorKind::Interrupted))
+    }
+}
+
+impl<'l, R: Read + Drop, C: TimeSource + Drop> LoggerInput for SystemInput<'l, R, C> {
+    ghost failures = { λ input. input.failures };
+
+    fn wait(&mut self) -> io::Result<Heard> {
+        match self.hear() {
+            Ok(heard) => Ok(heard),
+            Err(fault) => Err(self.count(fault)),
+        }
+    }
+
+    fn read_once(&mut self, into: &mut [u8]) -> io::Result<usize> {
+        match self.take(into) {
+            Ok(count) => Ok(count),
+            Err(fault) => Err(self.count(fault)),
+        }
     }
 }

@@ -1,3 +1,4 @@
 pub mod Answered
 pub mod Steps
 pub mod Words
+pub mod Headline

@@ -46,26 +46,26 @@ printed-then : (texts : List (List ℕ)) (text : List ℕ) → printed (texts ++
 printed-then texts text = printed-append texts (text ∷ [])
     ∙ ap (λ (t : List ℕ). printed texts ++ t) (append-nil (text ++ 10 ∷ []))
 
-Consumes-nothing : (a : Option (List ℕ)) → Consumes a a []
+pub Consumes-nothing : (a : Option (List ℕ)) → Consumes a a []
 Consumes-nothing None = tt
 Consumes-nothing (Some xs) = refl
 
 -- Answers, line by line
 
-answers-said : (past : Past) (line : List ℕ) (later : List (List ℕ)) (answer : Said) → said past line ≡ Ok answer
+pub answers-said : (past : Past) (line : List ℕ) (later : List (List ℕ)) (answer : Said) → said past line ≡ Ok answer
     → answers past (line ∷ later) ≡ answer.texts ++ answers answer.past later
 answers-said past line later answer e = rw (e, answers) refl
 
-answers-refused : (past : Past) (line : List ℕ) (later : List (List ℕ)) (why : Why) → said past line ≡ Err why
+pub answers-refused : (past : Past) (line : List ℕ) (later : List (List ℕ)) (why : Why) → said past line ≡ Err why
     → answers past (line ∷ later) ≡ []
 answers-refused past line later why e = rw (e, answers) refl
 
-first_refused-said : (n : ℕ) (past : Past) (line : List ℕ) (later : List (List ℕ)) (answer : Said)
+pub first_refused-said : (n : ℕ) (past : Past) (line : List ℕ) (later : List (List ℕ)) (answer : Said)
     → said past line ≡ Ok answer
     → first_refused n past (line ∷ later) ≡ first_refused (n + 1) answer.past later
 first_refused-said n past line later answer e = rw (e, first_refused) refl
 
-first_refused-refused : (n : ℕ) (past : Past) (line : List ℕ) (later : List (List ℕ)) (why : Why)
+pub first_refused-refused : (n : ℕ) (past : Past) (line : List ℕ) (later : List (List ℕ)) (why : Why)
     → said past line ≡ Err why
     → first_refused n past (line ∷ later) ≡ Some (record { line = n; why = why })
 first_refused-refused n past line later why e = rw (e, first_refused) refl

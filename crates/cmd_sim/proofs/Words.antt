@@ -23,3 +23,7 @@ wrong_word text (word ∷ []) none status old new few some other refused =
     subst (λ (b : Bool). MatchBool b (TableEnds status old new) (RefusesWords command.Sim status old new))
     (sym (differ (text word) (codes "table") other)) refused
 wrong_word text (word ∷ more ∷ words) none status old new few some other refused = absurd (omega (arith, few))
+
+pub no_words : {W P : Type 0} (text : W → List ℕ) (words : List W) → 1 ≤ length words → map text words ≡ [] → P
+no_words text [] some none = absurd (omega (arith, some))
+no_words text (word ∷ words) some none = cc none

@@ -2,3 +2,4 @@ pub mod Sim
 pub mod Progress
 pub mod Ends
 pub mod Session
+pub mod Headline

@@ -14,6 +14,7 @@ use Rattle.sup_core.specs.declared.reading.EventFault.TheVariants as fault
 use Rattle.sup_core.specs.History.{History, Begin, phase_of}
 use Rattle.sup_core.specs.Rules.{next, reply_to, asks_of_begin}
 use Rattle.sup_core.specs.Reading.{fields, begin_from, event_from}
+use Rattle.sup_core.specs.Rules.{letters}
 use Rattle.sup_core.specs.Text.{answer_text, table_text}
 use Rattle.scan_table.specs.declared.fault.ScanFault.{ScanFault}
 use Rattle.scan_table.specs.declared.fault.ScanFault.TheVariants as scan
@@ -238,4 +239,4 @@ abbrev pub both_sides : ℕ → List (List ℕ)
 both_sides byte = table_text byte true ∷ table_text byte false ∷ []
 
 unfoldable pub printed_table : List ℕ
-printed_table = printed (flat_map both_sides (codes "udopchaitkx12q"))
+printed_table = printed (flat_map both_sides letters)

@@ -1,9 +1,10 @@
 //! The command `sim`.
-ghost use Rattle.std.specs.Prelude.{◌≡◌};
+ghost use Rattle.std.specs.Prelude.{◌≡◌, []};
 ghost use Rattle.tai_status.specs.Counted.{Reports};
 ghost use Rattle.cmd_base.specs.Console.{console};
 ghost use Rattle.cmd_sim.specs.Ends.{AnswersByStatus, SimEnds, TableByStatus, texts, refused_report, report_of};
 ghost use Rattle.cmd_sim.specs.Ends.{status_of, unwritten_report};
+ghost use Rattle.cmd_sim.specs.Headline.{Headline};
 
 use crate::fault::{SimFault, Why, why_name};
 use crate::session::answer_lines;
@@ -64,6 +65,8 @@ fn answer_input<A: Allocator + Clone + Copy, D: Read, W: Write, E: Write>(
 ) -> u8
     ensures ends { AnswersByStatus result
         (console reader.old writer.old faults.old) (console reader.new writer.new faults.new) }
+    ensures headline { Headline result
+        (console reader.old writer.old faults.old) (console reader.new writer.new faults.new) }
 {
     match answer_lines(alloc, reader, writer) {
         Ok(()) => DONE,
@@ -95,6 +98,8 @@ pub fn run_sim<A: Allocator + Clone + Copy, D: Read, W: Write, E: Write>(
     faults: &mut Output<E>,
 ) -> u8
     ensures ends { SimEnds (texts words.now) result
+        (console reader.old writer.old faults.old) (console reader.new writer.new faults.new) }
+    ensures headline { texts words.now ≡ [] → Headline result
         (console reader.old writer.old faults.old) (console reader.new writer.new faults.new) }
 {
     match words {

@@ -6,7 +6,7 @@ ghost use Rattle.cmd_base.specs.Printed.{printed};
 ghost use Rattle.cmd_sim.specs.Sim.{both_sides, printed_table};
 
 use arrayvec::ArrayString;
-use sup_core::table_line;
+use sup_core::{letters, table_line};
 
 /// Writes a row of the table and a newline at the end of a text.
 fn push_row(out: &mut ArrayString<2048>, byte: u8, running: bool)
@@ -35,5 +35,5 @@ fn rows_of(bytes: &[u8]) -> ArrayString<2048>
 pub fn whole_table() -> ArrayString<2048>
     ensures { result.bytes ≡ printed_table }
 {
-    rows_of(b"udopchaitkx12q")
+    rows_of(letters())
 }

@@ -4,7 +4,8 @@ use Rattle.std.specs.Prelude.{◌==◌, not, if◌then◌else◌, filter}
 use Rattle.std.proofs.lemmas.Grind.{common_steps}
 use Rattle.std.proofs.lemmas.List.Elements.{filter-append}
 use Rattle.std.proofs.lemmas.Cmp.{nat_eq_equiv}
-use Rattle.cmd_svc.specs.Words.{is_among, without_earlier}
+use Rattle.sup_core.specs.History.{is_among}
+use Rattle.cmd_svc.specs.Words.{without_earlier}
 
 -- two tests of one number
 same_number : (x y z : ℕ) → (z == x) ≡ true → (y == z) ≡ (y == x)

@@ -5,13 +5,15 @@ use Rattle.std.specs.Prelude.{Option, Some, None, MatchOption, IsOk, if◌then�
 use Rattle.std.proofs.Math.Seq.{drop-cons}
 use Rattle.std.proofs.lemmas.Grind.{common_steps}
 use Rattle.std.proofs.lemmas.List.{take_more}
-use Rattle.cmd_svc.specs.Words.{is_among, is_known, is_option, option_letters, first_unknown, without_earlier}
+use Rattle.sup_core.specs.History.{is_among}
+use Rattle.sup_core.specs.Rules.{is_letter}
+use Rattle.cmd_svc.specs.Words.{is_option, option_letters, first_unknown, without_earlier}
 use Rattle.cmd_svc.specs.declared.order.SvcFault.{SvcFault}
 use Rattle.cmd_svc.specs.declared.order.SvcFault.TheVariants.{UnknownLetter}
 use Rattle.cmd_svc.proofs.Earlier.{added}
 
 -- A known letter is passed.
-pub known_here : (letters : List ℕ) (i : ℕ) → i < length letters → is_known (get_or letters i 0) ≡ true
+pub known_here : (letters : List ℕ) (i : ℕ) → i < length letters → is_letter (get_or letters i 0) ≡ true
     → first_unknown (drop (i + 1) letters) ≡ first_unknown (drop i letters)
 known_here letters i within known = let e = drop-cons letters i 0 within in grind (arith, common_steps, e)
 

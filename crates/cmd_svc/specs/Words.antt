@@ -2,23 +2,13 @@
 -- Words, letters and bytes are lists of bytes.
 use Rattle.std.specs.Prelude.{◌≡◌, ℕ, ◌==◌, nat_le, Bool, true, not, ◌&&◌, if◌then◌else◌, List, [], ◌∷◌, length, drop}
 use Rattle.std.specs.Prelude.{slice_index, codes, bytes_eq, filter, map, flat_map, find, Option}
-use Rattle.std.specs.List.{list_any, list_all, IsDistinct}
+use Rattle.std.specs.List.{list_all, IsDistinct}
 use Rattle.std.specs.Borrow.{Bor}
+use Rattle.sup_core.specs.Rules.{is_letter}
 
 -- the words behind references
 abbrev pub texts : List (Bor (List ℕ)) → List (List ℕ)
 texts words = map (λ word. word.now) words
-
--- whether a letter is one of these
-abbrev pub is_among : List ℕ → ℕ → Bool
-is_among letters letter = list_any (λ other. letter == other) letters
-
--- the letters that svc knows
-abbrev pub known_letters : List ℕ
-known_letters = codes "udopchaitkx12q"
-
-abbrev pub is_known : ℕ → Bool
-is_known letter = is_among known_letters letter
 
 -- the word `--`
 abbrev pub is_end : List ℕ → Bool
@@ -51,11 +41,11 @@ service_words words = without_end (after_options words)
 abbrev pub option_letters : List (List ℕ) → List ℕ
 option_letters words = flat_map (λ word. drop 1 word) (option_words words)
 
--- the first letter that svc does not know
+-- the first letter that is no control byte
 abbrev pub first_unknown : List ℕ → Option ℕ
-first_unknown letters = find (λ letter. not (is_known letter)) letters
+first_unknown letters = find (λ letter. not (is_letter letter)) letters
 
--- the first letter of the option words that svc does not know
+-- the first letter of the option words that is no control byte
 abbrev pub unknown_in : List (List ℕ) → Option ℕ
 unknown_in words = first_unknown (option_letters words)
 
@@ -68,7 +58,7 @@ without_earlier (letter ∷ letters) = letter ∷ filter (λ other. not (other =
 abbrev pub order_bytes : List (List ℕ) → List ℕ
 order_bytes words = without_earlier (option_letters words)
 
--- Each is a known letter, and none stands twice.
+-- Each is a control byte, and none stands twice.
 pub record AreKnownOnce (bytes : List ℕ) : Type 0 where
-  pub known : list_all is_known bytes ≡ true
+  pub known : list_all is_letter bytes ≡ true
   pub once : IsDistinct (λ letter other. letter == other) bytes

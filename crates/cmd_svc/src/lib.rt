@@ -26,7 +26,7 @@ pub use line::stat_line;
 pub use look::{Look, fault_name, look_at};
 pub use missing::tell_missing;
 pub use observer::Observer;
-pub use order::{LETTER_COUNT, LETTERS, Order, OrderBytes, SvcFault};
+pub use order::{Order, OrderBytes, SvcFault};
 pub use services::{Services, Unreached};
 pub use svc::run_svc;
 pub use svok::run_svok;

@@ -1,17 +1,14 @@
 ghost use Rattle.std.specs.Prelude.{◌≡◌, [], ◌∷◌, ◌++◌, true, List, ℕ, if◌then◌else◌, IsOk, OnOk, MatchOption};
-ghost use Rattle.cmd_svc.specs.Words.{AreKnownOnce, is_among, is_known, first_unknown, without_earlier};
+ghost use Rattle.sup_core.specs.History.{is_among};
+ghost use Rattle.sup_core.specs.Rules.{is_letter};
+ghost use Rattle.cmd_svc.specs.Words.{AreKnownOnce, first_unknown, without_earlier};
 
 use arrayvec::ArrayVec;
 use std::alloc::{Allocator, Global};
 use std::marker::Model;
+use sup_core::{LETTER_COUNT, is_letter};
 use tai_status::Names;
 use thiserror::Error;
-
-/// How many letters svc knows.
-pub const LETTER_COUNT: usize = 14;
-
-/// The letters that svc knows: each is the control byte that it sends.
-pub const LETTERS: [u8; LETTER_COUNT] = *b"udopchaitkx12q";
 
 /// The control bytes of an order, at most one of each known letter. Contracts see them as a list.
 #[derive(Debug, Drop)]
@@ -71,7 +68,7 @@ impl OrderBytes {
 
     /// Puts a letter at the end, unless it is there.
     fn add(&mut self, letter: u8)
-        requires { is_known letter ≡ true }
+        requires { is_letter letter ≡ true }
         ensures { self.new ≡ (if is_among self.old letter then self.old else self.old ++ letter ∷ []) }
     {
         if !self.bytes.contains(&letter) {
@@ -87,18 +84,11 @@ impl OrderBytes {
             → OnOk result (self.new ≡ without_earlier (before ++ letters.now)) }
     {
         for letter in letters {
-            if !is_known(*letter) {
+            if !is_letter(*letter) {
                 return Err(SvcFault::UnknownLetter(*letter));
             }
             self.add(*letter);
         }
         Ok(())
     }
-}
-
-/// Whether svc knows a letter.
-fn is_known(letter: u8) -> bool
-    ensures { result ≡ is_known letter }
-{
-    LETTERS.contains(&letter)
 }

@@ -7,17 +7,17 @@ use Rattle.std.proofs.lemmas.List.Elements.{All-nil, All-cons, All-head, All-tai
 use mathlib.Core.List.{IsPrefix}
 use Rattle.scan_table.specs.declared.part.PartId.{PartId}
 use Rattle.svc_host.specs.Outputs.{CountsLost}
-use Rattle.svc_host.specs.Parts.{GoOn, HostPart, IsNowhere, IsReading, running_ids}
+use Rattle.svc_host.specs.Parts.{AreHeard, HostPart, IsNowhere, IsReading, running_ids}
 use Rattle.svc_host.specs.Rounds.{HostState}
 use Rattle.cmd_svscan.specs.Leftovers.{AreRead, AreTaken, Lost, Reading}
 
 -- one more reading
 pub read-more : (read : List Reading) (old middle new : List HostPart) (one : Reading) → AreRead read old middle
-    → GoOn middle new → IsReading one.0 new one.1 → AreRead (read ++ one ∷ []) old new
-read-more [] old middle new one so_far goes_on is =
-    (new, subst (λ (parts : List HostPart). GoOn parts new) so_far goes_on, is, refl)
-read-more (first ∷ rest) old middle new one so_far goes_on is =
-    (so_far.0, so_far.1, so_far.2, read-more rest so_far.0 middle new one so_far.3 goes_on is)
+    → AreHeard middle new → IsReading one.0 new one.1 → AreRead (read ++ one ∷ []) old new
+read-more [] old middle new one so_far heard is =
+    (new, subst (λ (parts : List HostPart). AreHeard parts new) so_far heard, is, refl)
+read-more (first ∷ rest) old middle new one so_far heard is =
+    (so_far.0, so_far.1, so_far.2, read-more rest so_far.0 middle new one so_far.3 heard is)
 
 -- one more pair
 pub taken-more : (lost : List Lost) (old middle new : HostState) (one : Lost) → AreTaken lost old middle
@@ -49,19 +49,19 @@ running-somewhere (part ∷ parts) =
     ]
 
 -- A part that is nowhere was nowhere.
-was-nowhere : (id : PartId) (old new : List HostPart) → GoOn old new → IsNowhere id new → IsNowhere id old
-was-nowhere id [] new goes_on nowhere = All-nil (λ (part : HostPart). part.id ≢ id)
-was-nowhere id (part ∷ parts) [] goes_on nowhere = absurd goes_on
-was-nowhere id (part ∷ parts) (other ∷ others) goes_on nowhere =
+was-nowhere : (id : PartId) (old new : List HostPart) → AreHeard old new → IsNowhere id new → IsNowhere id old
+was-nowhere id [] new heard nowhere = All-nil (λ (part : HostPart). part.id ≢ id)
+was-nowhere id (part ∷ parts) [] heard nowhere = absurd heard
+was-nowhere id (part ∷ parts) (other ∷ others) heard nowhere =
     All-cons (λ (one : HostPart). one.id ≢ id) part parts
-    (λ same. All-head (λ (one : HostPart). one.id ≢ id) other others nowhere (goes_on.0.id ∙ same))
-    (was-nowhere id parts others goes_on.1 (All-tail (λ (one : HostPart). one.id ≢ id) other others nowhere))
+    (λ same. All-head (λ (one : HostPart). one.id ≢ id) other others nowhere (heard.0.goes_on.id ∙ same))
+    (was-nowhere id parts others heard.1 (All-tail (λ (one : HostPart). one.id ≢ id) other others nowhere))
 
 -- Parts that were there are there.
-pub still-somewhere : (ids : List PartId) (old new : List HostPart) → GoOn old new → All (IsSomewhere old) ids
+pub still-somewhere : (ids : List PartId) (old new : List HostPart) → AreHeard old new → All (IsSomewhere old) ids
     → All (IsSomewhere new) ids
-still-somewhere ids old new goes_on were =
-    All-weaker (IsSomewhere old) (IsSomewhere new) (λ id is nowhere. is (was-nowhere id old new goes_on nowhere)) ids
+still-somewhere ids old new heard were =
+    All-weaker (IsSomewhere old) (IsSomewhere new) (λ id is nowhere. is (was-nowhere id old new heard nowhere)) ids
     were
 
 -- those so far that count begin all of them

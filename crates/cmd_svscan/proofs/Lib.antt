@@ -1,2 +1,5 @@
+pub mod Asked
+pub mod InTurn
 pub mod Leftovers
 pub mod ListedNames
+pub mod Naming

@@ -6,7 +6,7 @@ use Rattle.scan_table.specs.declared.part.PartId.{PartId}
 use Rattle.scan_table.specs.Slots.{SlotState}
 use Rattle.tai_status.specs.Record.{Status}
 use Rattle.svc_host.specs.Outputs.{CountsLost}
-use Rattle.svc_host.specs.Parts.{GoOn, HostPart, IsReading, running_ids}
+use Rattle.svc_host.specs.Parts.{AreHeard, HostPart, IsReading, running_ids}
 use Rattle.svc_host.specs.Rounds.{HostState}
 use Rattle.svscan_rounds.specs.declared.service_set.Remaining.{Remaining}
 use Rattle.svscan_rounds.specs.declared.service_set.Unfinished.TheVariants.{Bytes}
@@ -30,7 +30,7 @@ remaining_in slots read =
 abbrev pub AreRead : List Reading → (old new : List HostPart) → Type 0
 AreRead [] old new = new ≡ old
 AreRead (reading ∷ rest) old new =
-    (middle : List HostPart) × GoOn old middle × IsReading reading.0 middle reading.1 × AreRead rest middle new
+    (middle : List HostPart) × AreHeard old middle × IsReading reading.0 middle reading.1 × AreRead rest middle new
 
 -- Each part that runs was read, in order, and these processes were found.
 pub record FindsRemaining (old : HostState) (left : List Remaining) (new : HostState) : Type 0 where

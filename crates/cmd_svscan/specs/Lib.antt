@@ -1,5 +1,12 @@
+pub mod Asking
+pub mod Beginning
+pub mod Closing
 pub mod Leftovers
 pub mod Listing
+pub mod Looking
 pub mod Losses
 pub mod OwnStatus
 pub mod Requests
+pub mod Resting
+pub mod Scanning
+pub mod Serving

@@ -1,21 +1,80 @@
--- Which reply belongs to which request.
-use Rattle.std.specs.Prelude.{⊤}
+-- What is done at each request, and what is replied.
+use Rattle.std.specs.Prelude.{◌≡◌, ℕ, List, [], Option, Some, None, Result, Err, option_map, string_bytes}
+use Rattle.scan_table.specs.Slots.{Row}
+use Rattle.scan_table.specs.declared.fault.ScanFault.{ScanFault}
+use Rattle.scan_table.specs.declared.fault.ScanFault.TheVariants as scan
+use Rattle.svscan_rounds.specs.declared.service_set.Begun.{Begun}
+use Rattle.svscan_rounds.specs.declared.service_set.ListFault.{ListFault}
+use Rattle.svscan_rounds.specs.declared.service_set.ListFault.TheVariants as list
+use Rattle.svscan_rounds.specs.declared.service_set.Listing.{Listing}
+use Rattle.svscan_rounds.specs.declared.service_set.Remaining.{Remaining}
+use Rattle.svscan_rounds.specs.declared.service_set.RoundOut.{RoundOut}
+use Rattle.svscan_rounds.specs.declared.service_set.Unlogged.{Unlogged}
+use Rattle.cmd_svscan.specs.Beginning.{Opens, OpensAndBegins}
+use Rattle.cmd_svscan.specs.Closing.{Ends, Leaves}
+use Rattle.cmd_svscan.specs.Looking.{Lists}
+use Rattle.cmd_svscan.specs.Resting.{Hears}
+use Rattle.cmd_svscan.specs.Scanning.{Rounds}
+use Rattle.cmd_svscan.specs.Serving.{Serving}
 use Rattle.cmd_svscan.specs.declared.folder_services.Request.{Request}
 use Rattle.cmd_svscan.specs.declared.folder_services.Request.TheVariants as request
 use Rattle.cmd_svscan.specs.declared.folder_services.Reply.{Reply}
 use Rattle.cmd_svscan.specs.declared.folder_services.Reply.TheVariants as reply
 
--- To each request the reply of its kind.
-abbrev pub IsReplyTo : Request → Reply → Type 0
-IsReplyTo (request.List folder) (reply.Rows rows) = ⊤
-IsReplyTo (request.Round folder rows) (reply.Round out) = ⊤
-IsReplyTo (request.Begin folder) (reply.Begun begun) = ⊤
-IsReplyTo request.Hear (reply.Heard byte) = ⊤
-IsReplyTo request.End (reply.Ended left) = ⊤
-IsReplyTo request.Leave (reply.Left unlogged) = ⊤
-IsReplyTo request reply = ⊥
+-- What each does where there is a host. Where there is none, memory is wanted, nothing is heard, and nothing is left to
+-- end.
 
--- What has this for its calls' results has to each request the reply of its kind.
-abbrev pub RepliesInKind : {F : Type 0} → (post : F → Request → Reply → Type 0) → Type 0
-RepliesInKind {F = F} post =
+abbrev pub ListsIf : (old : Option Serving) → Result Listing ListFault → (new : Option Serving) → Type 0
+ListsIf None answer None = answer ≡ Err list.OutOfMemory
+ListsIf (Some old) answer (Some new) = Lists old.host old.quiet answer new.host new.quiet
+ListsIf old answer new = ⊥
+
+-- A folder was listed, after a host was made, if there was none.
+pub record OpensAndLists (old : Option Serving) (answer : Result Listing ListFault) (new : Option Serving)
+    : Type 0 where
+  pub opened : Option Serving
+  pub opens : Opens old opened
+  pub lists : ListsIf opened answer new
+
+abbrev pub RoundsIf : (folder : List ℕ) → (old : Option Serving) → List Row → Result RoundOut ScanFault
+    → (new : Option Serving) → Type 0
+RoundsIf folder None rows answer None = answer ≡ Err scan.OutOfMemory
+RoundsIf folder (Some old) rows answer (Some new) = Rounds folder old.host old.quiet rows answer new.host new.quiet
+RoundsIf folder old rows answer new = ⊥
+
+abbrev pub HearsIf : (old : Option Serving) → Option ℕ → (new : Option Serving) → Type 0
+HearsIf None byte None = byte ≡ None
+HearsIf (Some old) byte (Some new) = Hears old byte new
+HearsIf old byte new = ⊥
+
+abbrev pub EndsIf : (old : Option Serving) → Option (List Remaining) → (new : Option Serving) → Type 0
+EndsIf None left None = left ≡ None
+EndsIf (Some old) left (Some new) = Ends old.host left new.host × (new.quiet ≡ old.quiet)
+EndsIf old left new = ⊥
+
+abbrev pub LeavesIf : (old : Option Serving) → List Unlogged → (new : Option Serving) → Type 0
+LeavesIf None unlogged None = unlogged ≡ []
+LeavesIf (Some old) unlogged (Some new) = Leaves old.host unlogged new.host × (new.quiet ≡ old.quiet)
+LeavesIf old unlogged new = ⊥
+
+-- This was done, and it has the reply of its kind.
+abbrev pub Serves : Request → Reply → (old new : Option Serving) → Type 0
+Serves (request.Begin folder) (reply.Begun begun) old new = OpensAndBegins (string_bytes folder) old begun new
+Serves (request.List folder) (reply.Rows answer) old new = OpensAndLists old answer new
+Serves (request.Round folder rows) (reply.Round answer) old new =
+    RoundsIf (string_bytes folder) old rows.items answer new
+Serves request.Hear (reply.Heard byte) old new = HearsIf old byte new
+Serves request.End (reply.Ended left) old new = EndsIf old (option_map (λ some. some.items) left) new
+Serves request.Leave (reply.Left unlogged) old new = LeavesIf old unlogged.items new
+Serves request reply old new = ⊥
+
+-- Something is served so that the request has this reply.
+pub record IsReplyTo (request : Request) (reply : Reply) : Type 0 where
+  pub old : Option Serving
+  pub new : Option Serving
+  pub serves : Serves request reply old new
+
+-- What has this for its calls' results has such a reply to each request.
+abbrev pub RepliesAsServed : {F : Type 0} → (post : F → Request → Reply → Type 0) → Type 0
+RepliesAsServed {F = F} post =
     (state : F) (request : Request) (reply : Reply) → post state request reply → IsReplyTo request reply

@@ -8,12 +8,20 @@
 //! What no contract here says, and is only tested: that the system's listing finds what the folder holds.
 #![tactic(auto)]
 
+mod asking;
+mod beginning;
+mod closing;
 mod folder_services;
 mod limits;
 mod listing;
+mod looking;
 mod losses;
 mod own_status;
+mod resting;
+mod running;
+mod scanning;
 
-pub use folder_services::{FolderServices, Reply, Request, SystemHost, handle};
+pub use folder_services::{FolderServices, Reply, Request, handle};
 pub use listing::{FolderNames, list_names, list_rows};
+pub use running::{Running, SystemHost};
 pub use svscan_rounds::{ServiceSet, run_svscan};

@@ -3,13 +3,14 @@ ghost use Rattle.std.specs.Prelude.{◌≡◌, map, string_bytes, IfOk, IfErr};
 ghost use Rattle.std.specs.Fs.{dir_entry_name};
 ghost use Rattle.std.specs.Iterator.{IsFinite};
 ghost use Rattle.cmd_svscan.specs.Listing.{IsWhyUnlisted, Lists};
+ghost use Rattle.cmd_svscan.specs.Looking.{AreRowsOf};
 
 use scan_table::DirRow;
 use std::alloc::{AllocError, Allocator, Global};
 use std::fs::{DirEntry, Files};
 use std::os::unix::fs::MetadataExt;
 use std::{fs, io};
-use svscan_rounds::{Folder, ListFault, rows_of};
+use svscan_rounds::{Folder, FolderState, ListFault, is_unchanged, kept_state, rows_of};
 use tai_status::{Cause, Label};
 
 /// A folder on this system, by its path.
@@ -54,14 +55,6 @@ fn fault_of(fault: &io::Error) -> ListFault {
     }
 }
 
-/// Which folder a path names, and when something in it changed last.
-#[derive(Clone, Copy, Debug, PartialEq, Eq)]
-struct FolderState {
-    device: u64,
-    inode: u64,
-    changed: Label,
-}
-
 /// The names in a folder on this system, as it was when it was listed.
 #[derive(Drop)]
 pub struct FolderNames {
@@ -83,12 +76,6 @@ fn state_of<R: Files>(rt: &R, path: &str) -> Option<FolderState> {
         inode: found.ino(),
         changed: Label::from_unix(seconds, nanos)?,
     })
-}
-
-/// Whether a folder that changed last then, changes its time by another change now: some systems report whole seconds,
-/// or every second one.
-fn is_past(changed: Label, now: Label) -> bool {
-    changed.plus_second().plus_second() < now
 }
 
 /// The names of entries, in order, and how many others have a name that is no text. The first entry that can't be read
@@ -142,7 +129,7 @@ pub fn list_names<R: Files>(
     now: Label,
 ) -> Result<FolderNames, ListFault> {
     // Before the names, so that a change meanwhile is seen the next time.
-    let state = state_of(rt, path).filter(|state| is_past(state.changed, now));
+    let state = kept_state(state_of(rt, path), now);
     match read_names(rt, alloc, path, state) {
         Ok(names) => Ok(names),
         Err(fault) => Err(fault_of(&fault)),
@@ -151,7 +138,7 @@ pub fn list_names<R: Files>(
 
 /// Whether the folder at a path has these names still.
 pub fn has_names<R: Files>(rt: &R, path: &str, names: &FolderNames) -> bool {
-    names.state.is_some() && names.state == state_of(rt, path)
+    is_unchanged(names.state, state_of(rt, path))
 }
 
 /// The rows of these names in a folder on this system, in the byte order of the names. Nothing else in it is looked at.
@@ -160,7 +147,9 @@ pub fn list_rows<R: Files>(
     alloc: Global,
     path: &str,
     names: Vec<String>,
-) -> Result<Vec<DirRow>, ListFault> {
+) -> Result<Vec<DirRow>, ListFault>
+    ensures { IfOk result (λ rows. AreRowsOf (map string_bytes names.items) rows.items) }
+{
     let folder = SystemFolder { rt, alloc, path };
     match rows_of(alloc, &folder, names) {
         Ok(rows) => Ok(rows),

@@ -1,7 +1,7 @@
 //! What a round finds of the ends of parts and of those that could not be made, and what svscan's own end finds.
-ghost use Rattle.std.specs.Prelude.{◌≡◌, map, IfErr, IfOk, OnErr, OnOk};
+ghost use Rattle.std.specs.Prelude.{◌≡◌, map, IfErr, IfOk};
 ghost use mathlib.Core.List.{IsPrefix};
-ghost use Rattle.svc_host.specs.Parts.{losses_in, running_ids, without_loss};
+ghost use Rattle.svc_host.specs.Parts.{losses_in, running_ids};
 ghost use Rattle.cmd_svscan.specs.Losses.{name_at, shown_name, unmade_in, unmade_of, untaken_in, untraced_in};
 ghost use Rattle.cmd_svscan.specs.Leftovers.{AreRead, AreTaken, FindsFirstUnlogged, FindsRemaining, FindsUnlogged};
 ghost use Rattle.cmd_svscan.specs.Leftovers.{part_of, remaining_in, unlogged_in};
@@ -76,22 +76,20 @@ fn untraced_in<M: Maker + Drop, R: Threads + Wait + Clock + Copy + Drop + Send +
     Ok(Names::from_vec(untraced))
 }
 
-/// What was lost at the ends of parts since this was asked last. At want of memory it is asked for again.
-pub(crate) fn take_losses<
-    M: Maker + Drop,
-    R: Threads + Wait + Clock + Copy + Drop + Send + 'static,
->(alloc: Global, host: &mut Host<M, R>) -> Result<(Vec<Untaken>, Names), AllocError>
+/// What was lost at the ends of parts and is not forgotten: the control bytes that were not taken, and the parts whose
+/// last trace was not kept.
+pub(crate) fn losses_of<M: Maker + Drop, R: Threads + Wait + Clock + Copy + Drop + Send + 'static>(
+    alloc: Global,
+    host: &Host<M, R>,
+) -> Result<(Vec<Untaken>, Names), AllocError>
     ensures untaken { IfOk result (λ found.
-        found.0.items ≡ untaken_in host.old.table.slots (losses_in host.old.parts)) }
+        found.0.items ≡ untaken_in host.now.table.slots (losses_in host.now.parts)) }
     ensures untraced { IfOk result (λ found.
-        found.1 ≡ untraced_in host.old.table.slots (losses_in host.old.parts)) }
-    ensures once { OnOk result (host.new ≡ record host.old { parts = map without_loss host.old.parts }) }
-    ensures kept { OnErr result (host.new ≡ host.old) }
+        found.1 ≡ untraced_in host.now.table.slots (losses_in host.now.parts)) }
 {
     let losses = host.losses()?;
     let untaken = untaken_in(alloc, host, &losses)?;
     let untraced = untraced_in(alloc, host, &losses)?;
-    host.forget_losses();
     Ok((untaken, untraced))
 }
 

@@ -2,7 +2,9 @@
 ghost use Rattle.std.specs.Prelude.{◌≡◌};
 ghost use Rattle.cmd_svscan.specs.OwnStatus.{own_status};
 
-use tai_status::{Full, Label, Phase, View, Want};
+use cmd_base::SystemClock;
+use std::time::Clock;
+use tai_status::{Full, Label, Phase, TimeSource, View, Want, encode_full};
 
 /// How svscan itself stands since this moment, with a process of this number; 0: it is gone.
 pub(crate) fn own_status(label: Label, pid: u32) -> Full
@@ -20,4 +22,9 @@ pub(crate) fn own_status(label: Label, pid: u32) -> Full
         (Phase::Gone, true)
     };
     Full::new(view, phase, exiting).unwrap()
+}
+
+/// The status record of svscan itself, now, whose process has this number; 0: it is gone.
+pub(crate) fn own_record<R: Clock + Drop>(rt: R, pid: u32) -> [u8; 20] {
+    encode_full(&own_status(SystemClock::new(rt).now(), pid))
 }

@@ -1,5 +1,5 @@
 //! The command `trace`.
-ghost use Rattle.std.specs.Prelude.{◌≡◌, ◌++◌, None, OnOk, IfErr, IfOk, codes, string_bytes};
+ghost use Rattle.std.specs.Prelude.{◌≡◌, ◌++◌, OnOk, IfErr, IfOk, codes, string_bytes};
 ghost use Rattle.tai_status.specs.Counted.{Works, Reports};
 ghost use Rattle.cmd_local.specs.Ends.{texts};
 ghost use Rattle.cmd_trace.specs.Traced.{FileEnds, FolderEnds, PathEnds, Shows, ReportsMissed, TextEnds, TraceCause};
@@ -16,7 +16,7 @@ use cmd_base::{
     Command, DONE, FileSource, TROUBLE, cause_note, push_number, report, report_device,
     report_parts, usage,
 };
-use cmd_local::{LocalZone, Zone};
+use cmd_local::Zone;
 use std::alloc::{AllocError, Allocator, Global};
 use std::io::{Error, ErrorKind, Write};
 use sup_trace::{Break, TraceFault, kind_name, read_text};
@@ -75,7 +75,9 @@ fn report_trouble<E: Write>(trouble: TraceTrouble, faults: &mut Output<E>) -> u8
     }
 }
 
-/// Prints what this text says, with the local times of a zone where there is one, and answers the status.
+/// Prints what this text says, with the local times of a zone if there is one, and returns the status: 0; or 111 for a
+/// text that is refused, for want of memory and for a fault of the writer. A text that is refused is reported as such,
+/// however little memory there is. The allocator is one of which a copy takes none, as the program's own.
 fn show_bytes<A: Allocator + Clone + Copy, W: Write, E: Write, Z: Zone>(
     alloc: A,
     zone: Option<&Z>,
@@ -93,24 +95,8 @@ fn show_bytes<A: Allocator + Clone + Copy, W: Write, E: Write, Z: Zone>(
     }
 }
 
-/// Prints what this text says, with labels, and answers the status: 0; or 111 for a text that is refused, for want of
-/// memory and for a fault of the writer. A text that is refused is reported as such, however little memory there is.
-/// The allocator is one of which a copy takes none, as the program's own.
-pub fn trace_bytes<A: Allocator + Clone + Copy, W: Write, E: Write>(
-    alloc: A,
-    text: &[u8],
-    at: Option<Break>,
-    writer: &mut Output<W>,
-    faults: &mut Output<E>,
-) -> u8
-    ensures ends { TextEnds None text.now at result writer.old writer.new faults.old faults.new }
-{
-    let no_zone: Option<&LocalZone> = None;
-    show_bytes(alloc, no_zone, text, at, writer, faults)
-}
-
-/// Prints what the text in a file says, with the local times of a zone where there is one, and answers the status:
-/// that of `trace_bytes`, and 111 for a file that can't be read.
+/// Prints what the text in a file says, with the local times of a zone if there is one, and returns the status: that of
+/// `show_bytes`, and 111 for a file that can't be read.
 fn trace_path<R: FileSource, W: Write, E: Write, Z: Zone>(
     files: &R,
     alloc: Global,

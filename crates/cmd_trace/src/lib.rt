@@ -8,5 +8,5 @@ mod local;
 mod shown;
 
 pub use break_word::{read_break, read_spec};
-pub use command::{run_trace, trace_bytes};
+pub use command::run_trace;
 pub use fault::TraceTrouble;

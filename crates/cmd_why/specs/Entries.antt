@@ -1,15 +1,16 @@
 -- The entries of a trace by their kinds, the last of a kind, and what stands before and behind it.
-use Rattle.std.specs.Prelude.{ℕ, Bool, true, false, if◌then◌else◌, List, [], ◌∷◌, codes, Option, Some, None}
+use Rattle.std.specs.Prelude.{ℕ, Bool, true, false, if◌then◌else◌, List, [], ◌∷◌, codes, Option, Some, None, is_some}
 use Rattle.std.specs.List.{list_any}
 use Rattle.sup_core.specs.declared.event.Event.{Event}
 use Rattle.sup_core.specs.declared.event.Event.TheVariants.{Byte, Started, StartFailed, Death}
 use Rattle.sup_core.specs.History.{is_among}
+use Rattle.sup_core.specs.Rules.{signal_of}
 use Rattle.cmd_why.specs.declared.entries.Kind.{Kind}
 use Rattle.cmd_why.specs.declared.entries.Kind.TheVariants as kind
 
 -- whether a control byte has a signal sent to a process that runs
 abbrev pub is_signal : ℕ → Bool
-is_signal byte = is_among (codes "dpchaitk12q") byte
+is_signal byte = is_some (signal_of byte)
 
 abbrev pub is_of : Kind → Event → Bool
 is_of kind.Start (Started pid label) = true

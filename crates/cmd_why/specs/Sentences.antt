@@ -11,13 +11,12 @@ use Rattle.tai_status.specs.declared.phase.Phase.TheVariants as phase
 use Rattle.tai_status.specs.declared.record.Want.{Want}
 use Rattle.tai_status.specs.declared.record.Want.TheVariants as want
 use Rattle.sup_core.specs.declared.asks.Sig.{Sig}
-use Rattle.sup_core.specs.Rules.{signals_of}
-use Rattle.sup_core.specs.Text.{signal_name}
+use Rattle.sup_core.specs.Rules.{signal_of}
+use Rattle.sup_core.specs.Text.{byte_text, signal_name}
 use Rattle.svc_exit.specs.Exits.{signal_name as name_of_signal}
 use Rattle.svc_exit.specs.declared.ending.Ending.{Ending}
 use Rattle.svc_exit.specs.declared.ending.Ending.TheVariants.{Status as OfStatus, Signal}
 use Rattle.cmd_svc.specs.Line.{is_running, seconds, note, normal_notes}
-use Rattle.cmd_why.specs.Entries.{is_signal}
 use Rattle.cmd_why.specs.declared.facts.Ended.{Ended}
 use Rattle.cmd_why.specs.declared.facts.Facts.{Facts}
 use Rattle.cmd_why.specs.declared.last_ends.LastEnd.{LastEnd}
@@ -90,14 +89,14 @@ state_text loaded normally_up time now =
 
 -- What was before: the last end, and the trace, if it leads to that record
 
-abbrev pub first_signal : List Sig → List ℕ
-first_signal [] = []
-first_signal (sig ∷ sigs) = signal_name sig
+-- a signal, and the control byte that sends it
+abbrev pub sent_by : Option Sig → (byte : ℕ) → List ℕ
+sent_by None byte = []
+sent_by (Some sig) byte = signal_name sig ++ codes " (" ++ byte_text byte ++ codes ")"
 
 -- the first signal of a control byte that has one, and the byte
 unfoldable pub signal_words : (byte : ℕ) → List ℕ
-signal_words byte =
-    note (is_signal byte) (first_signal (signals_of byte) ++ codes " (" ++ (byte ∷ []) ++ codes ")")
+signal_words byte = sent_by (signal_of byte) byte
 
 -- the same, as a sentence ends
 unfoldable pub signal_end : (byte : ℕ) → List ℕ

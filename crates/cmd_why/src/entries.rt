@@ -2,7 +2,7 @@
 ghost use Rattle.std.specs.Prelude.{◌≡◌};
 ghost use Rattle.cmd_why.specs.Entries.{before_last, behind_last, is_of, is_signal, last_of};
 
-use sup_core::Event;
+use sup_core::{Event, signal_of};
 
 /// Kinds of entries.
 #[derive(Clone, Copy, Debug, PartialEq, Eq)]
@@ -25,7 +25,7 @@ pub enum Kind {
 pub(crate) fn is_signal(byte: u8) -> bool
     ensures { result ≡ is_signal byte }
 {
-    b"dpchaitk12q".contains(&byte)
+    signal_of(byte).is_some()
 }
 
 /// Whether an entry is of a kind.

@@ -16,6 +16,7 @@ use crate::facts::{Ended, FLAPPING, Facts, nanos};
 use crate::last_ends::{LastEnd, time_of_end};
 use itoa::Buffer;
 use std::alloc::{AllocError, Allocator};
+use sup_core::{byte_text, sig_name, signal_of};
 use svc_exit::{Ending, Exit, signal_name};
 use tai_status::{Label, Loaded, Phase, View, Want};
 
@@ -273,24 +274,17 @@ fn end_words(phase: Phase) -> &'static str
     }
 }
 
-/// The first signal of a control byte that has one, and the byte.
+/// Writes the first signal of a control byte that has one, and the byte.
 #[tactic(auto, unfolding(crate::specs::Sentences::signal_words))]
-fn signal_words(byte: u8) -> &'static str
-    ensures { result.now ≡ signal_words byte }
+fn push_signal_words<A: Allocator>(out: &mut String<A>, byte: u8) -> Result<(), AllocError>
+    ensures { OnOk result (string_bytes out.new ≡ string_bytes out.old ++ signal_words byte) }
 {
-    match byte {
-        b'd' => "TERM (d)",
-        b'p' => "STOP (p)",
-        b'c' => "CONT (c)",
-        b'h' => "HUP (h)",
-        b'a' => "ALRM (a)",
-        b'i' => "INT (i)",
-        b't' => "TERM (t)",
-        b'k' => "KILL (k)",
-        b'1' => "USR1 (1)",
-        b'2' => "USR2 (2)",
-        b'q' => "QUIT (q)",
-        _ => "",
+    match signal_of(byte) {
+        Some(sig) => {
+            push_three(out, sig_name(sig), " (", byte_text(byte).as_str())?;
+            out.push_str(")")
+        }
+        None => Ok(()),
     }
 }
 
@@ -306,7 +300,7 @@ fn push_how<A: Allocator>(
     match sent {
         Some(byte) => {
             out.push_str(" after ")?;
-            out.push_str(signal_words(byte))
+            push_signal_words(out, byte)
         }
         None => out.push_str(unasked_text(unasked)),
     }
@@ -409,7 +403,7 @@ fn push_three<A: Allocator>(
 fn push_signal<A: Allocator>(out: &mut String<A>, byte: u8) -> Result<(), AllocError>
     ensures { OnOk result (string_bytes out.new ≡ string_bytes out.old ++ signal_end byte) }
 {
-    out.push_str(signal_words(byte))?;
+    push_signal_words(out, byte)?;
     out.push_str(".")
 }
 

@@ -11,16 +11,15 @@ use Rattle.scan_table.specs.Slots.{Row}
 use Rattle.suite_core.specs.Places.{IsSuite}
 use Rattle.suite_core.specs.Suite.{SuiteState, scan_restarts, scan_starts}
 use Rattle.svc_host.specs.declared.host.HostOut.{HostOut}
-use Rattle.svc_host.specs.Rounds.{HostState}
+use Rattle.svc_host.specs.Rounds.{HostState, IsScanned}
 use Rattle.host_law.specs.Alike.{part_of}
-use Rattle.host_law.specs.HostRun.{Scanned}
 use Rattle.host_law.specs.Whole.{AreApart, Follows, StandsFor, ids_of}
 
 -- what is to be shown of a scan
 abbrev pub ScansFollow : Type 0 → Type 0
 ScansFollow A =
     (suite : SuiteState) (rows : List Row) (label : Tai64n) (out : HostOut) (old new : HostState)
-    → StandsFor suite old → Scanned rows label out old new → Follows A suite new
+    → StandsFor suite old → IsScanned old rows label out new → Follows A suite new
 
 -- what a scan starts and restarts has names of its own
 abbrev pub ScanApart : Type 0

@@ -22,7 +22,7 @@ use Rattle.suite_core.proofs.Traces.{trace_of-after}
 use Rattle.suite_core.proofs.Runs.{IsSuite-at}
 use Rattle.svc_host.specs.Parts.{HostPart, history_of}
 use Rattle.svc_host.specs.Rounds.{HostState}
-use Rattle.host_law.specs.HostRun.{OneHas, HasHeard, HasEnded, IsAsKnown, AreAsKnown}
+use Rattle.svc_host.specs.HostRun.{OneHas, HasHeard, HasEnded, IsAsKnown, AreAsKnown}
 use Rattle.host_law.specs.Whole.{Turn, Takes, turned_along, AllAccepted, before_end, told, IsToldOf, IsTold, AreApart, ids_of}
 use Rattle.host_law.specs.Whole.{StandsFor, Follows}
 use Rattle.host_law.proofs.Lists.{after_middle, all_both, before_middle, middle_of, others_after, others_before}

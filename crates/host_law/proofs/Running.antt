@@ -1,12 +1,19 @@
 -- A run of a host is a run of each suite that stands for it.
-use Rattle.std.proofs.Common.{◌≡◌, List, [], ◌∷◌, ◌++◌, refl, sym, subst, ap, ◌∙◌}
+use Rattle.std.proofs.Common.{◌≡◌, ◌<◌, ◌≤◌, ℕ, List, [], ◌∷◌, ◌++◌, refl, sym, subst, ap, ◌∙◌, Option, arith}
+use Rattle.std.proofs.lemmas.List.Elements.{All-nil}
+use Rattle.scan_table.specs.Index.{IsNumbered}
+use Rattle.scan_table.specs.Table.{new_table}
+use Rattle.sup_trace.specs.Trace.{IsTrace}
+use Rattle.suite_core.specs.Parts.{PartState}
+use Rattle.svc_host.specs.Calls.{Call}
 use Rattle.tai_status.specs.Label.{Tai64n}
 use Rattle.scan_table.specs.Slots.{Row}
-use Rattle.suite_core.specs.Suite.{SuiteState}
+use Rattle.suite_core.specs.Suite.{SuiteState, new_suite}
 use Rattle.svc_host.specs.declared.host.HostOut.{HostOut}
 use Rattle.svc_host.specs.Rounds.{HostState}
-use Rattle.host_law.specs.HostRun.{HostRun, IsMove, Move, Scans, Hears, Ends, Stays, Scanned}
-use Rattle.host_law.specs.Whole.{AllAccepted, Follows, RunsAreOfSuites, StandsFor, Turn, suite_turned, turned_along}
+use Rattle.svc_host.specs.HostRun.{CameToBe, HostRun, IsMove, Move, Scans, Hears, Ends, Stays}
+use Rattle.host_law.specs.Whole.{AllAccepted, Follows, IsOfSuite, RunsAreOfSuites, StandsFor, Turn, suite_turned}
+use Rattle.host_law.specs.Whole.{turned_along}
 use Rattle.host_law.proofs.Lists.{ScansFollow}
 use Rattle.host_law.proofs.Moving.{ends, hears, stays_so}
 
@@ -44,3 +51,25 @@ runs scan suite old new [] stands run = record {
 runs scan suite old new (move ∷ moves) stands run =
     let one = moved scan suite move old run.0 stands run.1 in
     then_follows suite run.0 new one (runs scan (turned_along suite one.turns) run.0 new moves one.stands run.2)
+
+-- A new suite has the table of a host without parts.
+stands_new : (capacity : ℕ) (calls : Option (List Call)) → 0 < capacity → capacity ≤ 65536
+    → StandsFor (new_suite 0 capacity) (record { table = new_table 0; parts = []; calls = calls })
+stands_new capacity calls some few = record {
+  suite_is = record {
+    room = some;
+    limit = few;
+    rising = λ i j d first within. absurd (omega (arith, within));
+    numbered = All-nil (IsNumbered 0);
+    tied = refl;
+    traces = All-nil (λ (part : PartState). IsTrace part.trace);
+  };
+  table = refl;
+  apart = tt;
+  parts = tt;
+}
+
+pub of_suite : {A : Type 0} → ScansFollow A → (host : HostState) → CameToBe host → IsOfSuite A host
+of_suite scan host came capacity some few =
+    runs scan (new_suite 0 capacity) (record { table = new_table 0; parts = []; calls = came.calls }) host
+    came.runs.moves (stands_new capacity came.calls some few) came.runs.run

@@ -32,7 +32,6 @@ use Rattle.svc_host.specs.Calls.{Call}
 use Rattle.svc_host.specs.Parts.{HostPart, stays}
 use Rattle.svc_host.specs.Rounds.{HostState, IsScanned, after_ends, chosen, staying, unmade_ids}
 use Rattle.host_law.specs.Alike.{part_of}
-use Rattle.host_law.specs.HostRun.{Scanned}
 use Rattle.host_law.specs.Whole.{AreApart, Follows, IsTold, StandsFor, Takes, ids_of}
 use Rattle.host_law.proofs.Lists.{ScanApart, ScansFollow, all_both, turned_round}
 use Rattle.host_law.proofs.Scanning.{filtered, joined, stays-not}
@@ -165,19 +164,20 @@ above_of n high (id ∷ ids) all = (all.0.0, above_of n high ids all.1)
 -- Parts that begin
 
 begun_fresh : (slots : List SlotState) (rows : List Row) (label : Tai64n) (begun : List HostPart)
-    → AllByRecursion (Begins slots rows label) begun
-    → AllByRecursion (λ (part : HostPart). is_gone part.station.opening.phase ≡ false) begun
-    → AllByRecursion HasBegun begun
-begun_fresh slots rows label begun each alive =
-    all_both (Begins slots rows label) (λ (part : HostPart). is_gone part.station.opening.phase ≡ false) HasBegun begun
-    (λ part one living. record { alive = living; known = one.begun.known; runs = one.begun.has_ended }) each alive
+    → AllByRecursion (Begins slots rows label) begun → AllByRecursion HasBegun begun
+begun_fresh slots rows label [] each = tt
+begun_fresh slots rows label (part ∷ begun) each = (
+  record { alive = each.0.begun.alive; known = each.0.begun.known; runs = each.0.begun.has_ended },
+  begun_fresh slots rows label begun each.1,
+)
 
 module _ (A : Type 0) (apart : ScanApart) (suite : SuiteState) (rows : List Row) (label : Tai64n) (out : HostOut)
     (olds : List HostPart) (calls : Option (List Call)) (new : HostState) (suite_is : IsSuite suite)
     (apart_olds : AreApart (ids_of olds)) (told : AllByRecursion (IsTold suite) olds)
-    (free : scan_refusal suite.table rows ≡ None)
-    (is : IsScanned (record { table = suite.table; parts = olds; calls = calls }) rows label out new)
-    (alive : AllByRecursion (λ (part : HostPart). is_gone part.station.opening.phase ≡ false) new.parts) where
+    (is : IsScanned (record { table = suite.table; parts = olds; calls = calls }) rows label out new) where
+  free : scan_refusal suite.table rows ≡ None
+  free = is.accepted
+
   abbrev table : TableState
   table = suite.table
 
@@ -247,9 +247,7 @@ module _ (A : Type 0) (apart : ScanApart) (suite : SuiteState) (rows : List Row)
       (begun_so suite rows label suite_is free)))
       (staying_told suite rows label olds suite_is told)
       (begun_fresh (scanned table rows).slots rows label begun
-      (recursion_from_All (Begins (scanned table rows).slots rows label) begun is.begun.each)
-      (AllByRecursion-right (λ (part : HostPart). is_gone part.station.opening.phase ≡ false) stay begun
-      (subst (AllByRecursion (λ (part : HostPart). is_gone part.station.opening.phase ≡ false)) parts_are alive)))
+      (recursion_from_All (Begins (scanned table rows).slots rows label) begun is.begun.each))
 
   pub follows : Follows A suite new
   follows = record {
@@ -274,7 +272,5 @@ module _ (A : Type 0) (apart : ScanApart) (suite : SuiteState) (rows : List Row)
 pub scans_follow : (A : Type 0) → ScanApart → ScansFollow A
 scans_follow A apart suite rows label out old new stands sc =
     follows A apart suite rows label out old.parts old.calls new stands.suite_is stands.apart stands.parts
-    (ap (λ (t : TableState). scan_refusal t rows) stands.table ∙ sc.accepted)
     (subst (λ (t : TableState). IsScanned (record { table = t; parts = old.parts; calls = old.calls }) rows label out
-    new) (sym stands.table) sc.scanned)
-    (recursion_from_All (λ (part : HostPart). is_gone part.station.opening.phase ≡ false) new.parts sc.alive)
+    new) (sym stands.table) sc)

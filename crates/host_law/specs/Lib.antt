@@ -1,3 +1,2 @@
 pub mod Alike
-pub mod HostRun
 pub mod Whole

@@ -1,5 +1,5 @@
 -- That a whole run of a host is a run of a suite.
-use Rattle.std.specs.Prelude.{◌≡◌, ⊤, ℕ, Bool, true, false, if◌then◌else◌, List, [], ◌∷◌, ◌++◌, map, Option, Some, None}
+use Rattle.std.specs.Prelude.{◌≡◌, ◌<◌, ◌≤◌, ⊤, ℕ, Bool, true, false, if◌then◌else◌, List, [], ◌∷◌, ◌++◌, map, Option, Some, None}
 use Rattle.std.specs.List.{AllByRecursion}
 use Rattle.sup_core.specs.declared.event.Event.{Event}
 use Rattle.sup_core.specs.State.{State, is_gone}
@@ -10,10 +10,10 @@ use Rattle.scan_table.specs.declared.part.PartId.{PartId}
 use Rattle.suite_lines.specs.declared.event.SuiteEvent.{SuiteEvent}
 use Rattle.suite_core.specs.Parts.{PartState, is_part, trace_of, has_ended}
 use Rattle.suite_core.specs.Places.{IsSuite}
-use Rattle.suite_core.specs.Suite.{SuiteState, refusal, suite_after}
+use Rattle.suite_core.specs.Suite.{SuiteState, new_suite, refusal, suite_after}
 use Rattle.svc_host.specs.Parts.{HostPart}
 use Rattle.svc_host.specs.Rounds.{HostState}
-use Rattle.host_law.specs.HostRun.{HostRun, Move}
+use Rattle.svc_host.specs.HostRun.{HostRun, Move}
 
 -- Runs of a suite in which parts may open otherwise
 
@@ -108,3 +108,8 @@ abbrev pub RunsAreOfSuites : Type 0 → Type 0
 RunsAreOfSuites A =
     (suite : SuiteState) (old new : HostState) (moves : List Move)
     → StandsFor suite old → HostRun moves old new → Follows A suite new
+
+-- What was done with a host so far is a run of a new suite, for traces of any capacity.
+abbrev pub IsOfSuite : Type 0 → HostState → Type 0
+IsOfSuite A host =
+    (capacity : ℕ) → 0 < capacity → capacity ≤ 65536 → Follows A (new_suite 0 capacity) host

@@ -1,8 +1,12 @@
 //! The law of host and suite. Each function here does nothing: its contract is the law.
 ghost use Rattle.host_law.specs.Alike.{PartsPublishAlike, ScansAreAlike};
-ghost use Rattle.host_law.specs.Whole.{RunsAreOfSuites};
+ghost use Rattle.host_law.specs.Whole.{IsOfSuite, RunsAreOfSuites};
 
 use std::alloc::Allocator;
+use std::sync::Wait;
+use std::thread::Threads;
+use std::time::Clock;
+use svc_host::{Host, Maker};
 
 /// A scan of a host is a scan of each suite with the same table: it answers the same starts, restarts, drops and
 /// refusals, comes to the same table, but for the parts that could not be made, which have ended, keeps the parts that
@@ -17,6 +21,18 @@ pub fn scans_are_alike()
 pub fn parts_publish_alike<A: Allocator>()
     ensures { PartsPublishAlike A }
 {}
+
+/// Whatever was done with a host so far, there are turns of a new suite, each of which it accepts, after which it has the
+/// host's table, and of each part of the host the trace of that part's own events.
+pub fn host_is_of_a_suite<
+    A: Allocator,
+    M: Maker + Drop,
+    R: Threads + Wait + Clock + Copy + Drop + Send + 'static,
+>(host: &Host<M, R>)
+    ensures { IsOfSuite A host.now }
+{
+    host.has_run();
+}
 
 /// A whole run of a host is a run of each suite that stands for it.
 pub fn runs_are_of_suites<A: Allocator>()

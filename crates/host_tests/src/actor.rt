@@ -45,7 +45,7 @@ pub(crate) struct Actor {
 
 impl World for Actor {
     fn signal(&mut self, sig: Sig, _pid: u32) {
-        if sig == Sig::Term {
+        if sig == Sig::TERM {
             self.process.is_dying.store(true, Ordering::SeqCst);
         }
     }

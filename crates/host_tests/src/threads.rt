@@ -10,10 +10,10 @@ use std::sync::{Arc, Wait};
 use std::test::Fail;
 use std::thread::Threads;
 use std::time::Clock;
-use svc_host::{Host, PostFault};
+use svc_host::{Host, Maker, PostFault};
 use tai_status::{Label, Name, View, Want};
 
-fn main_of(slot: u64, life: u64) -> PartId {
+pub(crate) fn main_of(slot: u64, life: u64) -> PartId {
     PartId {
         slot,
         role: Role::Main,
@@ -21,7 +21,7 @@ fn main_of(slot: u64, life: u64) -> PartId {
     }
 }
 
-fn log_of(slot: u64, life: u64) -> PartId {
+pub(crate) fn log_of(slot: u64, life: u64) -> PartId {
     PartId {
         slot,
         role: Role::Log,
@@ -29,17 +29,22 @@ fn log_of(slot: u64, life: u64) -> PartId {
     }
 }
 
+/// The row of a service of this name.
+pub(crate) fn row(alloc: Global, name: &str, has_log: bool) -> Result<DirRow, AllocError> {
+    Ok(DirRow {
+        name: Name::new(String::from_str(alloc, name)?),
+        is_dir: true,
+        has_log,
+        down: false,
+        log_down: false,
+    })
+}
+
 /// The rows of services of these names.
 fn rows(alloc: Global, names: &[&str], has_log: bool) -> Result<Vec<DirRow>, AllocError> {
     let mut rows = Vec::new(alloc);
     for name in names {
-        rows.push(DirRow {
-            name: Name::new(String::from_str(alloc, name)?),
-            is_dir: true,
-            has_log,
-            down: false,
-            log_down: false,
-        })?;
+        rows.push(row(alloc, name, has_log)?)?;
     }
     Ok(rows)
 }
@@ -122,9 +127,9 @@ fn both_run<R: Threads + Wait + Clock + Copy + Drop + Send + 'static>(
 }
 
 /// Ends all services, in order. How many there were.
-fn finish<R: Threads + Wait + Clock + Copy + Drop + Send + 'static>(
+pub(crate) fn finish<M: Maker + Drop, R: Threads + Wait + Clock + Copy + Drop + Send + 'static>(
     rt: &R,
-    host: &mut Host<Cast, R>,
+    host: &mut Host<M, R>,
 ) -> Option<u64> {
     let count = host.running_parts().ok()?.len();
     for _ in 0..LOOKS {

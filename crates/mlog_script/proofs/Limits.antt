@@ -10,6 +10,8 @@ use Rattle.mlog_script.specs.Script.{size_after, keep_after, plan_behind, log_pl
 use Rattle.mlog_script.specs.declared.fault.ScriptFaultKind.{ScriptFaultKind}
 use Rattle.mlog_script.specs.declared.fault.ScriptFaultKind.TheVariants.{SizeRange, CountRange, BadNumber, Processor}
 use Rattle.mlog_script.specs.declared.fault.ScriptFaultKind.TheVariants.{UnknownAction, Pattern}
+use Rattle.mlog_script.specs.declared.plan.TheConstants.{DEFAULT_SIZE, DEFAULT_KEEP}
+use Rattle.mlog_script.specs.declared.word.TheConstants.{LEAST_SIZE, MOST_SIZE}
 use Rattle.mlog_script.proofs.Plans.{plans_behind}
 
 ok_same : {A E : Type 0} (x y : A) → ◌≡◌ {A = Result A E} (Ok x) (Ok y) → x ≡ y
@@ -64,8 +66,8 @@ said_within (first ∷ rest) a e =
     branch (first == 116) _ _ a (λ e. alone_within Stamp rest a refl e) (λ e.
     branch (first == 101) _ _ a (λ e. alone_within Alert rest a refl e) (λ e.
     branch (first == 115) _ _ a
-    (λ e. sets_within (λ n. Size n) 4096 (in_range rest 4096 16777215 SizeRange) a
-    (λ n. in_range_least rest 4096 16777215 SizeRange n) (λ n low. grind (arith, low)) e) (λ e.
+    (λ e. sets_within (λ n. Size n) LEAST_SIZE (in_range rest LEAST_SIZE MOST_SIZE SizeRange) a
+    (λ n. in_range_least rest LEAST_SIZE MOST_SIZE SizeRange n) (λ n low. grind (arith, low)) e) (λ e.
     branch (first == 110) _ _ a
     (λ e. sets_within (λ n. Keep n) 2 (in_range rest 2 4294967295 CountRange) a
     (λ n. in_range_least rest 2 4294967295 CountRange n) (λ n low. grind (arith, low)) e) (λ e.
@@ -87,18 +89,18 @@ actions_within (w ∷ ws) (a ∷ acts) e =
 
 -- Plans
 
-size_behind : (acts : List Act) (o : Option ℕ) → list_all is_within_limits acts ≡ true → 4096 ≤ unwrap_or o 99999
-    → 4096 ≤ unwrap_or (last_or o (filter_map size_set acts)) 99999
+size_behind : (acts : List Act) (o : Option ℕ) → list_all is_within_limits acts ≡ true → LEAST_SIZE ≤ unwrap_or o DEFAULT_SIZE
+    → LEAST_SIZE ≤ unwrap_or (last_or o (filter_map size_set acts)) DEFAULT_SIZE
 size_behind [] o within low = low
 size_behind (Size n ∷ acts) o within low =
-    let here : 4096 ≤ n = grind (arith, within) in
+    let here : LEAST_SIZE ≤ n = grind (arith, within) in
     let later : list_all is_within_limits acts ≡ true = grind (arith, within) in
     size_behind acts (Some n) later here
 size_behind (Keep n ∷ acts) o within low = size_behind acts o (grind (arith, within)) low
 size_behind (act ∷ acts) o within low = size_behind acts o within low
 
-keep_behind : (acts : List Act) (o : Option ℕ) → list_all is_within_limits acts ≡ true → 2 ≤ unwrap_or o 10
-    → 2 ≤ unwrap_or (last_or o (filter_map keep_set acts)) 10
+keep_behind : (acts : List Act) (o : Option ℕ) → list_all is_within_limits acts ≡ true → 2 ≤ unwrap_or o DEFAULT_KEEP
+    → 2 ≤ unwrap_or (last_or o (filter_map keep_set acts)) DEFAULT_KEEP
 keep_behind [] o within low = low
 keep_behind (Keep n ∷ acts) o within low =
     let here : 2 ≤ n = grind (arith, within) in
@@ -116,14 +118,14 @@ all_next (a ∷ acts) act within is =
     rw here (all_next acts act later is)
 
 IsWithin : Plan → Type 0
-IsWithin plan = (4096 ≤ plan.size) × (2 ≤ plan.keep)
+IsWithin plan = (LEAST_SIZE ≤ plan.size) × (2 ≤ plan.keep)
 
 plan_within : (before : List Act) (act : Act) (plan : Plan) → list_all is_within_limits before ≡ true
     → plan_behind before act ≡ Some plan → IsWithin plan
 unfolding IsWithin
 plan_within before (Log folder) plan within e =
     let is : record { folder = folder; size = size_after before; keep = keep_after before } ≡ plan = cc in
-    subst (λ (p : Plan). (4096 ≤ p.size) × (2 ≤ p.keep)) is (
+    subst (λ (p : Plan). (LEAST_SIZE ≤ p.size) × (2 ≤ p.keep)) is (
       size_behind before None within (omega arith),
       keep_behind before None within (omega arith),
     )
@@ -149,12 +151,12 @@ plans_within_behind before (act ∷ acts) log plan within also e =
 
 pub plans_within : (acts : List Act) (log : ℕ) (plan : Plan) → list_all is_within_limits acts ≡ true
     → slice_get (log_plans acts) log ≡ Some plan
-    → (4096 ≤ plan.size) × (2 ≤ plan.keep)
+    → (LEAST_SIZE ≤ plan.size) × (2 ≤ plan.keep)
 unfolding IsWithin
 plans_within acts log plan within e = plans_within_behind [] acts log plan refl within e
 
 pub plan_limits : (acts : List Act) (log : ℕ) (o : Option Plan) → list_all is_within_limits acts ≡ true
     → o ≡ slice_get (log_plans acts) log
-    → IfSome o (λ plan. (4096 ≤ plan.size) × (2 ≤ plan.keep))
+    → IfSome o (λ plan. (LEAST_SIZE ≤ plan.size) × (2 ≤ plan.keep))
 plan_limits acts log None within e = tt
 plan_limits acts log (Some plan) within e = plans_within acts log plan within (sym e)

@@ -10,6 +10,7 @@ use Rattle.mlog_script.specs.Placed.{placed_behind}
 use Rattle.mlog_script.specs.Script.{Act, Log, Status, Plan, plan_behind, log_plans, path_of, file_paths, size_set}
 use Rattle.mlog_script.specs.Script.{keep_set, size_after, keep_after, is_log, is_file}
 use Rattle.mlog_script.proofs.Placed.{given_next}
+use Rattle.mlog_script.specs.declared.plan.TheConstants.{DEFAULT_SIZE, DEFAULT_KEEP}
 
 -- the logs of actions that stand behind others
 abbrev pub plans_behind : List Act → List Act → List Plan
@@ -37,7 +38,7 @@ pub size_step : {R : Type 0} (f : R → Act) (actions : List R) (k : ℕ) (actio
     → next ≡ size_after (map f (take (k + 1) actions))
 size_step f actions k action size next within is was e =
     e ∙ ap (λ n. unwrap_or (size_set (f action)) n) was
-    ∙ sym (given_next size_set (map f (take k actions)) (f action) 99999)
+    ∙ sym (given_next size_set (map f (take k actions)) (f action) DEFAULT_SIZE)
     ∙ ap size_after (sym (map_more f actions k action within ∙ ap (λ y. map f (take k actions) ++ f y ∷ []) (sym is)))
 
 pub keep_step : {R : Type 0} (f : R → Act) (actions : List R) (k : ℕ) (action : R) (keep next : ℕ) → k < length actions
@@ -46,7 +47,7 @@ pub keep_step : {R : Type 0} (f : R → Act) (actions : List R) (k : ℕ) (actio
     → next ≡ keep_after (map f (take (k + 1) actions))
 keep_step f actions k action keep next within is was e =
     e ∙ ap (λ n. unwrap_or (keep_set (f action)) n) was
-    ∙ sym (given_next keep_set (map f (take k actions)) (f action) 10)
+    ∙ sym (given_next keep_set (map f (take k actions)) (f action) DEFAULT_KEEP)
     ∙ ap keep_after (sym (map_more f actions k action within ∙ ap (λ y. map f (take k actions) ++ f y ∷ []) (sym is)))
 
 -- There is a plan for each log, and a path for each status file.

@@ -13,6 +13,8 @@ use Rattle.mlog_script.specs.declared.fault.ScriptFaultKind.TheVariants.{StampNo
 use Rattle.mlog_script.specs.declared.fault.ScriptFaultKind.TheVariants.{BadNumber, Processor, UnknownAction, Pattern}
 use Rattle.mlog_script.specs.declared.fault.ScriptFaultKind.TheVariants.{SameLogTwice}
 use Rattle.mlog_script.specs.declared.fault.ScriptFault.{ScriptFault}
+use Rattle.mlog_script.specs.declared.plan.TheConstants.{DEFAULT_SIZE, DEFAULT_KEEP}
+use Rattle.mlog_script.specs.declared.word.TheConstants.{LEAST_SIZE, MOST_SIZE}
 
 -- The action that a word asks for.
 pub data Act : Type 0 where
@@ -82,7 +84,7 @@ said [] = Err UnknownAction
 said (first ∷ rest) =
     if first == 116 then alone Stamp rest
     else (if first == 101 then alone Alert rest
-    else (if first == 115 then sets (λ n. Size n) (in_range rest 4096 16777215 SizeRange)
+    else (if first == 115 then sets (λ n. Size n) (in_range rest LEAST_SIZE MOST_SIZE SizeRange)
     else (if first == 110 then sets (λ n. Keep n) (in_range rest 2 4294967295 CountRange)
     else (if first == 43 then on_pattern (Select rest) rest
     else (if first == 45 then on_pattern (Deselect rest) rest
@@ -163,17 +165,17 @@ keep_set act = None
 
 -- whether an action's number is within its limits, as every word's is
 abbrev pub is_within_limits : Act → Bool
-is_within_limits (Size n) = nat_le 4096 n
+is_within_limits (Size n) = nat_le LEAST_SIZE n
 is_within_limits (Keep n) = nat_le 2 n
 is_within_limits act = true
 
--- the size of a log behind these actions: the last that they set, or 99999
+-- the size of a log behind these actions: the last that they set, or the default
 abbrev pub size_after : List Act → ℕ
-size_after acts = unwrap_or (last_given size_set acts) 99999
+size_after acts = unwrap_or (last_given size_set acts) DEFAULT_SIZE
 
--- how many old files a log behind these actions keeps: the last number that they set, or 10
+-- how many old files a log behind these actions keeps: the last number that they set, or the default
 abbrev pub keep_after : List Act → ℕ
-keep_after acts = unwrap_or (last_given keep_set acts) 10
+keep_after acts = unwrap_or (last_given keep_set acts) DEFAULT_KEEP
 
 -- A log: its folder, its size, and how many old files it keeps.
 pub record Plan : Type 0 where

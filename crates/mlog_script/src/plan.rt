@@ -8,10 +8,10 @@ use std::alloc::Allocator;
 use std::marker::Model;
 
 /// The size of a log, where no word sets one.
-const DEFAULT_SIZE: u64 = 99_999;
+pub const DEFAULT_SIZE: u64 = 99_999;
 
 /// How many old files a log keeps, where no word sets it.
-const DEFAULT_KEEP: u64 = 10;
+pub const DEFAULT_KEEP: u64 = 10;
 
 /// What a script asks of a log.
 #[derive(Debug, Drop)]

@@ -6,6 +6,7 @@ ghost use Rattle.mlog_script.specs.Script.{is_within_limits, log_plans, file_pat
 ghost use Rattle.mlog_script.specs.Named.{IsWantOfMemory};
 ghost use Rattle.mlog_script.specs.Selection.{stamps};
 ghost use Rattle.mlog_script.specs.Action.{act};
+ghost use Rattle.mlog_script.specs.declared.word.TheConstants.{LEAST_SIZE};
 
 use crate::action::Action;
 use crate::check::check_words;
@@ -111,7 +112,7 @@ impl<A: Allocator + Clone> Script<A> {
     pub fn log(&self, log: usize) -> Option<LogPlan<'_>>
         ensures plan { result ≡ slice_get (log_plans self.now) log }
         ensures there { IsSome result ↔ log < count_by is_log self.now }
-        ensures limits { IfSome result (λ plan. (4096 ≤ plan.size) × (2 ≤ plan.keep)) }
+        ensures limits { IfSome result (λ plan. (LEAST_SIZE ≤ plan.size) × (2 ≤ plan.keep)) }
     {
         log_plan(self.actions(), log)
     }

@@ -43,11 +43,17 @@ pub(crate) fn read_word(word: &[u8]) -> Result<Said<'_>, ScriptFaultKind>
     }
 }
 
+/// The least size of a log.
+pub(crate) const LEAST_SIZE: u64 = 4096;
+
+/// The most bytes that a log's file may have.
+const MOST_SIZE: u64 = 16_777_215;
+
 /// The size that digits set.
 fn size_in(digits: &[u8]) -> Result<u64, ScriptFaultKind>
-    ensures { result ≡ in_range digits.now 4096 16777215 ScriptFaultKind.SizeRange }
+    ensures { result ≡ in_range digits.now LEAST_SIZE MOST_SIZE ScriptFaultKind.SizeRange }
 {
-    number_in(digits, 4096, 16_777_215, ScriptFaultKind::SizeRange)
+    number_in(digits, LEAST_SIZE, MOST_SIZE, ScriptFaultKind::SizeRange)
 }
 
 /// The number of old files that digits set.

@@ -30,7 +30,8 @@ use Rattle.suite_lines.specs.declared.event.SuiteEvent.TheVariants.{Scan}
 use Rattle.suite_core.specs.Parts.{PartState, is_part, is_place, trace_of, restarted_in, is_of}
 use Rattle.suite_core.specs.Suite.{SuiteState, IsSuiteEvent, fault_of_scan, refusal_of_scan, Beginning, beginning}
 use Rattle.suite_core.specs.Suite.{begun_part, opening, parts_scanned, scan_starts, scan_restarts, suite_scanned}
-use Rattle.suite_core.specs.Run.{suite_along, AreAccepted, BeginAsRowsSay}
+use Rattle.suite_core.specs.Suite.{refusal, suite_after}
+use Rattle.suite_core.specs.Run.{suite_along, AreAccepted, BeginAsRowsSay, BeginsAsRowsSay}
 use Rattle.suite_core.specs.Places.{rank, AreRising, Seen, seen, seen_life, seen_in, IsSuite}
 use Rattle.suite_core.proofs.Names.{is_part-self, is_part-same, is_place-rank, is_place-same}
 use Rattle.suite_core.proofs.Tied.{parts-rise, parts-stay, rank-bound}
@@ -574,3 +575,16 @@ begins-as-rows-say suite events n is conditions accepted place rows label within
     ++ scan_restarts before.table rows))
     (sym reached) (begun-there before rows label (at-place suite events place is all)
     (accepted-rise before.table rows free))
+
+-- A scan that is taken begins its parts as its rows say.
+pub one-begins : {A : Type 0} → (suite later : SuiteState) (event : SuiteEvent A) → IsSuite suite
+    → refusal suite event ≡ None → later ≡ suite_after suite event → BeginsAsRowsSay suite event later
+one-begins {A = A} suite later event is free goes rows label this =
+    let reached : later ≡ suite_scanned suite rows label =
+    goes ∙ ap (λ (e : SuiteEvent A). suite_after suite e) this in
+    let none : refusal_of_scan suite rows ≡ None = subst (λ (e : SuiteEvent A). refusal suite e ≡ None) this free in
+    subst (λ (s : SuiteState).
+    All (λ (begun : Beginning). trace_of s.parts begun.part
+    ≡ Some (new_trace (state_of (opening label begun)) suite.capacity)) (scan_starts suite.table rows
+    ++ scan_restarts suite.table rows))
+    (sym reached) (begun-there suite rows label is (accepted-rise suite.table rows none))

@@ -37,6 +37,7 @@ use Rattle.suite_core.specs.Suite.{outs_at, outs_of, suite_at, suite_scanned, ta
 use Rattle.suite_core.specs.Suite.{scan_starts, scan_restarts, suite_after}
 use Rattle.suite_core.specs.Run.{suite_along, outs_along, AreAccepted, Ran, own_events, own_between, Follows}
 use Rattle.suite_core.specs.Run.{FollowsIfThere, GoByOwnEvents, ReplyByOwnHistory, is_taken_away, is_named, LeaveOthers}
+use Rattle.suite_core.specs.Run.{GoesByOwnEvent, RepliesByOwnHistory, LeavesOthers}
 use Rattle.suite_core.specs.Places.{IsSuite}
 use Rattle.suite_core.proofs.Names.{is_part-same, is_part-later}
 use Rattle.suite_core.proofs.Traces.{noted_where, trace_of-after, AreOthers, is_among, is_replaced, restarted-one}
@@ -497,3 +498,26 @@ accepted-at suite events n place event within here accepted =
     let parted : take place events ++ event ∷ later ≡ take n events =
     sym (append_assoc (take place events) (event ∷ []) later) ∙ whole in
     (accepted-append suite (take place events) (event ∷ later) (subst (AreAccepted suite) (sym parted) accepted)).1.0
+
+-- One event
+
+module _ {A : Type 0} (suite later : SuiteState) (event : SuiteEvent A) (is : IsSuite suite) where
+  pub one-own : IsSuiteEvent event → later ≡ suite_after suite event → GoesByOwnEvent suite event later
+  one-own condition goes id kept at =
+      subst (λ (s : SuiteState). FollowsIfThere kept (own_events id (event ∷ [])) (trace_of s.parts id)) (sym goes)
+      (by-own-events suite (event ∷ []) 1 is
+      (All-cons IsSuiteEvent event [] condition (All-nil IsSuiteEvent)) id 0 1 kept (omega arith) (omega arith) at)
+
+  pub one-leaves : later ≡ suite_after suite event → LeavesOthers suite event later
+  one-leaves goes id kept unnamed at =
+      ap (λ (s : SuiteState). trace_of s.parts id) goes ∙ left-one suite event id kept is unnamed at
+
+  pub one-replies : (outs left : List (StepOut A)) → refusal suite event ≡ None → left ≡ outs ++ outs_of suite event
+      → RepliesByOwnHistory suite event outs left
+  one-replies outs left free goes id own kept this at =
+      let here : (if is_none (trace_of suite.parts id) then Some fault.NoSuchPart else None) ≡ None =
+      subst (λ (e : SuiteEvent A). refusal suite e ≡ None) this free in
+      goes ∙ ap (λ (e : SuiteEvent A). outs ++ outs_of suite e) this
+      ∙ ap (λ (l : List (StepOut A)). outs ++ l)
+      (out-by id own (trace_of suite.parts id) kept [] here
+      (by-own-events {A = A} suite [] 0 is (All-nil IsSuiteEvent) id 0 0 kept (omega arith) (omega arith) at))

@@ -117,3 +117,33 @@ BeginAsRowsSay suite events n =
     All (λ (begun : Beginning). trace_at suite events (suc place) begun.part
     ≡ Some (new_trace (state_of (opening label begun)) before.capacity))
     (scan_starts before.table rows ++ scan_restarts before.table rows)
+
+-- The same of one event
+
+-- An event at a part that is there is answered as the part's own history says.
+abbrev pub RepliesByOwnHistory : {A : Type 0} → SuiteState → SuiteEvent A → (outs left : List (StepOut A)) → Type 0
+RepliesByOwnHistory suite event outs left =
+    (id : PartId) (own : Event) (kept : Kept) → event ≡ At id own → trace_of suite.parts id ≡ Some kept
+    → let past = history_of kept in
+    left ≡ outs ++ out.At id (reply_to past own) (phase_of (next past own)) ∷ []
+
+-- Each part goes on by the event if that is its own, and by none otherwise.
+abbrev pub GoesByOwnEvent : {A : Type 0} → SuiteState → SuiteEvent A → (later : SuiteState) → Type 0
+GoesByOwnEvent suite event later =
+    (id : PartId) (kept : Kept) → trace_of suite.parts id ≡ Some kept
+    → FollowsIfThere kept (own_events id (event ∷ [])) (trace_of later.parts id)
+
+-- Each part that is not named is as it was.
+abbrev pub LeavesOthers : {A : Type 0} → SuiteState → SuiteEvent A → (later : SuiteState) → Type 0
+LeavesOthers suite event later =
+    (id : PartId) (kept : Kept) → is_named suite event id ≡ false → trace_of suite.parts id ≡ Some kept
+    → trace_of later.parts id ≡ Some kept
+
+-- Each part that a scan begins is there after it, and its history opens with the `down` of its row, at the scan's
+-- label.
+abbrev pub BeginsAsRowsSay : {A : Type 0} → SuiteState → SuiteEvent A → (later : SuiteState) → Type 0
+BeginsAsRowsSay suite event later =
+    (rows : List Row) (label : Tai64n) → event ≡ Scan rows label
+    → All (λ (begun : Beginning). trace_of later.parts begun.part
+    ≡ Some (new_trace (state_of (opening label begun)) suite.capacity))
+    (scan_starts suite.table rows ++ scan_restarts suite.table rows)

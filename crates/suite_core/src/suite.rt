@@ -15,6 +15,7 @@ ghost use Rattle.suite_core.specs.Suite.{new_suite, IsSuiteEvent, refusal, refus
 ghost use Rattle.suite_core.specs.Suite.{scan_out, scan_starts, scan_restarts, scan_begun, begun_part, outs_at};
 ghost use Rattle.suite_core.specs.Suite.{outs_of_scan, outs_of, suite_at, suite_scanned, suite_after};
 ghost use Rattle.suite_core.specs.Run.{Ran, done, GoByOwnEvents, ReplyByOwnHistory, LeaveOthers, BeginAsRowsSay};
+ghost use Rattle.suite_core.specs.Run.{GoesByOwnEvent, RepliesByOwnHistory, LeavesOthers, BeginsAsRowsSay};
 
 use crate::fault::{StepFault, SuiteFault};
 use crate::part::Part;
@@ -284,7 +285,12 @@ impl<A: Allocator + Clone> Suite<A> {
         ensures taken { OnOk result (refusal self.old event.now ≡ None) }
         ensures unchanged { OnErr result ((self.new ≡ self.old) × (out.new.items ≡ out.old.items)) }
         ensures cause { IfErr result (λ why. IsCause (refusal self.old event.now) why) }
+        ensures replies { OnOk result (RepliesByOwnHistory self.old event.now out.old.items out.new.items) }
+        ensures own { OnOk result (GoesByOwnEvent self.old event.now self.new) }
+        ensures others { OnOk result (LeavesOthers self.old event.now self.new) }
+        ensures begins { OnOk result (BeginsAsRowsSay self.old event.now self.new) }
     {
+        let _ = &self.parts;
         match event {
             SuiteEvent::Scan(rows, label) => self.take_scan(rows.as_slice(), *label, out),
             SuiteEvent::At(part, event) => self.take_at(*part, *event, out),

@@ -14,7 +14,6 @@ use Rattle.sup_core.specs.declared.asks.Ask.TheVariants.{Signal, Start, Write}
 use Rattle.sup_core.specs.declared.asks.Reply.{Reply}
 use Rattle.sup_core.specs.declared.asks.Reply.TheVariants.{Held, Took}
 use Rattle.sup_core.specs.declared.asks.Sig.{Sig}
-use Rattle.sup_core.specs.declared.asks.Sig.TheVariants.{Term, Cont, Stop, Hup, Alrm, Int, Kill, Usr1, Usr2, Quit}
 use Rattle.sup_core.specs.declared.event.Event.{Event}
 use Rattle.sup_core.specs.declared.event.Event.TheVariants.{Byte, Started, StartFailed, Death, Clock}
 use Rattle.tai_status.specs.declared.phase.Phase.{Phase}
@@ -91,16 +90,7 @@ plain-event_text event = plain-join (event_fields event) (plain-event_fields eve
 -- Answers
 
 pub plain-signal_name : (sig : Sig) → IsPlain (signal_name sig)
-plain-signal_name Term = refl
-plain-signal_name Cont = refl
-plain-signal_name Stop = refl
-plain-signal_name Hup = refl
-plain-signal_name Alrm = refl
-plain-signal_name Int = refl
-plain-signal_name Kill = refl
-plain-signal_name Usr1 = refl
-plain-signal_name Usr2 = refl
-plain-signal_name Quit = refl
+plain-signal_name sig = grind (arith)
 
 pub plain-ask_text : (ask : Ask) → IsPlain (ask_text ask)
 plain-ask_text (Signal sig pid) =

@@ -1,10 +1,10 @@
 -- What supervise takes and asks, by the history so far: the table of the pages on supervise and svc.
-use Rattle.std.specs.Prelude.{ℕ, ◌<◌, Bool, true, false, not, if◌then◌else◌, List, [], ◌∷◌, ◌++◌, map, codes, Option}
-use Rattle.std.specs.Prelude.{Some, None, ⊤}
+use Rattle.std.specs.Prelude.{ℕ, ◌<◌, Bool, true, false, not, if◌then◌else◌, List, [], ◌∷◌, ◌++◌, map, flat_map, codes}
+use Rattle.std.specs.Prelude.{Option, Some, None, ⊤}
 use Rattle.tai_status.specs.Label.{Tai64n, is_earlier}
 use Rattle.tai_status.specs.Full.{full_record}
 use Rattle.sup_core.specs.declared.asks.Sig.{Sig}
-use Rattle.sup_core.specs.declared.asks.Sig.TheVariants.{Term, Cont, Stop, Hup, Alrm, Int, Kill, Usr1, Usr2, Quit}
+use Rattle.sup_core.specs.declared.asks.Sig.TheVariants.{TERM, CONT, STOP, HUP, ALRM, INT, KILL, USR1, USR2, QUIT}
 use Rattle.sup_core.specs.declared.asks.Ask.{Ask}
 use Rattle.sup_core.specs.declared.asks.Ask.TheVariants.{Signal, Start, Write}
 use Rattle.sup_core.specs.declared.asks.Reply.{Reply}
@@ -46,21 +46,55 @@ takes past event = is_taken (phase_of past) (until_of past) event
 
 -- What is asked
 
+-- A control byte: its letter, the signals that it sends while there is a process, and its meaning in a line.
+pub record Control : Type 0 where
+  pub letter : List ℕ
+  pub signals : List Sig
+  pub meaning : List ℕ
+
+abbrev pub control : (letter : List ℕ) (signals : List Sig) (meaning : List ℕ) → Control
+control letter signals meaning = record { letter = letter; signals = signals; meaning = meaning }
+
+-- the control bytes, in the order in which the table is printed
+abbrev pub controls : List Control
+controls =
+    control (codes "u") [] (codes "up: start it, and again whenever it ends") ∷
+    control (codes "d") (TERM ∷ CONT ∷ []) (codes "down: send TERM and CONT, and do not start it again") ∷
+    control (codes "o") [] (codes "once: start it, and not again") ∷
+    control (codes "p") (STOP ∷ []) (codes "pause: send STOP") ∷
+    control (codes "c") (CONT ∷ []) (codes "continue: send CONT") ∷
+    control (codes "h") (HUP ∷ []) (codes "send HUP") ∷
+    control (codes "a") (ALRM ∷ []) (codes "send ALRM") ∷
+    control (codes "i") (INT ∷ []) (codes "send INT") ∷
+    control (codes "t") (TERM ∷ []) (codes "send TERM") ∷
+    control (codes "k") (KILL ∷ []) (codes "send KILL") ∷
+    control (codes "x") [] (codes "exit: supervise no more, once it is down") ∷
+    control (codes "1") (USR1 ∷ []) (codes "send USR1") ∷
+    control (codes "2") (USR2 ∷ []) (codes "send USR2") ∷
+    control (codes "q") (QUIT ∷ []) (codes "send QUIT") ∷ []
+
+-- the letters of the control bytes
+abbrev pub letters : List ℕ
+letters = flat_map (λ row. row.letter) controls
+
+abbrev pub is_letter : ℕ → Bool
+is_letter byte = is_among letters byte
+
+abbrev pub signals_in : List Control → ℕ → List Sig
+signals_in [] byte = []
+signals_in (row ∷ rows) byte = if is_among row.letter byte then row.signals else signals_in rows byte
+
 -- the signals of a byte, while there is a process
 abbrev pub signals_of : ℕ → List Sig
-signals_of byte =
-    if is_among (codes "d") byte then Term ∷ Cont ∷ []
-    else if is_among (codes "p") byte then Stop ∷ []
-    else if is_among (codes "c") byte then Cont ∷ []
-    else if is_among (codes "h") byte then Hup ∷ []
-    else if is_among (codes "a") byte then Alrm ∷ []
-    else if is_among (codes "i") byte then Int ∷ []
-    else if is_among (codes "t") byte then Term ∷ []
-    else if is_among (codes "k") byte then Kill ∷ []
-    else if is_among (codes "1") byte then Usr1 ∷ []
-    else if is_among (codes "2") byte then Usr2 ∷ []
-    else if is_among (codes "q") byte then Quit ∷ []
-    else []
+signals_of byte = signals_in controls byte
+
+abbrev pub first_of : List Sig → Option Sig
+first_of [] = None
+first_of (sig ∷ sigs) = Some sig
+
+-- the first signal of a byte, while there is a process
+abbrev pub signal_of : ℕ → Option Sig
+signal_of byte = first_of (signals_of byte)
 
 abbrev pub signals_after : History → Event → List Ask
 signals_after past (Byte byte) =

@@ -5,7 +5,7 @@ use Rattle.hex.specs.Hex.{encode_lower}
 use Rattle.tai_status.specs.Label.{Tai64n, label_text}
 use Rattle.tai_status.specs.Phase.{phase_name}
 use Rattle.sup_core.specs.declared.asks.Sig.{Sig}
-use Rattle.sup_core.specs.declared.asks.Sig.TheVariants.{Term, Cont, Stop, Hup, Alrm, Int, Kill, Usr1, Usr2, Quit}
+use Rattle.sup_core.specs.declared.asks.Sig.TheVariants.{TERM, CONT, STOP, HUP, ALRM, INT, KILL, USR1, USR2, QUIT}
 use Rattle.sup_core.specs.declared.asks.Ask.{Ask}
 use Rattle.sup_core.specs.declared.asks.Ask.TheVariants.{Signal, Start, Write}
 use Rattle.sup_core.specs.declared.asks.Reply.{Reply}
@@ -45,16 +45,16 @@ abbrev pub begin_text : Bool → Tai64n → List ℕ
 begin_text down label = join_with_byte 32 (begin_fields down label)
 
 abbrev pub signal_name : Sig → List ℕ
-signal_name Term = codes "TERM"
-signal_name Cont = codes "CONT"
-signal_name Stop = codes "STOP"
-signal_name Hup = codes "HUP"
-signal_name Alrm = codes "ALRM"
-signal_name Int = codes "INT"
-signal_name Kill = codes "KILL"
-signal_name Usr1 = codes "USR1"
-signal_name Usr2 = codes "USR2"
-signal_name Quit = codes "QUIT"
+signal_name TERM = codes "TERM"
+signal_name CONT = codes "CONT"
+signal_name STOP = codes "STOP"
+signal_name HUP = codes "HUP"
+signal_name ALRM = codes "ALRM"
+signal_name INT = codes "INT"
+signal_name KILL = codes "KILL"
+signal_name USR1 = codes "USR1"
+signal_name USR2 = codes "USR2"
+signal_name QUIT = codes "QUIT"
 
 abbrev pub ask_text : Ask → List ℕ
 ask_text (Signal sig pid) = signal_name sig ++ codes ":" ++ decimal pid
@@ -82,7 +82,7 @@ answer_text reply phase = reply_text reply ++ codes " -> " ++ phase_name phase
 
 -- how long the text of an ask can be
 abbrev pub longest : Ask → ℕ
-longest (Signal sig pid) = 15
+longest (Signal sig pid) = 17
 longest Start = 5
 longest (Write bytes) = 47
 

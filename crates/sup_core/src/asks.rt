@@ -3,20 +3,43 @@ ghost use Rattle.std.specs.Prelude.{◌≡◌, ◌↔◌, IsTrue, if◌then◌el
 use arrayvec::ArrayVec;
 use std::marker::Model;
 
-/// A signal to a process.
+/// A signal to a process, by its name without the `SIG`.
 #[derive(Clone, Copy, Debug, PartialEq, Eq)]
 pub enum Sig {
-    Term,
-    Cont,
-    Stop,
-    Hup,
-    Alrm,
-    Int,
-    Kill,
-    Usr1,
-    Usr2,
-    Quit,
+    TERM,
+    CONT,
+    STOP,
+    HUP,
+    ALRM,
+    INT,
+    KILL,
+    USR1,
+    USR2,
+    QUIT,
 }
+
+/// The signals, each with its name as it is read.
+///
+/// The list is handed to the macro that is named, after its arguments.
+macro_rules! signals {
+    ($rows:ident $arguments:tt) => {
+        $rows! {
+            $arguments
+            TERM b"TERM";
+            CONT b"CONT";
+            STOP b"STOP";
+            HUP b"HUP";
+            ALRM b"ALRM";
+            INT b"INT";
+            KILL b"KILL";
+            USR1 b"USR1";
+            USR2 b"USR2";
+            QUIT b"QUIT";
+        }
+    };
+}
+
+pub(crate) use signals;
 
 /// What a machine asks of the system.
 #[derive(Clone, Copy, Debug, PartialEq, Eq, Default)]

@@ -22,6 +22,6 @@ pub use reading::{
     EventFault, read_begin, read_byte, read_event, read_label, read_number, read_phase, read_sig,
     split_field,
 };
-pub use table::table_line;
+pub use table::{LETTER_COUNT, is_letter, letters, signal_of, table_line};
 pub use tai_status::{Phase, phase_name};
-pub use text::{answer_text, event_text, fault_name, sig_name, took_text};
+pub use text::{answer_text, byte_text, event_text, fault_name, sig_name, took_text};

@@ -26,20 +26,6 @@ macro_rules! change {
 macro_rules! ask {
     ($machine:ident, record) => { record_ask($machine.phase, &$machine.view, $machine.exiting) };
     ($machine:ident, start) => { Ask::Start };
-    ($machine:ident, TERM) => { signal!($machine, Term) };
-    ($machine:ident, CONT) => { signal!($machine, Cont) };
-    ($machine:ident, STOP) => { signal!($machine, Stop) };
-    ($machine:ident, HUP) => { signal!($machine, Hup) };
-    ($machine:ident, ALRM) => { signal!($machine, Alrm) };
-    ($machine:ident, INT) => { signal!($machine, Int) };
-    ($machine:ident, KILL) => { signal!($machine, Kill) };
-    ($machine:ident, USR1) => { signal!($machine, Usr1) };
-    ($machine:ident, USR2) => { signal!($machine, Usr2) };
-    ($machine:ident, QUIT) => { signal!($machine, Quit) };
-}
-
-/// A signal to the machine's process.
-macro_rules! signal {
     ($machine:ident, $signal:ident) => { Ask::Signal(Sig::$signal, $machine.view.pid) };
 }
 

@@ -14,10 +14,9 @@ ghost use Rattle.sup_core.specs.Fields.{word_name, fields_after, sole, sole_labe
 ghost use Rattle.sup_core.specs.Reading.{fields, IsInRange, byte_of_text, pid_of_text, label_of_text, start_event};
 ghost use Rattle.sup_core.specs.Reading.{start_fault, side_event, side_fault, event_from, begin_from};
 
-use crate::asks::Sig;
+use crate::asks::{Sig, signals};
 use crate::event::Event;
-use crate::text::push_byte;
-use arrayvec::ArrayString;
+use crate::text::byte_text;
 use hex::FromHex;
 use itoa::Buffer;
 use std::str;
@@ -46,24 +45,22 @@ enum Word {
     Clock,
 }
 
+/// The signal of a name among these.
+macro_rules! signal_named {
+    (($name:expr) $($signal:ident $text:literal;)*) => {
+        match $name {
+            $($text => Some(Sig::$signal),)*
+            _ => None,
+        }
+    };
+}
+
 /// The signal of this name.
 pub fn read_sig(name: &[u8]) -> Option<Sig>
     ensures found { IfSome result (λ sig. name.now ≡ signal_name sig) }
     ensures only { (sig : Sig) → name.now ≡ signal_name sig → result ≡ Some sig }
 {
-    match name {
-        b"TERM" => Some(Sig::Term),
-        b"CONT" => Some(Sig::Cont),
-        b"STOP" => Some(Sig::Stop),
-        b"HUP" => Some(Sig::Hup),
-        b"ALRM" => Some(Sig::Alrm),
-        b"INT" => Some(Sig::Int),
-        b"KILL" => Some(Sig::Kill),
-        b"USR1" => Some(Sig::Usr1),
-        b"USR2" => Some(Sig::Usr2),
-        b"QUIT" => Some(Sig::Quit),
-        _ => None,
-    }
+    signals!(signal_named(name))
 }
 
 /// The phase of this name.
@@ -101,9 +98,7 @@ pub fn read_byte(text: &[u8]) -> Option<u8>
 fn is_byte_text(text: &[u8], byte: u8) -> bool
     ensures { IsTrue result ↔ (text.now ≡ byte_text byte) }
 {
-    let mut spelled = ArrayString::<2>::new();
-    push_byte(&mut spelled, byte);
-    spelled.as_bytes() == text
+    byte_text(byte).as_bytes() == text
 }
 
 /// The byte that this can be the text of.

@@ -1,14 +1,15 @@
 ghost use Rattle.std.specs.Prelude.{◌≡◌, ◌≤◌, if◌then◌else◌, codes, length, map};
 ghost use Rattle.sup_core.specs.declared.event.Event.TheVariants.{Byte};
 ghost use Rattle.sup_core.specs.History.{History, runs};
-ghost use Rattle.sup_core.specs.Rules.{asks_of};
+ghost use Rattle.sup_core.specs.Rules.{asks_of, is_letter, letters, signal_of};
 ghost use Rattle.sup_core.specs.Text.{ask_name, asked_names, names_text, table_text};
 
+use crate::asks::Sig;
 use crate::text::push_byte;
 use arrayvec::ArrayString;
 
-/// The control bytes, in the order in which the table is printed. Each row says what is asked and what changes
-/// where there is a process, and where there is none. Another byte asks nothing and changes nothing.
+/// The control bytes, in the order in which the table is printed. Each row says what is asked and what changes if there
+/// is a process, and if there is none. Another byte asks nothing and changes nothing.
 ///
 /// The list is handed to the macro that is named, after its arguments.
 macro_rules! control_bytes {
@@ -75,6 +76,72 @@ macro_rules! words_of {
             _ => row_words!(),
         }
     };
+}
+
+/// The letters of the rows.
+macro_rules! letters_of {
+    (() $($row:literal running $asks:tt $change:tt idle $idle_asks:tt $idle_change:tt;)*) => {
+        [$($row),*]
+    };
+}
+
+/// One, for a row.
+macro_rules! one {
+    ($row:literal) => { 1 };
+}
+
+/// How many rows there are.
+macro_rules! count_of {
+    (() $($row:literal running $asks:tt $change:tt idle $idle_asks:tt $idle_change:tt;)*) => {
+        0 $(+ one!($row))*
+    };
+}
+
+/// How many control bytes there are.
+pub const LETTER_COUNT: usize = control_bytes!(count_of());
+
+/// The control bytes.
+const LETTERS: [u8; LETTER_COUNT] = control_bytes!(letters_of());
+
+/// The control bytes, in the order in which the table is printed.
+pub fn letters() -> &'static [u8]
+    ensures { result.now ≡ letters }
+{
+    &LETTERS
+}
+
+/// Whether a byte is a control byte.
+pub fn is_letter(byte: u8) -> bool
+    ensures { result ≡ is_letter byte }
+{
+    LETTERS.contains(&byte)
+}
+
+/// The first signal of what a row asks.
+macro_rules! first_signal {
+    () => { None };
+    (record $($ask:ident)*) => { None };
+    ($signal:ident $($ask:ident)*) => { Some(Sig::$signal) };
+}
+
+/// The first signal of a byte's row.
+macro_rules! signal_at {
+    (
+        ($byte:expr)
+        $($row:literal running [$($ask:ident)*] $change:tt idle $idle_asks:tt $idle_change:tt;)*
+    ) => {
+        match $byte {
+            $($row => first_signal!($($ask)*),)*
+            _ => None,
+        }
+    };
+}
+
+/// The signal that a byte sends first, where it sends one to a process.
+pub fn signal_of(byte: u8) -> Option<Sig>
+    ensures { result ≡ signal_of byte }
+{
+    control_bytes!(signal_at(byte))
 }
 
 /// What a byte asks, in words.

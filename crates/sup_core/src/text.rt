@@ -8,7 +8,7 @@ ghost use Rattle.sup_core.specs.Reading.{IsInRange};
 ghost use Rattle.sup_core.specs.Text.{byte_text, event_text, answer_text, ask_text, asks_text, signal_name};
 ghost use Rattle.sup_core.specs.Text.{fault_name, longest};
 
-use crate::asks::{Ask, Asks, Reply, Sig};
+use crate::asks::{Ask, Asks, Reply, Sig, signals};
 use crate::event::Event;
 use crate::ranges::label_in_range;
 use crate::reading::EventFault;
@@ -18,23 +18,21 @@ use std::error::Error;
 use std::{fmt, str};
 use tai_status::{Label, Phase, phase_name, text};
 
+/// The name of a signal among these.
+macro_rules! name_of {
+    (($sig:expr) $($name:ident $text:literal;)*) => {
+        match $sig {
+            $(Sig::$name => stringify!($name),)*
+        }
+    };
+}
+
 /// The name of a signal, without its `SIG`.
 pub fn sig_name(sig: Sig) -> &'static str
     ensures name { result.now ≡ signal_name sig }
-    ensures short { length result.now ≤ 4 }
+    ensures short { length result.now ≤ 6 }
 {
-    match sig {
-        Sig::Term => "TERM",
-        Sig::Cont => "CONT",
-        Sig::Stop => "STOP",
-        Sig::Hup => "HUP",
-        Sig::Alrm => "ALRM",
-        Sig::Int => "INT",
-        Sig::Kill => "KILL",
-        Sig::Usr1 => "USR1",
-        Sig::Usr2 => "USR2",
-        Sig::Quit => "QUIT",
-    }
+    signals!(name_of(sig))
 }
 
 /// The name of why a line is refused.
@@ -125,6 +123,15 @@ fn push_label<const N: usize>(out: &mut ArrayString<N>, label: &Label)
     let label = label_in_range(label);
     let bytes = text(&label);
     out.push_str(ascii(&bytes));
+}
+
+/// The text of a byte: one from `!` to `~` is itself, and any other is its two lower-case hexadecimal digits.
+pub fn byte_text(byte: u8) -> ArrayString<2>
+    ensures { result.bytes ≡ byte_text byte }
+{
+    let mut out = ArrayString::new();
+    push_byte(&mut out, byte);
+    out
 }
 
 /// Writes a byte at the end of a text.

@@ -1,2 +1,3 @@
 pub mod Answering
+pub mod Opened
 pub mod Posting

@@ -1,12 +1,14 @@
 -- A connection goes on: a byte is posted, bytes are read, or none are.
-use Rattle.std.proofs.Common.{◌≡◌, ℕ, ◌+◌, ◌<◌, ◌≤◌, List, [], ◌∷◌, ◌++◌, length, take, drop, slice_index, Option, refl}
-use Rattle.std.proofs.Common.{sym, ap, ◌∙◌, subst, append_assoc, append-nil, add-one, arith, length-append}
+use Rattle.std.proofs.Common.{◌≡◌, ℕ, Bool, ◌+◌, ◌<◌, ◌≤◌, List, [], ◌∷◌, ◌++◌, length, take, drop, slice_index, Option}
+use Rattle.std.proofs.Common.{refl, sym, ap, ◌∙◌, subst, append_assoc, append-nil, add-one, arith, length-append}
 use Rattle.std.proofs.Math.Seq.{drop-cons}
 use Rattle.std.specs.List.{concat}
 use Rattle.std.specs.Io.KnownBytes.{Consumes}
 use Rattle.std.proofs.lemmas.List.{get_or-take, length-drop, length-take-le}
 use Rattle.tai_status.proofs.Stamped.{Consumes-then, Consumes-none}
-use Rattle.svc_door.specs.Connection.{ConnectionState, GoesOn, Posts, GoesOnAlong, HasPosted}
+use Rattle.svc_door.specs.declared.connection.TheConstants.{MOST}
+use Rattle.svc_door.specs.declared.byte_source.Heard.{Heard}
+use Rattle.svc_door.specs.Connection.{ConnectionState, GoesOn, Posts, GoesOnAlong, HasPosted, HasPostedLast, beginning}
 
 -- the first byte that is kept
 pub kept-first : (piece : List ℕ) (from to : ℕ) → from < to → to ≤ length piece
@@ -20,7 +22,7 @@ pub kept-some : (piece : List ℕ) (from to : ℕ) → from < to → to ≤ leng
 kept-some piece from to less within = simp (length-drop, length-take-le to piece within) (omega arith)
 
 -- nothing was read or posted
-pub GoesOn-same : (v : ConnectionState) → v.taken ≤ 4096 → GoesOn [] v v
+pub GoesOn-same : (v : ConnectionState) → v.taken ≤ MOST → GoesOn [] v v
 GoesOn-same v most = record {
   read = [];
   gives = Consumes-none v.left;
@@ -30,7 +32,7 @@ GoesOn-same v most = record {
       sym (append-nil v.kept);
 }
 
-pub Posts-same : (a : List ℕ) (v : ConnectionState) → v.taken ≤ 4096 → Posts a a v v
+pub Posts-same : (a : List ℕ) (v : ConnectionState) → v.taken ≤ MOST → Posts a a v v
 Posts-same a v most = record { posted = []; accepts = sym (append-nil a); on = GoesOn-same v most }
 
 -- the first byte that was kept was posted
@@ -44,7 +46,7 @@ Posts-one a b c u v w byte p left taken accepts kept = record {
     read = p.on.read;
     gives = subst (λ l. Consumes u.left l p.on.read) (sym left) p.on.gives;
     count = taken ∙ p.on.count;
-    most = subst (λ n. n ≤ 4096) (sym taken) p.on.most;
+    most = subst (λ n. n ≤ MOST) (sym taken) p.on.most;
     order = append_assoc p.posted (byte ∷ []) w.kept ∙ ap (λ l. p.posted ++ l) (sym kept) ∙ p.on.order;
   };
 }
@@ -52,7 +54,7 @@ Posts-one a b c u v w byte p left taken accepts kept = record {
 -- bytes were read, with nothing kept
 pub Posts-read : (a : List ℕ) (u w : ConnectionState) → u.kept ≡ [] → Consumes u.left w.left w.kept
     → w.taken ≡ u.taken + length w.kept
-    → w.taken ≤ 4096 → Posts a a u w
+    → w.taken ≤ MOST → Posts a a u w
 Posts-read a u w none gives count most = record {
   posted = [];
   accepts = sym (append-nil a);
@@ -77,6 +79,17 @@ Posts-then a b c u v w p q = record {
 
 -- Over turns
 
+-- of a connection that begins nothing is posted
+pub posted-beginning : (accepted : List ℕ) (left : Option (List ℕ)) (said : Option Heard) (watched : Bool) (now : ℕ)
+    (v : ConnectionState) → v ≡ beginning left said watched now → HasPostedLast accepted v
+posted-beginning accepted left said watched now v is = subst (HasPostedLast accepted) (sym is) (record {
+  before = accepted;
+  posted = [];
+  accepts = sym (append-nil accepted);
+  opening = left;
+  first = record { gives = Consumes-none left; count = refl; most = omega arith };
+})
+
 posted-then : (opening : Option (List ℕ)) (posted more : List ℕ) (v w : ConnectionState) → HasPosted opening posted v
     → GoesOn more v w
     → HasPosted opening (posted ++ more) w
@@ -89,6 +102,17 @@ posted-then opening posted more v w h g =
       count = ap length same ∙ (omega (arith, length-append (posted ++ v.kept) g.read, h.count, g.count));
       most = g.most;
     }
+
+-- a turn of the connection
+pub posted-turn : (before after : List ℕ) (old new : ConnectionState) → Posts before after old new
+    → HasPostedLast before old → HasPostedLast after new
+posted-turn before after old new p h = record {
+  before = h.before;
+  posted = h.posted ++ p.posted;
+  accepts = p.accepts ∙ ap (λ l. l ++ p.posted) h.accepts ∙ append_assoc h.before h.posted p.posted;
+  opening = h.opening;
+  first = posted-then h.opening h.posted p.posted old new h.first p.on;
+}
 
 pub posted-along : (opening : Option (List ℕ)) (posted : List ℕ) (turns : List (List ℕ)) (first last : ConnectionState)
     → HasPosted opening posted first

@@ -2,6 +2,7 @@
 use Rattle.std.specs.Prelude.{◌≡◌, ℕ, ◌+◌, ◌<◌, ◌≤◌, ◌⊎◌, Bool, List, [], ◌∷◌, ◌++◌, length, Option, IfSome}
 use Rattle.std.specs.List.{concat}
 use Rattle.std.specs.Io.KnownBytes.{Consumes, IsAtEnd}
+use Rattle.svc_door.specs.declared.connection.TheConstants.{MOST}
 use Rattle.svc_door.specs.declared.byte_source.Heard.{Heard}
 use Rattle.svc_door.specs.declared.byte_source.Heard.TheVariants.{Bytes, Nothing, End, Fault}
 use Rattle.svc_door.specs.declared.connection.Turn.{Turn}
@@ -39,7 +40,7 @@ pub record GoesOn (posted : List ℕ) (old new : ConnectionState) : Type 0 where
   pub gives : Consumes old.left new.left read
   -- which are counted, and with all before 4096 at most.
   pub count : new.taken ≡ old.taken + length read
-  pub most : new.taken ≤ 4096
+  pub most : new.taken ≤ MOST
   -- What was kept comes first, and then what it gave: of that the front is posted, and the rest is kept.
   pub order : posted ++ new.kept ≡ old.kept ++ read
 
@@ -57,7 +58,7 @@ Said v word = IfSome v.said (λ heard. heard ≡ word)
 -- All is posted, fewer than 4096 bytes were read, and the connection said that it has nothing for now.
 pub record DoesWait (v : ConnectionState) : Type 0 where
   pub posted : v.kept ≡ []
-  pub fewer : v.taken < 4096
+  pub fewer : v.taken < MOST
   pub nothing : Said v Nothing
 
 -- The connection has no more to give.
@@ -68,7 +69,7 @@ pub record HasEnded (v : ConnectionState) : Type 0 where
 -- All is posted, and it was 4096 bytes, or the connection ended or failed.
 pub record IsOver (v : ConnectionState) : Type 0 where
   pub posted : v.kept ≡ []
-  pub why : (v.taken ≡ 4096) ⊎ HasEnded v ⊎ Said v Fault
+  pub why : (v.taken ≡ MOST) ⊎ HasEnded v ⊎ Said v Fault
 
 -- A read of a connection with nothing kept gave so many bytes, which are kept; or gave none, and nothing is kept.
 abbrev pub Reads : Heard → (old new : ConnectionState) → Type 0
@@ -96,7 +97,15 @@ GoesOnAlong (posted ∷ later) first last =
 pub record HasPosted (opening : Option (List ℕ)) (posted : List ℕ) (v : ConnectionState) : Type 0 where
   pub gives : Consumes opening v.left (posted ++ v.kept)
   pub count : length (posted ++ v.kept) ≡ v.taken
-  pub most : v.taken ≤ 4096
+  pub most : v.taken ≤ MOST
+
+-- What the sink accepted last is what was posted of the connection since it began.
+pub record HasPostedLast (accepted : List ℕ) (v : ConnectionState) : Type 0 where
+  pub before : List ℕ
+  pub posted : List ℕ
+  pub accepts : accepted ≡ before ++ posted
+  pub opening : Option (List ℕ)
+  pub first : HasPosted opening posted v
 
 -- Whatever the turns, what was posted in them all, and then what is kept, are the first bytes of the connection.
 abbrev pub TurnsPostTheFirstBytes : Type 0

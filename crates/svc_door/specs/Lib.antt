@@ -4,4 +4,6 @@ pub mod Connection
 pub mod Dues
 pub mod Slots
 pub mod Looks
+pub mod Listening
 pub mod Turns
+pub mod Turning

@@ -1,7 +1,13 @@
 -- When something at the door is looked at again. Times are milliseconds of a clock that runs on; None is never.
-use Rattle.std.specs.Prelude.{ℕ, ◌+◌, ◌-◌, ◌^◌, min, nat_le, Bool, true, false, if◌then◌else◌, Option, Some, None}
+use Rattle.std.specs.Prelude.{ℕ, ◌+◌, ◌-◌, ◌*◌, ◌/◌, ◌^◌, min, nat_le, Bool, true, false, if◌then◌else◌}
+use Rattle.std.specs.Prelude.{Option, Some, None, Result, Ok, Err}
+use Rattle.std.specs.Option.{option_map}
+use Rattle.std.specs.Duration.{as_nanos}
+use Rattle.std.specs.declared.io.Error.{Error}
+use Rattle.std.specs.declared.time.Duration.{Duration}
 use Rattle.std.specs.declared.io.ErrorKind.{ErrorKind}
 use Rattle.std.specs.declared.io.ErrorKind.TheVariants.{Interrupted, WouldBlock, ConnectionAborted}
+use Rattle.svc_door.specs.declared.rests.TheConstants.{RETRY, SHORTAGE, SILENCE}
 use Rattle.svc_door.specs.declared.connection.Turn.{Turn}
 use Rattle.svc_door.specs.declared.connection.Turn.TheVariants.{Waits, Full, Ended}
 
@@ -21,7 +27,7 @@ abbrev pub refused_until : ErrorKind → (now : ℕ) → Option ℕ
 refused_until WouldBlock now = None
 refused_until Interrupted now = Some now
 refused_until ConnectionAborted now = Some now
-refused_until _ now = Some (after now 100)
+refused_until _ now = Some (after now SHORTAGE)
 
 -- when a connection spoke last: now, where it gave bytes or some of its bytes still wait for the sink
 abbrev pub spoke_at : Turn → (gave : Bool) → (spoke now : ℕ) → ℕ
@@ -31,12 +37,21 @@ spoke_at Ended gave spoke now = if gave then now else spoke
 
 -- the end of its silence; before that, after 100 ms, where no event announces it
 abbrev pub awaited_until : (watched : Bool) → (spoke now : ℕ) → ℕ
-awaited_until true spoke now = after spoke 5000
-awaited_until false spoke now = min (after spoke 5000) (after now 100)
+awaited_until true spoke now = after spoke SILENCE
+awaited_until false spoke now = min (after spoke SILENCE) (after now SHORTAGE)
 
 -- When a connection is looked at again. Never: it is over, or was silent for 5 s.
 abbrev pub looked_at : Turn → (watched : Bool) → (spoke now : ℕ) → Option ℕ
-looked_at Full watched spoke now = Some (after now 1)
+looked_at Full watched spoke now = Some (after now RETRY)
 looked_at Ended watched spoke now = None
 looked_at Waits watched spoke now =
-    if nat_le (after spoke 5000) now then None else Some (awaited_until watched spoke now)
+    if nat_le (after spoke SILENCE) now then None else Some (awaited_until watched spoke now)
+
+-- how many nanoseconds a poll waits at most, until something is due
+abbrev pub polled_for : (due : Option ℕ) → (now : ℕ) → Option ℕ
+polled_for due now = option_map (λ at. (at - now) * 1000000) due
+
+-- the milliseconds of a reading of the clock, which stop at their end; none at a fault
+abbrev pub millis_of : Result Duration Error → ℕ
+millis_of (Ok time) = min (as_nanos time / 1000000) (2 ^ 64 - 1)
+millis_of (Err fault) = 0

@@ -1,31 +1,54 @@
 -- The parts at the door, each in a slot.
-use Rattle.std.specs.Prelude.{◌≡◌, ◌≢◌, ℕ, ◌==◌, not, List, Option, Some, None, IsSome, Contains}
+use Rattle.std.specs.Prelude.{◌≡◌, ◌≢◌, ℕ, ◌==◌, not, if◌then◌else◌, is_some, count_by, List, Option, Some, None}
 use Rattle.std.specs.List.{filter}
 use Rattle.std.specs.Option.{option_map}
 use Rattle.slab.specs.Slab.{Slab, get}
+use Rattle.mio.specs.declared.net.uds.listener.UnixListener.{UnixListener}
+use Rattle.svc_door.specs.declared.byte_sink.ByteSink.{Ghosts}
 use Rattle.svc_door.specs.declared.part.Part.{Part}
 use Rattle.svc_door.specs.Dues.{due_at}
 
-module _ {P : Type 0} where
+-- how often a slot is in a list
+abbrev pub times : (slot : ℕ) → List ℕ → ℕ
+times slot slots = count_by (λ other. other == slot) slots
+
+module _ {P : Type 0} {sinks : Ghosts P} where
   -- the number of the part in a slot
-  abbrev pub number_at : Slab (Part P) → (slot : ℕ) → Option ℕ
+  abbrev pub number_at : Slab (Part P sinks) → (slot : ℕ) → Option ℕ
   number_at parts slot = option_map (λ part. part.number) (get parts slot)
 
-  -- A part of this number has a slot that was free, and each other slot is as it was.
-  pub record Admits (old new : Slab (Part P)) (number : ℕ) : Type 0 where
+  -- A part begins: it has no connection, and waits for an event of its listeners.
+  pub record Begins (life : ℕ) (given : P) (control ok : UnixListener) (part : Part P sinks) : Type 0 where
+    pub number : part.number ≡ life
+    pub sink : part.sink ≡ given
+    pub sockets : (part.control.socket ≡ control) × (part.ok.socket ≡ ok)
+    pub watched : (part.control.watched ≡ Some part.token) × (part.ok.watched ≡ Some part.token)
+    pub due : part.due ≡ None
+    pub connection : part.connection ≡ None
+
+  -- A part that begins has a slot that was free, which its events name, and each other slot is as it was.
+  pub record Admits (number : ℕ) (sink : P) (control ok : UnixListener) (old new : Slab (Part P sinks)) : Type 0 where
     pub slot : ℕ
+    pub part : Part P sinks
+    pub begins : Begins number sink control ok part
+    pub token : part.token.0 ≡ slot
     pub was_free : get old slot ≡ None
-    pub has : number_at new slot ≡ Some number
+    pub has : get new slot ≡ Some part
     pub others : (other : ℕ) → other ≢ slot → get new other ≡ get old other
 
-  -- The part of this number left its slot, which is no more among those that have a turn. All else is as it was.
-  pub record Dismisses (number : ℕ) (old new : Slab (Part P)) (slots slots_now : List ℕ) : Type 0 where
+  -- The part of this number left its slot, which is no more among those that have a turn, and gave its sink back. All
+  -- else is as it was.
+  pub record Dismisses (number : ℕ) (sink : P) (old new : Slab (Part P sinks)) (slots slots_now : List ℕ)
+      : Type 0 where
     pub slot : ℕ
-    pub had : number_at old slot ≡ Some number
+    pub part : Part P sinks
+    pub had : get old slot ≡ Some part
+    pub number_is : part.number ≡ number
+    pub sink_is : part.sink ≡ sink
     pub is_free : get new slot ≡ None
     pub others : (other : ℕ) → other ≢ slot → get new other ≡ get old other
     pub turns : slots_now ≡ filter (λ other. not (other == slot)) slots
 
-  -- Each part that is due has its slot among these.
-  abbrev pub AreOpen : Slab (Part P) → (slots : List ℕ) → Type 0
-  AreOpen parts slots = (slot : ℕ) → IsSome (due_at parts slot) → Contains slots slot
+  -- Each part that is due has its slot among these once, and no other slot is among them.
+  abbrev pub AreOpen : Slab (Part P sinks) → (slots : List ℕ) → Type 0
+  AreOpen parts slots = (slot : ℕ) → times slot slots ≡ (if is_some (due_at parts slot) then 1 else 0)

@@ -1,18 +1,21 @@
 -- What a part does in its turn: what it posts, and when it is to have the next one.
-use Rattle.std.specs.Prelude.{◌≡◌, ◌⊎◌, ℕ, nat_lt, Bool, List, Option, Some, None, MatchOption}
+use Rattle.std.specs.Prelude.{◌≡◌, ◌⊎◌, ℕ, ◌<◌, nat_lt, Bool, List, Option, Some, None, MatchOption}
 use Rattle.std.specs.declared.io.ErrorKind.{ErrorKind}
 use Rattle.svc_door.specs.Connection.{ConnectionState, Posts, beginning}
 use Rattle.svc_door.specs.declared.byte_source.Heard.{Heard}
+use Rattle.svc_door.specs.declared.listener.Listener.{Listener}
+use Rattle.svc_door.specs.declared.greeting.TheConstants.{GREETED}
 use Rattle.svc_door.specs.declared.connection.Turn.{Turn}
 use Rattle.svc_door.specs.Rests.{looked_at, refused_until, sooner_of, spoke_at}
 
--- A listener gave no connection: why that was says when it is looked at again.
-abbrev pub IsRefused : (now : ℕ) → Option ℕ → Type 0
-IsRefused now due = (kind : ErrorKind) × (due ≡ refused_until kind now)
+-- A listener gave no connection when it was asked last: why that was says when it is looked at again.
+abbrev pub IsRefused : Listener → (now : ℕ) → Option ℕ → Type 0
+IsRefused listener now due = (kind : ErrorKind) × (listener.refused ≡ Some kind) × (due ≡ refused_until kind now)
 
--- Connections to `ok` were accepted: as many as one turn accepts, and then it goes on at once, or all that came.
-abbrev pub Greets : (now : ℕ) → Option ℕ → Type 0
-Greets now due = (due ≡ Some now) ⊎ IsRefused now due
+-- The listener at `ok` gave connections: as many as one turn accepts, and then it goes on at once; or fewer, since then
+-- it gave none.
+abbrev pub Greets : Listener → (now : ℕ) → Option ℕ → Type 0
+Greets ok now due = ((ok.given ≡ GREETED) × (due ≡ Some now)) ⊎ ((ok.given < GREETED) × IsRefused ok now due)
 
 -- A connection had its turn: what it posted came behind what the sink had accepted. It stays, and is looked at again by
 -- how the turn left it; or it is over, and the next one is looked for at once.
@@ -32,18 +35,19 @@ GoesOnWith now None connection =
     (left : Option (List ℕ)) × (said : Option Heard) × (watched : Bool)
     × (connection ≡ beginning left said watched now)
 
--- A part has no connection, and none came, and it posted nothing; or its connection had its turn.
-abbrev pub Serves : (before after : List ℕ) → (now : ℕ) → (old new : Option ConnectionState) → (due : Option ℕ) → Type 0
-Serves before after now old new due =
-    ((old ≡ None) × (new ≡ None) × (after ≡ before) × IsRefused now due)
+-- A part has no connection, and its listener gave none, and it posted nothing; or its connection had its turn.
+abbrev pub Serves : (before after : List ℕ) → (now : ℕ) → (control : Listener) → (old new : Option ConnectionState)
+    → (due : Option ℕ) → Type 0
+Serves before after now control old new due =
+    ((old ≡ None) × (new ≡ None) × (after ≡ before) × IsRefused control now due)
     ⊎ ((connection : ConnectionState) × GoesOnWith now old connection × (at : ℕ) × (due ≡ Some at)
     × HasTurn before after now connection new at)
 
 -- A part had its turn. When it is due again comes of this turn alone.
-pub record TakesTurn (before after : List ℕ) (now : ℕ) (old new : Option ConnectionState) (due : Option ℕ)
-    : Type 0 where
+pub record TakesTurn (before after : List ℕ) (now : ℕ) (ok control : Listener) (old new : Option ConnectionState)
+    (due : Option ℕ) : Type 0 where
   pub greeted : Option ℕ
   pub served : Option ℕ
-  pub greets : Greets now greeted
-  pub serves : Serves before after now old new served
+  pub greets : Greets ok now greeted
+  pub serves : Serves before after now control old new served
   pub due_is : due ≡ sooner_of greeted served

@@ -41,6 +41,7 @@ pub struct Connection<G: ByteSource> {
 
 impl<G: ByteSource> Model for Connection<G> {
     ghost use Rattle.std.specs.Prelude.{◌≡◌, ◌≤◌, length, drop, take};
+    ghost use Rattle.svc_door.specs.declared.connection.TheConstants.{MOST, PIECE};
     ghost use Rattle.svc_door.specs.Connection.{ConnectionState};
 
     ghost Value = { ConnectionState };
@@ -54,7 +55,7 @@ impl<G: ByteSource> Model for Connection<G> {
       watched = v.watched;
     } };
 
-    ghost invariant = { λ v. (v.from ≤ v.to) × (v.to ≤ 64) × (length v.piece ≡ 64) × (v.taken ≤ 4096) };
+    ghost invariant = { λ v. (v.from ≤ v.to) × (v.to ≤ PIECE) × (length v.piece ≡ PIECE) × (v.taken ≤ MOST) };
 }
 
 impl<G: ByteSource> Connection<G> {
@@ -62,6 +63,7 @@ impl<G: ByteSource> Connection<G> {
     ghost use Rattle.std.specs.Io.KnownBytes.{Consumes};
     ghost use Rattle.svc_door.specs.Connection.{IsLeft, Posts, Reads, Said, beginning};
     ghost use Rattle.svc_door.specs.Rests.{spoke_at, looked_at};
+    ghost use Rattle.svc_door.specs.declared.connection.TheConstants.{MOST};
     ghost use Rattle.svc_door.specs.declared.connection.Turn.TheVariants as turn;
 
     /// A connection that begins now: nothing of it is read. `watched` says whether an event announces its bytes.
@@ -86,6 +88,7 @@ impl<G: ByteSource> Connection<G> {
     /// posted, or the connection ended or failed; a further turn reads again, if fewer than 4096 bytes were read.
     pub fn turn<R: Wait, P: ByteSink>(&mut self, rt: &R, sink: &mut P, now: u64) -> Turn
         ensures posts { Posts (P.accepted sink.old) (P.accepted sink.new) self.old self.new }
+        ensures home { P.home sink.new ≡ P.home sink.old }
         ensures left { IsLeft result self.new }
         ensures full { result ≡ turn.Full → (at : P) × P.was_full at × (P.accepted at ≡ P.accepted sink.new) }
         ensures spoke { self.new.spoke ≡ spoke_at result (nat_lt self.old.taken self.new.taken) self.old.spoke now }
@@ -107,6 +110,7 @@ impl<G: ByteSource> Connection<G> {
     // Reads what the connection has, and posts it.
     fn serve<R: Wait, P: ByteSink>(&mut self, rt: &R, sink: &mut P) -> Turn
         ensures posts { Posts (P.accepted sink.old) (P.accepted sink.new) self.old self.new }
+        ensures home { P.home sink.new ≡ P.home sink.old }
         ensures left { IsLeft result self.new }
         ensures full { result ≡ turn.Full → (at : P) × P.was_full at × (P.accepted at ≡ P.accepted sink.new) }
         ensures same { (self.new.spoke ≡ self.old.spoke) × (self.new.watched ≡ self.old.watched) }
@@ -131,6 +135,7 @@ impl<G: ByteSource> Connection<G> {
     // Posts what is kept, and says whether all of it was accepted.
     fn post_kept<R: Wait, P: ByteSink>(&mut self, rt: &R, sink: &mut P) -> bool
         ensures posts { Posts (P.accepted sink.old) (P.accepted sink.new) self.old self.new }
+        ensures home { P.home sink.new ≡ P.home sink.old }
         ensures unread { (self.new.left ≡ self.old.left) × (self.new.said ≡ self.old.said)
             × (self.new.taken ≡ self.old.taken) }
         ensures same { (self.new.spoke ≡ self.old.spoke) × (self.new.watched ≡ self.old.watched) }
@@ -150,10 +155,10 @@ impl<G: ByteSource> Connection<G> {
     // Reads once, no more than there may be.
     fn read(&mut self) -> Heard
         requires none { self.old.kept ≡ [] }
-        requires some { self.old.taken < 4096 }
+        requires some { self.old.taken < MOST }
         ensures gives { Consumes self.old.left self.new.left self.new.kept }
         ensures count { self.new.taken ≡ self.old.taken + length self.new.kept }
-        ensures most { self.new.taken ≤ 4096 }
+        ensures most { self.new.taken ≤ MOST }
         ensures reads { Reads result self.old self.new }
         ensures said { Said self.new result }
         ensures same { (self.new.spoke ≡ self.old.spoke) × (self.new.watched ≡ self.old.watched) }

@@ -1,7 +1,7 @@
 //! The door's thread, and the handle to it.
 use crate::byte_sink::ByteSink;
-use crate::part::Part;
-use crate::table::{NotAdmitted, Table, WAKER};
+use crate::rests::{in_millis, poll_limit};
+use crate::table::{Next, NotAdmitted, Table, WAKER};
 use mio::net::UnixListener;
 use mio::{Events, Poll, Registry, Waker};
 use std::alloc::Global;
@@ -71,11 +71,10 @@ impl<P: ByteSink + Send + Drop + 'static> Door<P> {
     ) -> Result<(), NotAdmitted<P>>
         ensures sink { IfErr result (λ refused. refused.sink ≡ sink) }
     {
-        let part = Part::new(number, sink, control, ok);
         self.shared
             .table
             .lock(rt)
-            .admit(part, &self.shared.registry)
+            .admit(number, sink, control, ok, &self.shared.registry)
     }
 
     /// Closes the listeners and the connection of a part, and hands its sink back: nothing is posted by it any more.
@@ -87,7 +86,7 @@ impl<P: ByteSink + Send + Drop + 'static> Door<P> {
     /// Ends the thread, joins it, and closes all listeners and connections.
     pub fn close<R: Wait + Threads>(self, rt: &R) {
         let Door { shared, thread } = self;
-        shared.table.lock(rt).ends = true;
+        shared.table.lock(rt).end();
         let _ = shared.waker.wake();
         thread.join(rt)
     }
@@ -95,10 +94,7 @@ impl<P: ByteSink + Send + Drop + 'static> Door<P> {
 
 /// The running clock, in milliseconds.
 fn time(clock: &impl Clock) -> u64 {
-    match clock.monotonic() {
-        Ok(time) => u64::try_from(time.as_millis()).unwrap_or(u64::MAX),
-        Err(_) => 0,
-    }
+    in_millis(clock.monotonic())
 }
 
 /// Starts the door's thread.
@@ -126,21 +122,14 @@ fn run<R: Wait + Clock, P: ByteSink + Drop>(
 ) {
     let mut due: Option<u64> = None;
     for _ in rt.forever() {
-        let limit = match due {
-            Some(due) => Some(Duration::from_millis(due.saturating_sub(time(rt)))),
-            None => None,
-        };
+        let limit = poll_limit(due, time(rt));
         if poll.poll(&mut events, limit).is_err() {
             thread::sleep(rt, Duration::from_millis(FAILED));
         }
         let mut table = shared.table.lock(rt);
-        if table.ends {
-            return;
+        match table.round(rt, poll.registry(), &events, time(rt)) {
+            Next::Ends => return,
+            Next::Polls(soonest) => due = soonest,
         }
-        let now = time(rt);
-        for event in events.iter() {
-            table.wake(event.token(), now);
-        }
-        due = table.turns(rt, poll.registry(), now);
     }
 }

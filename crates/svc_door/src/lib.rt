@@ -6,17 +6,20 @@
 //!
 //! The thread sleeps without a limit while nothing happens. It rests 1 ms while a sink is full, 100 ms where there
 //! are no descriptors for a connection, and up to the end of the shortest silence while connections are silent; a
-//! connection that is silent for 5 s is dropped (specs/Rests says when a connection is looked at again).
+//! connection that is silent for 5 s is dropped (specs/Rests says when a connection is looked at again). After a poll
+//! each part that an event names is due, and then each part that is due has one turn (specs/Turning).
 //!
-//! What no contract here says, and is only tested: what the sockets give, that the thread turns, and that a dismissed
-//! part is heard no more.
+//! What no contract here says, and is only tested: what the sockets give, that the thread turns, and what the door's
+//! handle does under its lock.
 #![tactic(auto)]
 
 mod byte_sink;
 mod byte_source;
 mod connection;
 mod door;
+mod greeting;
 pub mod law;
+mod listener;
 mod part;
 mod rests;
 mod table;

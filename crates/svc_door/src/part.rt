@@ -1,55 +1,82 @@
 //! One part at the door.
+ghost use Rattle.std.specs.Prelude.{IfSome};
+ghost use Rattle.svc_door.specs.Connection.{HasPostedLast};
+
 use crate::byte_sink::ByteSink;
 use crate::connection::Connection;
+use crate::greeting::greet;
+use crate::listener::Listener;
 use crate::rests::{after_refusal, sooner};
 use mio::net::{UnixListener, UnixStream};
 use mio::{Interest, Registry, Token};
 use std::io;
 use std::sync::Wait;
 
-/// The most connections to `ok` that one turn accepts.
-const GREETED: u32 = 16;
-
 /// A part: its two listeners, and its control connection, where there is one.
 #[derive(Drop)]
 pub struct Part<P: ByteSink> {
     /// The life that it is of.
     pub number: u64,
+    /// What the events of its listeners and of its connection name.
+    pub token: Token,
     /// When it is to have a turn without an event. None: only at an event.
     pub due: Option<u64>,
-    control: UnixListener,
-    ok: UnixListener,
+    control: Listener,
+    ok: Listener,
     sink: P,
     connection: Option<Connection<UnixStream>>,
+    ghost posted: { ∥ IfSome connection (HasPostedLast (P.accepted sink)) ∥₁ },
 }
 
 impl<P: ByteSink + Drop> Part<P> {
-    ghost use Rattle.std.specs.Prelude.{◌≡◌, ◌↔◌, ◌≤◌, IsTrue, IsNone, IsSome, IsSomeAnd, Some, None, OnOk, OnErr};
+    ghost use Rattle.std.specs.IoError.{error_kind};
+    ghost use Rattle.std.specs.Prelude.{◌≡◌, ◌↔◌, ◌≤◌, IsTrue, IsNone, IsSome, IsSomeAnd, Some, None, IfErr, OnOk};
+    ghost use Rattle.std.specs.Prelude.{OnErr};
     ghost use Rattle.svc_door.specs.Connection.{ConnectionState};
+    ghost use Rattle.svc_door.specs.Listening.{IsSame};
     ghost use Rattle.svc_door.specs.Looks.{LooksAgainAt, HasClosed};
-    ghost use Rattle.svc_door.specs.Turns.{GoesOnWith, Greets, HasTurn, Serves, TakesTurn};
+    ghost use Rattle.svc_door.specs.Turns.{GoesOnWith, HasTurn, Serves, TakesTurn};
 
     /// A part with no connection.
-    pub fn new(number: u64, sink: P, control: UnixListener, ok: UnixListener) -> Part<P>
-        ensures { result.sink ≡ sink }
+    pub fn new(
+        number: u64,
+        token: Token,
+        sink: P,
+        control: UnixListener,
+        ok: UnixListener,
+    ) -> Part<P>
+        ensures number { result.number ≡ number }
+        ensures token { result.token ≡ token }
+        ensures sink { result.sink ≡ sink }
+        ensures due { result.due ≡ None }
+        ensures connection { result.connection ≡ None }
+        ensures listeners { (result.control.socket ≡ control) × (result.ok.socket ≡ ok) }
     {
         Part {
             number,
+            token,
             due: None,
-            control,
-            ok,
+            control: Listener::new(control),
+            ok: Listener::new(ok),
             sink,
             connection: None,
         }
     }
 
     /// Has the registry watch both listeners.
-    pub fn register(&mut self, registry: &Registry, token: Token) -> io::Result<()>
+    pub fn register(&mut self, registry: &Registry) -> io::Result<()>
+        ensures token { self.new.token ≡ self.old.token }
         ensures number { self.new.number ≡ self.old.number }
         ensures sink { self.new.sink ≡ self.old.sink }
+        ensures due { self.new.due ≡ self.old.due }
+        ensures connection { self.new.connection ≡ self.old.connection }
+        ensures sockets { (self.new.control.socket ≡ self.old.control.socket)
+            × (self.new.ok.socket ≡ self.old.ok.socket) }
+        ensures watched { OnOk result ((self.new.control.watched ≡ Some self.old.token)
+            × (self.new.ok.watched ≡ Some self.old.token)) }
     {
-        registry.register(&mut self.control, token, Interest::READABLE)?;
-        registry.register(&mut self.ok, token, Interest::READABLE)
+        self.control.register(registry, self.token)?;
+        self.ok.register(registry, self.token)
     }
 
     /// Its sink. Its listeners and its connection are closed.
@@ -73,67 +100,66 @@ impl<P: ByteSink + Drop> Part<P> {
     /// Accepts some connections to `ok`, which are closed, and goes on with the control connection, or begins with the
     /// next one: at most 4096 bytes of one. Says when it is to have the next turn.
     /// While there is a connection it is due; and at once where the one that it had is over.
-    pub fn turn<R: Wait>(&mut self, rt: &R, registry: &Registry, token: Token, now: u64)
+    pub fn turn<R: Wait>(&mut self, rt: &R, registry: &Registry, now: u64)
         ensures due { IsSome self.new.connection → IsSome self.new.due }
         ensures next { HasClosed self.old.connection self.new.connection
             → IsSomeAnd self.new.due (λ due. due ≤ now) }
         ensures takes { TakesTurn (P.accepted self.old.sink) (P.accepted self.new.sink) now
-            self.old.connection self.new.connection self.new.due }
+            self.new.ok self.new.control self.old.connection self.new.connection self.new.due }
+        ensures home { P.home self.new.sink ≡ P.home self.old.sink }
         ensures number { self.new.number ≡ self.old.number }
+        ensures token { self.new.token ≡ self.old.token }
+        ensures listeners { IsSame self.old.control self.new.control × IsSame self.old.ok self.new.ok }
     {
-        let greeted = self.greet(now);
-        let served = self.serve(rt, registry, token, now);
+        let greeted = greet(&mut self.ok, now);
+        let served = self.serve(rt, registry, now);
         self.due = sooner(greeted, served);
     }
 
-    fn greet(&self, now: u64) -> Option<u64>
-        ensures { Greets now result }
-    {
-        for _ in 0..GREETED {
-            match self.ok.accept() {
-                Ok(_source) => {}
-                Err(fault) => return after_refusal(&fault, now),
-            }
-        }
-        Some(now)
-    }
-
-    fn serve<R: Wait>(&mut self, rt: &R, registry: &Registry, token: Token, now: u64) -> Option<u64>
+    fn serve<R: Wait>(&mut self, rt: &R, registry: &Registry, now: u64) -> Option<u64>
         ensures due { IsSome self.new.connection → IsSome result }
         ensures next { HasClosed self.old.connection self.new.connection → result ≡ Some now }
         ensures serves { Serves (P.accepted self.old.sink) (P.accepted self.new.sink) now
-            self.old.connection self.new.connection result }
+            self.new.control self.old.connection self.new.connection result }
+        ensures home { P.home self.new.sink ≡ P.home self.old.sink }
         ensures number { self.new.number ≡ self.old.number }
+        ensures token { self.new.token ≡ self.old.token }
+        ensures listeners { IsSame self.old.control self.new.control × (self.new.ok ≡ self.old.ok) }
     {
-        match self.connect(registry, token, now) {
+        match self.connect(registry, now) {
             Ok(()) => Some(self.hear(rt, now)),
             Err(fault) => after_refusal(&fault, now),
         }
     }
 
     // Has a connection to go on with: the one that there is, or the next one that comes.
-    fn connect(&mut self, registry: &Registry, token: Token, now: u64) -> io::Result<()>
+    fn connect(&mut self, registry: &Registry, now: u64) -> io::Result<()>
         ensures with_one { OnOk result ((connection : ConnectionState)
             × (self.new.connection ≡ Some connection) × GoesOnWith now self.old.connection connection) }
         ensures none { OnErr result ((self.old.connection ≡ None) × (self.new.connection ≡ None)) }
+        ensures refused { IfErr result (λ fault. self.new.control.refused ≡ Some (error_kind fault)) }
         ensures sink { self.new.sink ≡ self.old.sink }
         ensures number { self.new.number ≡ self.old.number }
+        ensures token { self.new.token ≡ self.old.token }
+        ensures listeners { IsSame self.old.control self.new.control × (self.new.ok ≡ self.old.ok) }
     {
         if self.connection.is_none() {
-            let (stream, _) = self.control.accept()?;
-            self.begin(stream, registry, token, now);
+            let stream = self.control.accept()?;
+            self.begin(stream, registry, now);
         }
         Ok(())
     }
 
-    fn begin(&mut self, mut stream: UnixStream, registry: &Registry, token: Token, now: u64)
+    fn begin(&mut self, mut stream: UnixStream, registry: &Registry, now: u64)
         ensures begins { (connection : ConnectionState)
             × (self.new.connection ≡ Some connection) × GoesOnWith now None connection }
         ensures sink { self.new.sink ≡ self.old.sink }
         ensures number { self.new.number ≡ self.old.number }
+        ensures token { self.new.token ≡ self.old.token }
+        ensures listeners { (self.new.control ≡ self.old.control) × (self.new.ok ≡ self.old.ok) }
     {
         let watched = registry
-            .register(&mut stream, token, Interest::READABLE)
+            .register(&mut stream, self.token, Interest::READABLE)
             .is_ok();
         self.connection = Some(Connection::new(stream, watched, now));
     }
@@ -144,7 +170,10 @@ impl<P: ByteSink + Drop> Part<P> {
         ensures looks { LooksAgainAt self.old.connection self.new.connection now result }
         ensures hears { (old : ConnectionState) → self.old.connection ≡ Some old
             → HasTurn (P.accepted self.old.sink) (P.accepted self.new.sink) now old self.new.connection result }
+        ensures home { P.home self.new.sink ≡ P.home self.old.sink }
         ensures number { self.new.number ≡ self.old.number }
+        ensures token { self.new.token ≡ self.old.token }
+        ensures listeners { (self.new.control ≡ self.old.control) × (self.new.ok ≡ self.old.ok) }
     {
         let Some(connection) = &mut self.connection else {
             return now;

@@ -1,11 +1,14 @@
 //! When something at the door is looked at again. Times are milliseconds of a clock that runs on.
 ghost use Rattle.std.specs.Prelude.{◌≡◌};
+ghost use Rattle.std.specs.Duration.{as_nanos};
 ghost use Rattle.std.specs.IoError.{error_kind};
-ghost use Rattle.svc_door.specs.Rests.{sooner_of, spoke_at, looked_at, refused_until};
+ghost use Rattle.std.specs.Option.{option_map};
+ghost use Rattle.svc_door.specs.Rests.{sooner_of, spoke_at, looked_at, refused_until, polled_for, millis_of};
 
 use crate::connection::Turn;
 use std::io;
 use std::io::ErrorKind;
+use std::time::Duration;
 
 /// How long a byte that was refused waits.
 const RETRY: u64 = 1;
@@ -60,5 +63,25 @@ pub fn next_look(turn: Turn, watched: bool, spoke: u64, now: u64) -> Option<u64>
         Turn::Waits if end <= now => None,
         Turn::Waits if watched => Some(end),
         Turn::Waits => Some(end.min(now.saturating_add(SHORTAGE))),
+    }
+}
+
+/// How long a poll waits at most. None: until an event comes.
+pub fn poll_limit(due: Option<u64>, now: u64) -> Option<Duration>
+    ensures { option_map as_nanos result ≡ polled_for due now }
+{
+    match due {
+        Some(due) => Some(Duration::from_millis(due.saturating_sub(now))),
+        None => None,
+    }
+}
+
+/// A reading of the running clock, in milliseconds.
+pub fn in_millis(reading: io::Result<Duration>) -> u64
+    ensures { result ≡ millis_of reading }
+{
+    match reading {
+        Ok(time) => u64::try_from(time.as_millis()).unwrap_or(u64::MAX),
+        Err(_) => 0,
     }
 }

@@ -1,13 +1,18 @@
 //! The parts at the door.
-ghost use Rattle.std.specs.Prelude.{◌≡◌, ℕ, Some, IfErr, IfSome, IfNone, OnSome, OnOk, OnErr};
-ghost use Rattle.slab.specs.Slab.{HasRoomFor, get};
+ghost use Rattle.std.specs.Prelude.{◌≡◌, ◌≢◌, ◌+◌, ◌≤◌, ℕ, true, false, map, None, Some, vec_capacity};
+ghost use Rattle.std.specs.Prelude.{IfErr, IfSome, IfNone, OnOk, OnErr};
+ghost use Rattle.slab.specs.Slab.{HasRoomFor, get, slab_len};
 ghost use Rattle.svc_door.specs.Dues.{due_at, due_slots, soonest_due};
 ghost use Rattle.svc_door.specs.Slots.{Admits, AreOpen, Dismisses, number_at};
+ghost use Rattle.svc_door.specs.Turning.{HasRound, HaveTurns, TurnsIfDue, TurnsOf, Wakes, WakesEach, slot_of};
+ghost use Rattle.mio.specs.Events.{items};
+ghost use Rattle.svc_door.specs.declared.table.Next.TheVariants as next;
 
 use crate::byte_sink::ByteSink;
 use crate::part::Part;
 use crate::rests::sooner;
-use mio::{Registry, Token};
+use mio::net::UnixListener;
+use mio::{Events, Registry, Token};
 use slab::Slab;
 use std::alloc::Global;
 use std::io;
@@ -25,33 +30,56 @@ pub struct NotAdmitted<P: ByteSink> {
     pub fault: io::Error,
 }
 
+/// What the door's thread does next.
+#[derive(Clone, Copy, Debug, PartialEq, Eq)]
+pub enum Next {
+    /// It ends.
+    Ends,
+    /// It polls until an event comes, or until this time.
+    Polls(Option<u64>),
+}
+
 /// The parts, each in a slot, and the slots of those that are to have a turn without an event.
 #[derive(Drop)]
 pub struct Table<P: ByteSink> {
-    pub ends: bool,
+    ends: bool,
     parts: Slab<Part<P>>,
-    // Each such slot once. There is room for all.
-    open: Vec<usize>,
+    open_slots: Vec<usize>,
+    ghost each: { AreOpen parts open_slots.items },
+    ghost room: { slab_len parts ≤ vec_capacity open_slots },
 }
 
 impl<P: ByteSink + Drop> Table<P> {
     /// A table with no part.
-    pub fn new(alloc: Global) -> Table<P> {
+    pub fn new(alloc: Global) -> Table<P>
+        ensures parts { (slot : ℕ) → get result.parts slot ≡ None }
+        ensures ends { result.ends ≡ false }
+    {
         Table {
             ends: false,
             parts: Slab::new(alloc),
-            open: Vec::new(alloc),
+            open_slots: Vec::new(alloc),
         }
     }
 
-    /// Has the registry watch a part, and puts it into a slot. At a fault the slots are as they were, and the part's
-    /// sink is given back.
-    pub fn admit(&mut self, mut part: Part<P>, registry: &Registry) -> Result<(), NotAdmitted<P>>
-        ensures admitted { OnOk result (Admits self.old.parts self.new.parts part.number) }
+    /// Has the registry watch a part that begins, and puts it into a slot. At a fault the slots are as they were, and
+    /// the part's sink is given back.
+    pub fn admit(
+        &mut self,
+        number: u64,
+        sink: P,
+        control: UnixListener,
+        ok: UnixListener,
+        registry: &Registry,
+    ) -> Result<(), NotAdmitted<P>>
+        ensures admitted { OnOk result (Admits number sink control ok self.old.parts self.new.parts) }
         ensures refused { OnErr result ((slot : ℕ) → get self.new.parts slot ≡ get self.old.parts slot) }
-        ensures sink { IfErr result (λ refused. refused.sink ≡ part.sink) }
-        ensures open { self.new.open.items ≡ self.old.open.items }
+        ensures sink { IfErr result (λ refused. refused.sink ≡ sink) }
+        ensures open { self.new.open_slots.items ≡ self.old.open_slots.items }
+        ensures ends { self.new.ends ≡ self.old.ends }
     {
+        let token = Token(self.parts.vacant_key());
+        let mut part = Part::new(number, token, sink, control, ok);
         match self.watch(&mut part, registry) {
             Ok(()) => {
                 self.parts.insert_reserved(part);
@@ -64,37 +92,51 @@ impl<P: ByteSink + Drop> Table<P> {
         }
     }
 
-    // Has the registry watch a part, once there is room for it.
+    // Has the registry watch a part, once there is room for it and for its turns.
     fn watch(&mut self, part: &mut Part<P>, registry: &Registry) -> io::Result<()>
         ensures room { OnOk result (HasRoomFor self.new.parts 1) }
+        ensures room_for_turns { OnOk result (slab_len self.new.parts + 1 ≤ vec_capacity self.new.open_slots) }
         ensures parts { (slot : ℕ) → get self.new.parts slot ≡ get self.old.parts slot }
-        ensures open { self.new.open.items ≡ self.old.open.items }
+        ensures vacant { self.new.parts.vacant_key ≡ self.old.parts.vacant_key }
+        ensures open { self.new.open_slots.items ≡ self.old.open_slots.items }
+        ensures ends { self.new.ends ≡ self.old.ends }
+        ensures token { part.new.token ≡ part.old.token }
         ensures number { part.new.number ≡ part.old.number }
         ensures sink { part.new.sink ≡ part.old.sink }
+        ensures due { part.new.due ≡ part.old.due }
+        ensures connection { part.new.connection ≡ part.old.connection }
+        ensures sockets { (part.new.control.socket ≡ part.old.control.socket)
+            × (part.new.ok.socket ≡ part.old.ok.socket) }
+        ensures watched { OnOk result ((part.new.control.watched ≡ Some part.old.token)
+            × (part.new.ok.watched ≡ Some part.old.token)) }
     {
         let lacking = self
             .parts
             .len()
             .saturating_add(1)
-            .saturating_sub(self.open.len());
-        self.open.reserve(lacking)?;
+            .saturating_sub(self.open_slots.len());
+        self.open_slots.reserve(lacking)?;
         self.parts.reserve(1)?;
-        part.register(registry, Token(self.parts.vacant_key()))
+        part.register(registry)
     }
 
-    /// Takes the part of a life out of its slot.
+    /// Takes the part of a life out of its slot, and gives its sink back. None: no part has this number.
     pub fn dismiss(&mut self, number: u64) -> Option<P>
-        ensures dismissed { OnSome result (Dismisses number self.old.parts self.new.parts
-            self.old.open.items self.new.open.items) }
+        ensures dismissed { IfSome result (λ sink. Dismisses number sink self.old.parts self.new.parts
+            self.old.open_slots.items self.new.open_slots.items) }
         ensures none { IfNone result ((slot : ℕ) → get self.new.parts slot ≡ get self.old.parts slot) }
+        ensures ends { self.new.ends ≡ self.old.ends }
+        ensures unknown { IfNone result ((slot : ℕ) → number_at self.old.parts slot ≢ Some number) }
     {
         let slot = self.slot_of(number)?;
-        self.open.retain(|other| *other != slot);
-        Some(self.parts.try_remove(slot)?.into_sink())
+        let part = self.parts.try_remove(slot)?;
+        self.open_slots.retain(|other| *other != slot);
+        Some(part.into_sink())
     }
 
     fn slot_of(&self, number: u64) -> Option<usize>
-        ensures { IfSome result (λ slot. number_at self.now.parts slot ≡ Some number) }
+        ensures some { IfSome result (λ slot. number_at self.now.parts slot ≡ Some number) }
+        ensures none { IfNone result ((slot : ℕ) → number_at self.now.parts slot ≢ Some number) }
     {
         for slot in 0..self.parts.capacity() {
             if let Some(part) = self.parts.get(slot) {
@@ -106,27 +148,70 @@ impl<P: ByteSink + Drop> Table<P> {
         None
     }
 
-    /// An event names a token: its part is due now, where there is one, and room.
+    /// An event names a token: its part, if there is one, is due now.
     pub fn wake(&mut self, token: Token, now: u64)
-        ensures open { AreOpen self.old.parts self.old.open.items → AreOpen self.new.parts self.new.open.items }
+        ensures wakes { Wakes now (get self.old.parts token.0) (get self.new.parts token.0) }
+        ensures others { (other : ℕ) → other ≢ token.0 → get self.new.parts other ≡ get self.old.parts other }
+        ensures ends { self.new.ends ≡ self.old.ends }
     {
-        let Some(part) = self.parts.get_mut(token.0) else {
-            return;
-        };
-        if part.due.is_none() && self.open.push(token.0).is_err() {
+        if !self.parts.contains(token.0) {
             return;
         }
-        part.due = Some(now);
+        if due_at(&self.parts, token.0).is_none() {
+            self.open_slots.push_reserved(token.0);
+        }
+        make_due(&mut self.parts, token.0, now);
+    }
+
+    fn wake_each(&mut self, events: &Events<Global>, now: u64)
+        ensures wakes { WakesEach now (map slot_of (items events.now)) self.old.parts self.new.parts }
+        ensures ends { self.new.ends ≡ self.old.ends }
+    {
+        for event in events.iter() {
+            self.wake(event.token(), now);
+        }
+    }
+
+    /// The door's thread is to end.
+    pub fn end(&mut self)
+        ensures ends { self.new.ends ≡ true }
+        ensures parts { (slot : ℕ) → get self.new.parts slot ≡ get self.old.parts slot }
+    {
+        self.ends = true;
+    }
+
+    /// A poll has given these events. If the thread is to end, nothing is done.
+    pub fn round<R: Wait>(
+        &mut self,
+        rt: &R,
+        registry: &Registry,
+        events: &Events<Global>,
+        now: u64,
+    ) -> Next
+        ensures ends { self.old.ends ≡ true → (result ≡ next.Ends)
+            × ((slot : ℕ) → get self.new.parts slot ≡ get self.old.parts slot) }
+        ensures same { self.new.ends ≡ self.old.ends }
+        ensures serves { self.old.ends ≡ false → HasRound now (items events.now) self.old.parts self.new.parts }
+        ensures polls { self.old.ends ≡ false
+            → result ≡ next.Polls (soonest_due self.new.parts self.new.open_slots.items) }
+    {
+        if self.ends {
+            return Next::Ends;
+        }
+        self.wake_each(events, now);
+        Next::Polls(self.turns(rt, registry, now))
     }
 
     /// Each part that is due has one turn. Then those stay that are due again, and this says when the soonest is.
     pub fn turns<R: Wait>(&mut self, rt: &R, registry: &Registry, now: u64) -> Option<u64>
-        ensures open { self.new.open.items ≡ due_slots self.new.parts self.old.open.items }
-        ensures soonest { result ≡ soonest_due self.new.parts self.new.open.items }
+        ensures turns { HaveTurns now self.old.parts self.new.parts }
+        ensures ends { self.new.ends ≡ self.old.ends }
+        ensures open { self.new.open_slots.items ≡ due_slots self.new.parts self.old.open_slots.items }
+        ensures soonest { result ≡ soonest_due self.new.parts self.new.open_slots.items }
     {
-        turn_each(rt, &mut self.parts, registry, &self.open, now);
-        keep_due(&self.parts, &mut self.open);
-        soonest_due(&self.parts, &self.open)
+        turn_each(rt, &mut self.parts, registry, &self.open_slots, now);
+        keep_due(&self.parts, &mut self.open_slots);
+        soonest_due(&self.parts, &self.open_slots)
     }
 }
 
@@ -137,7 +222,10 @@ fn turn_each<R: Wait, P: ByteSink + Drop>(
     registry: &Registry,
     slots: &[usize],
     now: u64,
-) {
+)
+    ensures turns { TurnsOf now slots.now parts.old parts.new }
+    ensures len { slab_len parts.new ≡ slab_len parts.old }
+{
     for slot in slots {
         turn(rt, parts, registry, *slot, now);
     }
@@ -150,11 +238,26 @@ fn turn<R: Wait, P: ByteSink + Drop>(
     registry: &Registry,
     slot: usize,
     now: u64,
-) {
+)
+    ensures there { TurnsIfDue now (get parts.old slot) (get parts.new slot) }
+    ensures others { (other : ℕ) → other ≢ slot → get parts.new other ≡ get parts.old other }
+    ensures len { slab_len parts.new ≡ slab_len parts.old }
+{
     if let Some(part) = parts.get_mut(slot) {
         if part.is_due(now) {
-            part.turn(rt, registry, Token(slot), now);
+            part.turn(rt, registry, now);
         }
+    }
+}
+
+/// Has the part in a slot be due now.
+fn make_due<P: ByteSink + Drop>(parts: &mut Slab<Part<P>>, slot: usize, now: u64)
+    ensures wakes { Wakes now (get parts.old slot) (get parts.new slot) }
+    ensures others { (other : ℕ) → other ≢ slot → get parts.new other ≡ get parts.old other }
+    ensures len { slab_len parts.new ≡ slab_len parts.old }
+{
+    if let Some(part) = parts.get_mut(slot) {
+        part.due = Some(now);
     }
 }
 
@@ -170,7 +273,8 @@ fn due_at<P: ByteSink + Drop>(parts: &Slab<Part<P>>, slot: usize) -> Option<u64>
 
 /// Takes the slots out whose parts are not due.
 fn keep_due<P: ByteSink + Drop>(parts: &Slab<Part<P>>, slots: &mut Vec<usize>)
-    ensures { slots.new.items ≡ due_slots parts.now slots.old.items }
+    ensures due { slots.new.items ≡ due_slots parts.now slots.old.items }
+    ensures room { vec_capacity slots.new ≡ vec_capacity slots.old }
 {
     slots.retain(|slot| due_at(parts, *slot).is_some());
 }

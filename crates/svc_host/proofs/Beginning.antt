@@ -10,9 +10,10 @@ use Rattle.scan_table.specs.declared.part.PartId.{PartId}
 use Rattle.scan_table.specs.Slots.{Row, SlotState}
 use Rattle.svc_host.specs.Parts.{HostPart}
 use Rattle.svc_host.specs.Begun.{Begins}
-use Rattle.svc_host.specs.Calls.{Call, HandsOut, HandsOutNone}
+use Rattle.svc_host.specs.Calls.{AsksByName, Call, HandsOut, HandsOutNone}
 use Rattle.svc_host.specs.Rounds.{AreBegun, Beginnings, IsBegunOne, IsParted, chosen}
 use Rattle.svc_host.proofs.Calling.{hands-none, hands-then}
+use Rattle.svc_host.proofs.Naming.{named_none, named_then}
 
 module _ {A : Type 0} where
   chosen_yes : (flags : List Bool) (xs : List A) (x : A) → length flags ≡ length xs
@@ -117,10 +118,15 @@ begun_none slots rows label so_far none =
       returned = [];
       hands = hands-none so_far.calls;
       given_back = record { flags = []; each = refl; set = refl; not_set = refl };
+      named = named_none slots so_far.calls;
     }
 
 module _ (slots : List SlotState) (rows : List Row) (label : Tai64n) (done : List PartId) (id : PartId)
-    (old mid new : Beginnings) (before : AreBegun slots rows label done old mid) where
+    (old mid new : Beginnings) (before : AreBegun slots rows label done old mid)
+    (named : AsksByName slots mid.calls new.calls) where
+  all_named : AsksByName slots old.calls new.calls
+  all_named = named_then slots old.calls mid.calls new.calls before.named named
+
   back_before : GivenBack old.calls mid.calls (map id_of before.begun)
   back_before = record {
     given = before.given;
@@ -145,6 +151,7 @@ module _ (slots : List SlotState) (rows : List Row) (label : Tai64n) (done : Lis
         returned = back.returned;
         hands = back.hands;
         given_back = subst (λ l. IsParted back.given l back.returned) ids back.given_back;
+        named = all_named;
       }
     where
       ids : map id_of before.begun ++ id ∷ [] ≡ map id_of (before.begun ++ part ∷ [])
@@ -167,6 +174,7 @@ module _ (slots : List SlotState) (rows : List Row) (label : Tai64n) (done : Lis
         returned = back.returned;
         hands = back.hands;
         given_back = back.given_back;
+        named = all_named;
       }
 
   pub next_begun : IsBegunOne slots rows label id mid new → AreBegun slots rows label (done ++ id ∷ []) old new
@@ -196,4 +204,5 @@ begun_as slots slots' rows label ids ids' olds old new begun a b c =
       returned = begun.returned;
       hands = begun.hands;
       given_back = begun.given_back;
+      named = begun.named;
     })))

@@ -1,24 +1,26 @@
 -- What the maker was asked, call after call.
 use Rattle.std.proofs.Common.{◌≡◌, inl, inr, Bool, true, false, List, [], ◌∷◌, ◌++◌, Option, Some, None, refl, sym}
 use Rattle.std.proofs.Common.{ℕ, ap, ◌∙◌, subst, append_assoc}
-use Rattle.std.specs.Prelude.{MatchBool}
+use Rattle.std.specs.Prelude.{MatchBool, Result, Ok, Err}
 use Rattle.std.proofs.lemmas.List.{append-nil}
+use Rattle.std.specs.Result.{result_err}
 use Rattle.scan_table.specs.declared.part.PartId.{PartId}
 use Rattle.svc_house.specs.Calls.{ExtendedWhileKept}
 use Rattle.svc_host.specs.declared.maker.PartFault.{PartFault}
 use Rattle.svc_host.specs.Parts.{HostPart}
 use Rattle.svc_host.specs.Calls.{Call, MadePart, MadePair, KeptTrace, EndedPart, ForgotSlot, WatchedOutputs}
 use Rattle.svc_host.specs.Calls.{EndedOutput}
-use Rattle.svc_host.specs.Calls.{AskedIsRead, CountedLost, given_in, returned_in}
+use Rattle.svc_host.specs.Calls.{AskedIsRead, CountedLost, SetFolder, Allowed, Prepared, AdmittedAll, AskedWaits}
+use Rattle.svc_host.specs.Calls.{AskedRefusals, ServedOwn, LeftOwn, given_in, returned_in}
 use Rattle.svc_host.specs.declared.pair.Pair.{Pair}
 use Rattle.svc_host.specs.Calls.{AsksPart, AsksPair, GivesBack, HandsOut, HandsOutNone, HandsOutOne, HandsTrace}
-use Rattle.svc_host.specs.Calls.{StartsPair, text_of}
+use Rattle.svc_host.specs.Calls.{StartsPair, opening_in, text_of}
 
 given-append : (xs ys : List Call) → given_in (xs ++ ys) ≡ given_in xs ++ given_in ys
 given-append [] ys = refl
-given-append (MadePart id None ∷ xs) ys = ap (λ l. id ∷ l) (given-append xs ys)
-given-append (MadePart id (Some fault) ∷ xs) ys = given-append xs ys
-given-append (MadePair slot fault ∷ xs) ys = given-append xs ys
+given-append (MadePart id name (Ok opening) ∷ xs) ys = ap (λ l. id ∷ l) (given-append xs ys)
+given-append (MadePart id name (Err fault) ∷ xs) ys = given-append xs ys
+given-append (MadePair slot name fault ∷ xs) ys = given-append xs ys
 given-append (KeptTrace id text kept ∷ xs) ys = given-append xs ys
 given-append (EndedPart id ∷ xs) ys = given-append xs ys
 given-append (ForgotSlot slot ∷ xs) ys = given-append xs ys
@@ -26,18 +28,34 @@ given-append (WatchedOutputs ∷ xs) ys = given-append xs ys
 given-append (EndedOutput slot at_once ∷ xs) ys = given-append xs ys
 given-append (AskedIsRead slot is_read ∷ xs) ys = given-append xs ys
 given-append (CountedLost slot has_logger count ∷ xs) ys = given-append xs ys
+given-append (SetFolder folder is_set ∷ xs) ys = given-append xs ys
+given-append (Allowed descriptors ∷ xs) ys = given-append xs ys
+given-append (Prepared rows ∷ xs) ys = given-append xs ys
+given-append (AdmittedAll ∷ xs) ys = given-append xs ys
+given-append (AskedWaits any_waits ∷ xs) ys = given-append xs ys
+given-append (AskedRefusals ∷ xs) ys = given-append xs ys
+given-append (ServedOwn path is_served ∷ xs) ys = given-append xs ys
+given-append (LeftOwn ∷ xs) ys = given-append xs ys
 
 returned-append : (xs ys : List Call) → returned_in (xs ++ ys) ≡ returned_in xs ++ returned_in ys
 returned-append [] ys = refl
 returned-append (EndedPart id ∷ xs) ys = ap (λ l. id ∷ l) (returned-append xs ys)
-returned-append (MadePart id fault ∷ xs) ys = returned-append xs ys
-returned-append (MadePair slot fault ∷ xs) ys = returned-append xs ys
+returned-append (MadePart id name made ∷ xs) ys = returned-append xs ys
+returned-append (MadePair slot name fault ∷ xs) ys = returned-append xs ys
 returned-append (KeptTrace id text kept ∷ xs) ys = returned-append xs ys
 returned-append (ForgotSlot slot ∷ xs) ys = returned-append xs ys
 returned-append (WatchedOutputs ∷ xs) ys = returned-append xs ys
 returned-append (EndedOutput slot at_once ∷ xs) ys = returned-append xs ys
 returned-append (AskedIsRead slot is_read ∷ xs) ys = returned-append xs ys
 returned-append (CountedLost slot has_logger count ∷ xs) ys = returned-append xs ys
+returned-append (SetFolder folder is_set ∷ xs) ys = returned-append xs ys
+returned-append (Allowed descriptors ∷ xs) ys = returned-append xs ys
+returned-append (Prepared rows ∷ xs) ys = returned-append xs ys
+returned-append (AdmittedAll ∷ xs) ys = returned-append xs ys
+returned-append (AskedWaits any_waits ∷ xs) ys = returned-append xs ys
+returned-append (AskedRefusals ∷ xs) ys = returned-append xs ys
+returned-append (ServedOwn path is_served ∷ xs) ys = returned-append xs ys
+returned-append (LeftOwn ∷ xs) ys = returned-append xs ys
 
 -- what these calls hand out and give back
 pub hands-by : (old new : Option (List Call)) (calls : List Call) → ExtendedWhileKept old new calls
@@ -64,13 +82,14 @@ hands-then (Some a) (Some b) (Some c) given returned given' returned' p q = (
 )
 
 -- a part that was asked for once
-pub hands-one : (id : PartId) (fault : Option PartFault) (old new : Option (List Call)) → AsksPart id fault old new
-    → HandsOutOne id fault old new
-hands-one id None old new asks = hands-by old new (MadePart id None ∷ []) asks
-hands-one id (Some fault) old new (inl none) = inl (hands-by old new [] none)
-hands-one id (Some fault) old new (inr (inl refused)) = inl (hands-by old new (MadePart id (Some fault) ∷ []) refused)
-hands-one id (Some fault) old new (inr (inr back)) =
-    inr (hands-by old new (MadePart id None ∷ EndedPart id ∷ []) back)
+pub hands-one : (id : PartId) (name : List ℕ) (made : Result HostPart PartFault) (old new : Option (List Call))
+    → AsksPart id name (opening_in made) old new → HandsOutOne id (result_err made) old new
+hands-one id name (Ok part) old new asks = hands-by old new (MadePart id name (Ok part.opening) ∷ []) asks
+hands-one id name (Err fault) old new (inl none) = inl (hands-by old new [] none)
+hands-one id name (Err fault) old new (inr (inl refused)) =
+    inl (hands-by old new (MadePart id name (Err fault) ∷ []) refused)
+hands-one id name (Err fault) old new (inr (inr back)) =
+    inr (hands-by old new (MadePart id name (Ok back.0) ∷ EndedPart id ∷ []) back.1)
 
 -- the same behind calls that hand out nothing
 pub one-behind : (id : PartId) (fault : Option PartFault) (old mid new : Option (List Call)) → HandsOutNone old mid
@@ -81,18 +100,19 @@ one-behind id (Some fault) old mid new none (inr back) =
     inr (hands-then old mid new [] [] (id ∷ []) (id ∷ []) none back)
 
 -- a pair that was asked for hands out no part
-pub pair-none : (slot : _) (fault : PartFault) (old new : Option (List Call)) → AsksPair slot fault old new
+pub pair-none : (slot : _) (name : List ℕ) (fault : PartFault) (old new : Option (List Call))
+    → AsksPair slot name fault old new
     → HandsOutNone old new
-pair-none slot fault old new (inl none) = hands-by old new [] none
-pair-none slot fault old new (inr (inl refused)) = hands-by old new (MadePair slot (Some fault) ∷ []) refused
-pair-none slot fault old new (inr (inr made)) = hands-by old new (MadePair slot None ∷ []) made
+pair-none slot name fault old new (inl none) = hands-by old new [] none
+pair-none slot name fault old new (inr (inl refused)) = hands-by old new (MadePair slot name (Some fault) ∷ []) refused
+pair-none slot name fault old new (inr (inr made)) = hands-by old new (MadePair slot name None ∷ []) made
 
 -- nor does a pair that runs
-pub start-none : (slot : _) (fault : Option PartFault) (olds news : List Pair) (old new : Option (List Call))
-    → StartsPair slot fault olds news old new → HandsOutNone old new
-start-none slot None olds news old new (inl runs) = hands-by old new [] runs.2
-start-none slot None olds news old new (inr starts) = hands-by old new (MadePair slot None ∷ []) starts.4
-start-none slot (Some fault) olds news old new failed = pair-none slot fault old new failed.2
+pub start-none : (slot : _) (name : List ℕ) (fault : Option PartFault) (olds news : List Pair)
+    (old new : Option (List Call)) → StartsPair slot name fault olds news old new → HandsOutNone old new
+start-none slot name None olds news old new (inl runs) = hands-by old new [] runs.2
+start-none slot name None olds news old new (inr starts) = hands-by old new (MadePair slot name None ∷ []) starts.4
+start-none slot name (Some fault) olds news old new failed = pair-none slot name fault old new failed.2
 
 -- nor does a trace
 pub trace-none : (kept : Option _) (part : HostPart) (is_kept : Bool) (old new : Option (List Call))

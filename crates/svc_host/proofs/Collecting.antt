@@ -88,7 +88,7 @@ module _ (old mid new : HostState) (place : ℕ) (within : place < length old.pa
 
   goes : GoOn old.parts new.parts
   goes = go_on_then old.parts mid.parts new.parts before.parts
-      (subst (GoOn mid.parts) (sym step.parts) (one_goes_on mid.parts place step.part here step.goes_on))
+      (subst (GoOn mid.parts) (sym step.parts) (one_goes_on mid.parts place step.part step.changed))
 
   joined_one : new.table ≡ after_end mid.table part.id → part.has_ended ≡ false
       → HandsOut mid.calls new.calls [] (part.id ∷ []) → IsReaped part step.part → AreCollected old new
@@ -139,7 +139,7 @@ module _ (old mid new : HostState) (place : ℕ) (within : place < length old.pa
       ∙ here_then mid.parts place step.part step.part here in
       let joined_so = subst IsJoined stands (is refl step.part) in
       joined_one (ended refl step.part) (ran refl step.part) (returned step.part) (record {
-        goes_on = step.goes_on step.part;
+        goes_on = step.changed step.part;
         ran = ran refl step.part;
         joined = joined_so;
         gone = subst IsGoneIfEnded stands (gone refl step.part) joined_so.ended;

@@ -4,6 +4,8 @@ pub mod Causes
 pub mod Collecting
 pub mod Forgetting
 pub mod Going
+pub mod Moving
+pub mod Naming
 pub mod OneReader
 pub mod Rows
 pub mod Senders

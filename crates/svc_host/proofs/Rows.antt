@@ -31,6 +31,7 @@ begins slots rows label id name row part named found begun =
         is = refl;
         opening = begun.opening
             ∙ sym (ap (λ (p : PartId). state_of (beginning part.opening (is_down p.role row) label)) begun.is);
+        alive = begun.alive;
         adopted = begun.adopted
             ∙ sym (ap (λ (p : PartId). (state_of (beginning part.opening (is_down p.role row) label)).status.pid)
             begun.is);

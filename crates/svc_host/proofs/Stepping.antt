@@ -8,9 +8,9 @@ use Rattle.svc_mail.specs.Ends.{IsSameSender, heard_by, posted, seen_by}
 use Rattle.svc_mail.specs.Ends.{WasFull as SenderWasFull}
 use Rattle.svc_host.specs.declared.ending.ProcessSight.{ProcessSight}
 use Rattle.svc_host.specs.Mails.{Mail, WasFull, mail_of}
-use Rattle.svc_host.specs.Parts.{HostPart, GoOn, HasPosted, IsRefused}
+use Rattle.svc_host.specs.Parts.{HostPart, AreHeard, HasPosted, IsRefused}
 use Rattle.svc_host.specs.Ending.{IsSight}
-use Rattle.svc_host.proofs.Going.{all_same, one_goes_on}
+use Rattle.svc_host.proofs.Going.{none_heard, one_heard}
 
 -- a sender that posted, saw and heard no more knows what it knew
 pub mail_same : {A : Type 0} (old new : Sender ℕ A) → IsSameSender old new → posted new ≡ posted old
@@ -25,11 +25,11 @@ mail_same old new same post see hear = λ i. record {
   heard = hear i;
 }
 
-pub sight_goes : (slot : ℕ) (role : Role) (old new : List HostPart) (sight : ProcessSight)
-    → IsSight slot role old new sight → GoOn old new
-sight_goes slot role old new sight (inl none) = subst (GoOn old) (sym none.1) (all_same old)
-sight_goes slot role old new sight (inr one) =
-    subst (GoOn old) (sym one.4) (one_goes_on old one.0 one.1 one.2 (λ d. (one.3 d).1.goes_on))
+pub sight_heard : (slot : ℕ) (role : Role) (old new : List HostPart) (sight : ProcessSight)
+    → IsSight slot role old new sight → AreHeard old new
+sight_heard slot role old new sight (inl none) = subst (AreHeard old) (sym none.1) (none_heard old)
+sight_heard slot role old new sight (inr one) =
+    subst (AreHeard old) (sym one.4) (one_heard old one.0 one.1 (λ d. (one.3 d).1.is_heard))
 
 -- the part with what its sender knows now
 abbrev pub with_mail : HostPart → Mail → HostPart
@@ -53,6 +53,7 @@ posts_or_not Same part old new byte (Ok x) is same more post see hear full = rec
   end_bytes = refl;
   kept = refl;
   has_ended = refl;
+  untaken = refl;
   loss = refl;
 }
 posts_or_not Same part old new byte (Err y) is same more post see hear full =

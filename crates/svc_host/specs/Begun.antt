@@ -1,5 +1,6 @@
 -- How a part that a round begins stands at first.
-use Rattle.std.specs.Prelude.{◌≡◌, Bool, false, List, [], Option, Some, None}
+use Rattle.std.specs.Prelude.{◌≡◌, ℕ, Bool, false, List, [], Option, Some, None}
+use Rattle.sup_core.specs.State.{is_gone}
 use Rattle.sup_core.specs.History.{History, state_of}
 use Rattle.svc_left.specs.Opening.{beginning}
 use Rattle.tai_status.specs.Label.{Tai64n}
@@ -21,17 +22,23 @@ abbrev pub row_at : List Row → Option SlotState → Option Row
 row_at rows None = None
 row_at rows (Some slot) = row_of rows slot.name
 
--- A part that was just begun: its station was opened with the machine of this beginning, whose process, if it has one,
--- was adopted, and nothing was posted to it.
+-- A part that was just begun: its station was opened with the machine of this beginning, which is not gone, and whose
+-- process, if it has one, was adopted. Nothing was posted to it.
 pub record IsBegun (id : PartId) (begin : History) (part : HostPart) : Type 0 where
   pub is : part.id ≡ id
   pub opening : part.station.opening ≡ state_of begin
+  pub alive : is_gone part.station.opening.phase ≡ false
   pub adopted : part.adopted ≡ (state_of begin).status.pid
   pub known : part.known ≡ []
   pub posted : part.mail.posted ≡ []
   pub end_bytes : part.end_bytes ≡ no_end_bytes
   pub has_ended : part.has_ended ≡ false
   pub loss : part.loss ≡ no_loss
+
+-- Its mailbox and its trace have the rooms that were asked for.
+pub record HasRooms (mail trace : ℕ) (part : HostPart) : Type 0 where
+  pub mailbox : part.mail.room ≡ mail
+  pub entries : part.station.room ≡ trace
 
 -- It begins as its maker says of it: by its row, which is with or without its `down` file, as the row of its slot says,
 -- at the label of the round; or otherwise, since an earlier svscan left something of it.

@@ -3,9 +3,11 @@ pub mod Begun
 pub mod Calls
 pub mod Ending
 pub mod Growth
+pub mod HostRun
 pub mod Mails
 pub mod Outputs
 pub mod Parts
+pub mod Resources
 pub mod Rests
 pub mod Rounds
 pub mod Served

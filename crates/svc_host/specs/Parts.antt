@@ -3,12 +3,11 @@ use Rattle.std.specs.Prelude.{◌≡◌, ◌≢◌, ◌<◌, ⊤, Bool, true, fa
 use Rattle.std.specs.Prelude.{◌++◌, length}
 use Rattle.std.specs.Prelude.{map, slice_index_or, slice_set, Option, None}
 use Rattle.std.specs.List.{filter, list_any, All}
-use mathlib.Core.List.{IsPrefix}
 use Rattle.tai_status.specs.Record.{Status}
 use Rattle.sup_core.specs.declared.event.Event.{Event}
 use Rattle.tai_status.specs.declared.phase.Phase.TheVariants as phase
 use Rattle.sup_core.specs.History.{History, Opened, phase_of, status_of}
-use Rattle.sup_core.specs.Runs.{followed_by}
+use Rattle.sup_core.specs.Runs.{AreTaken, followed_by}
 use Rattle.scan_table.specs.declared.part.PartId.{PartId}
 use Rattle.scan_table.specs.declared.part.Role.{Role}
 use Rattle.scan_table.specs.declared.part.Role.TheVariants.{Main}
@@ -71,6 +70,12 @@ new_part id opening adopted reader sender = record {
 abbrev pub history_of : HostPart → History
 history_of part = followed_by (Opened part.station.opening) part.known
 
+-- More events of a history are known, each of which was taken when it came.
+pub record Tells (past : History) (old new : List Event) : Type 0 where
+  pub more : List Event
+  pub known : new ≡ old ++ more
+  pub taken : AreTaken past more
+
 -- Of a part that has ended all events were read: it is gone.
 abbrev pub IsGoneIfEnded : HostPart → Type 0
 IsGoneIfEnded part = part.has_ended ≡ true → phase_of (history_of part) ≡ phase.Gone
@@ -81,16 +86,21 @@ pub record PartGoesOn (old new : HostPart) : Type 0 where
   pub opening : new.opening ≡ old.opening
   pub adopted : new.adopted ≡ old.adopted
   pub station : new.station ≡ old.station
-  pub known : IsPrefix old.known new.known
+  pub known : Tells (history_of old) old.known new.known
   pub mail : new.mail ≡ old.mail
   pub end_bytes : new.end_bytes ≡ old.end_bytes
 
+-- The host has read of its events, and its trace may have been kept. Nothing else of it changed.
+pub record IsHeard (old new : HostPart) : Type 0 where
+  pub goes_on : PartGoesOn old new
+  pub has_ended : new.has_ended ≡ old.has_ended
+  pub untaken : new.untaken ≡ old.untaken
+  pub loss : new.loss ≡ old.loss
+
 -- The host has read of its events, and nothing else of it changed.
 pub record IsRead (old new : HostPart) : Type 0 where
-  pub goes_on : PartGoesOn old new
+  pub is_heard : IsHeard old new
   pub kept : new.kept ≡ old.kept
-  pub has_ended : new.has_ended ≡ old.has_ended
-  pub loss : new.loss ≡ old.loss
 
 -- The host posted this byte to it, and nothing else of it changed.
 pub record HasPosted (old : HostPart) (byte : ℕ) (new : HostPart) : Type 0 where
@@ -103,6 +113,7 @@ pub record HasPosted (old : HostPart) (byte : ℕ) (new : HostPart) : Type 0 whe
   pub end_bytes : new.end_bytes ≡ old.end_bytes
   pub kept : new.kept ≡ old.kept
   pub has_ended : new.has_ended ≡ old.has_ended
+  pub untaken : new.untaken ≡ old.untaken
   pub loss : new.loss ≡ old.loss
 
 -- Nothing was posted, since the mailbox was full, and nothing of the part changed.
@@ -125,17 +136,34 @@ pub record IsPart (id : PartId) (parts : List HostPart) (part : HostPart) : Type
   pub here : (d : HostPart) → slice_index_or parts place d ≡ part
   pub is : part.id ≡ id
 
--- The same parts are there, in the same order, and each one's events go on.
-abbrev pub GoOn : List HostPart → List HostPart → Type 0
-GoOn [] [] = ⊤
-GoOn (old ∷ olds) (new ∷ news) = PartGoesOn old new × GoOn olds news
-GoOn olds news = ⊥
+-- The same parts are there, in the same order, and each one changed so.
+abbrev pub AreEach : (HostPart → HostPart → Type 0) → (olds news : List HostPart) → Type 0
+AreEach Changed [] [] = ⊤
+AreEach Changed (old ∷ olds) (new ∷ news) = Changed old new × AreEach Changed olds news
+AreEach Changed olds news = ⊥
 
--- One of them goes on, and the others are as they were.
-pub record IsStep (old : List HostPart) (place : ℕ) (new : List HostPart) : Type 0 where
+-- Each one's events go on.
+abbrev pub GoOn : (olds news : List HostPart) → Type 0
+GoOn = AreEach PartGoesOn
+
+-- Of each one the host may have read more.
+abbrev pub AreHeard : (olds news : List HostPart) → Type 0
+AreHeard = AreEach IsHeard
+
+-- One of them changed so, and the others are as they were.
+pub record IsStepOf (Changed : HostPart → HostPart → Type 0) (old : List HostPart) (place : ℕ) (new : List HostPart)
+    : Type 0 where
   pub part : HostPart
-  pub goes_on : (d : HostPart) → PartGoesOn (slice_index_or old place d) part
+  pub changed : (d : HostPart) → Changed (slice_index_or old place d) part
   pub parts : new ≡ slice_set old place part
+
+-- One of them goes on.
+abbrev pub IsStep : (old : List HostPart) → (place : ℕ) → (new : List HostPart) → Type 0
+IsStep = IsStepOf PartGoesOn
+
+-- Of one of them the host may have read more.
+abbrev pub IsHearing : (old : List HostPart) → (place : ℕ) → (new : List HostPart) → Type 0
+IsHearing = IsStepOf IsHeard
 
 -- A control byte was posted to the part, and nothing else of the parts changed.
 pub record IsPost (old : List HostPart) (id : PartId) (byte : ℕ) (new : List HostPart) : Type 0 where

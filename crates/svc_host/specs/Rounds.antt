@@ -18,7 +18,7 @@ use Rattle.svc_host.specs.Parts.{HostPart, GoOn, IsJoined, IsPart, PartGoesOn, h
 use Rattle.sup_core.specs.History.{phase_of}
 use Rattle.tai_status.specs.declared.phase.Phase.TheVariants as phase
 use Rattle.svc_host.specs.Begun.{Begins}
-use Rattle.svc_host.specs.Calls.{Call, ForgotSlot, HandsOut, HandsOutNone}
+use Rattle.svc_host.specs.Calls.{AsksByName, Call, ForgotSlot, HandsOut, HandsOutNone}
 
 -- the table of slots, the parts that are there, and what their maker was asked, where that is kept
 pub record HostState : Type 0 where
@@ -98,7 +98,7 @@ beginnings begun calls =
     record { parts = begun.parts.items; failed = unmade_ids begun.failed.items; calls = calls }
 
 -- Of the parts that a scan began each is there now, or failed. Of those for which resources were handed out each is
--- there, or its resources were given back, once.
+-- there, or its resources were given back, once. Each was asked for by the name of its slot.
 pub record AreBegun (slots : List SlotState) (rows : List Row) (label : Tai64n) (ids : List PartId)
     (old new : Beginnings) : Type 0 where
   pub begun : List HostPart
@@ -109,6 +109,7 @@ pub record AreBegun (slots : List SlotState) (rows : List Row) (label : Tai64n) 
   pub returned : List PartId
   pub hands : HandsOut old.calls new.calls given returned
   pub given_back : IsParted given (map (λ (part : HostPart). part.id) begun) returned
+  pub named : AsksByName slots old.calls new.calls
 
 -- One part is there now, with its resources, or it failed, and has none.
 abbrev pub IsBegunOne : List SlotState → List Row → Tai64n → PartId → (old new : Beginnings) → Type 0
@@ -129,16 +130,18 @@ abbrev pub BeginsOne : {R : Type 0} → List SlotState → List Row → Tai64n �
     → (asked now_asked : Option (List Call)) → Type 0
 BeginsOne slots rows label id old new asked now_asked =
     IsBegunOne slots rows label id (beginnings old asked) (beginnings new now_asked)
+    × AsksByName slots asked now_asked
 
 -- what the maker was asked once it knows of each slot that was dropped
 abbrev pub Forgets : (dropped : List ℕ) → (old new : Option (List Call)) → Type 0
 Forgets dropped old new = ExtendedWhileKept old new (map ForgotSlot dropped)
 
--- A scan: the rows are scanned, and each part that starts or restarts is there now, begun by its row or as it was left,
+-- A scan: the table accepts the rows, they are scanned, and each part that starts or restarts is there now, begun by its row or as it was left,
 -- or failed, and then it has ended. Of the other parts those are there that stay. The maker is to forget each slot that
 -- is dropped, once, before it is asked for what begins.
 pub record IsScanned (old : HostState) (rows : List Row) (label : Tai64n) (out : HostOut) (new : HostState)
     : Type 0 where
+  pub accepted : scan_refusal old.table rows ≡ None
   pub scan : IsScan old.table rows out.scan
   pub table : new.table ≡ after_ends (unmade_ids out.failed.items) (scanned old.table rows)
   pub calls : Option (List Call)

@@ -1,10 +1,10 @@
 -- The thread of a part: it runs, or was joined.
 use Rattle.std.specs.Prelude.{◌≡◌, ℕ, Bool, true, false}
-use mathlib.Core.List.{IsPrefix}
 use Rattle.svc_station.specs.declared.reader.Reader.{Reader}
-use Rattle.svc_station.specs.Ends.{known_to, reader_station}
+use Rattle.svc_station.specs.Ends.{history_at, known_to, reader_station}
 use Rattle.svc_host.specs.declared.part_thread.PartThread.{PartThread}
 use Rattle.svc_host.specs.declared.part_thread.PartThread.TheVariants.{Runs, Ended}
+use Rattle.svc_host.specs.Parts.{Tells}
 
 -- the reader of its station, as the host has it or had it last
 abbrev pub reader_at : {R : Type 0} → PartThread R → Reader
@@ -15,11 +15,11 @@ abbrev pub is_ended : {R : Type 0} → PartThread R → Bool
 is_ended (Runs running) = false
 is_ended (Ended last) = true
 
--- It is the same station, of whose events no less is known.
+-- It is the same station, of whose events more may be known.
 abbrev pub IsSameThread : {R : Type 0} → PartThread R → PartThread R → Type 0
 IsSameThread old new =
     (reader_station (reader_at new) ≡ reader_station (reader_at old))
-    × IsPrefix (known_to (reader_at old)) (known_to (reader_at new))
+    × Tells (history_at (reader_at old)) (known_to (reader_at old)) (known_to (reader_at new))
 
 -- how many letters were found in the mailbox of a service that was gone
 abbrev pub untaken_at : {R : Type 0} → PartThread R → ℕ

@@ -1,7 +1,7 @@
 //! The ends of mailboxes and stations that were just opened.
 ghost use Rattle.std.specs.Prelude.{◌≡◌, ◌≤◌, ◌<◌, [], IfSome};
 ghost use Rattle.svc_house.specs.Mail.{sender_in};
-ghost use Rattle.svc_mail.specs.Ends.{home, posted, receiver_home, taken_by};
+ghost use Rattle.svc_mail.specs.Ends.{home, posted, receiver_home, room_of, taken_by};
 ghost use Rattle.svc_station.specs.Ends.{known_to, opening_of, published, reader_station, station};
 
 use crate::running::{StatusReader, status_reader_of};
@@ -45,6 +45,7 @@ pub(crate) fn open_mailbox(
     ensures untaken { IfSome result (λ ends. taken_by ends.2 ≡ []) }
     ensures inside { IfSome result (λ ends. home ends.0 ≡ receiver_home ends.2) }
     ensures outside { IfSome result (λ ends. home ends.1 ≡ receiver_home ends.2) }
+    ensures room { IfSome result (λ ends. room_of ends.0 ≡ capacity) }
 {
     let Ok((_mailbox, mut senders, receiver)) = Mailbox::open(alloc, capacity, 2) else {
         return None;
@@ -75,7 +76,9 @@ pub(crate) struct PartEnds {
 }
 
 impl PartEnds {
-    ghost use Rattle.std.specs.Prelude.{◌<◌};
+    ghost use Rattle.std.specs.Prelude.{◌≡◌, ◌<◌, IfOk};
+    ghost use Rattle.svc_house.specs.Mail.{sender_in};
+    ghost use Rattle.svc_mail.specs.Ends.{room_of};
 
     /// The ends of a part whose mailbox has room for so many control bytes.
     pub(crate) fn open(
@@ -85,6 +88,7 @@ impl PartEnds {
         capacity: usize,
     ) -> Result<PartEnds, AllocError>
         requires { 0 < capacity }
+        ensures { IfOk result (λ ends. room_of (sender_in ends.inside) ≡ capacity) }
     {
         let Ok(shared) = Arc::new(alloc, PartShared::new(alloc, host, activity)?) else {
             return Err(AllocError);
@@ -112,6 +116,7 @@ pub(crate) fn open_station<R: Wait>(
 ) -> Option<(Writer, StatusReader)>
     requires { (0 < room) × (room ≤ 65536) }
     ensures opening { IfSome result (λ ends. opening_of ends.0 ≡ machine) }
+    ensures room { IfSome result (λ ends. (station ends.0).room ≡ room) }
     ensures unpublished { IfSome result (λ ends. published ends.0 ≡ []) }
     ensures reader { IfSome result (λ ends. reader_station ends.1.reader ≡ station ends.0) }
     ensures known { IfSome result (λ ends. known_to ends.1.reader ≡ []) }

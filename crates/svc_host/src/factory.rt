@@ -2,12 +2,12 @@
 ghost use Rattle.std.specs.Prelude.{◌≡◌, ◌≤◌, ◌<◌, [], ◌∷◌, IfOk, MatchBool, Some, length};
 ghost use Rattle.std.specs.Result.{result_err};
 ghost use Rattle.svc_house.specs.Calls.{ExtendedWhileKept};
-ghost use Rattle.svc_host.specs.Calls.{AsksPart, ForgotSlot, HandsOutNone, HandsOutOne, HandsTrace, KeptTrace};
-ghost use Rattle.svc_host.specs.Calls.{StartsIfPair, StartsPair, has_pair, pairs_without};
+ghost use Rattle.svc_host.specs.Calls.{AsksByName, AsksPart, ForgotSlot, HandsOutNone, HandsOutOne, HandsTrace, KeptTrace};
+ghost use Rattle.svc_host.specs.Calls.{StartsIfPair, StartsPair, has_pair, opening_in, pairs_without};
 ghost use Rattle.svc_left.specs.Opening.{beginning};
 ghost use Rattle.scan_table.specs.Scan.{AreRising};
-ghost use Rattle.svc_host.specs.Parts.{PartGoesOn};
-ghost use Rattle.svc_host.specs.Begun.{Begins, IsBegun, is_down};
+ghost use Rattle.svc_host.specs.Parts.{IsHeard};
+ghost use Rattle.svc_host.specs.Begun.{Begins, HasRooms, IsBegun, is_down};
 
 use crate::ends::{PartEnds, open_station};
 use crate::growth::Growth;
@@ -98,7 +98,8 @@ impl<M: Maker + Drop, R: Threads + Wait + Clock + Copy + Drop + Send + 'static> 
         label: Label,
     ) -> Result<Part<R>, PartFault>
         ensures begun { IfOk result (λ part. IsBegun id (beginning part.opening down label) part) }
-        ensures asks { AsksPart id (result_err result) (M.calls self.old.maker) (M.calls self.new.maker) }
+        ensures rooms { IfOk result (HasRooms self.old.rooms.mail self.old.rooms.trace) }
+        ensures asks { AsksPart id name.now (opening_in result) (M.calls self.old.maker) (M.calls self.new.maker) }
     {
         let PartEnds {
             shared,
@@ -162,7 +163,9 @@ impl<M: Maker + Drop, R: Threads + Wait + Clock + Copy + Drop + Send + 'static> 
         requires { AreRising rows.now }
         ensures id { IfOk result (λ part. part.id ≡ id) }
         ensures begun { IfOk result (λ part. Begins table.now.slots rows.now label part) }
+        ensures rooms { IfOk result (HasRooms self.old.rooms.mail self.old.rooms.trace) }
         ensures hands { HandsOutOne id (result_err result) (M.calls self.old.maker) (M.calls self.new.maker) }
+        ensures named { AsksByName table.now.slots (M.calls self.old.maker) (M.calls self.new.maker) }
     {
         let Some(name) = table.name(id.slot) else {
             return Err(PartFault::Refused(Cause::Missing));
@@ -179,9 +182,10 @@ impl<M: Maker + Drop, R: Threads + Wait + Clock + Copy + Drop + Send + 'static> 
 
     // The threads of the pair in a slot run now, where it is one, or can't be made.
     fn start_if_pair(&mut self, table: &ScanTable, name: &str, slot: u64) -> Result<(), PartFault>
-        ensures starts { StartsIfPair table.now slot (result_err result) self.old.pairs self.new.pairs
+        ensures starts { StartsIfPair table.now slot name.now (result_err result) self.old.pairs self.new.pairs
             (M.calls self.old.maker) (M.calls self.new.maker) }
         ensures hands { HandsOutNone (M.calls self.old.maker) (M.calls self.new.maker) }
+        ensures rooms { self.new.rooms ≡ self.old.rooms }
     {
         if table.is_pair(slot) {
             return self.start_pair(name, slot);
@@ -191,7 +195,8 @@ impl<M: Maker + Drop, R: Threads + Wait + Clock + Copy + Drop + Send + 'static> 
 
     // The threads of a pair run now, or can't be made.
     fn start_pair(&mut self, name: &str, slot: u64) -> Result<(), PartFault>
-        ensures { StartsPair slot (result_err result) self.old.pairs.items self.new.pairs.items
+        ensures rooms { self.new.rooms ≡ self.old.rooms }
+        ensures starts { StartsPair slot name.now (result_err result) self.old.pairs.items self.new.pairs.items
             (M.calls self.old.maker) (M.calls self.new.maker) }
     {
         if has_pair(&self.pairs, slot) {
@@ -238,9 +243,7 @@ impl<M: Maker + Drop, R: Threads + Wait + Clock + Copy + Drop + Send + 'static> 
 
     /// Hands the trace of a part to the maker, where it has grown. Whether its newest trace is kept.
     pub(crate) fn keep_trace(&mut self, part: &mut Part<R>) -> bool
-        ensures same { PartGoesOn part.old part.new }
-        ensures ended { part.new.has_ended ≡ part.old.has_ended }
-        ensures loss { part.new.loss ≡ part.old.loss }
+        ensures heard { IsHeard part.old part.new }
         ensures kept { MatchBool result (part.new.kept ≡ Some (length part.new.known))
             (part.new.kept ≡ part.old.kept) }
         ensures hands { HandsTrace part.old.kept part.new result (M.calls self.old.maker) (M.calls self.new.maker) }

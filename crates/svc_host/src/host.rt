@@ -7,7 +7,7 @@ ghost use Rattle.scan_table.specs.Table.{scanned};
 ghost use Rattle.svc_host.specs.Calls.{GivesBack, HandsOutNone};
 ghost use Rattle.svc_host.specs.Ending.{EndSteps, IsEndStep};
 ghost use Rattle.svc_host.specs.Outputs.{EndsInput, EndsOutput};
-ghost use Rattle.svc_host.specs.Parts.{GoOn, HostPart, IsGoneIfEnded, IsJoined, IsStep, PartGoesOn};
+ghost use Rattle.svc_host.specs.Parts.{AreHeard, HostPart, IsGoneIfEnded, IsHearing, IsJoined, PartGoesOn};
 ghost use Rattle.svc_host.specs.Rounds.{BeginsAll, BeginsOne, Forgets, IsScan, after_ends, staying, unmade_ids};
 
 use crate::ending::{lives, may_leave};
@@ -59,7 +59,7 @@ pub enum PostFault {
 }
 
 /// The host of all services of one svscan. Contracts see it as `HostState`: the table of slots, and the parts that are
-/// there.
+/// there. What it did so far is a run from a host without parts (`CameToBe`), whatever was called.
 #[derive(Drop)]
 pub struct Host<M: Maker + Drop, R: Threads + Wait + Clock + Copy + Drop + Send + 'static> {
     factory: PartFactory<M, R>,
@@ -71,6 +71,7 @@ pub struct Host<M: Maker + Drop, R: Threads + Wait + Clock + Copy + Drop + Send 
 
 impl<M: Maker + Drop, R: Threads + Wait + Clock + Copy + Drop + Send + 'static> Model
     for Host<M, R> {
+    ghost use Rattle.svc_host.specs.HostRun.{CameToBe};
     ghost use Rattle.svc_host.specs.Rounds.{HostState};
 
     ghost Value = { HostState };
@@ -80,6 +81,12 @@ impl<M: Maker + Drop, R: Threads + Wait + Clock + Copy + Drop + Send + 'static> 
       parts = host.parts.items;
       calls = M.calls host.factory.maker;
     } };
+
+    ghost invariant = { λ host. CameToBe (record {
+      table = host.table;
+      parts = host.parts.items;
+      calls = M.calls host.factory.maker;
+    }) };
 }
 
 /// What a scan found, with the room that the rest of its round needs.
@@ -231,7 +238,7 @@ fn keep_trace<M: Maker + Drop, R: Threads + Wait + Clock + Copy + Drop + Send + 
     place: usize,
 ) -> bool
     requires { place < length parts.old.items }
-    ensures step { IsStep parts.old.items place parts.new.items }
+    ensures step { IsHearing parts.old.items place parts.new.items }
     ensures hands { HandsOutNone (M.calls factory.old.maker) (M.calls factory.new.maker) }
 {
     let part = &mut parts[place];
@@ -243,7 +250,7 @@ fn keep_traces<M: Maker + Drop, R: Threads + Wait + Clock + Copy + Drop + Send +
     factory: &mut PartFactory<M, R>,
     parts: &mut Vec<Part<R>>,
 ) -> bool
-    ensures parts { GoOn parts.old.items parts.new.items }
+    ensures parts { AreHeard parts.old.items parts.new.items }
     ensures hands { HandsOutNone (M.calls factory.old.maker) (M.calls factory.new.maker) }
 {
     let mut all = true;
@@ -312,7 +319,7 @@ fn end_pair<M: Maker + Drop, R: Threads + Wait + Clock + Copy + Drop + Send + 's
     parts: &mut Vec<Part<R>>,
     at: usize,
 ) -> bool
-    ensures { GoOn parts.old.items parts.new.items }
+    ensures { AreHeard parts.old.items parts.new.items }
 {
     let Some(pair) = factory.pairs.get(at) else {
         return true;
@@ -323,17 +330,21 @@ fn end_pair<M: Maker + Drop, R: Threads + Wait + Clock + Copy + Drop + Send + 's
 }
 
 impl<M: Maker + Drop, R: Threads + Wait + Clock + Copy + Drop + Send + 'static> Host<M, R> {
-    ghost use Rattle.std.specs.Prelude.{◌≡◌, ◌↔◌, ◌<◌, ◌≤◌, [], Err, IfOk, IfErr, OnErr, MatchOption, true, false};
+    ghost use Rattle.std.specs.Prelude.{◌≡◌, ◌↔◌, ◌<◌, ◌≤◌, [], Err, IfOk, IfErr, IfSome, OnErr, MatchOption, true, false};
     ghost use Rattle.std.specs.Prelude.{length, map, option_copied, option_map, slice_index_or};
+    ghost use Rattle.std.specs.Fn.{FnOnceReturnsAtMut};
     ghost use Rattle.scan_table.specs.Table.{after_end, name_of, new_table, slot_at};
     ghost use Rattle.svc_host.specs.Ending.{EndsAll};
-    ghost use Rattle.svc_host.specs.Parts.{GoOn, HostPart, IsFullAt, IsGoneIfEnded, IsJoined};
+    ghost use Rattle.svc_host.specs.Parts.{AreHeard, HostPart, IsFullAt, IsGoneIfEnded, IsJoined};
     ghost use Rattle.svc_host.specs.Parts.{IsNowhere, IsPost, IsReading, IsStep};
     ghost use Rattle.svc_host.specs.Parts.{count_running, losses_in, running_ids, without_loss};
     ghost use Rattle.svc_host.specs.Calls.{HandsOut, HandsOutNone, returned_by};
     ghost use Rattle.svc_host.specs.Outputs.{CountsLost};
     ghost use Rattle.svc_host.specs.Rounds.{AreCollected, HostState, IsCause, IsScanned};
+    ghost use Rattle.svc_host.specs.HostRun.{CameToBe, Runs};
     ghost use Rattle.scan_table.specs.Whole.{is_whole};
+    ghost use Rattle.svc_house.specs.Mail.{receiver_in, sender_in};
+    ghost use Rattle.svc_mail.specs.Ends.{home, posted, receiver_home, taken_by};
 
     /// A host without parts, over a maker. Each part gets a mailbox with room for so many control bytes and a trace of
     /// so many entries, and each pair a box of as many pieces as a mailbox has room for bytes.
@@ -374,6 +385,7 @@ impl<M: Maker + Drop, R: Threads + Wait + Clock + Copy + Drop + Send + 'static> 
         ensures full { (result ≡ Err PostFault.Full) → IsFullAt id self.old.parts }
         ensures table { self.new.table ≡ self.old.table }
         ensures unchanged { OnErr result (self.new ≡ self.old) }
+        ensures runs { Runs self.old self.new }
     {
         post_to(&self.factory.rt, &mut self.parts, id, byte)
     }
@@ -382,18 +394,22 @@ impl<M: Maker + Drop, R: Threads + Wait + Clock + Copy + Drop + Send + 'static> 
     /// its events, which begin with all that was read of them before.
     pub fn status(&mut self, id: PartId) -> Option<View>
         ensures table { self.new.table ≡ self.old.table }
-        ensures parts { GoOn self.old.parts self.new.parts }
+        ensures parts { AreHeard self.old.parts self.new.parts }
         ensures there { MatchOption result (IsNowhere id self.old.parts)
             (λ view. IsReading id self.new.parts view) }
+        ensures runs { Runs self.old self.new }
     {
         status_of(&mut self.parts, id)
     }
 
-    /// Asks the maker for something. The parts are as they were.
+    /// Asks the maker for something, once. The parts are as they were.
     pub fn ask_maker<T, F: FnOnce(&mut M) -> T>(&mut self, ask: F) -> T
         requires { F.IsAlwaysCallable ask }
+        ensures asked { (before after : M) × (M.calls before ≡ self.old.calls) × (M.calls after ≡ self.new.calls)
+            × FnOnceReturnsAtMut F.FnOnce ask before result after }
         ensures table { self.new.table ≡ self.old.table }
         ensures parts { self.new.parts ≡ self.old.parts }
+        ensures runs { Runs self.old self.new }
     {
         ask(&mut self.factory.maker)
     }
@@ -411,8 +427,9 @@ impl<M: Maker + Drop, R: Threads + Wait + Clock + Copy + Drop + Send + 'static> 
     /// Keeps the traces that have grown, of the services that run.
     pub fn keep_traces(&mut self)
         ensures table { self.new.table ≡ self.old.table }
-        ensures parts { GoOn self.old.parts self.new.parts }
+        ensures parts { AreHeard self.old.parts self.new.parts }
         ensures hands { HandsOutNone self.old.calls self.new.calls }
+        ensures runs { Runs self.old self.new }
     {
         // Before the traces are read, so that what happens meanwhile is seen the next time.
         let now = Some(self.activity());
@@ -424,7 +441,7 @@ impl<M: Maker + Drop, R: Threads + Wait + Clock + Copy + Drop + Send + 'static> 
         }
     }
 
-    // Joins the thread of the part at a place, where it has ended. Whether it was joined.
+    // Joins the thread of the part at a place, if it has ended. Whether it was joined.
     fn reap(&mut self, place: usize) -> bool
         requires { place < length self.old.parts }
         ensures parts { IsStep self.old.parts place self.new.parts }
@@ -451,11 +468,19 @@ impl<M: Maker + Drop, R: Threads + Wait + Clock + Copy + Drop + Send + 'static> 
     /// Joins the threads of the parts that have ended since the last time, keeps their last traces, and gives back what
     /// they had.
     pub fn collect(&mut self)
-        ensures { AreCollected self.old self.new }
+        ensures collected { AreCollected self.old self.new }
+        ensures runs { Runs self.old self.new }
     {
         for place in 0..self.parts.len() {
             self.reap(place);
         }
+    }
+
+    /// What the host did so far is a run from a host without parts.
+    pub fn has_run(&self)
+        ensures { CameToBe self.now }
+    {
+        let _ = &self.factory;
     }
 
     /// Whether there is a service of this name, and no part of it has ended, as far as threads were joined. Then a scan
@@ -474,6 +499,7 @@ impl<M: Maker + Drop, R: Threads + Wait + Clock + Copy + Drop + Send + 'static> 
         ensures scanned { IfOk result (λ out. IsScanned self.old rows.now label out self.new) }
         ensures refused { OnErr result (self.new ≡ self.old) }
         ensures cause { IfErr result (λ fault. IsCause self.new.table rows.now fault) }
+        ensures runs { Runs self.old self.new }
     {
         if let Err(fault) = self.table.check(rows) {
             return Err(fault);
@@ -515,7 +541,8 @@ impl<M: Maker + Drop, R: Threads + Wait + Clock + Copy + Drop + Send + 'static> 
 
     /// Forgets what parts lost at their ends, and nothing else.
     pub fn forget_losses(&mut self)
-        ensures { self.new ≡ record self.old { parts = map without_loss self.old.parts } }
+        ensures forgets { self.new ≡ record self.old { parts = map without_loss self.old.parts } }
+        ensures runs { Runs self.old self.new }
     {
         forget_losses(&mut self.parts);
     }
@@ -530,6 +557,9 @@ impl<M: Maker + Drop, R: Threads + Wait + Clock + Copy + Drop + Send + 'static> 
     /// A mailbox for so many control bytes, each of which ends a rest.
     pub fn own_mailbox(&self, capacity: usize) -> Option<(ControlSender, MailInbox)>
         requires { 0 < capacity }
+        ensures same { IfSome result (λ ends. home (sender_in ends.0) ≡ receiver_home (receiver_in ends.1)) }
+        ensures unposted { IfSome result (λ ends. posted (sender_in ends.0) ≡ []) }
+        ensures untaken { IfSome result (λ ends. taken_by (receiver_in ends.1) ≡ []) }
     {
         let (sender, receiver) = open_box(self.factory.alloc, capacity)?;
         let notifier = Arc::try_clone(&self.factory.notifier).ok()?;
@@ -560,6 +590,7 @@ impl<M: Maker + Drop, R: Threads + Wait + Clock + Copy + Drop + Send + 'static> 
     pub fn end_services(&mut self) -> usize
         ensures each { EndsAll self.old.parts self.new.parts }
         ensures left { result ≡ count_running self.new.parts }
+        ensures runs { Runs self.old self.new }
     {
         self.factory.maker.watch_outputs();
         self.collect();
@@ -569,7 +600,9 @@ impl<M: Maker + Drop, R: Threads + Wait + Clock + Copy + Drop + Send + 'static> 
 
     /// The output of each pair ends: at once, where its service has a process, and else when it has nothing for now.
     /// Whether svscan may leave all pairs.
-    pub fn end_outputs(&mut self) -> bool {
+    pub fn end_outputs(&mut self) -> bool
+        ensures runs { Runs self.old self.new }
+    {
         self.factory.maker.watch_outputs();
         self.collect();
         let mut may_leave = true;
@@ -584,7 +617,8 @@ impl<M: Maker + Drop, R: Threads + Wait + Clock + Copy + Drop + Send + 'static> 
     pub fn take_lost(&mut self) -> Option<(u64, u64)>
         ensures counts { MatchOption result (self.new ≡ self.old) (λ lost. CountsLost lost.0 lost.1 self.old self.new) }
         ensures table { self.new.table ≡ self.old.table }
-        ensures parts { GoOn self.old.parts self.new.parts }
+        ensures parts { AreHeard self.old.parts self.new.parts }
+        ensures runs { Runs self.old self.new }
     {
         let pair = self.factory.pairs.pop()?;
         let has_logger = lives(sight_at(&mut self.parts, pair.slot, Role::Log));

@@ -58,6 +58,8 @@ pub trait Maker {
     ghost use Rattle.std.specs.Result.{result_err};
     ghost use Rattle.svc_house.specs.Calls.{ExtendedWhileKept};
     ghost use Rattle.svc_host.specs.Answers.{answered};
+    ghost use Rattle.svc_left.specs.Opening.{BeginsAlive};
+    ghost use Rattle.svc_host.specs.Resources.{begins_as};
     ghost use Rattle.svc_host.specs.Calls.{Call, MadePart, MadePair, KeptTrace, EndedPart, ForgotSlot};
     ghost use Rattle.svc_host.specs.Calls.{WatchedOutputs, EndedOutput, AskedIsRead, CountedLost};
 
@@ -84,7 +86,9 @@ pub trait Maker {
         sender: ControlSender,
         notifier: Arc<Notifier, Global>,
     ) -> Result<PartResources<Self::World, Self::Gate, Self::Reaper>, PartFault>
-        ensures calls { ExtendedWhileKept (calls self.old) (calls self.new) (MadePart id (result_err result) ∷ []) }
+        ensures calls { ExtendedWhileKept (calls self.old) (calls self.new)
+            (MadePart id name.now (begins_as result) ∷ []) }
+        ensures alive { IfOk result (λ resources. BeginsAlive resources.opening) }
         ensures fresh { IfOk result (λ resources. answered (Self.World.calls resources.world) ≡ []) };
 
     /// The output of a pair's service of this name, which runs on from life to life, and where it goes, or why they
@@ -96,7 +100,8 @@ pub trait Maker {
         slot: u64,
         notifier: Arc<Notifier, Global>,
     ) -> Result<(Self::Output, Self::Outlets), PartFault>
-        ensures calls { ExtendedWhileKept (calls self.old) (calls self.new) (MadePair slot (result_err result) ∷ []) };
+        ensures calls { ExtendedWhileKept (calls self.old) (calls self.new)
+            (MadePair slot name.now (result_err result) ∷ []) };
 
     /// Keeps the trace of a part, and says whether it could.
     fn keep_trace(&mut self, id: PartId, text: &[u8]) -> bool

@@ -3,7 +3,7 @@
 ghost use Rattle.std.specs.Prelude.{◌≡◌, ◌<◌, [], IfSome, IfErr, IfOk, None, ◌∷◌, OnOk};
 ghost use Rattle.svc_house.specs.Calls.{ExtendedWhileKept};
 ghost use Rattle.svc_host.specs.Calls.{AsksPair, MadePair};
-ghost use Rattle.svc_mail.specs.Ends.{posted, taken_by};
+ghost use Rattle.svc_mail.specs.Ends.{home, posted, receiver_home, taken_by};
 
 use crate::ends::open_box;
 use crate::growing_reader::GrowingReader;
@@ -89,6 +89,7 @@ fn open_in_time<R: Wait>(
     requires { 0 < capacity }
     ensures unposted { IfSome result (λ ends. posted ends.0 ≡ []) }
     ensures untaken { IfSome result (λ ends. taken_by ends.1 ≡ []) }
+    ensures same { IfSome result (λ ends. home ends.0 ≡ receiver_home ends.1) }
 {
     for _ in rt.forever() {
         if let Some(ends) = open_box(alloc, capacity) {
@@ -293,8 +294,8 @@ impl Pair {
         requires { 0 < capacity }
         ensures slot { IfOk result (λ pair. pair.slot ≡ slot) }
         ensures asked { OnOk result (ExtendedWhileKept (M.calls maker.old) (M.calls maker.new)
-            (MadePair slot None ∷ [])) }
-        ensures failed { IfErr result (λ fault. AsksPair slot fault (M.calls maker.old) (M.calls maker.new)) }
+            (MadePair slot name.now None ∷ [])) }
+        ensures failed { IfErr result (λ fault. AsksPair slot name.now fault (M.calls maker.old) (M.calls maker.new)) }
     {
         let Ok(shared) = Arc::new(alloc, PairShared::new(alloc)?) else {
             return Err(PartFault::Refused(Cause::NoMemory));

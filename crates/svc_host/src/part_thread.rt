@@ -228,6 +228,7 @@ impl<R: Threads + Wait + Clock + Copy + Drop + Send + 'static> PartThread<R> {
     pub(crate) fn machine(&mut self) -> Machine
         ensures same { IsSameThread self.old self.new }
         ensures ended { is_ended self.new ≡ is_ended self.old }
+        ensures untaken { untaken_at self.new ≡ untaken_at self.old }
         ensures reading { result ≡ state_of (history_at (reader_at self.new)) }
         ensures gone { is_ended self.new ≡ true → phase_of (history_at (reader_at self.new)) ≡ Phase.Gone }
     {
@@ -241,6 +242,7 @@ impl<R: Threads + Wait + Clock + Copy + Drop + Send + 'static> PartThread<R> {
     fn count(&mut self) -> u64
         ensures same { IsSameThread self.old self.new }
         ensures ended { is_ended self.new ≡ is_ended self.old }
+        ensures untaken { untaken_at self.new ≡ untaken_at self.old }
         ensures count { result ≡ length (known_to (reader_at self.new)) }
     {
         match self {
@@ -253,6 +255,7 @@ impl<R: Threads + Wait + Clock + Copy + Drop + Send + 'static> PartThread<R> {
     fn text(&mut self, alloc: Global) -> Growth
         ensures same { IsSameThread self.old self.new }
         ensures ended { is_ended self.new ≡ is_ended self.old }
+        ensures untaken { untaken_at self.new ≡ untaken_at self.old }
         ensures text { IsText (trace_at (reader_at self.new)) (length (known_to (reader_at self.new))) result }
     {
         match self {
@@ -265,6 +268,7 @@ impl<R: Threads + Wait + Clock + Copy + Drop + Send + 'static> PartThread<R> {
     pub(crate) fn growth(&mut self, alloc: Global, last: Option<u64>) -> Growth
         ensures same { IsSameThread self.old self.new }
         ensures ended { is_ended self.new ≡ is_ended self.old }
+        ensures untaken { untaken_at self.new ≡ untaken_at self.old }
         ensures shows { Shows (reader_station (reader_at self.new)) (known_to (reader_at self.new)) last result }
     {
         if last == Some(self.count()) {

@@ -4,7 +4,7 @@ ghost use Rattle.std.specs.Prelude.{false, slice_index_or};
 ghost use Rattle.sup_core.specs.History.{state_of};
 ghost use Rattle.std.specs.List.{All, list_any};
 ghost use Rattle.scan_table.specs.Table.{is_at};
-ghost use Rattle.svc_host.specs.Parts.{GoOn, HostPart, IsFullAt, IsNowhere, IsPlace, IsPost, IsReading, IsStep};
+ghost use Rattle.svc_host.specs.Parts.{AreHeard, HostPart, IsFullAt, IsHearing, IsNowhere, IsPlace, IsPost, IsReading};
 ghost use Rattle.svc_host.specs.Parts.{IsGoneIfEnded, RunsHere, count_running, history_of, losses_in, running_ids};
 ghost use Rattle.svc_host.specs.Parts.{runs_at, service_runs, stays, without_loss};
 ghost use Rattle.svc_host.specs.Ending.{IsSight};
@@ -62,7 +62,7 @@ fn machine_at<R: Threads + Wait + Clock + Copy + Drop + Send + 'static>(
     place: usize,
 ) -> Machine
     requires { place < length parts.old.items }
-    ensures step { IsStep parts.old.items place parts.new.items }
+    ensures step { IsHearing parts.old.items place parts.new.items }
     ensures reading { (d : HostPart) → result ≡ state_of (history_of (slice_index_or parts.new.items place d)) }
     ensures gone { (d : HostPart) → IsGoneIfEnded (slice_index_or parts.new.items place d) }
 {
@@ -74,7 +74,7 @@ pub(crate) fn status_of<R: Threads + Wait + Clock + Copy + Drop + Send + 'static
     parts: &mut Vec<Part<R>>,
     id: PartId,
 ) -> Option<View>
-    ensures parts { GoOn parts.old.items parts.new.items }
+    ensures parts { AreHeard parts.old.items parts.new.items }
     ensures there { MatchOption result (IsNowhere id parts.old.items) (λ view. IsReading id parts.new.items view) }
 {
     let place = place_of(parts, id)?;

@@ -1,5 +1,5 @@
 -- How a service begins, by what an earlier svscan left of it.
-use Rattle.std.specs.Prelude.{◌≡◌, ◌==◌, ℕ, Bool, true, false, not, if◌then◌else◌, Option, Some, None}
+use Rattle.std.specs.Prelude.{◌≡◌, ◌==◌, ⊤, ℕ, Bool, true, false, not, if◌then◌else◌, Option, Some, None}
 use Rattle.tai_status.specs.Label.{Tai64n, plus_second}
 use Rattle.tai_status.specs.Record.{Status}
 use Rattle.tai_status.specs.Full.{FullStatus}
@@ -10,7 +10,7 @@ use Rattle.tai_status.specs.declared.record.Want.{Want}
 use Rattle.tai_status.specs.declared.record.Want.TheVariants as want
 use Rattle.tai_status.specs.declared.phase.Phase.{Phase}
 use Rattle.tai_status.specs.declared.phase.Phase.TheVariants as phase
-use Rattle.sup_core.specs.State.{State, is_up}
+use Rattle.sup_core.specs.State.{State, is_gone, is_up}
 use Rattle.sup_core.specs.History.{History, Begin, Opened}
 use Rattle.svc_left.specs.declared.process.Found.{Found}
 use Rattle.svc_left.specs.declared.process.Found.TheVariants.{Unknown, Gone, Lives}
@@ -23,6 +23,11 @@ abbrev pub beginning : Opening → (down : Bool) → (label : Tai64n) → Histor
 beginning ByRow down label = Begin down label
 beginning (Wanted wanted_down) down label = Begin wanted_down label
 beginning (AsLeft state) down label = Opened state
+
+-- What was left of a service is not gone.
+abbrev pub BeginsAlive : Opening → Type 0
+BeginsAlive (AsLeft state) = is_gone state.phase ≡ false
+BeginsAlive other = ⊤
 
 -- Machines
 

@@ -1,9 +1,11 @@
 //! How a service begins.
-ghost use Rattle.std.specs.Prelude.{◌≡◌, ◌<◌, ◌⊎◌};
+ghost use Rattle.std.specs.Prelude.{◌≡◌, ◌<◌, ◌⊎◌, false};
 ghost use Rattle.tai_status.specs.declared.phase.Phase.{Phase};
+ghost use Rattle.sup_core.specs.State.{is_gone};
 ghost use Rattle.tai_status.specs.Loading.{status_in};
 ghost use Rattle.svc_left.specs.Process.{IsLiving};
-ghost use Rattle.svc_left.specs.Opening.{adopted, as_recorded, by_want, exiting_in, is_stale, is_want, opening_of};
+ghost use Rattle.svc_left.specs.Opening.{BeginsAlive, adopted, as_recorded, by_want, exiting_in, is_stale, is_want};
+ghost use Rattle.svc_left.specs.Opening.{opening_of};
 ghost use Rattle.svc_left.specs.Opening.{running, up_since, was_exiting, without_process};
 ghost use Rattle.svc_left.specs.declared.opening.Opening.{Opening};
 
@@ -23,14 +25,16 @@ pub enum Opening {
 }
 
 impl Opening {
-    ghost use Rattle.std.specs.Prelude.{◌≡◌};
+    ghost use Rattle.std.specs.Prelude.{◌≡◌, false};
     ghost use Rattle.sup_core.specs.History.{state_of};
     ghost use Rattle.sup_core.specs.Rules.{asks_of_begin};
-    ghost use Rattle.svc_left.specs.Opening.{beginning};
+    ghost use Rattle.svc_left.specs.Opening.{BeginsAlive, beginning};
+    ghost use Rattle.sup_core.specs.State.{is_gone};
 
     /// The machine with which a service begins, whose row has the `down` file or not.
     pub fn machine(&self, down: bool, label: Label) -> Machine
-        ensures { result ≡ state_of (beginning self.now down label) }
+        ensures machine { result ≡ state_of (beginning self.now down label) }
+        ensures alive { BeginsAlive self.now → is_gone result.phase ≡ false }
     {
         match self {
             Opening::ByRow => Machine::begin(down, label).0,
@@ -58,7 +62,8 @@ impl Opening {
 /// The machine that a full record says, of a service that has a process or is down.
 fn as_recorded(full: &Full) -> Machine
     requires { (0 < full.now.status.pid) ⊎ (full.now.phase ≡ Phase.Down) }
-    ensures { result ≡ as_recorded full.now }
+    ensures recorded { result ≡ as_recorded full.now }
+    ensures alive { is_gone result.phase ≡ false }
 {
     let until = match full.phase {
         Phase::Settling => Some(full.view.label.plus_second()),
@@ -70,7 +75,7 @@ fn as_recorded(full: &Full) -> Machine
 /// The machine of a service that is up as its record says, or since it was found.
 fn up(view: View, exiting: bool) -> Machine
     requires { 0 < view.pid }
-    ensures { result ≡ up_since view.label view.pid view.paused view.want exiting }
+    ensures up { result ≡ up_since view.label view.pid view.paused view.want exiting }
 {
     Machine::of_parts(Phase::Up, view, exiting, None).unwrap()
 }
@@ -78,7 +83,8 @@ fn up(view: View, exiting: bool) -> Machine
 /// The machine that a record says which names a process.
 fn running(loaded: &Loaded) -> Machine
     requires { 0 < (status_in loaded.now).pid }
-    ensures { result ≡ running loaded.now }
+    ensures running { result ≡ running loaded.now }
+    ensures alive { is_gone result.phase ≡ false }
 {
     match loaded {
         Loaded::Old(view) => up(*view, false),
@@ -99,7 +105,8 @@ fn exiting_in(loaded: &Loaded) -> bool
 /// The machine of the process of this number, which lives on and was found at this time.
 fn adopted(recorded: &Option<Loaded>, pid: u32, found: Label) -> Machine
     requires { 0 < pid }
-    ensures { result ≡ adopted recorded.now pid found }
+    ensures adopted { result ≡ adopted recorded.now pid found }
+    ensures alive { is_gone result.phase ≡ false }
 {
     let (want, exiting) = match recorded {
         Some(loaded) if loaded.view().pid == pid => return running(loaded),
@@ -117,7 +124,8 @@ fn adopted(recorded: &Option<Loaded>, pid: u32, found: Label) -> Machine
 
 /// How a service begins whose process is gone.
 fn without_process(full: &Full) -> Opening
-    ensures { result ≡ without_process full.now }
+    ensures opening { result ≡ without_process full.now }
+    ensures alive { BeginsAlive result }
 {
     if full.exiting {
         Opening::ByRow
@@ -164,7 +172,8 @@ fn was_exiting(record: &Option<Loaded>) -> bool
 /// How a service begins whose record is stale, and of which this is wanted.
 fn by_want(left: &Left, want: Want) -> Opening
     requires { IsLiving left.now.process }
-    ensures { result ≡ by_want left.now want }
+    ensures opening { result ≡ by_want left.now want }
+    ensures alive { BeginsAlive result }
 {
     match &left.process {
         Found::Lives(process) => {
@@ -186,7 +195,8 @@ fn by_want(left: &Left, want: Want) -> Opening
 /// How a service begins whose record is not stale.
 fn by_record(left: &Left) -> Opening
     requires { IsLiving left.now.process }
-    ensures { result ≡ opening_of left.now.record left.now.process left.now.label }
+    ensures opening { result ≡ opening_of left.now.record left.now.process left.now.label }
+    ensures alive { BeginsAlive result }
 {
     match (&left.process, &left.record) {
         (Found::Lives(process), record) => {
@@ -213,7 +223,7 @@ pub struct Left {
 impl Left {
     ghost use Rattle.std.specs.Prelude.{◌≡◌};
     ghost use Rattle.svc_left.specs.Process.{IsLiving};
-    ghost use Rattle.svc_left.specs.Opening.{opening_left};
+    ghost use Rattle.svc_left.specs.Opening.{BeginsAlive, opening_left};
 
     /// How the service begins. A record counts in the boot alone in which a process was recorded. What the place says is
     /// wanted counts more than what the record says, since the place is written first, and also if the record can't be.
@@ -231,9 +241,12 @@ impl Left {
     /// | gone | any other, wanted down or once | down |
     /// | gone | of 18 bytes, or none | by its row |
     /// | none in this boot | any | by its row |
+    ///
+    /// A service never begins as one that is gone.
     pub fn opening(&self) -> Opening
         requires { IsLiving self.now.process }
-        ensures { result ≡ opening_left self.now }
+        ensures opening { result ≡ opening_left self.now }
+        ensures alive { BeginsAlive result }
     {
         match self.want {
             Some(want) if is_stale(&self.record, want) => by_want(self, want),

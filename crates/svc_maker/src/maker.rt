@@ -2,6 +2,7 @@
 ghost use Rattle.std.specs.Prelude.{◌≡◌, ◌++◌, [], option_map, IfOk, OnOk, OnErr};
 ghost use Rattle.std.specs.Result.{result_err, result_ok};
 ghost use Rattle.svc_host.specs.Answers.{answered};
+ghost use Rattle.svc_left.specs.Opening.{BeginsAlive};
 ghost use Rattle.svc_house.specs.Calls.{ExtendedWhileKept};
 ghost use Rattle.svc_maker.specs.Making.{EndsPart, KeepsTrace, MakesPair, MakesPart, Making, SetsUp};
 
@@ -79,6 +80,7 @@ impl<S: PartSystem + Drop> FolderMaker<S> {
         ensures sets_up { SetsUp name.now part (result_err result)
             (option_map (λ resources. resources.opening) (result_ok result)) self.old self.new }
         ensures fresh { IfOk result (λ resources. answered (S.World.calls resources.world) ≡ []) }
+        ensures alive { IfOk result (λ resources. BeginsAlive resources.opening) }
     {
         let Ok(shown) = part_name(self.alloc, name, part.role) else {
             return Err(MakeFault::NoRoom);
@@ -120,6 +122,7 @@ where
 {
     ghost use Rattle.std.specs.Prelude.{◌≡◌, [], true, None, IfErr, IfOk};
     ghost use Rattle.svc_host.specs.Answers.{answered};
+    ghost use Rattle.svc_left.specs.Opening.{BeginsAlive};
     ghost use Rattle.svc_maker.specs.Making.{EndsPart, FailsToMake, KeepsTrace, MakesPair, MakesPart, WatchesOutputs};
     ghost use Rattle.svc_maker.specs.Pipes.{pipes_of, pipes_without};
 
@@ -148,6 +151,7 @@ where
         ensures made { IfOk result (λ resources. MakesPart name.now part resources.opening self.old self.new) }
         ensures unmade { IfErr result (λ fault. FailsToMake name.now part fault self.old self.new) }
         ensures fresh { IfOk result (λ resources. answered (S.World.calls resources.world) ≡ []) }
+        ensures alive { IfOk result (λ resources. BeginsAlive resources.opening) }
     {
         self.try_part(name, part, sender, notifier)
             .map_err(part_fault)

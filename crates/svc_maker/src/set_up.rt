@@ -3,6 +3,7 @@ ghost use Rattle.std.specs.Prelude.{◌≡◌, ◌≢◌, ◌++◌, ◌∷◌, [
 ghost use Rattle.std.specs.Result.{result_err};
 ghost use Rattle.svc_maker.specs.declared.set_up.MakeFault.{MakeFault};
 ghost use Rattle.svc_host.specs.Answers.{answered};
+ghost use Rattle.svc_left.specs.Opening.{BeginsAlive};
 ghost use Rattle.svc_maker.specs.Making.{SetsUpAt, behind, part_fault, part_name};
 
 use crate::kept_folder::LockedFolder;
@@ -91,6 +92,7 @@ pub(crate) fn set_up<S: PartSystem>(
         (S.calls system.old) (S.calls system.new) }
     ensures path { IfOk result (λ setup. S.Folder.path setup.folder ≡ string_bytes path) }
     ensures fresh { IfOk result (λ setup. answered (S.World.calls setup.world) ≡ []) }
+    ensures alive { IfOk result (λ setup. BeginsAlive setup.opening) }
     ensures asked { result_err result ≢ Some MakeFault.NoRoom }
 {
     let folder = match system.open(path) {

@@ -56,7 +56,7 @@ where
     files: HostRuntime,
     alloc: Global,
     clock: SystemClock<R>,
-    shared: Surroundings<R>,
+    shared: Arc<Surroundings<R>, Global>,
     door: Door<ControlSender>,
     // Until when locks are tried in this round.
     patience: Patience,
@@ -85,16 +85,16 @@ where
         let (watch, unwatched) = io::pipe(&runtime)?;
         let shared = Surroundings {
             own: OwnRun::find(&files, process::id(files.process())),
-            shell: Arc::new(alloc, SignalShell::new(runtime, alloc))?,
-            neighbours: Arc::new(alloc, Neighbours::new(files, alloc))?,
-            adoptions: Arc::new(alloc, adoptions)?,
+            shell: SignalShell::new(runtime, alloc),
+            neighbours: Neighbours::new(files, alloc),
+            adoptions,
         };
         Ok(SystemParts {
             runtime,
             files,
             alloc,
             clock: SystemClock::new(runtime),
-            shared,
+            shared: Arc::new(alloc, shared)?,
             door,
             patience: Patience::new(&runtime),
             allowed: 0,
@@ -112,7 +112,7 @@ where
         streams: Streams,
         notifier: Arc<Notifier, Global>,
     ) -> Result<(SystemChildren<R>, ChildReaper), AllocError> {
-        let shared = self.shared.try_clone()?;
+        let shared = Arc::try_clone(&self.shared)?;
         let own = Arc::try_clone(&folder.folder)?;
         SystemChildren::new(
             self.runtime,

@@ -1,3 +1,4 @@
+pub mod Asked
 mod OneSender
 mod Pair
 mod TwoReaders

@@ -6,16 +6,16 @@ ghost use Rattle.svc_mail.specs.Ends.{AreAllSenders, box_of, home, number_of, se
 ghost use Rattle.svc_station.specs.Ends.{IsSameReader, history_of, reader_station, station};
 
 use crate::mail::two_of as two_senders;
+use crate::script::Script;
 use crate::station::{end_two, two_of as two_readers};
 use std::alloc::{Allocator, Global};
 use std::process::Abort;
 use std::sync::Wait;
 use std::test::Fail;
-use std::time::Duration;
-use sup_core::{Ask, Asks, Event, Machine, Phase, Sig, took_text};
+use sup_core::{Ask, Asks, Event, Machine, Phase, took_text};
 use svc_house::{
-    House, HouseFault, MailInbox, NotWound, OpenGate, Pending, StartAnswer, Turned, WindFault,
-    World, last_reading,
+    Call, House, HouseFault, MailInbox, NotWound, OpenGate, Pending, StartAnswer, Turned,
+    WindFault, last_reading,
 };
 use svc_mail::letter::Letter;
 use svc_mail::letters::Letters;
@@ -26,84 +26,6 @@ use svc_station::station::Station;
 use svc_station::writer::Writer;
 use tai_status::{Label, View, Want};
 use test_base::Scarce;
-
-// A world with set answers, one for each poll. It keeps what it was reported as long as there is memory.
-#[derive(Drop)]
-struct Script {
-    starts: [Option<StartAnswer>; 2],
-    deaths: [Option<Label>; 2],
-    clock: Label,
-    start_polls: usize,
-    death_polls: usize,
-    reported: Vec<Ask>,
-}
-
-impl Script {
-    fn new(
-        alloc: Global,
-        starts: [Option<StartAnswer>; 2],
-        deaths: [Option<Label>; 2],
-        clock: Label,
-    ) -> Script {
-        Script {
-            starts,
-            deaths,
-            clock,
-            start_polls: 0,
-            death_polls: 0,
-            reported: Vec::new(alloc),
-        }
-    }
-
-    fn note(&mut self, ask: Ask) {
-        let _ = self.reported.push(ask);
-    }
-}
-
-// The next answer, if one is left.
-fn answer<T: Copy>(answers: &[Option<T>], polls: &mut usize) -> Option<T> {
-    let place = *polls;
-    *polls = place.saturating_add(1);
-    match answers.get(place) {
-        Some(answer) => *answer,
-        None => None,
-    }
-}
-
-impl World for Script {
-    fn signal(&mut self, sig: Sig, pid: u32) {
-        self.note(Ask::Signal(sig, pid));
-    }
-
-    fn start(&mut self) {
-        self.note(Ask::Start);
-    }
-
-    fn write(&mut self, bytes: &[u8; 20]) {
-        self.note(Ask::Write(*bytes));
-    }
-
-    fn poll_start(&mut self) -> Option<StartAnswer> {
-        match answer(&self.starts, &mut self.start_polls) {
-            Some(StartAnswer::Started { pid: 0, label: _ }) | None => None,
-            found => found,
-        }
-    }
-
-    fn poll_death(&mut self) -> Option<Label> {
-        answer(&self.deaths, &mut self.death_polls)
-    }
-
-    fn clock(&mut self) -> Label {
-        self.clock
-    }
-
-    fn mend(&mut self) {}
-
-    fn longest_rest(&self) -> Option<Duration> {
-        None
-    }
-}
 
 // A service over a mailbox of two senders, with a station of two readers.
 struct Stage<A: Allocator + Clone> {
@@ -128,13 +50,9 @@ struct Stage<A: Allocator + Clone> {
 
 impl<A: Allocator + Clone> Stage<A> {
     // The mailbox takes its memory from an allocator of its own.
-    fn open<R: Wait>(
-        rt: &R,
-        alloc: Global,
-        own: A,
-        down: bool,
-        script: Script,
-    ) -> Option<Stage<A>> {
+    fn open<R: Wait>(rt: &R, alloc: Global, own: A, down: bool, script: Script) -> Option<Stage<A>>
+        requires { script ≡ Some [] }
+    {
         let label = Label::from_unix(0, 0)?;
         let (machine, asks) = Machine::begin(down, label);
         let Ok((mailbox, senders, receiver)) = Mailbox::open(own, 4, 2) else {
@@ -203,9 +121,9 @@ impl<A: Allocator + Clone> Stage<A> {
         wound
     }
 
-    // What the world was reported, what was pending, and what a reader reads that learnt the writer's note: the status,
-    // and how many events there were.
-    fn end<R: Wait + Abort>(self, rt: &R, alloc: Global) -> (Vec<Ask>, Pending, View, Option<u64>) {
+    // The world, what was pending, and what a reader reads that learnt the writer's note: the status, and how many
+    // events there were.
+    fn end<R: Wait + Abort>(self, rt: &R, alloc: Global) -> (Script, Pending, View, Option<u64>) {
         let Stage {
             house,
             mailbox: _mailbox,
@@ -224,7 +142,7 @@ impl<A: Allocator + Clone> Stage<A> {
         };
         let view = reader.status();
         end_two(rt, writer, reader, other, readers);
-        (world.reported, pending, view, count)
+        (world, pending, view, count)
     }
 }
 
@@ -336,23 +254,32 @@ fn wind_up_twice<A: Allocator + Clone, R: Wait>(
 }
 
 // The label of a Unix second.
-fn at(second: u64) -> Result<Label, Fail> {
+pub(crate) fn at(second: u64) -> Result<Label, Fail> {
     Ok(Label::from_unix(second, 0).ok_or("a small second has a label")?)
 }
 
-// Whether these are the asks, each as `sim` writes it.
-fn are_asks(asks: &[Ask], wanted: &[&str]) -> bool {
-    if asks.len() != wanted.len() {
+// Whether the ask is this, as `sim` writes it.
+fn is_ask(ask: Ask, wanted: &str) -> bool {
+    let mut one = Asks::new();
+    one.try_push(ask);
+    took_text(&one, Phase::Down).as_str() == wanted
+}
+
+// Whether these are the asks among calls that were kept, each as `sim` writes it.
+fn are_asks(calls: Option<&[Call]>, wanted: &[&str]) -> bool {
+    let Some(calls) = calls else {
         return false;
-    }
-    for place in 0..asks.len() {
-        let mut one = Asks::new();
-        one.try_push(asks[place]);
-        if took_text(&one, Phase::Down).as_str() != wanted[place] {
-            return false;
+    };
+    let mut count = 0;
+    for call in calls {
+        if let Call::Requested(ask) = call {
+            match wanted.get(count) {
+                Some(text) if is_ask(*ask, text) => count += 1,
+                _ => return false,
+            }
         }
     }
-    true
+    count == wanted.len()
 }
 
 // Whether the turns are these.
@@ -376,7 +303,6 @@ fn a_service_from_its_start_to_its_death(rt: HostRuntime) -> Result<(), Fail> {
     let (l1, l2, l3) = (at(1)?, at(2)?, at(3)?);
     let pid = 4711;
     let script = Script::new(
-        rt.alloc(),
         [Some(StartAnswer::Started { pid, label: l1 }), None],
         [None, Some(l3)],
         l2,
@@ -391,7 +317,7 @@ fn a_service_from_its_start_to_its_death(rt: HostRuntime) -> Result<(), Fail> {
         Turned::Idle,
     ];
     assert!(rt; are_turns(&rt, &mut stage, &wanted));
-    let (asks, pending, view, count) = stage.end(&rt, rt.alloc());
+    let (world, pending, view, count) = stage.end(&rt, rt.alloc());
     assert_eq!(rt; pending, Pending::Empty);
     assert_eq!(rt;
         (view.label, view.pid, view.want, count),
@@ -407,7 +333,7 @@ fn a_service_from_its_start_to_its_death(rt: HostRuntime) -> Result<(), Fail> {
         "took record:400000000000000b000000006712000000640003 -> down",
         "took record:400000000000000d000000000000000000640004 -> down",
     ];
-    assert!(rt; are_asks(&asks, &reported));
+    assert!(rt; are_asks(world.calls(), &reported));
     Ok(())
 }
 
@@ -417,12 +343,7 @@ fn a_letter_goes_before_a_death(rt: HostRuntime) -> Result<(), Fail> {
     let (l1, l2, l3, l4) = (at(1)?, at(2)?, at(3)?, at(4)?);
     let first = StartAnswer::Started { pid: 7, label: l1 };
     let second = StartAnswer::Started { pid: 8, label: l4 };
-    let script = Script::new(
-        rt.alloc(),
-        [Some(first), Some(second)],
-        [Some(l3), None],
-        l2,
-    );
+    let script = Script::new([Some(first), Some(second)], [Some(l3), None], l2);
     let mut stage = Stage::open(&rt, rt.alloc(), rt.alloc(), false, script).ok_or("no memory")?;
     assert!(rt; stage.post(&rt, b'd'));
     let wanted = [
@@ -431,15 +352,10 @@ fn a_letter_goes_before_a_death(rt: HostRuntime) -> Result<(), Fail> {
         Turned::Took(Event::Byte(b'd')),
     ];
     assert!(rt; are_turns(&rt, &mut stage, &wanted));
-    let (_asks, pending, view, _count) = stage.end(&rt, rt.alloc());
+    let (_world, pending, view, _count) = stage.end(&rt, rt.alloc());
     assert_eq!(rt; pending, Pending::One(Event::Death { label: l3 }));
     assert_eq!(rt; (view.pid, view.want), (7, Want::Down));
-    let script = Script::new(
-        rt.alloc(),
-        [Some(first), Some(second)],
-        [Some(l3), None],
-        l2,
-    );
+    let script = Script::new([Some(first), Some(second)], [Some(l3), None], l2);
     let mut stage = Stage::open(&rt, rt.alloc(), rt.alloc(), false, script).ok_or("no memory")?;
     assert!(rt; stage.post(&rt, b'd'));
     assert!(rt; are_turns(&rt, &mut stage, &wanted));
@@ -448,7 +364,7 @@ fn a_letter_goes_before_a_death(rt: HostRuntime) -> Result<(), Fail> {
         Ok(Turned::Took(Event::Death { label: l3 }))
     );
     assert_eq!(rt; stage.turn(&rt), Ok(Turned::Idle));
-    let (_asks, _pending, view, count) = stage.end(&rt, rt.alloc());
+    let (_world, _pending, view, count) = stage.end(&rt, rt.alloc());
     assert_eq!(rt; (view.pid, view.want, count), (0, Want::Down, Some(4)));
     Ok(())
 }
@@ -459,7 +375,7 @@ fn a_start_that_fails_comes_again(rt: HostRuntime) -> Result<(), Fail> {
     let (l1, l2) = (at(1)?, at(2)?);
     let failed = StartAnswer::Failed { label: l1 };
     let started = StartAnswer::Started { pid: 7, label: l2 };
-    let script = Script::new(rt.alloc(), [Some(failed), Some(started)], [None, None], l2);
+    let script = Script::new([Some(failed), Some(started)], [None, None], l2);
     let mut stage = Stage::open(&rt, rt.alloc(), rt.alloc(), false, script).ok_or("no memory")?;
     let wanted = [
         Turned::Took(Event::StartFailed { label: l1 }),
@@ -468,7 +384,7 @@ fn a_start_that_fails_comes_again(rt: HostRuntime) -> Result<(), Fail> {
         Turned::Idle,
     ];
     assert!(rt; are_turns(&rt, &mut stage, &wanted));
-    let (asks, _pending, view, count) = stage.end(&rt, rt.alloc());
+    let (world, _pending, view, count) = stage.end(&rt, rt.alloc());
     assert_eq!(rt; (view.pid, view.want, count), (7, Want::Up, Some(3)));
     let reported = [
         "took record:400000000000000a000000000000000000750000 -> down",
@@ -478,18 +394,18 @@ fn a_start_that_fails_comes_again(rt: HostRuntime) -> Result<(), Fail> {
         "took start -> down",
         "took record:400000000000000c000000000700000000750001 -> down",
     ];
-    assert!(rt; are_asks(&asks, &reported));
+    assert!(rt; are_asks(world.calls(), &reported));
     Ok(())
 }
 
 /// What is taken apart was published.
 #[test]
 fn a_service_is_taken_apart(rt: HostRuntime) -> Result<(), Fail> {
-    let script = Script::new(rt.alloc(), [None, None], [None, None], at(0)?);
+    let script = Script::new([None, None], [None, None], at(0)?);
     let mut stage = Stage::open(&rt, rt.alloc(), rt.alloc(), true, script).ok_or("no memory")?;
     assert!(rt; stage.post(&rt, b'u'));
     assert_eq!(rt; stage.turn(&rt), Ok(Turned::Took(Event::Byte(b'u'))));
-    let (_asks, pending, view, count) = stage.end(&rt, rt.alloc());
+    let (_world, pending, view, count) = stage.end(&rt, rt.alloc());
     assert_eq!(rt; pending, Pending::Empty);
     assert_eq!(rt; (view.pid, view.want, count), (0, Want::Up, Some(1)));
     Ok(())
@@ -498,7 +414,7 @@ fn a_service_is_taken_apart(rt: HostRuntime) -> Result<(), Fail> {
 /// The letters of a service that is gone come out of its mailbox, and its last reading is of its whole history.
 #[test]
 fn a_service_is_wound_up(rt: HostRuntime) -> Result<(), Fail> {
-    let script = Script::new(rt.alloc(), [None, None], [None, None], at(0)?);
+    let script = Script::new([None, None], [None, None], at(0)?);
     let mut stage = Stage::open(&rt, rt.alloc(), rt.alloc(), true, script).ok_or("no memory")?;
     assert!(rt; stage.post(&rt, b'x'));
     assert!(rt; stage.post_second(&rt, b'd'));
@@ -531,7 +447,7 @@ fn a_service_is_wound_up(rt: HostRuntime) -> Result<(), Fail> {
 fn a_winding_up_is_refused_and_made_again(rt: HostRuntime) -> Result<(), Fail> {
     for growths in 0..400u64 {
         let memory = Scarce::new(rt.alloc());
-        let script = Script::new(rt.alloc(), [None, None], [None, None], at(0)?);
+        let script = Script::new([None, None], [None, None], at(0)?);
         let mut stage = Stage::open(&rt, rt.alloc(), &memory, true, script).ok_or("no memory")?;
         assert!(rt; stage.post(&rt, b'x'));
         assert!(rt; stage.post(&rt, b'u'));

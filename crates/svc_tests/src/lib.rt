@@ -9,6 +9,10 @@ mod mail;
 #[cfg(test)]
 mod order;
 #[cfg(test)]
+mod pasts;
+#[cfg(test)]
 mod relay;
+#[cfg(test)]
+mod script;
 #[cfg(test)]
 mod station;

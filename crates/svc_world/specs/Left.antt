@@ -7,6 +7,10 @@ use Rattle.tai_status.specs.declared.phase.Phase.TheVariants.{Starting}
 use Rattle.svc_world.specs.declared.folder.FileId.{FileId}
 use Rattle.svc_left.specs.Process.{IsFound}
 use Rattle.svc_left.specs.declared.process.ProcessId.{ProcessId}
+use Rattle.svc_left.specs.Place.{process_in}
+use Rattle.svc_left.specs.declared.place.Place.{Place}
+use Rattle.svc_left.specs.declared.leftover.Leftover.{Leftover}
+use Rattle.svc_left.specs.declared.leftover.Leftover.TheVariants.{Process}
 use Rattle.svc_left.specs.declared.process.Found.{Found}
 use Rattle.svc_left.specs.declared.process.Found.TheVariants.{Unknown, Gone, Lives}
 
@@ -20,6 +24,18 @@ abbrev pub IsOfBoot : (boot : Option (List ℕ)) → Found → Type 0
 IsOfBoot boot (Lives process) = boot ≡ Some process.boot
 IsOfBoot boot Gone = IsSome boot
 IsOfBoot boot Unknown = ⊤
+
+-- What became of the last process, once it is known what is left over of a start that was intended after it: a process
+-- that is left over is the one. If another is left over, or nobody, the last one is gone.
+abbrev pub found_over : Found → Option Leftover → (boot : Option (List ℕ)) → Found
+found_over found (Some (Process pid tick)) (Some boot) = Lives (record { pid = pid; tick = tick; boot = boot })
+found_over found (Some over) (Some boot) = Gone
+found_over found over boot = found
+
+-- the process that a place names, if there is one
+abbrev pub placed : Option Place → Option ProcessId
+placed None = None
+placed (Some place) = process_in place
 
 -- Both are there, and are one file.
 abbrev pub IsOneFile : (there here : Option FileId) → Type 0

@@ -1,8 +1,5 @@
 //! The processes that an earlier svscan started, and one thread that looks after all of them.
-ghost use Rattle.std.specs.Prelude.{◌≡◌};
-ghost use Rattle.svc_world.specs.Adopted.{glimpse_of};
-
-use crate::processes::{AdoptedProcess, folder_of, has_ended};
+use crate::processes::{AdoptedProcess, has_ended};
 use std::alloc::{AllocError, Global};
 use std::io;
 use std::sync::atomic::{AtomicBool, Ordering};
@@ -14,58 +11,25 @@ use svc_house::{News, Notifier};
 /// After how many seconds is looked again whether the adopted processes live.
 const LOOK_SECONDS: u64 = 1;
 
-/// At every which look the lines of all processes are read, whatever their folders.
-const LINES_EVERY: u64 = 5;
+/// At every which look the lines of all processes are read.
+const LINES_EVERY: u64 = 10;
 
 /// A process that was adopted, and what its service waits for.
 #[derive(Drop)]
 struct Adopted {
     process: AdoptedProcess,
-    // The number of the kernel's folder of it, where its line was read beside that.
-    folder: Option<u64>,
     notifier: Arc<Notifier, Global>,
 }
 
-/// What the kernel's folder of a process alone shows.
-#[derive(Clone, Copy, Debug, PartialEq, Eq)]
-enum Glimpse {
-    /// That it is gone, since there is none.
-    Gone,
-    /// That it is the same process.
-    Same,
-    /// Nothing: its line is to be read.
-    Unclear,
-}
-
-/// What is shown by the folder of a process that has this number now, if there is one, and had that one when the line
-/// of the process was read: the kernel gives no number to the folder of another process.
-fn glimpse_of(known: Option<u64>, now: Option<u64>) -> Glimpse
-    ensures { result ≡ glimpse_of known now }
-{
-    match (known, now) {
-        (_, None) => Glimpse::Gone,
-        (Some(known), Some(now)) if known == now => Glimpse::Same,
-        _ => Glimpse::Unclear,
-    }
-}
-
 impl Adopted {
-    /// Whether the process lives still: by its folder, or by its line where that shows nothing or is to be read anyway.
-    /// Where the kernel can't be asked, it does.
-    fn lives(&mut self, reads_line: bool) -> bool {
-        let Ok(folder) = folder_of(&self.process.files, self.process.pid) else {
+    /// Whether the process lives still: by one look at the folder in which it runs, or by its line, if it runs in none or
+    /// the line is to be read anyway. The line shows too whether another process has its number. If the kernel can't be
+    /// asked, it lives.
+    fn lives(&self, reads_line: bool) -> bool {
+        if !reads_line && !has_ended(&self.process.files, self.process.pid) {
             return true;
-        };
-        match glimpse_of(self.folder, folder) {
-            Glimpse::Gone => false,
-            Glimpse::Same if !reads_line && !has_ended(&self.process.files, self.process.pid) =>
-                true,
-            _ => {
-                // The line is read behind the folder: where it is the process's own, so is the folder.
-                self.folder = folder;
-                self.process.lives()
-            }
         }
+        self.process.lives()
     }
 }
 
@@ -114,11 +78,7 @@ impl AdoptionWatch {
         process: AdoptedProcess,
         notifier: Arc<Notifier, Global>,
     ) -> Result<(), AllocError> {
-        let adopted = Adopted {
-            process,
-            folder: None,
-            notifier,
-        };
+        let adopted = Adopted { process, notifier };
         let news = News::add(rt, &self.state.adopted, adopted)?;
         self.state.notifier.notify(news);
         Ok(())
@@ -156,7 +116,7 @@ fn watch<R: Wait + Drop>(rt: R, state: &WatchState) {
 /// Looks at each process once. Whether one lives still.
 fn look<R: Wait>(rt: &R, state: &WatchState, reads_lines: bool) -> bool {
     let mut adopted = state.adopted.lock(rt);
-    adopted.retain_mut(|one| {
+    adopted.retain(|one| {
         let lives = one.lives(reads_lines);
         if !lives {
             one.notifier.notify(News::seen());

@@ -1,7 +1,10 @@
 //! The folder of a service on this system.
-ghost use Rattle.std.specs.Prelude.{◌≡◌, ◌<◌, ◌≤◌, ◌↔◌, IsTrue, length, option_copied, IfSome};
+//!
+//! A call of the file system has its path on the stack, with room for the longest one, and the thread of a service keeps
+//! what it touched of its stack. What makes such calls has a frame of its own, which is gone before the next call.
+ghost use Rattle.std.specs.Prelude.{◌≡◌, ◌<◌, ◌≤◌, ◌↔◌, IsTrue, Some, length, option_copied, IfSome};
 ghost use Rattle.svc_world.specs.Commands.{process_in};
-ghost use Rattle.svc_world.specs.Left.{IsFoundIn, IsOfBoot, IsOneFile, is_starting_in};
+ghost use Rattle.svc_world.specs.Left.{IsFoundIn, IsOfBoot, IsOneFile, found_over, is_starting_in, placed};
 ghost use Rattle.svc_left.specs.Leftover.{HasNumber};
 ghost use Rattle.svc_left.specs.Process.{IsLiving};
 
@@ -168,6 +171,7 @@ pub(crate) fn open_lock<R: Files<File = File>>(runtime: &R, path: &str) -> io::R
 
 /// Makes a file of this content, which is its owner's alone. What has its name is removed first, and no link is
 /// followed.
+#[inline(never)]
 fn write_private<R: Files<File = File>>(runtime: &R, path: &str, content: &[u8]) -> io::Result<()> {
     remove(runtime, path)?;
     let mut how = OpenOptions::new();
@@ -178,6 +182,7 @@ fn write_private<R: Files<File = File>>(runtime: &R, path: &str, content: &[u8])
 }
 
 /// Writes over the front of a file that is there and has so many bytes at least. It takes no room on the device.
+#[inline(never)]
 fn overwrite<R: Files<File = File>>(
     runtime: &R,
     path: &str,
@@ -194,6 +199,7 @@ fn overwrite<R: Files<File = File>>(
 }
 
 /// Removes a file, where it is there.
+#[inline(never)]
 pub(crate) fn remove<R: Files<File = File>>(runtime: &R, path: &str) -> io::Result<()> {
     match fs::remove_file(runtime, path) {
         Err(fault) if fault.kind() != ErrorKind::NotFound => Err(fault),
@@ -237,6 +243,7 @@ fn found_over(found: Found, over: Option<Leftover>, boot: Option<&BootId>) -> Fo
     requires over { IfSome over HasNumber }
     ensures living { IsLiving result }
     ensures of_boot { IsOfBoot (option_copied boot.entry) result }
+    ensures found { result ≡ found_over found over (option_copied boot.entry) }
 {
     match (over, boot) {
         (Some(Leftover::Process(pid, tick)), Some(boot)) => Found::Lives(ProcessId {
@@ -246,6 +253,17 @@ fn found_over(found: Found, over: Option<Leftover>, boot: Option<&BootId>) -> Fo
         }),
         (Some(_), Some(_)) => Found::Gone,
         _ => found,
+    }
+}
+
+/// The process that a place names, if there is one.
+fn placed(place: &Option<Place>) -> Option<ProcessId>
+    ensures named { result ≡ placed place.now }
+    ensures number { IfSome result (λ process. 0 < process.pid) }
+{
+    match place {
+        Some(place) => place.process(),
+        None => None,
     }
 }
 
@@ -422,6 +440,7 @@ impl ServiceFolder {
     }
 
     /// Puts this content in the place of a file, as a whole.
+    #[inline(never)]
     fn replace(&self, file: &str, new: &str, content: &[u8]) -> io::Result<()>
         requires file { length file.now ≤ 23 }
         requires new { length new.now ≤ 23 }
@@ -433,6 +452,7 @@ impl ServiceFolder {
 
     /// Puts these bytes in the place of the status record. If they can't replace it, as on a full device, they are
     /// written over it. After a fault the old ones are there.
+    #[inline(never)]
     pub fn replace_status(&self, bytes: &[u8]) -> io::Result<()> {
         match self.replace("supervise/status", "supervise/status.new", bytes) {
             Ok(()) => Ok(()),
@@ -544,11 +564,12 @@ impl ServiceFolder {
 
     /// The process that the place names, or that was recorded at the last start if the place names none.
     fn last_process(&self, place: &Option<Place>) -> Option<ProcessId>
-        ensures { IfSome result (λ process. 0 < process.pid) }
+        ensures number { IfSome result (λ process. 0 < process.pid) }
+        ensures placed { IfSome (placed place.now) (λ process. result ≡ Some process) }
     {
-        match place {
-            Some(place) if place.pid > 0 => place.process(),
-            _ => self.process(),
+        match placed(place) {
+            Some(process) => Some(process),
+            None => self.process(),
         }
     }
 
@@ -617,11 +638,13 @@ impl ServiceFolder {
     }
 
     /// Whether the service begins a session of its own: its folder has a file `setsid`.
+    #[inline(never)]
     pub(crate) fn begins_session(&self) -> bool {
         fs::metadata(&self.files, self.path("setsid").as_str()).is_ok()
     }
 
     /// Why nobody can execute `run`, if that shows without an attempt.
+    #[inline(never)]
     pub(crate) fn look_at_run(&self) -> io::Result<()> {
         let found = fs::metadata(&self.files, self.path("run").as_str())?;
         if found.permissions().mode() & EXECUTABLE == 0 {
@@ -631,12 +654,14 @@ impl ServiceFolder {
     }
 
     /// Whether this file is the standard output of a process.
+    #[inline(never)]
     fn has_output(&self, pid: u32, output: Option<FileId>) -> bool {
         let there = fs::metadata(&self.files, path_of_process(pid, "fd/1").as_str());
         is_one_file(FileId::found(there), output)
     }
 
     /// Whether a process runs in this folder.
+    #[inline(never)]
     pub fn is_running(&self, pid: u32) -> bool {
         let there = fs::metadata(&self.files, path_of_process(pid, "cwd").as_str());
         let here = self.service.metadata();

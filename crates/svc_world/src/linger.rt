@@ -1,7 +1,8 @@
 //! How long the report of a death waits for control bytes.
-ghost use Rattle.std.specs.Prelude.{◌≡◌};
-ghost use Rattle.svc_world.specs.Linger.{waits};
+ghost use Rattle.std.specs.Prelude.{◌≡◌, None};
+ghost use Rattle.svc_world.specs.Linger.{lingers, seen, waits};
 
+use cmd_base::millis_between;
 use std::time::Duration;
 
 /// How long after a letter the next one is waited for, in milliseconds. A sender whose letter does not fit tries again
@@ -28,14 +29,6 @@ pub(crate) struct Linger {
     found: Option<Duration>,
 }
 
-/// How many milliseconds it is from one reading of the running clock to another.
-fn millis_from(begin: Duration, now: Duration) -> u64 {
-    match now.checked_sub(begin) {
-        Some(time) => u64::try_from(time.as_millis()).unwrap_or(u64::MAX),
-        None => 0,
-    }
-}
-
 impl Linger {
     pub(crate) fn new() -> Linger {
         Linger {
@@ -46,14 +39,19 @@ impl Linger {
     }
 
     /// A child begins, when so many letters had come.
-    pub(crate) fn begin(&mut self, letters: u64) {
+    pub(crate) fn begin(&mut self, letters: u64)
+        ensures { self.new ≡ record { letters = letters; changed = None; found = None } }
+    {
         self.letters = letters;
         self.changed = None;
         self.found = None;
     }
 
     /// Whether its death waits at this time, when so many letters have come.
-    pub(crate) fn look(&mut self, letters: u64, now: Duration) -> bool {
+    pub(crate) fn look(&mut self, letters: u64, now: Duration) -> bool
+        ensures seen { self.new ≡ seen letters now self.old }
+        ensures waits { result ≡ lingers now self.new }
+    {
         if self.letters != letters {
             self.letters = letters;
             self.changed = Some(now);
@@ -61,7 +59,7 @@ impl Linger {
         let found = self.found.unwrap_or(now);
         self.found = Some(found);
         match self.changed {
-            Some(changed) => waits(millis_from(changed, now), millis_from(found, now)),
+            Some(changed) => waits(millis_between(changed, now), millis_between(found, now)),
             None => false,
         }
     }

@@ -44,6 +44,7 @@ fn fill<R: Read>(reader: &mut R, buffer: &mut [u8]) -> io::Result<usize>
 }
 
 /// The first bytes of a file.
+#[inline(never)]
 pub(crate) fn read_front<R: Files<File = File>, const N: usize>(
     files: &R,
     path: &str,
@@ -92,6 +93,7 @@ impl StatSource for HostRuntime {
 
 /// What the kernel says of the process of this number, if there is one, in one read; or why it can't be asked, as for
 /// want of a descriptor. That it is gone takes none to see.
+#[inline(never)]
 fn stat_of<R: Files<File = File>>(files: &R, pid: u32) -> io::Result<Option<Stat>> {
     if folder_of(files, pid)?.is_none() {
         return Ok(None);
@@ -248,6 +250,7 @@ pub fn boot_id<R: Files<File = File>>(files: &R) -> Option<BootId> {
 }
 
 /// The number of the kernel's folder of a process, if it has one: no other process's folder has that.
+#[inline(never)]
 pub(crate) fn folder_of<R: Files<File = File>>(files: &R, pid: u32) -> io::Result<Option<u64>> {
     let path = path_of_process(pid, "");
     match fs::metadata(files, path.as_str()) {
@@ -259,6 +262,7 @@ pub(crate) fn folder_of<R: Files<File = File>>(files: &R, pid: u32) -> io::Resul
 
 /// Whether the process of this number may have ended and wait for its parent: it runs in no folder any more. One look,
 /// that needs no descriptor. Where the kernel does not say it, it may have.
+#[inline(never)]
 pub(crate) fn has_ended<R: Files<File = File>>(files: &R, pid: u32) -> bool {
     fs::metadata(files, path_of_process(pid, "cwd").as_str()).is_err()
 }

@@ -36,7 +36,7 @@ pub(crate) trait ShellProcess {
 
 /// The line that asks the shell for a signal.
 fn signal_line(name: &str, pid: u32) -> ArrayString<LINE_BYTES>
-    requires { length name.now ≤ 4 }
+    requires { length name.now ≤ 6 }
     ensures { result.bytes ≡ signal_line name.now pid }
 {
     let mut line = ArrayString::new();

@@ -6,9 +6,9 @@ use crate::folder::ServiceFolder;
 use crate::neighbours::Neighbours;
 use crate::processes::OwnRun;
 use crate::shell::SignalShell;
-use std::alloc::{AllocError, Global};
+use std::alloc::Global;
 use std::process::{Processes, SystemProcess};
-use std::sync::{Arc, Wait};
+use std::sync::Wait;
 use svc_left::{Leftover, Place};
 
 /// What the services of one svscan share.
@@ -17,11 +17,11 @@ pub struct Surroundings<R: Processes<Started = SystemProcess> + Wait + Copy + Dr
     /// This svscan.
     pub own: OwnRun,
     /// The shell that sends their signals.
-    pub shell: Arc<SignalShell<R>, Global>,
+    pub shell: SignalShell<R>,
     /// The services next to each.
-    pub neighbours: Arc<Neighbours, Global>,
+    pub neighbours: Neighbours,
     /// What looks after the processes that are adopted.
-    pub adoptions: Arc<AdoptionWatch, Global>,
+    pub adoptions: AdoptionWatch,
 }
 
 impl<R: Processes<Started = SystemProcess> + Wait + Copy + Drop> Surroundings<R> {
@@ -33,15 +33,5 @@ impl<R: Processes<Started = SystemProcess> + Wait + Copy + Drop> Surroundings<R>
             Ok(known) => folder.leftover(alloc, &self.own, place, &known),
             Err(_) => Leftover::Unsure(0),
         }
-    }
-
-    /// The same, for one more service.
-    pub fn try_clone(&self) -> Result<Surroundings<R>, AllocError> {
-        Ok(Surroundings {
-            own: self.own,
-            shell: Arc::try_clone(&self.shell)?,
-            neighbours: Arc::try_clone(&self.neighbours)?,
-            adoptions: Arc::try_clone(&self.adoptions)?,
-        })
     }
 }

@@ -61,7 +61,7 @@ where
     folder: Arc<ServiceFolder, Global>,
     name: String,
     streams: Streams,
-    shared: Surroundings<R>,
+    shared: Arc<Surroundings<R>, Global>,
     notifier: Arc<Notifier, Global>,
     clock: SystemClock<R>,
     slot: ChildSlot,
@@ -202,7 +202,7 @@ where
         name: &str,
         streams: Streams,
         notifier: Arc<Notifier, Global>,
-        shared: Surroundings<R>,
+        shared: Arc<Surroundings<R>, Global>,
     ) -> Result<(SystemChildren<R>, ChildReaper), AllocError> {
         let theirs = Arc::try_clone(&notifier)?;
         let (slot, reaper) = ChildReaper::open(alloc, theirs)?;
@@ -238,6 +238,7 @@ where
     }
 
     // Writes this content of a paper into its file.
+    #[inline(never)]
     fn try_write(&self, paper: Paper, content: &[u8]) -> io::Result<()> {
         match paper {
             Paper::Place => self.folder.write_place(content),
@@ -249,7 +250,7 @@ where
     }
 
     /// Starts a command in the folder, with the streams.
-    fn launch(&self, mut command: Command) -> io::Result<Child<SystemProcess>> {
+    fn launch(&self, command: &mut Command) -> io::Result<Child<SystemProcess>> {
         command.current_dir(self.folder.path(".").as_str())?;
         if let Some(input) = &self.streams.input {
             command.stdin(input.try_clone()?);
@@ -260,20 +261,23 @@ where
         command.spawn(&self.runtime)
     }
 
-    /// What runs in the place of a `run` that can't be executed.
-    fn in_place_of_run(&self, fault: &io::Error) -> Result<Command, AllocError> {
-        match unable_to_run(fault) {
-            Some(what) => say(self.alloc, self.name.as_str(), what),
-            None => run_by_shell(self.alloc),
-        }
+    /// Makes a child in the place of a `run` that can't be executed.
+    #[inline(never)]
+    fn make_in_place(&self, fault: &io::Error) -> io::Result<Child<SystemProcess>> {
+        let mut command = match unable_to_run(fault) {
+            Some(what) => say(self.alloc, self.name.as_str(), what)?,
+            None => run_by_shell(self.alloc)?,
+        };
+        self.launch(&mut command)
     }
 
     /// Makes a child in a session of its own. If there is no program for that it is a shell, which says so.
+    #[inline(never)]
     fn make_in_session(&self) -> io::Result<Child<SystemProcess>> {
         self.folder.look_at_run()?;
-        match self.launch(run_in_session(self.alloc)?) {
+        match self.launch(&mut run_in_session(self.alloc)?) {
             Err(fault) if fault.kind() == ErrorKind::NotFound => {
-                self.launch(say(self.alloc, self.name.as_str(), NO_SETSID)?)
+                self.launch(&mut say(self.alloc, self.name.as_str(), NO_SETSID)?)
             }
             made => made,
         }
@@ -284,10 +288,10 @@ where
         let made = if self.folder.begins_session() {
             self.make_in_session()
         } else {
-            self.launch(run(self.alloc)?)
+            self.launch(&mut run(self.alloc)?)
         };
         match made {
-            Err(fault) => self.launch(self.in_place_of_run(&fault)?),
+            Err(fault) => self.make_in_place(&fault),
             made => made,
         }
     }

@@ -173,6 +173,7 @@ impl<C: ChildSystem + Drop> ChildWorld<C> {
     }
 
     // Writes the place.
+    #[inline(never)]
     fn write_place(&mut self) -> bool
         ensures { WritesAs paper.Place (place_line self.old.place) result self.old self.new }
     {
@@ -181,6 +182,7 @@ impl<C: ChildSystem + Drop> ChildWorld<C> {
     }
 
     // Writes which process the service has, if that is known.
+    #[inline(never)]
     fn write_process(&mut self)
         ensures { WritesIfSome paper.Process (content_of paper.Process self.old) self.old self.new }
     {
@@ -190,6 +192,7 @@ impl<C: ChildSystem + Drop> ChildWorld<C> {
     }
 
     // Writes the status record, if there is one.
+    #[inline(never)]
     fn write_status(&mut self) -> bool
         ensures { WritesIfSome paper.Status self.old.status self.old self.new }
     {
@@ -200,6 +203,7 @@ impl<C: ChildSystem + Drop> ChildWorld<C> {
     }
 
     // Writes how the last child ended, if one has.
+    #[inline(never)]
     fn write_exit(&mut self)
         ensures { WritesIfSome paper.Exit (content_of paper.Exit self.old) self.old self.new }
     {
@@ -209,6 +213,7 @@ impl<C: ChildSystem + Drop> ChildWorld<C> {
     }
 
     // Writes how many children began and ended.
+    #[inline(never)]
     fn write_counts(&mut self)
         ensures { Writes paper.Counts (counts_text self.old.counts) self.old self.new }
     {
@@ -245,6 +250,7 @@ impl<C: ChildSystem + Drop> ChildWorld<C> {
     }
 
     // Says once that a paper is owed, and once that none is owed any more.
+    #[inline(never)]
     fn say_change(&mut self)
         ensures { SaysChange (first_owed self.old.owed) self.old.is_said self.old self.new }
     {
@@ -275,6 +281,7 @@ impl<C: ChildSystem + Drop> ChildWorld<C> {
     }
 
     // Writes the intent of a start into the place. Returns whether it is there.
+    #[inline(never)]
     fn intend(&mut self) -> bool
         ensures { Intends result self.old self.new }
     {
@@ -380,6 +387,7 @@ impl<C: ChildSystem + Drop> ChildWorld<C> {
     }
 
     // Adopts the process that was left over, as the one of this start.
+    #[inline(never)]
     fn take_up(&mut self, pid: u32, tick: u64, label: Label)
         requires { 0 < pid }
         ensures { TakesUp pid tick label self.old self.new }
@@ -576,6 +584,7 @@ impl<C: ChildSystem + Drop> World for ChildWorld<C> {
 
     /// Writes each paper that is owed again, as it is now, and says if something came to be owed or nothing is owed any
     /// more.
+    #[inline(never)]
     fn mend(&mut self)
         ensures { Mends self.old self.new }
     {

@@ -1,3 +1,4 @@
+mod Idle
 pub mod Needless
 pub mod Ordering
 pub mod Reporting

@@ -1,7 +1,10 @@
 pub mod Calls
 pub mod Descriptors
+pub mod FolderStates
 pub mod Needed
 pub mod Orders
+pub mod Quiet
+pub mod Resting
 pub mod Rounds
 pub mod Rows
 pub mod Words

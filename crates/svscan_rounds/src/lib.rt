@@ -2,20 +2,27 @@
 //!
 //! [`run_svscan`] makes the rounds over any [`ServiceSet`], which is what svscan does to the system. [`rows_of`] makes
 //! the rows of a folder, in the byte order of their names, and [`shortage`] says whether there are too few descriptors
-//! for the services of rows. [`needed_names`] says of which names a scan has need.
+//! for the services of rows. [`needed_names`] says of which names a scan has need, [`Quiet`] when a round is idle,
+//! [`is_unchanged`] when a folder has the names that it had, and [`rest_left`] what is left of a rest.
 #![tactic(auto)]
 
 mod descriptors;
+mod folder_state;
 mod needed;
 mod orders;
+mod quiet;
+mod resting;
 mod rounds;
 mod rows;
 mod service_set;
 mod words;
 
 pub use descriptors::shortage;
+pub use folder_state::{FolderState, is_unchanged, kept_state};
 pub use needed::{needed_names, others_need_no_row};
 pub use orders::Order;
+pub use quiet::{Quiet, idle_only_unchanged};
+pub use resting::{rest_left, whole_rest};
 pub use rounds::run_svscan;
 pub use rows::{Entry, Folder, rows_of};
 pub use service_set::{

@@ -4,5 +4,5 @@
 mod scarce;
 mod slow;
 
-pub use scarce::Scarce;
+pub use scarce::{Scarce, check, refuse_in_turn};
 pub use slow::Slow;

@@ -1,6 +1,7 @@
 //! Memory that runs out after so many growths.
 use std::alloc::{AllocError, Allocator, Global};
 use std::cell::Cell;
+use std::test::Fail;
 
 /// How many growths are still given, and whether one was refused.
 #[derive(Clone, Copy, Debug)]
@@ -86,4 +87,29 @@ unsafe impl<B: Allocator> Allocator for Scarce<B> {
     unsafe fn deallocate(&self, ptr: *mut u8, size: usize, align: usize) {
         self.inner.deallocate(ptr, size, align);
     }
+}
+
+/// How many growths a call makes at most.
+const MOST_GROWTHS: u64 = 10_000;
+
+/// Makes a trial with no growth, with one, with two, and so on, up to the first that meets no refusal. A trial is
+/// handed memory, and how many growths its call is given. It returns whether one was refused.
+pub fn refuse_in_turn<F: Fn(&Scarce<Global>, u64) -> Result<bool, Fail>>(
+    alloc: Global,
+    trial: F,
+) -> Result<(), Fail>
+    requires { F.IsAlwaysCallable trial }
+{
+    for growths in 0..MOST_GROWTHS {
+        let memory = Scarce::new(alloc);
+        if !trial(&memory, growths)? {
+            return check("it grows", growths > 0);
+        }
+    }
+    Err(Fail::new("it never has enough"))
+}
+
+/// Fails with this text where something does not hold.
+pub fn check(what: &str, holds: bool) -> Result<(), Fail> {
+    if holds { Ok(()) } else { Err(Fail::new(what)) }
 }

@@ -1,6 +1,6 @@
 use Rattle.std.proofs.Common.{refl}
 use Rattle.cmd_base.specs.Console.{console}
-use Rattle.cmd_sim.proofs.Words.{wrong_word}
+use Rattle.cmd_sim.proofs.Words.{no_words, wrong_word}
 use Rattle.cmd_sim.proofs.command.run_sim.Goals as goal
 
 pub returns-in_default : goal.returns-in_default
@@ -15,4 +15,5 @@ returns-in_default g c = record {
         unwritten = refl;
         reported = c.usage.ensures.reported;
       });
+  headline = no_words (λ word. word.now) c.args.words.now c.in-len1.len_at_least;
 }

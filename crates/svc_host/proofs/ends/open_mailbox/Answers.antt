@@ -5,6 +5,9 @@ use Rattle.svc_host.proofs.ends.open_mailbox.Goals as goal
 pub returns-clause-unposted : goal.returns-clause-unposted
 returns-clause-unposted c = (last_sender _ _ _ _ _ _ c.in-Ok.ensures.3 c.in-Some.ensures.items).2
 
+pub returns-clause-room : goal.returns-clause-room
+returns-clause-room c = (last_sender _ _ _ _ _ _ c.in-Ok.ensures.3 c.in-Some.ensures.items).5
+
 pub returns-clause-untaken : goal.returns-clause-untaken
 returns-clause-untaken c = c.in-Ok.ensures.5
 

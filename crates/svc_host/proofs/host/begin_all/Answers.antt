@@ -30,7 +30,7 @@ loop-id-preserved g c =
           (beginnings c.args.begun.now asked)
           (beginnings c.loop-id.begun (g.M.Maker.calls c.loop-id.factory.maker))
           (beginnings c.begin_one.new.begun now_asked)
-          at.begun c.begin_one.ensures.begun);
+          at.begun c.begin_one.ensures.begun.1 c.begin_one.ensures.begun.0);
       parts_room = omega (
         arith,
         at.parts_room,

@@ -1,11 +1,11 @@
-use Rattle.std.proofs.Common.{refl, [], ap, ◌∙◌, ◌<◌, length, arith}
+use Rattle.std.proofs.Common.{refl, [], ap, ◌∙◌, length}
 use Rattle.svc_host.proofs.Calling.{hands-none, hands-then}
-use Rattle.svc_host.proofs.Going.{all_same, go_on_then, set_length, step_goes}
+use Rattle.svc_host.proofs.Going.{heard_then, none_heard, set_length, step_heard}
 use Rattle.svc_host.proofs.host.keep_traces.Goals as goal
 
 pub loop-place-init : goal.loop-place-init
 loop-place-init g c = record {
-  goes = all_same c.args.parts.now.items;
+  heard = none_heard c.args.parts.now.items;
   count = refl;
   hands = hands-none (g.M.Maker.calls c.args.factory.now.maker);
 }
@@ -16,10 +16,9 @@ loop-place-preserved g c =
     let step = c.keep_trace.ensures.step in
     let mids = c.loop-place.parts.items in
     let place = c.loop-place.place in
-    let within : place < length mids = omega (arith, c.loop-place-test.true, at.count) in
     record {
-      goes = go_on_then c.args.parts.now.items mids c.keep_trace.new.parts.items at.goes
-          (step_goes mids place c.keep_trace.new.parts.items within step);
+      heard = heard_then c.args.parts.now.items mids c.keep_trace.new.parts.items at.heard
+          (step_heard mids place c.keep_trace.new.parts.items step);
       count = ap length step.parts ∙ set_length mids place step.part ∙ at.count;
       hands = hands-then _ _ _ [] [] [] [] at.hands c.keep_trace.ensures.hands;
     }

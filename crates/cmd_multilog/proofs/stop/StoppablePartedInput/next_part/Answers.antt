@@ -9,8 +9,10 @@ pub returns-clause-next : goal.returns-clause-next
 returns-clause-next g c =
     let inside = c.self.inside in
     let coming = g.S.LoggerInput.coming inside.input in
+    let failures = g.S.LoggerInput.failures inside.input in
     let old : Listening = record {
       coming = coming;
+      failures = failures;
       stopped = inside.stopped;
       rotates = inside.rotates;
       in_line = inside.in_line;
@@ -20,6 +22,7 @@ returns-clause-next g c =
     } in
     let new : Listening = record {
       coming = coming;
+      failures = failures;
       stopped = false;
       rotates = false;
       in_line = false;

@@ -1,4 +1,4 @@
-use Rattle.std.proofs.Common.{arith, ◌≤◌, length, drop, take, slice_index, refl, ap, subst}
+use Rattle.std.proofs.Common.{arith, ◌≤◌, length, drop, take, slice_index, refl, ap, subst, ◌∙◌}
 use Rattle.svc_door.specs.Connection.{ConnectionState, Posts}
 use Rattle.svc_door.proofs.Posting.{kept-first, kept-some, Posts-same, Posts-one}
 use Rattle.svc_door.proofs.connection.Connection.post_kept.Goals as goal
@@ -29,6 +29,7 @@ loop-self-init g c =
       most = c.self.invariant.3;
       posts = subst (λ (v : ConnectionState). Posts accepted accepted v now) is
           (Posts-same accepted now c.self.invariant.3);
+      home = refl;
       unread = (
         ap (λ (v : ConnectionState). v.left) is,
         ap (λ (v : ConnectionState). v.said) is,
@@ -50,6 +51,7 @@ loop-self-preserved g c =
       piece = was.piece;
       most = was.most;
       posts = Posts-one _ _ _ _ _ _ byte was.posts refl refl c.in-Ok.ensures.accepted kept;
+      home = c.in-Ok.ensures.home ∙ was.home;
       unread = was.unread;
       same = was.same;
     }

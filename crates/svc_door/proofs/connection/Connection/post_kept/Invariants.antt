@@ -1,4 +1,5 @@
 use Rattle.std.proofs.Common.{◌-◌, ◌≡◌, ◌≤◌, length, drop, take}
+use Rattle.svc_door.specs.declared.connection.TheConstants.{MOST, PIECE}
 use Rattle.svc_door.specs.Connection.{ConnectionState, Posts}
 use Rattle.svc_door.proofs.connection.Connection.post_kept.Given as goal
 
@@ -15,10 +16,11 @@ invariant-loop-self g l =
     } in
     record {
       from : i.from ≤ i.to;
-      to : i.to ≤ 64;
-      piece : length i.piece ≡ 64;
-      most : i.taken ≤ 4096;
+      to : i.to ≤ PIECE;
+      piece : length i.piece ≡ PIECE;
+      most : i.taken ≤ MOST;
       posts : Posts (g.P.ByteSink.accepted l.fn.sink) (g.P.ByteSink.accepted l.sink) l.fn.self now;
+      home : g.P.ByteSink.home l.sink ≡ g.P.ByteSink.home l.fn.sink;
       unread : (now.left ≡ l.fn.self.left) × (now.said ≡ l.fn.self.said) × (now.taken ≡ l.fn.self.taken);
       same : (now.spoke ≡ l.fn.self.spoke) × (now.watched ≡ l.fn.self.watched);
     }

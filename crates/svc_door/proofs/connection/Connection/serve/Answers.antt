@@ -21,6 +21,7 @@ loop-self-preserved g c =
     record {
       posts = Posts-then _ before _ _ c.loop-self.self _ was.posts
           (Posts-then before before _ _ c.read.new.self _ read posted.posts);
+      home = posted.home ∙ was.home;
       none = posted.all refl;
       same = (
         posted.same.0 ∙ c.in-Bytes.ensures.same.0 ∙ was.same.0,

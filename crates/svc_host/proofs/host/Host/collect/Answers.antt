@@ -2,6 +2,7 @@ use Rattle.std.proofs.Common.{◌<◌, refl, ap, ◌∙◌, length, slice_index_
 use Rattle.svc_host.specs.Rounds.{HostState}
 use Rattle.svc_host.proofs.Collecting.{collected_none, collected_next}
 use Rattle.svc_host.proofs.Going.{others_stay, set_length}
+use Rattle.svc_host.proofs.Moving.{collected_runs}
 use Rattle.svc_host.proofs.host.Host.collect.Goals as goal
 
 pub loop-place-init : goal.loop-place-init
@@ -29,3 +30,6 @@ loop-place-preserved g c =
       left = λ k d less. ap (λ l. slice_index_or l k d) step.parts
           ∙ others_stay mids place step.part k d (omega (arith, less)) ∙ at.left k d (omega (arith, less));
     }
+
+pub returns-clause-runs : goal.returns-clause-runs
+returns-clause-runs g c = collected_runs c.args.self.now c.loop-place.self c.loop-place.invariant.collected

@@ -1,10 +1,21 @@
-use Rattle.std.proofs.Common.{◌≡◌, subst, Err}
+use Rattle.std.proofs.Common.{◌≡◌, refl, subst, Err}
 use Rattle.std.specs.Prelude.{◌↔◌}
 use Rattle.svc_host.specs.declared.host.PostFault.TheVariants.{NoSuchPart}
 use Rattle.svc_host.specs.Parts.{IsNowhere}
+use Rattle.svc_host.proofs.Moving.{came_then, post_runs}
 use Rattle.svc_host.proofs.host.Host.post.Goals as goal
 
 pub returns-clause-there : goal.returns-clause-there
 returns-clause-there g c =
     subst (λ host. (c.post_to.result ≡ Err NoSuchPart) ↔ IsNowhere c.args.id host.parts) c.self.view_is
     c.post_to.ensures.there
+
+pub invariant_of-self : goal.invariant_of-self
+invariant_of-self g c =
+    came_then _ _ c.self.invariant (post_runs _ _ c.args.id c.args.byte c.post_to.result refl c.post_to.ensures.posted
+    c.post_to.ensures.unchanged)
+
+pub returns-clause-runs : goal.returns-clause-runs
+returns-clause-runs g c =
+    rw (← c.self.view_is) (post_runs _ _ c.args.id c.args.byte c.post_to.result refl c.post_to.ensures.posted
+    c.post_to.ensures.unchanged)

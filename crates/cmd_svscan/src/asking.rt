@@ -1,0 +1,100 @@
+//! What the maker of svscan's host is asked, call by call.
+ghost use Rattle.std.specs.Prelude.{[], ◌∷◌, string_bytes};
+ghost use Rattle.std.specs.Result.{is_ok};
+ghost use Rattle.svc_host.specs.Calls.{AdmittedAll, Allowed, AskedRefusals, AskedWaits, LeftOwn, Prepared, ServedOwn};
+ghost use Rattle.svc_host.specs.Calls.{SetFolder};
+ghost use Rattle.cmd_svscan.specs.Asking.{IsAsked};
+
+use scan_table::DirRow;
+use std::alloc::AllocError;
+use std::sync::Wait;
+use std::thread::Threads;
+use std::time::Clock;
+use svc_host::{Host, Unmade};
+use svc_house::ControlSender;
+use svc_maker::{FolderHolder, OwnFault};
+
+/// The folders of services are in this folder from now on, or there is no memory for that.
+pub(crate) fn set_folder<M, R>(host: &mut Host<M, R>, folder: &str) -> Result<(), AllocError>
+where
+    M: FolderHolder + Drop,
+    R: Threads + Wait + Clock + Copy + Drop + Send + 'static,
+    ensures { IsAsked (SetFolder folder.now (is_ok result) ∷ []) host.old host.new }
+{
+    host.ask_maker(|maker| maker.set_folder(folder))
+}
+
+/// So many descriptors are allowed from now on.
+pub(crate) fn allow<M, R>(host: &mut Host<M, R>, descriptors: u64)
+where
+    M: FolderHolder + Drop,
+    R: Threads + Wait + Clock + Copy + Drop + Send + 'static,
+    ensures { IsAsked (Allowed descriptors ∷ []) host.old host.new }
+{
+    host.ask_maker(|maker| maker.set_allowed(descriptors));
+}
+
+/// What the outputs of these rows lack is made.
+pub(crate) fn prepare_outputs<M, R>(host: &mut Host<M, R>, rows: &[DirRow])
+where
+    M: FolderHolder + Drop,
+    R: Threads + Wait + Clock + Copy + Drop + Send + 'static,
+    ensures { IsAsked (Prepared rows.now ∷ []) host.old host.new }
+{
+    host.ask_maker(|maker| maker.prepare(rows));
+}
+
+/// The parts that wait for it are admitted to the door.
+pub(crate) fn admit_all<M, R>(host: &mut Host<M, R>)
+where
+    M: FolderHolder + Drop,
+    R: Threads + Wait + Clock + Copy + Drop + Send + 'static,
+    ensures { IsAsked (AdmittedAll ∷ []) host.old host.new }
+{
+    host.ask_maker(|maker| maker.admit_all());
+}
+
+/// The parts that could not be admitted, and why.
+pub(crate) fn refusals<M, R>(host: &mut Host<M, R>) -> Vec<Unmade>
+where
+    M: FolderHolder + Drop,
+    R: Threads + Wait + Clock + Copy + Drop + Send + 'static,
+    ensures { IsAsked (AskedRefusals ∷ []) host.old host.new }
+{
+    host.ask_maker(|maker| maker.refusals())
+}
+
+/// Whether a part waits to be admitted.
+pub(crate) fn any_waits<M, R>(host: &mut Host<M, R>) -> bool
+where
+    M: FolderHolder + Drop,
+    R: Threads + Wait + Clock + Copy + Drop + Send + 'static,
+    ensures { IsAsked (AskedWaits result ∷ []) host.old host.new }
+{
+    host.ask_maker(|maker| maker.any_waits())
+}
+
+/// svscan itself is served in the folder at a path, with this status record, or why not.
+pub(crate) fn serve_own<M, R>(
+    host: &mut Host<M, R>,
+    path: String,
+    record: &[u8; 20],
+    sender: ControlSender,
+) -> Result<(), OwnFault>
+where
+    M: FolderHolder + Drop,
+    R: Threads + Wait + Clock + Copy + Drop + Send + 'static,
+    ensures { IsAsked (ServedOwn (string_bytes path) (is_ok result) ∷ []) host.old host.new }
+{
+    host.ask_maker(|maker| maker.serve_own(path, record, sender))
+}
+
+/// svscan itself is served no more, and has this status record.
+pub(crate) fn leave_own<M, R>(host: &mut Host<M, R>, record: &[u8; 20])
+where
+    M: FolderHolder + Drop,
+    R: Threads + Wait + Clock + Copy + Drop + Send + 'static,
+    ensures { IsAsked (LeftOwn ∷ []) host.old host.new }
+{
+    host.ask_maker(|maker| maker.leave_own(record));
+}

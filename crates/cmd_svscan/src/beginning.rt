@@ -1,0 +1,126 @@
+//! The beginning of svscan: its host is made, and svscan itself is served.
+ghost use Rattle.std.specs.Prelude.{◌≡◌, None, OnErr};
+ghost use Rattle.cmd_svscan.specs.Beginning.{Begins, BeginsIf, Opens, OpensAndBegins, unserved};
+
+use crate::asking::serve_own;
+use crate::own_status::own_record;
+use crate::running::{MAIL, Running, SystemHost, open_host};
+use std::alloc::Global;
+use std::fs::Files;
+use std::net::Net;
+use std::process::{Processes, SystemProcess};
+use std::sync::Wait;
+use std::thread::Threads;
+use std::time::Clock;
+use std::{fs, process};
+use svc_maker::{FolderHolder, OwnFault};
+use svc_world::FolderFault;
+use svscan_rounds::Begun;
+use tai_status::Cause;
+
+/// What is said of svscan itself, if it is not served.
+fn unserved(fault: OwnFault) -> Begun
+    ensures { result ≡ unserved fault }
+{
+    match fault {
+        OwnFault::Unopened(FolderFault::Locked) => Begun::Locked,
+        OwnFault::Unopened(FolderFault::NotOpened(cause)) | OwnFault::NotAdmitted(cause) =>
+            Begun::Unserved(cause),
+    }
+}
+
+/// Has svscan itself served in a folder. Its control bytes come to its inbox from then on.
+fn begin<M, R>(
+    rt: R,
+    files: HostRuntime,
+    alloc: Global,
+    running: &mut Running<M, R>,
+    folder: &str,
+) -> Begun
+where
+    M: FolderHolder + Drop,
+    R: Threads + Wait + Clock + Copy + Drop + Send + 'static,
+    ensures { Begins folder.now running.old running.new }
+{
+    let Ok(path) = format!(in alloc; "{folder}/.svscan") else {
+        return Begun::Unserved(Cause::NoMemory);
+    };
+    let Some((sender, inbox)) = running.host.own_mailbox(MAIL) else {
+        return Begun::Unserved(Cause::NoMemory);
+    };
+    let record = own_record(rt, process::id(files.process()));
+    match serve_own(&mut running.host, path, &record, sender) {
+        Ok(()) => {
+            running.inbox = Some(inbox);
+            Begun::Served
+        }
+        Err(fault) => unserved(fault),
+    }
+}
+
+/// Makes the host, if there is none, or says why it can't be made.
+pub(crate) fn open<R>(
+    rt: R,
+    files: HostRuntime,
+    alloc: Global,
+    running: &mut Option<SystemHost<R>>,
+) -> Result<(), Cause>
+where
+    R: Files + Net + Processes<Started = SystemProcess>,
+    R: Threads + Wait + Clock + Copy + Send + Sync + Drop + 'static,
+    ensures opens { Opens running.old running.new }
+    ensures refused { OnErr result (running.new ≡ None) }
+{
+    if running.is_none() {
+        *running = Some(open_host(rt, files, alloc)?);
+    }
+    Ok(())
+}
+
+/// Whether the folder of the services can be read, or why not.
+fn read_folder<R: Files>(rt: &R, alloc: Global, folder: &str) -> Result<(), Cause> {
+    drop(fs::read_dir(&(rt, &alloc), folder)?);
+    Ok(())
+}
+
+/// Has svscan itself served in a folder that can be read, if there is a host.
+fn try_begin<M, R>(
+    rt: R,
+    files: HostRuntime,
+    alloc: Global,
+    running: &mut Option<Running<M, R>>,
+    folder: &str,
+) -> Begun
+where
+    M: FolderHolder + Drop,
+    R: Files + Threads + Wait + Clock + Copy + Drop + Send + 'static,
+    ensures { BeginsIf folder.now running.old result running.new }
+{
+    if let Err(cause) = read_folder(&rt, alloc, folder) {
+        return Begun::Unread(cause);
+    }
+    match running {
+        Some(running) => begin(rt, files, alloc, running, folder),
+        None => Begun::Refused(Cause::NoMemory),
+    }
+}
+
+/// Has svscan itself served in a folder, after the host is made, if there is none. If it can't be made svscan is
+/// refused, and why.
+pub(crate) fn open_and_begin<R>(
+    rt: R,
+    files: HostRuntime,
+    alloc: Global,
+    running: &mut Option<SystemHost<R>>,
+    folder: &str,
+) -> Begun
+where
+    R: Files + Net + Processes<Started = SystemProcess>,
+    R: Threads + Wait + Clock + Copy + Send + Sync + Drop + 'static,
+    ensures { OpensAndBegins folder.now running.old result running.new }
+{
+    if let Err(cause) = open(rt, files, alloc, running) {
+        return Begun::Refused(cause);
+    }
+    try_begin(rt, files, alloc, running, folder)
+}

@@ -1,0 +1,75 @@
+//! The services of this system that run.
+ghost use Rattle.std.specs.Prelude.{IfOk};
+ghost use Rattle.cmd_svscan.specs.Beginning.{IsNew};
+
+use crate::listing::FolderNames;
+use std::alloc::Global;
+use std::fs::Files;
+use std::io;
+use std::marker::Model;
+use std::net::Net;
+use std::process::{Processes, SystemProcess};
+use std::sync::Wait;
+use std::thread::Threads;
+use std::time::{Clock, Duration};
+use svc_door::Door;
+use svc_host::{Host, Maker};
+use svc_house::MailInbox;
+use svc_maker::{FolderMaker, SystemParts};
+use svc_world::AdoptionWatch;
+use svscan_rounds::Quiet;
+
+/// How many control bytes wait for a service at most, and how many pieces of its output for its logger.
+pub(crate) const MAIL: usize = 64;
+
+/// How many events a service's trace has.
+const TRACE: usize = 256;
+
+/// The services of this system that run: their host, and where svscan's own control bytes come. Contracts see it as
+/// `Serving`: the host, whether the next round is idle, and the bytes that came.
+#[derive(Drop)]
+pub struct Running<M: Maker + Drop, R: Threads + Wait + Clock + Copy + Drop + Send + 'static> {
+    pub(crate) host: Host<M, R>,
+    pub(crate) inbox: Option<MailInbox>,
+    // When the last round was over, by the running clock.
+    pub(crate) rests_since: Option<Duration>,
+    // What the folder had when it was listed last, where that was.
+    pub(crate) names: Option<FolderNames>,
+    // Whether the next round is idle.
+    pub(crate) quiet: Quiet,
+}
+
+impl<M: Maker + Drop, R: Threads + Wait + Clock + Copy + Drop + Send + 'static> Model
+    for Running<M, R> {
+    ghost use Rattle.cmd_svscan.specs.Serving.{Serving, given_by};
+
+    ghost Value = { Serving };
+
+    ghost view = { λ running. record {
+      host = running.host;
+      quiet = running.quiet;
+      given = given_by running.inbox;
+    } };
+}
+
+/// The services of this system that run.
+pub type SystemHost<R> = Running<FolderMaker<SystemParts<R>>, R>;
+
+/// Opens the door of this system's services, and makes their host.
+pub(crate) fn open_host<R>(rt: R, files: HostRuntime, alloc: Global) -> io::Result<SystemHost<R>>
+where
+    R: Files + Net + Processes<Started = SystemProcess>,
+    R: Threads + Wait + Clock + Copy + Send + Sync + Drop + 'static,
+    ensures { IfOk result IsNew }
+{
+    let door = Door::open(&rt, alloc)?;
+    let adoptions = AdoptionWatch::open(&rt, alloc)?;
+    let system = SystemParts::new(rt, files, alloc, door, adoptions)?;
+    Ok(Running {
+        host: Host::new(rt, alloc, FolderMaker::new(alloc, system), MAIL, TRACE)?,
+        inbox: None,
+        rests_since: None,
+        names: None,
+        quiet: Quiet::new(),
+    })
+}

@@ -1,0 +1,144 @@
+//! What a round does: one scan of the rows of a folder.
+ghost use Rattle.std.specs.Prelude.{[], ◌∷◌};
+ghost use Rattle.std.specs.Result.{is_ok};
+ghost use Rattle.svc_host.specs.Calls.{AdmittedAll, AskedRefusals};
+ghost use Rattle.cmd_svscan.specs.Asking.{IsAsked, Prepares};
+ghost use Rattle.cmd_svscan.specs.Scanning.{DidNothing, NamesUnmade, Rounds, Scans, ScansUnless};
+
+use crate::asking::{admit_all, allow, prepare_outputs, refusals, set_folder};
+use crate::limits::allowed_descriptors;
+use crate::losses::{losses_of, unmade_in};
+use crate::running::Running;
+use cmd_base::SystemClock;
+use scan_table::{DirRow, ScanFault};
+use std::alloc::{AllocError, Global};
+use std::sync::Wait;
+use std::thread::Threads;
+use std::time::Clock;
+use svc_host::{Host, HostOut};
+use svc_maker::FolderHolder;
+use svscan_rounds::{RoundOut, Unmade};
+use tai_status::{Names, TimeSource};
+
+/// What a round did in which there was nothing to do.
+fn idle_round(alloc: Global) -> RoundOut
+    ensures { DidNothing result }
+{
+    RoundOut {
+        untaken: Vec::new(alloc),
+        untraced: Names::from_vec(Vec::new(alloc)),
+        unmade: Vec::new(alloc),
+        refused: Names::from_vec(Vec::new(alloc)),
+    }
+}
+
+/// Admits the parts that wait for it to the door, and names those that could not be made or admitted. For want of
+/// memory some of these are reported in a later round.
+fn admit<M, R>(
+    alloc: Global,
+    host: &mut Host<M, R>,
+    mut failed: Vec<svc_host::Unmade>,
+) -> Vec<Unmade>
+where
+    M: FolderHolder + Drop,
+    R: Threads + Wait + Clock + Copy + Drop + Send + 'static,
+    ensures host { IsAsked (AdmittedAll ∷ AskedRefusals ∷ []) host.old host.new }
+    ensures unmade { NamesUnmade host.old.table.slots failed.items result.items }
+{
+    admit_all(host);
+    let refusals = refusals(host);
+    let _ = failed.extend_from_slice(&refusals);
+    unmade_in(alloc, host, &failed)
+}
+
+/// What the maker is asked before a scan: the folder of the services, and what their outputs lack.
+fn prepare<M, R>(host: &mut Host<M, R>, folder: &str, rows: &[DirRow]) -> Result<(), AllocError>
+where
+    M: FolderHolder + Drop,
+    R: Threads + Wait + Clock + Copy + Drop + Send + 'static,
+    ensures { Prepares folder.now rows.now (is_ok result) host.old host.new }
+{
+    set_folder(host, folder)?;
+    // The limit may have been raised since.
+    allow(host, allowed_descriptors());
+    prepare_outputs(host, rows);
+    Ok(())
+}
+
+/// One scan of the rows of a folder, and what parts lost that ended before, which is forgotten once the scan is made.
+/// The parts that it begins get their sockets once all have begun, since each child copies and closes the descriptors
+/// that there are.
+fn scan<M, R>(
+    rt: R,
+    alloc: Global,
+    host: &mut Host<M, R>,
+    folder: &str,
+    rows: &[DirRow],
+) -> Result<RoundOut, ScanFault>
+where
+    M: FolderHolder + Drop,
+    R: Threads + Wait + Clock + Copy + Drop + Send + 'static,
+    ensures { Scans folder.now host.old rows.now result host.new }
+{
+    // Before the scan, since that gives the slots of what ended, and with them the names, to other services.
+    let Ok((untaken, untraced)) = losses_of(alloc, host) else {
+        return Err(ScanFault::OutOfMemory);
+    };
+    let Ok(()) = prepare(host, folder, rows) else {
+        return Err(ScanFault::OutOfMemory);
+    };
+    let label = SystemClock::new(rt).now();
+    match host.scan(rows, label) {
+        Ok(HostOut { scan, failed }) => {
+            host.forget_losses();
+            Ok(RoundOut {
+                untaken,
+                untraced,
+                unmade: admit(alloc, host, failed),
+                refused: scan.refused,
+            })
+        }
+        Err(fault) => Err(fault),
+    }
+}
+
+/// One scan of the rows of a folder, unless the round is idle.
+fn scan_unless<M, R>(
+    rt: R,
+    alloc: Global,
+    host: &mut Host<M, R>,
+    is_idle: bool,
+    folder: &str,
+    rows: &[DirRow],
+) -> Result<RoundOut, ScanFault>
+where
+    M: FolderHolder + Drop,
+    R: Threads + Wait + Clock + Copy + Drop + Send + 'static,
+    ensures { ScansUnless is_idle folder.now host.old rows.now result host.new }
+{
+    if is_idle {
+        return Ok(idle_round(alloc));
+    }
+    scan(rt, alloc, host, folder, rows)
+}
+
+/// One round: a scan of the rows of a folder, unless the round is idle. Then a rest begins.
+pub(crate) fn round<M, R>(
+    rt: R,
+    alloc: Global,
+    running: &mut Running<M, R>,
+    folder: &str,
+    rows: &[DirRow],
+) -> Result<RoundOut, ScanFault>
+where
+    M: FolderHolder + Drop,
+    R: Threads + Wait + Clock + Copy + Drop + Send + 'static,
+    ensures { Rounds folder.now running.old.host running.old.quiet rows.now result
+        running.new.host running.new.quiet }
+{
+    let is_idle = running.quiet.is_idle;
+    let out = scan_unless(rt, alloc, &mut running.host, is_idle, folder, rows);
+    running.quiet = running.quiet.scanned(out.is_err());
+    running.rests_since = rt.monotonic().ok();
+    out
+}

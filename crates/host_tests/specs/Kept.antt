@@ -1,0 +1,16 @@
+-- What a maker keeps of its calls.
+use Rattle.svc_host.specs.Calls.{Call, MadePart, MadePair, KeptTrace, EndedPart, ForgotSlot, WatchedOutputs, EndedOutput}
+use Rattle.svc_host.specs.Calls.{AskedIsRead, CountedLost}
+use Rattle.host_tests.specs.declared.kept_calls.Asked.{Asked}
+use Rattle.host_tests.specs.declared.kept_calls.Asked.TheVariants as asked
+
+abbrev pub call_of : Asked → Call
+call_of (asked.Part id name made) = MadePart id name.items made
+call_of (asked.Pair slot name fault) = MadePair slot name.items fault
+call_of (asked.Trace id text kept) = KeptTrace id text.items kept
+call_of (asked.Ended id) = EndedPart id
+call_of (asked.Forgot slot) = ForgotSlot slot
+call_of asked.Watched = WatchedOutputs
+call_of (asked.EndedOutput slot at_once) = EndedOutput slot at_once
+call_of (asked.IsRead slot is_read) = AskedIsRead slot is_read
+call_of (asked.Lost slot has_logger count) = CountedLost slot has_logger count

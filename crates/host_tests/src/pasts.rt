@@ -1,0 +1,98 @@
+//! What the maker of a host was asked, beside the parts that are there.
+use crate::cast::Cast;
+use crate::kept_calls::Asked;
+use crate::kept_maker::KeptMaker;
+use crate::threads::{finish, log_of, main_of, row};
+use scan_table::{DirRow, PartId};
+use std::alloc::Global;
+use std::sync::Wait;
+use std::test::Fail;
+use std::thread::Threads;
+use std::time::Clock;
+use svc_host::Host;
+use svc_left::Opening;
+use tai_status::Label;
+
+/// A host over a maker that keeps its calls, after its first scan.
+fn scanned_once<R: Threads + Wait + Clock + Copy + Drop + Send + 'static>(
+    rt: R,
+    alloc: Global,
+    maker: KeptMaker,
+    rows: &[DirRow],
+    label: Label,
+) -> Option<Host<KeptMaker, R>> {
+    let mut host = Host::new(rt, alloc, maker, 4, 16).ok()?;
+    match host.scan(rows, label) {
+        Ok(_out) => Some(host),
+        Err(_) => None,
+    }
+}
+
+/// Whether a part was asked for by this name, and begins by its row.
+fn is_part(asked: &Asked, part: PartId, name: &[u8]) -> bool {
+    match asked {
+        Asked::Part(id, own, Ok(Opening::ByRow)) => *id == part && own.as_slice() == name,
+        _ => false,
+    }
+}
+
+/// Whether a pair was asked for by this name, and was made.
+fn is_pair(asked: &Asked, pair: u64, name: &[u8]) -> bool {
+    match asked {
+        Asked::Pair(slot, own, None) => *slot == pair && own.as_slice() == name,
+        _ => false,
+    }
+}
+
+/// Whether the last trace of a part was kept and then its resources were given back, each once.
+fn was_given_back(asked: &[Asked], part: PartId) -> bool {
+    let mut is_kept = false;
+    let mut is_back = false;
+    for call in asked {
+        match call {
+            Asked::Trace(id, _, true) if *id == part => {
+                if is_kept || is_back {
+                    return false;
+                }
+                is_kept = true;
+            }
+            Asked::Ended(id) if *id == part => {
+                if !is_kept || is_back {
+                    return false;
+                }
+                is_back = true;
+            }
+            _ => {}
+        }
+    }
+    is_back
+}
+
+/// A service and a pair: their maker is asked for each part once, by the name of its service, for the pair before its
+/// parts; and at the end for the last trace of each part, and then to take back what it handed out.
+#[test]
+fn a_maker_is_asked_for_what_is_there(rt: HostRuntime) -> Result<(), Fail> {
+    let alloc = rt.alloc();
+    let rows = [row(alloc, "a", false)?, row(alloc, "b", true)?];
+    let label = Label::from_unix(0, 0).ok_or("no label")?;
+    let maker = KeptMaker::new(alloc, Cast::open(alloc)?);
+    let mut host = scanned_once(rt, alloc, maker, &rows, label).ok_or("no memory")?;
+    let parts = [main_of(0, 1), main_of(2, 3), log_of(2, 4)];
+    assert!(rt;
+        host.ask_maker(|maker| match maker.asked() {
+            Some([service, pair, main, log]) => is_part(service, parts[0], b"a")
+                && is_pair(pair, 2, b"b")
+                && is_part(main, parts[1], b"b")
+                && is_part(log, parts[2], b"b"),
+            _ => false,
+        })
+    );
+    assert_eq!(rt; finish(&rt, &mut host), Some(3));
+    assert!(rt;
+        host.ask_maker(|maker| match maker.asked() {
+            Some(asked) => parts.iter().all(|part| was_given_back(asked, *part)),
+            None => false,
+        })
+    );
+    Ok(())
+}

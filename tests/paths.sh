@@ -1,0 +1,34 @@
+#!/usr/bin/env bash
+# Each path that docs/ARCHITECTURE.md names in `Where to change what`, and in its other tables and texts, is there. A path without
+# a crate is one of the crate that the row names last, and a file without a folder is next to the file before it. Takes the
+# program that the first word names.
+# gate: 2 seconds
+top=$(realpath "$(dirname "$0")/..")
+. "$top/tests/checks.sh" "$1"
+trap 'rm -rf "$room"' EXIT
+cd "$top" || exit 1
+
+# rows: the lines of the table, each one's words in backquotes
+rows=0
+while IFS= read -r row; do
+  crate='' folder=''
+  rows=$((rows + 1))
+  while IFS= read -r word; do
+    case $word in
+    crates/*) path=$word; crate=${word#crates/}; crate=crates/${crate%%/*} ;;
+    tests/* | packaging/* | contrib/* | docs/* | man | man/* | bench/* | Makefile | README.md | crates.txt) path=$word ;;
+    src | specs | proofs | src/* | specs/* | proofs/*) path=$crate/$word ;;
+    */specs/* | */src/*) path=crates/$word; crate=crates/${word%%/*} ;;
+    *.rt | *.antt | postinst | prerm | postrm) path=$folder/$word ;;
+    *) continue ;;
+    esac
+    is "${row:0:60}: $path" there "$([ -e "$path" ] && echo there)"
+    folder=$path
+    [ -d "$path" ] || folder=${path%/*}
+  done < <(grep -o '`[^`]*`' <<<"$row" | tr -d '`')
+done < <(sed -n '/^## Where to change what/,/^## /{/^| /p}' docs/ARCHITECTURE.md)
+is 'there are rows' yes "$([ "$rows" -gt 50 ] && echo yes)"
+for path in $(sed '/^## Where to change what/,/^## Glossary/d' docs/ARCHITECTURE.md | grep -oE '`crates/[^` ]*`' | tr -d '`'); do
+  is "$path" there "$([ -e "$path" ] && echo there)"
+done
+counts paths
