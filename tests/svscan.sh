@@ -712,14 +712,13 @@ killed_early() {
   done
   is 'second copies' '' "$copies"
   start_session reported2 d
-  soon 'the logger is up' 10 is_settled d/pair/log
   local name
-  for name in web pair; do
+  for name in web pair pair/log; do
     soon "$name is up, or said to run" 10 is_found "$name"
     is "one $name" 1 "$(living "d/$name" | wc -l)"
   done
 }
-# Whether the one process of a service is the one that svscan has, or is asked to run still.
+# Whether the one process of a service is the one that svscan has, or is said to run still.
 is_found() {
   local number
   number=$(living "d/$1")
@@ -729,6 +728,33 @@ is_found() {
 living() { while read -r number; do lives "$number" && echo "$number"; done <"$1/starts"; }
 # those of these services of which two live
 copies_of() { for name; do [ "$(living "d/$name" 2>/dev/null | wc -l)" -lt 2 ] || echo "$name "; done; }
+
+# svscan is killed after it has started services and before their places name the processes. The next one takes up each
+# process by its folder, and starts the service that has none.
+unnamed() {
+  sleeper d/web
+  sleeper d/other
+  sleeper d/pair
+  logger d/pair/log
+  start_session reported d
+  soon 'all are up' 10 all_are is_settled d/web d/other d/pair d/pair/log
+  local before log name
+  before=$(process d/web; process d/other; process d/pair)
+  log=$(process d/pair/log)
+  kill -KILL "$svscan"
+  soon 'svscan is dead' 3 is_gone "$svscan"
+  soon 'the logger ends with its input' 5 not lives "$log"
+  for name in web other pair pair/log; do
+    awk 'NR == 1 { $1 = 0; $2 -= 100; print }' "d/$name/supervise/place" >place
+    cp place "d/$name/supervise/place"
+    rm "d/$name/supervise/process"
+  done
+  start_session reported2 d
+  soon 'all are up again' 10 all_are is_settled d/web d/other d/pair d/pair/log
+  is 'the same processes' "$before" "$(process d/web; process d/other; process d/pair)"
+  is 'starts' '1 1 1 2' "$(count d/web/starts) $(count d/other/starts) $(count d/pair/starts) $(count d/pair/log/starts)"
+  is 'reported' '' "$(cat reported2)"
+}
 
 # A record counts in its own boot: in another one each service begins by its row, and a process of that number is no longer
 # the service's.
@@ -2236,7 +2262,7 @@ play_all() {
   done
 }
 
-scenarios=(life modes_kept exits endings no_run links stubborn killed_service killed_svscan killed_early starved unwritten new_boot other_user earlier_record elsewhere changes twice names silent
+scenarios=(life modes_kept exits endings no_run links stubborn killed_service killed_svscan killed_early unnamed starved unwritten new_boot other_user earlier_record elsewhere changes twice names silent
   connections no_supervise unheard rounds untaken own refused last_words upgraded unread ordered first_process two_services child begins_anew shortage
   descriptors_reported unchanged resting full_disk full_put_down placeless held_locks held_pair many_bytes raised_limit
   odd_environment unreaped bounded_end no_folder folder_away apart)

@@ -26,6 +26,15 @@ fn process(pid: u32, parent: u64, tick: u64, session: u64) -> Seen {
         is_here: false,
         is_known: false,
         is_late: false,
+        neighbour: 0,
+    }
+}
+
+// The same, in the folder of this neighbour, of which a start is not known either.
+fn next_door(neighbour: u64, pid: u32, parent: u64, tick: u64, session: u64) -> Seen {
+    Seen {
+        neighbour,
+        ..process(pid, parent, tick, session)
     }
 }
 
@@ -100,6 +109,38 @@ fn one_process_is_left_over(rt: HostRuntime) {
     // It left the folder, and a child of it did not.
     let all = [first, reaper, process(50, 20, 101, 7), here(51, 50, 102, 7)];
     assert_eq!(rt; find_leftover(&INTENT, &all), own);
+}
+
+#[test]
+fn each_neighbour_has_its_own_process(rt: HostRuntime) {
+    let [first, reaper, _svscan] = old();
+    // Two neighbours were begun too, one of them with a child there and elsewhere.
+    let all = [
+        first,
+        reaper,
+        next_door(1, 40, 20, 101, 7),
+        here(50, 20, 101, 7),
+        next_door(2, 60, 20, 101, 7),
+        next_door(2, 61, 60, 102, 7),
+        process(62, 61, 102, 7),
+    ];
+    assert_eq!(rt; find_leftover(&INTENT, &all), Leftover::Process(50, 101));
+    // Nothing is left over of this one.
+    let [first, reaper, one, _, two, child, grandchild] = all;
+    let others = [first, reaper, one, two, child, grandchild];
+    assert_eq!(rt; find_leftover(&INTENT, &others), Leftover::Nobody);
+    // Two processes in the folder of one neighbour: one of them may have gone there.
+    let all = [
+        first,
+        reaper,
+        next_door(1, 40, 20, 101, 7),
+        next_door(1, 41, 20, 101, 7),
+        here(50, 20, 101, 7),
+    ];
+    assert_eq!(rt; find_leftover(&INTENT, &all), Leftover::Unsure(50));
+    // A process that left its folder, and has a child in that of a neighbour.
+    let all = [first, reaper, process(40, 20, 101, 7), next_door(1, 41, 40, 101, 7)];
+    assert_eq!(rt; find_leftover(&INTENT, &all), Leftover::Unsure(40));
 }
 
 #[test]

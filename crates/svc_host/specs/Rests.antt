@@ -1,7 +1,5 @@
--- How long a thread rests, and how long was waited.
-use Rattle.std.specs.Prelude.{ℕ, ◌+◌, ◌-◌, ◌*◌, ◌/◌, ◌^◌, min, Option, Some, None}
-use Rattle.core.specs.declared.time.Duration.{Duration}
-use Rattle.core.specs.Duration.{as_nanos}
+-- How long a thread rests.
+use Rattle.std.specs.Prelude.{ℕ, ◌+◌, ◌-◌, ◌*◌, ◌^◌, min, Option, Some, None}
 use Rattle.tai_status.specs.Label.{Tai64n}
 
 -- the nanoseconds from the first of all labels to this one
@@ -11,10 +9,6 @@ nanoseconds label = label.sec * 10 ^ 9 + label.nano
 -- the nanoseconds from one label to a later one, but at most a second
 abbrev pub rest_before : Tai64n → Tai64n → ℕ
 rest_before now until = min (nanoseconds until - nanoseconds now) (10 ^ 9)
-
--- the milliseconds from one reading of the running clock to another, at most 2^64 - 1
-abbrev pub waited : (begin now : Duration) → ℕ
-waited begin now = min ((as_nanos now - as_nanos begin) / 10 ^ 6) (2 ^ 64 - 1)
 
 -- the shorter of two rests, of which None has no end
 abbrev pub shorter : (one other : Option ℕ) → Option ℕ

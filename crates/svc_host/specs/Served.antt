@@ -9,6 +9,8 @@ use Rattle.svc_station.specs.Ends.{history_of, published}
 use Rattle.svc_station.specs.Parking.{GoesOn, writer_in}
 use Rattle.svc_house.specs.Calls.{bytes_in}
 use Rattle.svc_house.specs.Mail.{items_of}
+use Rattle.svc_host.specs.declared.running.Place.{Place}
+use Rattle.svc_host.specs.declared.running.Place.TheVariants.{Thread, Here}
 use Rattle.svc_host.specs.declared.service.Served.{Served}
 use Rattle.svc_host.specs.declared.service.Served.TheVariants.{Gone, NotBegun}
 
@@ -26,3 +28,8 @@ writer_of (NotBegun parked) = writer_in parked
 abbrev pub ServesOut : {R : Type 0} → Writer → Served R → Type 0
 ServesOut went (Gone parked receiver) = GoesOn went (writer_in parked) × IsServed (writer_in parked) receiver
 ServesOut went (NotBegun parked) = GoesOn went (writer_in parked)
+
+-- the writer of a service, as it went to its thread or is here
+abbrev pub writer_at : {R : Type 0} → Place R → Writer
+writer_at (Thread handle) = writer_in handle.promise.went.value
+writer_at (Here parked) = writer_in parked

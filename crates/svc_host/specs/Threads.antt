@@ -25,3 +25,8 @@ IsSameThread old new =
 abbrev pub untaken_at : {R : Type 0} → PartThread R → ℕ
 untaken_at (Runs running) = 0
 untaken_at (Ended last) = last.untaken
+
+-- Nothing that is known of it has changed.
+abbrev pub IsAsBefore : {R : Type 0} → PartThread R → PartThread R → Type 0
+IsAsBefore old new =
+    (reader_at new ≡ reader_at old) × (is_ended new ≡ is_ended old) × (untaken_at new ≡ untaken_at old)

@@ -220,11 +220,6 @@ impl<M: Maker + Drop, R: Threads + Wait + Clock + Copy + Drop + Send + 'static> 
         ensures calls { ExtendedWhileKept (M.calls self.old.maker) (M.calls self.new.maker) (ForgotSlot slot ∷ []) }
         ensures pairs { self.new.pairs.items ≡ pairs_without slot self.old.pairs.items }
     {
-        for pair in &self.pairs {
-            if pair.slot == slot {
-                pair.leave();
-            }
-        }
         self.pairs.retain(|pair| pair.slot != slot);
         self.maker.forget(slot);
     }

@@ -1,5 +1,5 @@
 //! The host of all services.
-ghost use Rattle.std.specs.Prelude.{◌≡◌, ◌+◌, ◌-◌, ◌≤◌, ◌++◌, ◌<◌, [], None};
+ghost use Rattle.std.specs.Prelude.{◌≡◌, ◌+◌, ◌-◌, ◌≤◌, ◌++◌, ◌<◌, [], None, true, false};
 ghost use Rattle.std.specs.Prelude.{IfOk, OnOk, length, slice_index_or, vec_len, vec_capacity};
 ghost use Rattle.scan_table.specs.Scan.{AreRising};
 ghost use Rattle.scan_table.specs.Order.{scan_refusal};
@@ -216,19 +216,26 @@ fn end_all(table: &mut ScanTable, failed: &[Unmade])
 }
 
 /// Joins the thread of a part, and keeps its last trace. Nothing comes to its mailbox then, and what was lost is noted.
+/// Whether it is joined: a part whose service has not begun stays as it was.
 fn join_part<M: Maker + Drop, R: Threads + Wait + Clock + Copy + Drop + Send + 'static>(
     factory: &mut PartFactory<M, R>,
     part: &mut Part<R>,
-)
+) -> bool
     ensures same { PartGoesOn part.old part.new }
-    ensures joined { IsJoined part.new }
+    ensures joined { result ≡ true → IsJoined part.new }
     ensures gone { IsGoneIfEnded part.new }
-    ensures gives_back { GivesBack part.old part.new (M.calls factory.old.maker) (M.calls factory.new.maker) }
+    ensures gives_back { result ≡ true
+        → GivesBack part.old part.new (M.calls factory.old.maker) (M.calls factory.new.maker) }
+    ensures unbegun { result ≡ false → part.new ≡ part.old }
+    ensures kept { result ≡ false → factory.new ≡ factory.old }
 {
-    part.join(&factory.rt, factory.alloc);
+    if !part.join(&factory.rt, factory.alloc) {
+        return false;
+    }
     let has_trace = factory.keep_trace(part);
     factory.maker.ended(part.id());
     part.note_loss(&factory.rt, factory.rooms.mail, has_trace);
+    true
 }
 
 /// Keeps the trace of the part at a place, where that has grown. Whether its newest one is kept.
@@ -456,13 +463,15 @@ impl<M: Maker + Drop, R: Threads + Wait + Clock + Copy + Drop + Send + 'static> 
             (returned_by result (slice_index_or self.old.parts place d).id) }
     {
         let part = &mut self.parts[place];
-        let ends = part.is_to_be_joined();
-        if ends {
-            join_part(&mut self.factory, part);
-            let id = part.id();
-            self.table.ended(id);
+        if !part.is_to_be_joined() {
+            return false;
         }
-        ends
+        if !join_part(&mut self.factory, part) {
+            return false;
+        }
+        let id = part.id();
+        self.table.ended(id);
+        true
     }
 
     /// Joins the threads of the parts that have ended since the last time, keeps their last traces, and gives back what
@@ -624,7 +633,6 @@ impl<M: Maker + Drop, R: Threads + Wait + Clock + Copy + Drop + Send + 'static> 
         let has_logger = lives(sight_at(&mut self.parts, pair.slot, Role::Log));
         self.factory.maker.end_output(pair.slot, true);
         let count = self.factory.maker.lost(pair.slot, has_logger);
-        pair.leave();
         Some((pair.slot, count))
     }
 }

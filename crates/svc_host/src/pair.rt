@@ -1,15 +1,18 @@
 //! The two threads that carry a pair's output to its logger: one reads it, and begins the other, which puts it, at the
 //! first bytes. Until then there is no box, and no block.
-ghost use Rattle.std.specs.Prelude.{◌≡◌, ◌<◌, [], IfSome, IfErr, IfOk, None, ◌∷◌, OnOk};
+ghost use Rattle.std.specs.Prelude.{◌≡◌, ◌<◌, [], true, IfSome, IfErr, IfOk, None, ◌∷◌, OnOk};
+ghost use mathlib.Core.List.{IsPrefix};
+ghost use Rattle.tai_status.specs.Counted.{IsRead};
 ghost use Rattle.svc_house.specs.Calls.{ExtendedWhileKept};
 ghost use Rattle.svc_host.specs.Calls.{AsksPair, MadePair};
-ghost use Rattle.svc_mail.specs.Ends.{home, posted, receiver_home, taken_by};
+ghost use Rattle.svc_mail.specs.Ends.{IsSameReceiver, IsSameSender, home, posted, receiver_home, taken_by};
+ghost use Rattle.svc_relay.specs.Whole.{bytes_put};
 
 use crate::ends::open_box;
 use crate::growing_reader::GrowingReader;
 use crate::maker::{Maker, Outlets, PartFault};
-use crate::rest::waited;
 use crate::shared::PairShared;
+use cmd_base::millis_between;
 use core::thread::Anything;
 use std::alloc::Global;
 use std::io::Read;
@@ -103,7 +106,39 @@ fn open_in_time<R: Wait>(
     unreachable!()
 }
 
-/// Reads a pair's output until it ends. A read that fails is tried again.
+/// Reads a pair's output and posts it, until it ends or the pair leaves. A read that fails is tried again. Whether it has
+/// ended: then all of it is posted.
+fn post_all<D: Read + Drop, R: Wait>(
+    rt: &R,
+    intake: &mut Intake<D>,
+    shared: &PairShared,
+) -> bool
+    ensures same { IsSameSender intake.old.sender intake.new.sender }
+    ensures opening { intake.new.opening ≡ intake.old.opening }
+    ensures all { result ≡ true → IsRead intake.new.reader × (intake.new.kept ≡ None) }
+{
+    for _ in rt.forever() {
+        match intake.turn(rt) {
+            Ok(IntakeTurn::Moved(count)) => shared.filled.notify(News::moved(count)),
+            Ok(IntakeTurn::Idle) => {
+                if shared.leaves() {
+                    return false;
+                }
+                shared.emptied.wait(rt, None);
+            }
+            Ok(IntakeTurn::Ended) => return true,
+            Err(_) => {
+                if shared.leaves() {
+                    return false;
+                }
+                rest_before_again(rt, &shared.emptied);
+            }
+        }
+    }
+    unreachable!()
+}
+
+/// Reads a pair's output until it ends, or the pair leaves.
 ///
 /// It has an intake's pieces on its stack, which so are no part of that before it is called.
 #[inline(never)]
@@ -116,26 +151,8 @@ fn read_all<D: Read + Drop, R: Wait>(
     requires { posted sender ≡ [] }
 {
     let mut intake = Intake::new(Input::new(output), sender);
-    for _ in rt.forever() {
-        match intake.turn(rt) {
-            Ok(IntakeTurn::Moved(count)) => shared.filled.notify(News::moved(count)),
-            Ok(IntakeTurn::Idle) => {
-                if shared.leaves() {
-                    return;
-                }
-                shared.emptied.wait(rt, None);
-            }
-            Ok(IntakeTurn::Ended) => {
-                shared.end();
-                return;
-            }
-            Err(_) => {
-                if shared.leaves() {
-                    return;
-                }
-                rest_before_again(rt, &shared.emptied);
-            }
-        }
+    if post_all(rt, &mut intake, shared) {
+        shared.end();
     }
 }
 
@@ -159,8 +176,56 @@ fn next_outlet<O: Outlet + Drop, S: Outlets<O>, R: Wait>(
     unreachable!()
 }
 
+/// Begins the logger's next life, if there is one. What was put is not put again. Whether there is one.
+fn begin_life<O: Outlet + Drop, S: Outlets<O>>(relay: &mut Relay<O>, outlets: &mut S) -> bool
+    ensures same { IsSameReceiver relay.old.receiver relay.new.receiver }
+    ensures bytes { bytes_put relay.new ≡ bytes_put relay.old }
+{
+    match outlets.next() {
+        Some(outlet) => {
+            drop(relay.replace(outlet));
+            true
+        }
+        None => false,
+    }
+}
+
 /// Puts a pair's output into its logger, from life to life, until the pair leaves or the output has ended and all of it
-/// is put. A write that fails is tried again, where the logger has no next input yet. The logger's input ends with it.
+/// is put. A write that fails is tried again, if the logger has no next input yet. What is put only grows: no byte is put
+/// twice, and none that was put is taken back.
+fn put_on<O: Outlet + Drop, S: Outlets<O>, R: Wait>(
+    rt: &R,
+    relay: &mut Relay<O>,
+    outlets: &mut S,
+    shared: &PairShared,
+)
+    ensures same { IsSameReceiver relay.old.receiver relay.new.receiver }
+    ensures bytes { IsPrefix (bytes_put relay.old) (bytes_put relay.new) }
+{
+    for _ in rt.forever() {
+        // Before the turn, so that one that finds nothing then has taken all.
+        let is_last = shared.has_ended();
+        match relay.turn(rt) {
+            RelayTurn::Moved(count) => shared.emptied.notify(News::moved(count)),
+            RelayTurn::Idle => {
+                if is_last || shared.leaves() {
+                    return;
+                }
+                shared.filled.wait(rt, None);
+            }
+            RelayTurn::Broken => {
+                if !begin_life(relay, outlets) {
+                    if shared.leaves() {
+                        return;
+                    }
+                    rest_before_again(rt, &shared.filled);
+                }
+            }
+        }
+    }
+}
+
+/// Puts a pair's output into its logger, once that has an input. That input ends with it.
 fn put_all<O: Outlet + Drop, S: Outlets<O> + Drop, R: Wait>(
     rt: &R,
     receiver: Receiver<Piece>,
@@ -173,28 +238,7 @@ fn put_all<O: Outlet + Drop, S: Outlets<O> + Drop, R: Wait>(
         return;
     };
     let mut relay = Relay::new(receiver, first);
-    for _ in rt.forever() {
-        // Before the turn, so that one that finds nothing then has taken all.
-        let is_last = shared.has_ended();
-        match relay.turn(rt) {
-            RelayTurn::Moved(count) => shared.emptied.notify(News::moved(count)),
-            RelayTurn::Idle => {
-                if is_last || shared.leaves() {
-                    return;
-                }
-                shared.filled.wait(rt, None);
-            }
-            RelayTurn::Broken => match outlets.next() {
-                Some(outlet) => drop(relay.replace(outlet)),
-                None => {
-                    if shared.leaves() {
-                        return;
-                    }
-                    rest_before_again(rt, &shared.filled);
-                }
-            },
-        }
-    }
+    put_on(rt, &mut relay, &mut outlets, shared);
 }
 
 /// What the thread of a relay does.
@@ -272,13 +316,23 @@ fn take_in<
     }
 }
 
-/// A pair whose threads run.
-#[derive(Drop)]
+/// A pair whose threads run. They end once it is dropped.
 pub(crate) struct Pair {
     pub(crate) slot: u64,
     shared: Arc<PairShared, Global>,
     // Since when is waited for its end, by the running clock.
     waits_since: Option<Duration>,
+}
+
+impl Drop for Pair {
+    fn drop(self) {
+        let Pair {
+            slot: _,
+            shared,
+            waits_since: _,
+        } = self;
+        shared.leave();
+    }
 }
 
 impl Pair {
@@ -325,11 +379,6 @@ impl Pair {
         })
     }
 
-    /// Its threads end.
-    pub(crate) fn leave(&self) {
-        self.shared.leave();
-    }
-
     /// Whether all of its output, which has ended, is put into the input of its logger.
     pub(crate) fn is_put(&self) -> bool {
         self.shared.is_put()
@@ -344,6 +393,6 @@ impl Pair {
             self.waits_since = Some(now);
             return 0;
         };
-        waited(begin, now)
+        millis_between(begin, now)
     }
 }

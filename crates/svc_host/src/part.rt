@@ -152,14 +152,16 @@ impl<R: Threads + Wait + Clock + Copy + Drop + Send + 'static> Part<R> {
         self.thread.is_to_be_joined()
     }
 
-    /// Joins its thread, where it was not joined.
-    pub(crate) fn join(&mut self, rt: &R, alloc: Global)
+    /// Joins its thread, if it was not joined. Whether it is joined then: a part whose service has not begun stays as it
+    /// was.
+    pub(crate) fn join(&mut self, rt: &R, alloc: Global) -> bool
         ensures same { PartGoesOn self.old self.new }
-        ensures ended { self.new.has_ended ≡ true }
+        ensures ended { result ≡ self.new.has_ended }
         ensures kept { self.new.kept ≡ self.old.kept }
         ensures loss { self.new.loss ≡ self.old.loss }
+        ensures unbegun { result ≡ false → self.new ≡ self.old }
     {
-        self.thread.join(rt, alloc);
+        self.thread.join(rt, alloc)
     }
 
     /// The machine after what was read of its events.

@@ -176,7 +176,7 @@ impl<R: Threads + Wait + Clock + Copy + Drop + Send + 'static> PartThread<R> {
     ghost use Rattle.tai_status.specs.declared.phase.Phase.{Phase};
     ghost use Rattle.svc_station.specs.Ends.{history_at, known_to, reader_station, trace_at};
     ghost use Rattle.svc_host.specs.Growth.{IsText, Shows};
-    ghost use Rattle.svc_host.specs.Threads.{IsSameThread, is_ended, reader_at, untaken_at};
+    ghost use Rattle.svc_host.specs.Threads.{IsAsBefore, IsSameThread, is_ended, reader_at, untaken_at};
 
     /// Whether the thread was joined.
     pub(crate) fn has_ended(&self) -> bool
@@ -203,23 +203,28 @@ impl<R: Threads + Wait + Clock + Copy + Drop + Send + 'static> PartThread<R> {
         }
     }
 
-    // Joins the thread, where it was not joined.
-    fn joined(self, rt: &R, alloc: Global) -> (PartThread<R>, ())
+    // Joins the thread, if it was not joined. Whether it is joined then: a service that has not begun stays as it was.
+    fn joined(self, rt: &R, alloc: Global) -> (PartThread<R>, bool)
         ensures same { IsSameThread self result.0 }
-        ensures ended { is_ended result.0 ≡ true }
-        ensures gone { phase_of (history_at (reader_at result.0)) ≡ Phase.Gone }
+        ensures ended { result.1 ≡ is_ended result.0 }
+        ensures gone { result.1 ≡ true → phase_of (history_at (reader_at result.0)) ≡ Phase.Gone }
+        ensures unbegun { result.1 ≡ false → IsAsBefore self result.0 }
     {
         match self {
-            PartThread::Runs(running) => (PartThread::Ended(running.join(rt, alloc)), ()),
-            PartThread::Ended(last) => (PartThread::Ended(last), ()),
+            PartThread::Runs(running) => match running.join(rt, alloc) {
+                Ok(last) => (PartThread::Ended(last), true),
+                Err(running) => (PartThread::Runs(running), false),
+            },
+            PartThread::Ended(last) => (PartThread::Ended(last), true),
         }
     }
 
-    /// Joins the thread, where it was not joined.
-    pub(crate) fn join(&mut self, rt: &R, alloc: Global)
+    /// Joins the thread, if it was not joined. Whether it is joined then: a service that has not begun stays as it was.
+    pub(crate) fn join(&mut self, rt: &R, alloc: Global) -> bool
         ensures same { IsSameThread self.old self.new }
-        ensures ended { is_ended self.new ≡ true }
-        ensures gone { phase_of (history_at (reader_at self.new)) ≡ Phase.Gone }
+        ensures ended { result ≡ is_ended self.new }
+        ensures gone { result ≡ true → phase_of (history_at (reader_at self.new)) ≡ Phase.Gone }
+        ensures unbegun { result ≡ false → IsAsBefore self.old self.new }
     {
         replace_with(self, rt, |thread, rt| thread.joined(rt, alloc))
     }

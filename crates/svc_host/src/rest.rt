@@ -1,6 +1,6 @@
-//! How long a thread rests, and how long was waited.
+//! How long a thread rests.
 ghost use Rattle.std.specs.Prelude.{◌≡◌};
-ghost use Rattle.svc_host.specs.Rests.{rest_before, shorter, waited};
+ghost use Rattle.svc_host.specs.Rests.{rest_before, shorter};
 
 use std::time::Duration;
 use tai_status::Label;
@@ -19,16 +19,6 @@ pub(crate) fn rest_before(now: Label, until: Label) -> u64
         0 => u64::from(until.nano - now.nano),
         1 => (NANOS_IN_SECOND + u64::from(until.nano) - u64::from(now.nano)).min(NANOS_IN_SECOND),
         _ => NANOS_IN_SECOND,
-    }
-}
-
-/// How many milliseconds it is from one reading of the running clock to another; 0 where that is an earlier one.
-pub(crate) fn waited(begin: Duration, now: Duration) -> u64
-    ensures { result ≡ waited begin now }
-{
-    match now.checked_sub(begin) {
-        Some(waited) => u64::try_from(waited.as_millis()).unwrap_or(u64::MAX),
-        None => 0,
     }
 }
 

@@ -1,18 +1,20 @@
 //! A service that runs, as the host knows it.
-ghost use Rattle.std.specs.Prelude.{◌≡◌, ◌+◌, ◌≤◌, [], length, vec_capacity, IfSome};
+ghost use Rattle.std.specs.Prelude.{◌≡◌, ◌+◌, ◌≤◌, [], length, vec_capacity, IfSome, IfOk, IfErr};
 ghost use Rattle.svc_station.specs.Parking.{writer_in};
 ghost use Rattle.svc_host.specs.Served.{ServesOut};
 ghost use mathlib.Core.List.{IsPrefix};
 ghost use Rattle.svc_station.specs.Ends.{AreNewReaders, IsNewReader, known_to, number_of, reader_station, station};
 
 use crate::part_thread::Last;
-use crate::service::{Served, ServesToItsEnd, Task, serve};
+use crate::service::{Served, ServesToItsEnd, Task, serve_or_stay_out};
 use crate::shared::PartShared;
 use std::alloc::Global;
+use std::marker::Model;
 use std::sync::{Arc, Wait};
 use std::thread::{Builder, PromisedHandle, Threads};
 use std::time::Clock;
 use svc_house::{Gate, World};
+use svc_station::parked::Parked;
 use svc_station::reader::Reader;
 use svc_station::writer::Writer;
 
@@ -49,13 +51,50 @@ pub(crate) fn end<R: Wait>(rt: &R, writer: Writer, status_reader: StatusReader)
     writer.end(rt, room);
 }
 
+/// Where the writer of a service is.
+#[derive(Drop)]
+pub(crate) enum Place<R: Wait + Drop> {
+    /// In the thread of the service.
+    Thread(PromisedHandle<Served<R>, ServesToItsEnd<R>>),
+    /// Here: the thread gave it back without having begun.
+    Here(Parked<R>),
+}
+
+/// The writer of a service, wherever it is. Contracts see it as it went there.
+#[derive(Drop)]
+pub(crate) struct Away<R: Wait + Drop>(Place<R>);
+
+impl<R: Wait + Drop> Model for Away<R> {
+    ghost use Rattle.svc_station.specs.declared.writer.Writer.{Writer};
+    ghost use Rattle.svc_host.specs.Served.{writer_at};
+
+    ghost Value = { Writer };
+
+    ghost view = { λ away. writer_at away.0 };
+}
+
+impl<R: Threads + Wait + Drop> Away<R> {
+    ghost use Rattle.svc_host.specs.Served.{ServesOut};
+
+    /// What the thread gives back at its end, or again what it gave back.
+    fn join(self, rt: &R) -> Served<R>
+        ensures { ServesOut self result }
+    {
+        let Away(place) = self;
+        match place {
+            Place::Thread(thread) => thread.join(rt),
+            Place::Here(parked) => Served::NotBegun(parked),
+        }
+    }
+}
+
 /// A service in a thread of its own.
 #[derive(Drop)]
 pub(crate) struct Running<R: Wait + Drop> {
     pub(crate) status_reader: StatusReader,
     pub(crate) shared: Arc<PartShared, Global>,
-    thread: PromisedHandle<Served<R>, ServesToItsEnd<R>>,
-    ghost home: { station (writer_in thread.promise.went.value) ≡ reader_station status_reader.reader },
+    writer: Away<R>,
+    ghost home: { station writer ≡ reader_station status_reader.reader },
 }
 
 impl<R: Threads + Wait + Clock + Copy + Drop + Send + 'static> Running<R> {
@@ -75,13 +114,13 @@ impl<R: Threads + Wait + Clock + Copy + Drop + Send + 'static> Running<R> {
             promise,
             move || -> Served<R>
                 ensures { ServesOut (writer_in task.parked) result }
-            { serve(rt, task) },
+            { serve_or_stay_out(rt, task) },
         );
         match spawned {
             Ok(thread) => Some(Running {
                 status_reader,
                 shared,
-                thread,
+                writer: Away(Place::Thread(thread)),
             }),
             Err(refused) => {
                 shared.stay_out();
@@ -92,28 +131,32 @@ impl<R: Threads + Wait + Clock + Copy + Drop + Send + 'static> Running<R> {
     }
 
     /// Joins the thread of a service that has ended, and ends its station: what its reader knows then, which is all
-    /// that was ever published there.
-    pub(crate) fn join(self, rt: &R, alloc: Global) -> Last
-        ensures home { reader_station result.reader.value ≡ reader_station self.status_reader.reader }
-        ensures known { IsPrefix (known_to self.status_reader.reader) (known_to result.reader.value) }
-        ensures untaken { result.untaken ≡ 0 }
+    /// that was ever published there. If the service has not begun, all stays as it was.
+    pub(crate) fn join(self, rt: &R, alloc: Global) -> Result<Last, Running<R>>
+        ensures home { IfOk result (λ last.
+            reader_station last.reader.value ≡ reader_station self.status_reader.reader) }
+        ensures known { IfOk result (λ last.
+            IsPrefix (known_to self.status_reader.reader) (known_to last.reader.value)) }
+        ensures untaken { IfOk result (λ last. last.untaken ≡ 0) }
+        ensures unbegun { IfErr result (λ running. running.status_reader ≡ self.status_reader) }
     {
         let Running {
             mut status_reader,
-            shared: _shared,
-            thread,
+            shared,
+            writer,
         } = self;
-        let (parked, receiver) = match thread.join(rt) {
-            Served::Gone(parked, receiver) => (parked, receiver),
-            // A service that has a thread begins.
-            Served::NotBegun(_parked) => {
-                for _ in rt.forever() {}
-                unreachable!()
+        match writer.join(rt) {
+            Served::Gone(parked, receiver) => {
+                let mut writer = parked.into_writer();
+                let last = Last::of(alloc, &mut status_reader.reader, &mut writer, receiver);
+                end(rt, writer, status_reader);
+                Ok(last)
             }
-        };
-        let mut writer = parked.into_writer();
-        let last = Last::of(alloc, &mut status_reader.reader, &mut writer, receiver);
-        end(rt, writer, status_reader);
-        last
+            Served::NotBegun(parked) => Err(Running {
+                status_reader,
+                shared,
+                writer: Away(Place::Here(parked)),
+            }),
+        }
     }
 }

@@ -7,10 +7,10 @@ ghost use Rattle.svc_left.specs.Opening.{beginning};
 ghost use Rattle.svc_house.specs.Calls.{ExtendedWhileKept, requested};
 ghost use Rattle.sup_core.specs.Rules.{asks_of_begin};
 ghost use Rattle.svc_station.specs.Ends.{opening_of, published, station};
-ghost use Rattle.svc_station.specs.Parking.{writer_in};
+ghost use Rattle.svc_station.specs.Parking.{GoesOn, writer_in};
 ghost use Rattle.svc_mail.specs.Ends.{taken_by};
 ghost use Rattle.svc_host.specs.Answers.{answered};
-ghost use Rattle.svc_host.specs.Served.{ServesOut};
+ghost use Rattle.svc_host.specs.Served.{IsServed, ServesOut};
 ghost use Rattle.svc_house.specs.Turn.{IsSameHouse, phase_in};
 
 use crate::rest::{nanos_of, rest_before, shorter};
@@ -53,12 +53,24 @@ pub(crate) struct Task<W: World + Drop, G: Gate + Drop, R: Wait + Drop> {
     ghost unanswered: { answered (W.calls world) ≡ [] },
 }
 
+impl<W: World + Drop, G: Gate + Drop, R: Wait + Drop> Task<W, G, R> {
+    ghost use Rattle.std.specs.Prelude.{◌≡◌};
+
+    /// The writer of its station alone.
+    fn into_parked(self) -> Parked<R>
+        ensures { result ≡ self.parked }
+    {
+        let Task { parked, .. } = self;
+        parked
+    }
+}
+
 /// What the thread of a service gives back.
 #[derive(Drop)]
 pub(crate) enum Served<R: Wait> {
     /// The service is gone: the writer of its station, and the receiver of its mailbox.
     Gone(Parked<R>, Receiver<u8>),
-    /// It did not begin: the writer.
+    /// It did not begin, since it has no thread: the writer.
     NotBegun(Parked<R>),
 }
 
@@ -168,14 +180,14 @@ fn open<W: World + Drop, G: Gate + Drop>(
     House::open(world, MailInbox::new(receiver), gate, writer, first)
 }
 
-/// The life of a service in its thread. It ends once the service is gone, and gives back the writer of its station, and
-/// the receiver of its mailbox, which took the control bytes of its whole history. A task that stays out gives the
-/// writer back at once.
-pub(crate) fn serve<W: World + Drop, G: Gate + Drop, R: Wait + Clock + Copy + Drop>(
+/// The life of a service. It ends once the service is gone, and gives back the writer of its station, and the receiver
+/// of its mailbox, which took the control bytes of its whole history.
+fn serve<W: World + Drop, G: Gate + Drop, R: Wait + Clock + Copy + Drop>(
     rt: R,
     task: Task<W, G, R>,
-) -> Served<R>
-    ensures { ServesOut (writer_in task.parked) result }
+) -> (Parked<R>, Receiver<u8>)
+    ensures goes_on { GoesOn (writer_in task.parked) (writer_in result.0) }
+    ensures served { IsServed (writer_in result.0) result.1 }
 {
     let Task {
         parked,
@@ -185,12 +197,24 @@ pub(crate) fn serve<W: World + Drop, G: Gate + Drop, R: Wait + Clock + Copy + Dr
         begins,
         shared,
     } = task;
-    if shared.stays_out() {
-        return Served::NotBegun(parked);
-    }
     let mut house = open(world, receiver, gate, parked.into_writer(), begins);
     run(rt, &mut house, &shared);
     let (writer, receiver) = house.leave();
     shared.end();
-    Served::Gone(Parked::new(writer, rt), receiver)
+    (Parked::new(writer, rt), receiver)
+}
+
+/// What a thread does with its task: it serves it to its end. If the system refused the thread, the task stays out, and
+/// gives the writer back at once.
+pub(crate) fn serve_or_stay_out<W: World + Drop, G: Gate + Drop, R: Wait + Clock + Copy + Drop>(
+    rt: R,
+    task: Task<W, G, R>,
+) -> Served<R>
+    ensures { ServesOut (writer_in task.parked) result }
+{
+    if task.shared.stays_out() {
+        return Served::NotBegun(task.into_parked());
+    }
+    let (parked, receiver) = serve(rt, task);
+    Served::Gone(parked, receiver)
 }

@@ -59,12 +59,24 @@ leads intent one = (one.session == one.pid) && nat_le one.tick intent.until
 abbrev pub may_be_started : Intent → Seen → Bool
 may_be_started intent one = (one.session == intent.session) || (intent.begins_session && leads intent one)
 
--- A stray is the topmost of open processes, may by its session be the one of the start, and none of them is here. A
--- process of this svscan's own session that began after this svscan is no stray.
+-- whether another open process runs in the folder of the same neighbour, and is not below this one
+abbrev pub has_others_there : (generations : ℕ) → Intent → List Seen → Seen → Bool
+has_others_there generations intent all one =
+    list_any (λ other. (other.neighbour == one.neighbour) && (is_open generations intent all other
+    && not ((topmost generations intent all other).pid == one.pid))) all
+
+-- A process is a neighbour's if it runs in the folder of a neighbour, and no other process there is not below it.
+abbrev pub is_neighbours : (generations : ℕ) → Intent → List Seen → Seen → Bool
+is_neighbours generations intent all one =
+    not (one.neighbour == 0) && not (has_others_there generations intent all one)
+
+-- A stray is the topmost of open processes, may by its session be the one of the start, none of them is here, and it is
+-- no neighbour's. A process of this svscan's own session that began after this svscan is no stray.
 abbrev pub is_stray : (generations : ℕ) → Intent → List Seen → Seen → Bool
 is_stray generations intent all one =
     may_be_started intent one && (not one.is_late && (is_open generations intent all one
-    && ((topmost generations intent all one).pid == one.pid && not (is_above_here generations intent all one.pid))))
+    && ((topmost generations intent all one).pid == one.pid && (not (is_above_here generations intent all one.pid)
+    && not (is_neighbours generations intent all one)))))
 
 -- whether another process than the one of this number is a root
 abbrev pub has_other_root : (generations : ℕ) → Intent → List Seen → (pid : ℕ) → Bool

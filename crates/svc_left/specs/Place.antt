@@ -52,6 +52,10 @@ intending place tick session = record place { pid = 0; tick = tick; session = se
 abbrev pub occupied : Place → (pid tick : ℕ) → Place
 occupied place pid tick = record place { pid = pid; tick = tick }
 
+-- the place of a service after a start that made no process
+abbrev pub vacated : Place → Place
+vacated place = record place { pid = 0; tick = 0 }
+
 -- the place of a service of which this is wanted
 abbrev pub wanting : Place → Want → Place
 wanting place want = record place { want = want }

@@ -1,8 +1,9 @@
 //! What is left over of a start whose process was not recorded.
 ghost use Rattle.std.specs.Prelude.{◌≡◌, option_copied};
 ghost use Rattle.svc_left.specs.Leftover.{find_any_here, find_leftover, first_here, first_root, first_stray, has_other_root};
-ghost use Rattle.svc_left.specs.Leftover.{if_new, is_above_here};
-ghost use Rattle.svc_left.specs.Leftover.{is_known, is_new, is_open, is_root, is_stray, is_sure, leads, may_be_started};
+ghost use Rattle.svc_left.specs.Leftover.{has_others_there, if_new, is_above_here};
+ghost use Rattle.svc_left.specs.Leftover.{is_known, is_neighbours, is_new, is_open, is_root, is_stray, is_sure};
+ghost use Rattle.svc_left.specs.Leftover.{leads, may_be_started};
 ghost use Rattle.svc_left.specs.Leftover.{parent_in, process_at};
 ghost use Rattle.svc_left.specs.Leftover.{topmost, without_root};
 ghost use Rattle.svc_left.specs.declared.leftover.TheConstants.{GENERATIONS};
@@ -29,6 +30,9 @@ pub struct Seen {
     pub is_known: bool,
     /// Whether it is of this svscan's own session and began after this svscan.
     pub is_late: bool,
+    /// The neighbour in whose folder it runs: a service of the same svscan of which a start is not known either. By its
+    /// number from 1, or 0 if it runs in the folder of none.
+    pub neighbour: u64,
 }
 
 /// A start that an earlier svscan intended.
@@ -175,7 +179,26 @@ fn may_be_started(intent: &Intent, one: &Seen) -> bool
     one.session == intent.session || (intent.begins_session && leads(intent, one))
 }
 
-/// Whether a process is the topmost of open ones, may be the one of the start, and none of them is here.
+/// Whether another process runs in the folder of the same neighbour, and is not below this one.
+fn has_others_there(intent: &Intent, all: &[Seen], one: &Seen) -> bool
+    ensures { result ≡ has_others_there GENERATIONS intent.now all.now one.now }
+{
+    all.iter().any(|other| {
+        other.neighbour == one.neighbour
+            && is_open(intent, all, other)
+            && topmost(intent, all, other).pid != one.pid
+    })
+}
+
+/// Whether a process is the one of a neighbour's start: of all that runs in that folder it is the topmost.
+fn is_neighbours(intent: &Intent, all: &[Seen], one: &Seen) -> bool
+    ensures { result ≡ is_neighbours GENERATIONS intent.now all.now one.now }
+{
+    one.neighbour != 0 && !has_others_there(intent, all, one)
+}
+
+/// Whether a process is the topmost of open ones, may be the one of the start, and none of them is here or is the one
+/// of a neighbour's start.
 fn is_stray(intent: &Intent, all: &[Seen], one: &Seen) -> bool
     ensures { result ≡ is_stray GENERATIONS intent.now all.now one.now }
 {
@@ -184,6 +207,7 @@ fn is_stray(intent: &Intent, all: &[Seen], one: &Seen) -> bool
         && is_open(intent, all, one)
         && topmost(intent, all, one).pid == one.pid
         && !is_above_here(intent, all, one.pid)
+        && !is_neighbours(intent, all, one)
 }
 
 /// The first root.
@@ -231,7 +255,8 @@ fn without_root(stray: Option<&Seen>) -> Leftover
 ///
 /// The process of a start is the topmost one that began since the intent, above those that run in the service's folder
 /// or have its output. It is sure only if it is the only one, it has the session of the svscan that intended the start
-/// (or leads one, if the service begins a session), and no other process with such a session is unknown.
+/// (or leads one, if the service begins a session), and no other process with such a session is unknown. A process that
+/// alone runs in the folder of a neighbour, whose start is not known either, is that neighbour's.
 pub fn find_leftover(intent: &Intent, all: &[Seen]) -> Leftover
     ensures { result ≡ find_leftover GENERATIONS intent.now all.now }
 {

@@ -143,7 +143,8 @@ pub fn read_place(text: &[u8]) -> Option<Place>
 
 impl Place {
     ghost use Rattle.std.specs.Prelude.{◌≡◌, ◌<◌, ◌↔◌, IsTrue, IfSome};
-    ghost use Rattle.svc_left.specs.Place.{AreOfOneRun, intending, is_intent, is_unknown, occupied, process_in, wanting};
+    ghost use Rattle.svc_left.specs.Place.{AreOfOneRun, intending, is_intent, is_unknown, occupied, process_in, vacated};
+    ghost use Rattle.svc_left.specs.Place.{wanting};
 
     /// The place before a start that an svscan of this session intended at this tick.
     pub fn intending(&self, tick: u64, session: u64) -> Place
@@ -162,6 +163,17 @@ impl Place {
         ensures { result ≡ occupied self.now pid tick }
     {
         Place { pid, tick, ..*self }
+    }
+
+    /// The place after a start that made no process: none is intended any more.
+    pub fn vacated(&self) -> Place
+        ensures { result ≡ vacated self.now }
+    {
+        Place {
+            pid: 0,
+            tick: 0,
+            ..*self
+        }
     }
 
     /// The place of a service of which an svscan that left no place may have started a process.

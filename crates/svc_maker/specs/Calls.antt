@@ -9,6 +9,7 @@ use Rattle.tai_status.specs.declared.cause.Cause.{Cause}
 use Rattle.scan_table.specs.Slots.{Row}
 use Rattle.svc_house.specs.Calls.{ExtendedWhileKept}
 use Rattle.svc_world.specs.declared.output.OutputEnds.{OutputEnds}
+use Rattle.svc_world.specs.declared.flow.Flow.{Flow}
 use Rattle.svc_world.specs.declared.flow.LoggerInput.{LoggerInput}
 use Rattle.svc_left.specs.declared.opening.Left.{Left}
 use Rattle.svc_world.specs.declared.folder.FolderFault.{FolderFault}
@@ -23,7 +24,9 @@ use Rattle.svc_maker.specs.declared.part_system.NotAdmitted.{NotAdmitted}
 -- door, with the sockets of the folder at a path, and was, or this came of it; the part of this number was dismissed
 -- from the door, and the sockets of the folder at a path removed; a trace was to be kept in the folder at a path, and
 -- was or not; svscan's own folder at a path was to be opened and locked, and was, or this came of it; a status record
--- was to be written in the folder at a path, and was or not; all outputs were to look after their flows.
+-- was to be written in the folder at a path, and was or not; all outputs were to look after their flows; the output of a
+-- flow was to end, at once or when it has nothing; it was asked whether a logger's input has nothing to read; the bytes
+-- between an output and its logger were counted; a logger's input was read to its end, and had so many bytes.
 pub data Call : Type 0 where
   Allowed : (descriptors : ℕ) → Call
   Prepared : (folder : List ℕ) → (rows : List Row) → Call
@@ -39,6 +42,10 @@ pub data Call : Type 0 where
   OpenedOwn : (path : List ℕ) → (fault : Option FolderFault) → Call
   Recorded : (path : List ℕ) → (bytes : List ℕ) → (written : Bool) → Call
   WatchedOutputs : Call
+  EndedOutput : (flow : Flow) → (at_once : Bool) → Call
+  LookedAtInput : (input : PipeReader) → (is_read : Bool) → Call
+  CountedBetween : (flow : Flow) → (bytes : ℕ) → Call
+  Drained : (input : PipeReader) → (bytes : ℕ) → Call
 
 -- A world was to be made, with copies of these ends of pipes: that is one call more, while calls are kept.
 abbrev pub MakesWorld : {A : Type 0} → (old new : Option (List Call)) (path name : List ℕ) (left : Left)

@@ -1,4 +1,5 @@
 pub mod Admission
 pub mod Calls
+pub mod Descriptors
 pub mod Pipes
 pub mod Making

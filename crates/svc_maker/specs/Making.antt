@@ -1,8 +1,9 @@
 -- The parts of services over folders, and what each call of their maker does.
 use Rattle.std.specs.Prelude.{◌≡◌, ◌≢◌, ◌<◌, ◌⊎◌, ℕ, Bool, true, false, List, [], ◌∷◌, ◌++◌, codes, length}
-use Rattle.std.specs.Prelude.{◌-◌, ◌^◌, remove, slice_index_or, Option, Some, None, MatchOption, Result, Ok, Err}
+use Rattle.std.specs.Prelude.{◌+◌, ◌-◌, ◌^◌, min, remove, slice_index_or, Option, Some, None, MatchOption, Result, Ok, Err}
 use Rattle.std.specs.Prelude.{MatchResult, option_map}
 use Rattle.std.specs.Result.{result_err, result_ok}
+use Rattle.std.specs.Arc.{arc_value}
 use Rattle.std.specs.List.{All}
 use Rattle.std.specs.declared.io.PipeReader.{PipeReader}
 use Rattle.std.specs.declared.fs.File.{File}
@@ -24,6 +25,7 @@ use Rattle.svc_world.specs.declared.flow.ServiceOutput.{ServiceOutput}
 use Rattle.svc_maker.specs.Calls.{Call, MadePipe, OpenedOutput, Opened, FoundLeft, MadeWorld, Admitted, Dismissed}
 use Rattle.svc_maker.specs.Calls.{KeptTrace}
 use Rattle.svc_maker.specs.Calls.{Allowed, OpenedOwn, Prepared, Recorded, WatchedOutputs}
+use Rattle.svc_maker.specs.Calls.{CountedBetween, Drained, EndedOutput, LookedAtInput}
 use Rattle.scan_table.specs.Slots.{Row}
 use Rattle.svc_maker.specs.declared.holder.OwnFault.{OwnFault}
 use Rattle.svc_maker.specs.declared.holder.OwnFault.TheVariants as own
@@ -273,3 +275,33 @@ pub record AllowsDescriptors (descriptors : ℕ) (old new : Making) : Type 0 whe
 pub record WatchesOutputs (old new : Making) : Type 0 where
   pub calls : ExtendedWhileKept old.calls new.calls (WatchedOutputs ∷ [])
   pub stands : new ≡ record old { calls = new.calls }
+
+-- The end of a pair's output
+
+-- These calls were made, and nothing else changed.
+pub record Asks (calls : List Call) (old new : Making) : Type 0 where
+  pub made : ExtendedWhileKept old.calls new.calls calls
+  pub stands : new ≡ record old { calls = new.calls }
+
+-- The output of a slot's pair was to end so, once. Of a slot without pipes nothing is asked.
+abbrev pub EndsOutput : (slot : ℕ) (at_once : Bool) (old new : Making) → Type 0
+EndsOutput slot at_once old new = MatchOption (pipes_of slot old.pipes) (new ≡ old) (λ pair.
+    Asks (EndedOutput (arc_value pair.flow) at_once ∷ []) old new)
+
+-- It was asked once whether the input of a slot's logger has nothing to read. A slot without pipes has nothing.
+abbrev pub LooksAtInput : (slot : ℕ) (is_read : Bool) (old new : Making) → Type 0
+LooksAtInput slot is_read old new = MatchOption (pipes_of slot old.pipes) ((new ≡ old) × (is_read ≡ true)) (λ pair.
+    Asks (LookedAtInput pair.input is_read ∷ []) old new)
+
+-- What is lost between an output and its logger, and in the logger's input if no logger reads that: that is read to its
+-- end, before the rest is counted.
+abbrev pub CountsLost : (has_logger : Bool) (pair : PairPipes) (lost : ℕ) (old new : Making) → Type 0
+CountsLost true pair lost old new = Asks (CountedBetween (arc_value pair.flow) lost ∷ []) old new
+CountsLost false pair lost old new =
+    (unread between : ℕ) × (lost ≡ min (between + unread) (2 ^ 64 - 1))
+    × Asks (Drained pair.input unread ∷ CountedBetween (arc_value pair.flow) between ∷ []) old new
+
+-- Of a slot without pipes nothing is lost.
+abbrev pub Loses : (slot : ℕ) (has_logger : Bool) (lost : ℕ) (old new : Making) → Type 0
+Loses slot has_logger lost old new = MatchOption (pipes_of slot old.pipes) ((new ≡ old) × (lost ≡ 0)) (λ pair.
+    CountsLost has_logger pair lost old new)

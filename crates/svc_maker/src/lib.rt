@@ -11,6 +11,7 @@
 //! folder is let go.
 #![tactic(auto)]
 
+mod descriptors;
 mod holder;
 mod kept_folder;
 mod maker;

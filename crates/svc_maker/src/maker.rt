@@ -17,7 +17,7 @@ use std::marker::Model;
 use std::sync::Arc;
 use svc_host::{Maker, PartFault, PartResources, Unmade};
 use svc_house::{ControlSender, Notifier, OpenGate};
-use svc_world::{LoggerInput, OutputEnds, ServiceOutput, drain, is_read};
+use svc_world::{LoggerInput, OutputEnds, ServiceOutput};
 use tai_status::{Cause, Output};
 
 /// The number at the door of svscan itself. No life has it.
@@ -123,7 +123,8 @@ where
     ghost use Rattle.std.specs.Prelude.{◌≡◌, [], true, None, IfErr, IfOk};
     ghost use Rattle.svc_host.specs.Answers.{answered};
     ghost use Rattle.svc_left.specs.Opening.{BeginsAlive};
-    ghost use Rattle.svc_maker.specs.Making.{EndsPart, FailsToMake, KeepsTrace, MakesPair, MakesPart, WatchesOutputs};
+    ghost use Rattle.svc_maker.specs.Making.{EndsOutput, EndsPart, FailsToMake, KeepsTrace, LooksAtInput, Loses};
+    ghost use Rattle.svc_maker.specs.Making.{MakesPair, MakesPart, WatchesOutputs};
     ghost use Rattle.svc_maker.specs.Pipes.{pipes_of, pipes_without};
 
     type World = S::World;
@@ -231,35 +232,33 @@ where
     }
 
     fn end_output(&mut self, slot: u64, at_once: bool)
-        ensures { self.new ≡ self.old }
+        ensures { EndsOutput slot at_once self.old self.new }
     {
         if let Some(pair) = pipes_of(&self.pipes, slot) {
-            pair.flow.end(at_once);
+            self.system.end_output(&pair.flow, at_once);
         }
     }
 
     fn is_read(&mut self, slot: u64) -> bool
-        ensures same { self.new ≡ self.old }
-        ensures no_pipes { pipes_of slot self.old.pipes ≡ None → result ≡ true }
+        ensures { LooksAtInput slot result self.old self.new }
     {
         match pipes_of(&self.pipes, slot) {
-            Some(pair) => is_read(&pair.input),
+            Some(pair) => self.system.is_read(&pair.input),
             None => true,
         }
     }
 
     fn lost(&mut self, slot: u64, has_logger: bool) -> u64
-        ensures same { self.new ≡ self.old }
-        ensures no_pipes { pipes_of slot self.old.pipes ≡ None → result ≡ 0 }
+        ensures { Loses slot has_logger result self.old self.new }
     {
         let Some(pair) = pipes_of(&self.pipes, slot) else {
             return 0;
         };
         if has_logger {
-            return pair.flow.between();
+            return self.system.between(&pair.flow);
         }
-        let unread = drain(&pair.input).unwrap_or(0);
-        pair.flow.between().saturating_add(unread)
+        let unread = self.system.drain(&pair.input);
+        self.system.between(&pair.flow).saturating_add(unread)
     }
 }
 

@@ -31,7 +31,7 @@ pub trait PartSystem {
     ghost use Rattle.svc_left.specs.Process.{IsLiving};
     ghost use Rattle.svc_maker.specs.Calls.{Call, Allowed, MadePipe, OpenedOutput, Opened, FoundLeft, Admitted};
     ghost use Rattle.svc_maker.specs.Calls.{Dismissed, KeptTrace, MakesWorld, OpenedOwn, Prepared, Recorded, WatchedOutputs};
-    ghost use Rattle.svc_maker.specs.Calls.{why_refused};
+    ghost use Rattle.svc_maker.specs.Calls.{CountedBetween, Drained, EndedOutput, LookedAtInput, why_refused};
 
     ghost calls: { Self → Option (List Call) } = { λ _. None };
 
@@ -128,4 +128,20 @@ pub trait PartSystem {
     fn keep_trace(&mut self, folder: &Self::Folder, text: &[u8]) -> bool
         ensures calls { ExtendedWhileKept (calls self.old) (calls self.new)
             (KeptTrace (Self.Folder.path folder.now) text.now result ∷ []) };
+
+    /// The output that has this flow is to end: at once, or when it has nothing for now.
+    fn end_output(&mut self, flow: &Flow, at_once: bool)
+        ensures calls { ExtendedWhileKept (calls self.old) (calls self.new) (EndedOutput flow.now at_once ∷ []) };
+
+    /// Whether there is nothing to read of a logger's input for now.
+    fn is_read(&mut self, input: &PipeReader) -> bool
+        ensures calls { ExtendedWhileKept (calls self.old) (calls self.new) (LookedAtInput input.now result ∷ []) };
+
+    /// How many bytes were read of the output that has this flow, and not put into the input of its logger.
+    fn between(&mut self, flow: &Flow) -> u64
+        ensures calls { ExtendedWhileKept (calls self.old) (calls self.new) (CountedBetween flow.now result ∷ []) };
+
+    /// Reads a logger's input to its end, and returns how many bytes these are: 0 if it can't be read.
+    fn drain(&mut self, input: &PipeReader) -> u64
+        ensures calls { ExtendedWhileKept (calls self.old) (calls self.new) (Drained input.now result ∷ []) };
 }

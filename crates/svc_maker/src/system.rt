@@ -2,6 +2,7 @@
 ghost use Rattle.std.specs.Prelude.{◌≡◌, string_bytes, IfOk};
 ghost use Rattle.svc_left.specs.Leftover.{HasNumber};
 
+use crate::descriptors::are_too_few;
 use crate::kept_folder::LockedFolder;
 use crate::part_system::{NotAdmitted, PartSystem};
 use crate::reaper::PartReaper;
@@ -25,12 +26,9 @@ use svc_left::{Found, Left, Leftover, Place};
 use svc_world::{
     AdoptionWatch, ChildReaper, ChildWorld, Flow, FolderFault, LoggerInput, Neighbours, OutputEnds,
     OwnRun, Patience, ServiceFolder, SignalShell, Streams, Surroundings, SystemChildren,
-    open_output, prepare_outputs,
+    drain, is_read, open_output, prepare_outputs,
 };
 use tai_status::{Cause, TimeSource};
-
-/// How many sockets a part has.
-const SOCKETS: u64 = 2;
 
 /// The folder of a service on this system, with its lock.
 #[derive(Drop)]
@@ -150,12 +148,11 @@ where
         prepare_outputs(&self.runtime, &self.files, self.alloc, &folders)
     }
 
-    // Whether there are too few descriptors for the sockets of all that waits for them, and of one more part. The
-    // lowest free descriptor has as its number how many are taken at least.
+    // Whether there are too few descriptors for one more part. The lowest free descriptor has as its number how many
+    // are taken at least.
     fn lacks_descriptors(&self) -> io::Result<bool> {
         let lowest = u64::from(self.watch.try_clone()?.as_raw_fd().unsigned_abs());
-        let sockets = SOCKETS.saturating_mul(self.waiting.saturating_add(1));
-        Ok(lowest.saturating_add(sockets) > self.allowed)
+        Ok(are_too_few(lowest, self.waiting, self.allowed))
     }
 
     // What is left over of the start that the place of a service intends. While it is not sure, it is looked again, as
@@ -318,5 +315,21 @@ where
 
     fn keep_trace(&mut self, folder: &OpenFolder, text: &[u8]) -> bool {
         folder.folder.replace_trace(text).is_ok()
+    }
+
+    fn end_output(&mut self, flow: &Flow, at_once: bool) {
+        flow.end(at_once);
+    }
+
+    fn is_read(&mut self, input: &PipeReader) -> bool {
+        is_read(input)
+    }
+
+    fn between(&mut self, flow: &Flow) -> u64 {
+        flow.between()
+    }
+
+    fn drain(&mut self, input: &PipeReader) -> u64 {
+        drain(input).unwrap_or(0)
     }
 }

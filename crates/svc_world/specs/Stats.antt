@@ -1,7 +1,10 @@
 -- What the kernel's line of a process reports (proc(5), `/proc/PID/stat`).
 use Rattle.std.specs.Prelude.{◌≡◌, ◌<◌, ◌-◌, ◌^◌, ◌==◌, ℕ, Bool, false, ◌||◌, if◌then◌else◌, List, [], ◌∷◌}
 use Rattle.std.specs.Prelude.{◌↔◌, IsTrue, decimal, slice_get, Option, Some, None, option_and_then}
+use Rattle.std.specs.Prelude.{◌/◌, max, min}
 use Rattle.std.specs.List.{after_last}
+use Rattle.std.specs.declared.time.Duration.{Duration}
+use Rattle.std.specs.Duration.{as_nanos}
 use Rattle.sup_core.specs.Reading.{fields}
 use Rattle.svc_left.specs.declared.leftover.Seen.{Seen}
 use Rattle.svc_world.specs.declared.stat.Stat.{Stat}
@@ -54,4 +57,14 @@ seen_as pid stat = record {
   is_here = false;
   is_known = false;
   is_late = false;
+  neighbour = 0;
 }
+
+-- the tick at this time of the running clock: a tick is a hundredth of a second, and the first one is 1
+abbrev pub tick_at : (now : Duration) → ℕ
+tick_at now = max (min (as_nanos now / 10 ^ 7) (2 ^ 64 - 1)) 1
+
+-- the present tick, or the first one if the time is not known
+abbrev pub present_tick : (now : Option Duration) → ℕ
+present_tick None = 1
+present_tick (Some now) = tick_at now

@@ -16,7 +16,7 @@ use Rattle.svc_exit.specs.Exits.{exit_text}
 use Rattle.svc_exit.specs.declared.counts.Counts.{Counts}
 use Rattle.svc_exit.specs.Counts.{counts_text, no_counts, one_ended, one_started}
 use Rattle.svc_left.specs.Process.{process_line}
-use Rattle.svc_left.specs.Place.{intending, occupied, place_line, process_in, wanting}
+use Rattle.svc_left.specs.Place.{intending, occupied, place_line, process_in, vacated, wanting}
 use Rattle.svc_left.specs.declared.place.Place.{Place}
 use Rattle.svc_left.specs.declared.leftover.Leftover.{Leftover}
 use Rattle.svc_left.specs.declared.leftover.Leftover.TheVariants.{Nobody, Process, Unsure}
@@ -221,16 +221,20 @@ pub record RecordsChild (pid : ℕ) (old new : Watch) : Type 0 where
   pub process : RecordsProcess pid old mid
   pub counts : Writes paper.Counts (counts_text (one_started mid.counts)) (with_start mid) new
 
+-- No start is intended any more: the place was to be written so, once.
+abbrev pub Vacates : (old new : Watch) → Type 0
+Vacates old new = Writes paper.Place (place_line (vacated old.place)) (with_place (vacated old.place) old) new
+
 abbrev pub RecordsStart : (child : Option ℕ) (old new : Watch) → Type 0
-RecordsStart None old new = new ≡ old
+RecordsStart None old new = Vacates old new
 RecordsStart (Some pid) old new = RecordsChild pid old new
 
 -- A child, or none, is the answer to a start at this time.
 abbrev pub answered : (child : Option ℕ) (label : Tai64n) → Watch → Watch
 answered child label w = record w { answer = Some (answer_of child label); child = child_of child }
 
--- The service was run: the intent was written into its place, and only then, if that stands there, one child was
--- spawned. That was recorded.
+-- The service was run: the intent was written into its place, and only then, if that is there, one child was spawned.
+-- Its process was recorded, or, if there is none, that no start is intended any more.
 pub record Runs (label : Tai64n) (old new : Watch) : Type 0 where
   pub written : Bool
   pub child : Option ℕ

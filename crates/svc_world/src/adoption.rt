@@ -12,7 +12,7 @@ use svc_house::{News, Notifier};
 const LOOK_SECONDS: u64 = 1;
 
 /// At every which look the lines of all processes are read.
-const LINES_EVERY: u64 = 10;
+const LINES_EVERY: u64 = 60;
 
 /// A process that was adopted, and what its service waits for.
 #[derive(Drop)]

@@ -8,6 +8,7 @@ ghost use Rattle.svc_world.specs.Left.{IsFoundIn, IsOfBoot, IsOneFile, found_ove
 ghost use Rattle.svc_left.specs.Leftover.{HasNumber};
 ghost use Rattle.svc_left.specs.Process.{IsLiving};
 
+use crate::neighbours::Near;
 use crate::processes::{OwnRun, path_of_process, read_front, see_all, tick_of};
 use arrayvec::ArrayString;
 use cmd_base::{StatusFront, path_by_descriptor, read_status_front};
@@ -64,14 +65,14 @@ impl From<Error> for FolderFault {
 
 /// By what a file is known, whatever its names.
 #[derive(Clone, Copy, Debug, PartialEq, Eq)]
-struct FileId {
+pub(crate) struct FileId {
     device: u64,
     inode: u64,
 }
 
 impl FileId {
     /// That of a file of which this was found. None where nothing was.
-    fn found(found: io::Result<Metadata>) -> Option<FileId> {
+    pub(crate) fn found(found: io::Result<Metadata>) -> Option<FileId> {
         let found = found.ok()?;
         Some(FileId {
             device: found.dev(),
@@ -611,12 +612,12 @@ impl ServiceFolder {
     /// What is left over of a start that an earlier svscan intended, by one look at all processes. Where they can't be
     /// looked at, it is not sure.
     #[inline(never)]
-    pub fn leftover(
+    pub(crate) fn leftover(
         &self,
         alloc: Global,
         own: &OwnRun,
         place: &Place,
-        known: &[ProcessId],
+        near: &Near,
     ) -> Leftover
         ensures { HasNumber result }
     {
@@ -628,7 +629,7 @@ impl ServiceFolder {
         };
         let output = FileId::found(fs::metadata(&self.files, self.path("supervise/out").as_str()));
         let is_here = |pid: u32| self.is_running(pid) || self.has_output(pid, output);
-        let Ok(all) = see_all(&self.files, alloc, own, &intent, known, is_here) else {
+        let Ok(all) = see_all(&self.files, alloc, own, &intent, near, is_here) else {
             return Leftover::Unsure(0);
         };
         if place.is_unknown() {

@@ -1,11 +1,32 @@
 //! The processes of the services of a folder, by their places.
-use crate::processes::{OwnRun, read_front};
+use crate::folder::FileId;
+use crate::processes::{OwnRun, path_of_process, read_front};
 use arrayvec::ArrayVec;
 use std::alloc::{AllocError, Global};
-use std::fs::File;
+use std::fs::{File, Files};
 use std::sync::{Mutex, Wait};
 use std::{fs, io};
-use svc_left::{PLACE_BYTES, ProcessId, first_line, read_place, read_process};
+use svc_left::{PLACE_BYTES, Place, ProcessId, first_line, read_place, read_process};
+
+/// What is known of the services next to a service.
+#[derive(Drop)]
+pub(crate) struct Near {
+    /// The processes that are recorded of them.
+    pub(crate) known: Vec<ProcessId>,
+    /// The folders of those of which a start is not known either.
+    open: Vec<FileId>,
+}
+
+impl Near {
+    /// In which of the open folders a process runs, by its number from 1. 0 if it runs in none.
+    pub(crate) fn folder_of<R: Files<File = File>>(&self, files: &R, pid: u32) -> u64 {
+        let there = FileId::found(fs::metadata(files, path_of_process(pid, "cwd").as_str()));
+        match self.open.iter().position(|open| Some(*open) == there) {
+            Some(place) => place as u64 + 1,
+            None => 0,
+        }
+    }
+}
 
 /// The services next to a service: those of one folder, and their loggers.
 #[derive(Drop)]
@@ -32,55 +53,75 @@ impl Neighbours {
         Ok(())
     }
 
-    /// The processes that are recorded of them in this run of the system.
+    /// What is known of them in this run of the system, for a service of which the svscan of this session intended a
+    /// start.
     #[inline(never)]
-    pub fn processes<R: Wait>(&self, rt: &R, own: &OwnRun) -> io::Result<Vec<ProcessId>> {
+    pub(crate) fn near<R: Wait>(&self, rt: &R, own: &OwnRun, session: u64) -> io::Result<Near> {
         let folder = self.folder.lock(rt);
-        let mut all = Vec::new(self.alloc);
+        let mut near = Near {
+            known: Vec::new(self.alloc),
+            open: Vec::new(self.alloc),
+        };
         for entry in fs::read_dir(&(&self.files, &self.alloc), folder.as_str())? {
             match entry {
-                Ok(entry) => self.add_processes(&mut all, folder.as_str(), entry.file_name(), own)?,
+                Ok(entry) => self.add(&mut near, folder.as_str(), entry.file_name(), own, session)?,
                 // A name that is no text is no service.
                 Err(fault) if fault.kind() == io::ErrorKind::InvalidFilename => {}
                 Err(fault) => return Err(fault),
             }
         }
-        Ok(all)
+        Ok(near)
     }
 
-    // Adds the processes that are recorded of the service of this name in a folder, and of its logger.
-    fn add_processes(
+    // Adds what is known of the service of this name in a folder, and of its logger.
+    fn add(
         &self,
-        all: &mut Vec<ProcessId>,
+        near: &mut Near,
         folder: &str,
         name: &str,
         own: &OwnRun,
+        session: u64,
     ) -> io::Result<()> {
-        let service = format!(in self.alloc; "{folder}/{name}/supervise")?;
-        let logger = format!(in self.alloc; "{folder}/{name}/log/supervise")?;
+        let service = format!(in self.alloc; "{folder}/{name}")?;
+        let logger = format!(in self.alloc; "{folder}/{name}/log")?;
         for path in [service.as_str(), logger.as_str()] {
-            if let Some(process) = self.process_at(path, own)? {
-                all.push(process)?;
+            let place = self.place_at(path)?;
+            if is_open(place, own, session)
+                && let Some(folder) = FileId::found(fs::metadata(&self.files, path))
+            {
+                near.open.push(folder)?;
+            }
+            if let Some(process) = self.process_at(path, place, own)? {
+                near.known.push(process)?;
             }
         }
         Ok(())
     }
 
-    // The process that is recorded in a folder `supervise`, if one of this boot is.
-    fn process_at(&self, path: &str, own: &OwnRun) -> io::Result<Option<ProcessId>> {
-        let place = format!(in self.alloc; "{path}/place")?;
-        let placed = match self.front::<PLACE_BYTES>(place.as_str())? {
-            Some(text) => read_place(first_line(text.as_slice())),
-            None => None,
-        };
-        if let Some(place) = placed {
+    // What the place of the service in a folder says.
+    fn place_at(&self, path: &str) -> io::Result<Option<Place>> {
+        let path = format!(in self.alloc; "{path}/supervise/place")?;
+        match self.front::<PLACE_BYTES>(path.as_str())? {
+            Some(text) => Ok(read_place(first_line(text.as_slice()))),
+            None => Ok(None),
+        }
+    }
+
+    // The process that is recorded of the service in a folder, which has this place, if one of this boot is.
+    fn process_at(
+        &self,
+        path: &str,
+        place: Option<Place>,
+        own: &OwnRun,
+    ) -> io::Result<Option<ProcessId>> {
+        if let Some(place) = place {
             let boot = place.boot;
             if place.pid > 0 && own.is_in(&boot) {
                 return Ok(place.process());
             }
         }
-        let process = format!(in self.alloc; "{path}/process")?;
-        match self.front::<128>(process.as_str())? {
+        let path = format!(in self.alloc; "{path}/supervise/process")?;
+        match self.front::<128>(path.as_str())? {
             Some(text) => Ok(read_process(text.as_slice())),
             None => Ok(None),
         }
@@ -93,6 +134,16 @@ impl Neighbours {
             Err(fault) if is_absent(&fault) => Ok(None),
             Err(fault) => Err(fault),
         }
+    }
+}
+
+// Whether a place intends a start of the svscan of this session, in this run of the system.
+fn is_open(place: Option<Place>, own: &OwnRun, session: u64) -> bool {
+    match place {
+        Some(place) => {
+            place.is_intent() && place.session == session && place.is_of_run(&own.vacant())
+        }
+        None => false,
     }
 }
 

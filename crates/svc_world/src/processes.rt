@@ -6,6 +6,7 @@ ghost use Rattle.svc_world.specs.Commands.{path_of_process};
 ghost use Rattle.svc_world.specs.Stats.{LivesSince, living_tick};
 
 use crate::folder::ShortPath;
+use crate::neighbours::Near;
 use crate::stat::Stat;
 use arrayvec::{ArrayString, ArrayVec};
 use cmd_base::push_number;
@@ -206,14 +207,14 @@ impl OwnRun {
 }
 
 /// All processes of the system, as they are seen now. Of those that began since the intent `is_here` says whether they
-/// are the service's.
+/// are the service's, and of others it is looked in the folder of which neighbour they run.
 #[inline(never)]
 pub(crate) fn see_all<R: Files<File = File> + StatSource, F: Fn(u32) -> bool>(
     files: &R,
     alloc: Global,
     own: &OwnRun,
     intent: &Intent,
-    known: &[ProcessId],
+    near: &Near,
     is_here: F,
 ) -> io::Result<Vec<Seen>>
     requires { F.IsAlwaysCallable is_here }
@@ -229,9 +230,12 @@ pub(crate) fn see_all<R: Files<File = File> + StatSource, F: Fn(u32) -> bool>(
         };
         if let Some(stat) = files.stat_of(pid)? {
             let mut seen = stat.seen(pid);
-            seen.is_known = pid == own.pid || is_among(known, pid, seen.tick);
+            seen.is_known = pid == own.pid || is_among(&near.known, pid, seen.tick);
             seen.is_late = seen.session == own.session && seen.tick > own.tick;
-            seen.is_here = seen.tick >= intent.tick && is_here(pid);
+            if seen.tick >= intent.tick {
+                seen.is_here = is_here(pid);
+                seen.neighbour = if seen.is_here { 0 } else { near.folder_of(files, pid) };
+            }
             all.push(seen)?;
         }
     }

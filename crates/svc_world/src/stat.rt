@@ -96,6 +96,7 @@ impl Stat {
             is_here: false,
             is_known: false,
             is_late: false,
+            neighbour: 0,
         }
     }
 

@@ -29,8 +29,8 @@ impl<R: Processes<Started = SystemProcess> + Wait + Copy + Drop> Surroundings<R>
     pub fn leftover(&self, rt: &R, alloc: Global, folder: &ServiceFolder, place: &Place) -> Leftover
         ensures { HasNumber result }
     {
-        match self.neighbours.processes(rt, &self.own) {
-            Ok(known) => folder.leftover(alloc, &self.own, place, &known),
+        match self.neighbours.near(rt, &self.own, place.session) {
+            Ok(near) => folder.leftover(alloc, &self.own, place, &near),
             Err(_) => Leftover::Unsure(0),
         }
     }

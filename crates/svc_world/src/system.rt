@@ -3,6 +3,7 @@ ghost use Rattle.std.specs.Prelude.{◌≡◌, [], ◌∷◌, codes, option_copi
 ghost use Rattle.std.specs.IoError.{error_kind};
 ghost use Rattle.std.specs.Process.{command_args, command_program};
 ghost use Rattle.svc_world.specs.Commands.{paper_name, remark_text, unable_to_run};
+ghost use Rattle.svc_world.specs.Stats.{present_tick};
 ghost use Rattle.svc_left.specs.Leftover.{HasNumber};
 
 use crate::begin::Death;
@@ -172,20 +173,20 @@ fn unable_to_run(fault: &io::Error) -> Option<&'static str>
     }
 }
 
-/// How many ticks of the kernel's clock a second has, as it reports times (sysconf(3), `_SC_CLK_TCK`).
-const TICKS_A_SECOND: u64 = 100;
+/// How many nanoseconds a tick of the kernel's clock has, as it reports times (sysconf(3), `_SC_CLK_TCK`).
+const TICK_NANOS: u128 = 10_000_000;
 
-const NANOS_A_SECOND: u64 = 1_000_000_000;
-
-/// The tick at this time of the running clock: it is not behind the one that the kernel would report of a process that
-/// begins now. The first tick, where the time is not known.
-fn present_tick(now: Option<Duration>) -> u64 {
-    let Some(now) = now else {
-        return 1;
-    };
-    let seconds = now.as_secs().saturating_mul(TICKS_A_SECOND);
-    let parts = u64::from(now.subsec_nanos()) * TICKS_A_SECOND / NANOS_A_SECOND;
-    seconds.saturating_add(parts).max(1)
+/// The tick at this time of the running clock: no process that begins now has an earlier one. The first tick, if the
+/// time is not known.
+fn present_tick(now: Option<Duration>) -> u64
+    ensures { result ≡ present_tick now }
+{
+    match now {
+        Some(now) => u64::try_from(now.as_nanos() / TICK_NANOS)
+            .unwrap_or(u64::MAX)
+            .max(1),
+        None => 1,
+    }
 }
 
 impl<R> SystemChildren<R>

@@ -24,9 +24,9 @@ const LINGERING_REST: u64 = 3;
 /// The world of one service. Contracts see it as `Watch` (specs/Watch).
 ///
 /// A process of the service runs only if its number, or the intent to start it, is in the place of the service on disk:
-/// the intent is written before a child is spawned, and none is spawned if it can't be. What an earlier svscan left
-/// over of a start that it intended is adopted if it is sure which process that is; while it is not sure, no child is
-/// spawned.
+/// the intent is written before a child is spawned, and none is spawned if it can't be. A start that spawns none leaves
+/// no intent. What an earlier svscan left over of a start that it intended is adopted if it is sure which process that
+/// is; while it is not sure, no child is spawned.
 ///
 /// Each paper that can't be written is owed: `mend` tries again to write it, as it is then, and says once that it is
 /// owed and once that all is written.
@@ -116,8 +116,8 @@ impl<C: ChildSystem + Drop> ChildWorld<C> {
     ghost use Rattle.svc_world.specs.Watch.{Adopts, AsksLinger, CountsRecord, Intends, KeepsOrReports, KnowsDeath};
     ghost use Rattle.svc_world.specs.Watch.{ReadsTick, RecordsAt, with_death};
     ghost use Rattle.svc_world.specs.Watch.{RecordsChild, RecordsProcess, RecordsStart, ReportsDeath, Runs, SaysChange};
-    ghost use Rattle.svc_world.specs.Watch.{SeeksDeath, SeeksLeftover, SeeksTick, SpawnsIf, StartsBy, TakesUp, Writes};
-    ghost use Rattle.svc_world.specs.Watch.{WritesAgain, WritesAs, WritesIf, WritesIfSome, answered, begun, bereft};
+    ghost use Rattle.svc_world.specs.Watch.{SeeksDeath, SeeksLeftover, SeeksTick, SpawnsIf, StartsBy, TakesUp, Vacates};
+    ghost use Rattle.svc_world.specs.Watch.{Writes, WritesAgain, WritesAs, WritesIf, WritesIfSome, answered, begun, bereft};
     ghost use Rattle.svc_world.specs.Watch.{content_of, with_place, with_start, with_status, with_want};
 
     /// The world over these children, for an svscan of this session. `place` is the place of the service as it is on
@@ -357,13 +357,23 @@ impl<C: ChildSystem + Drop> ChildWorld<C> {
         self.write_counts();
     }
 
+    // Records that no process was made: the place intends no start any more.
+    fn vacate(&mut self)
+        ensures { Vacates self.old self.new }
+    {
+        let place = self.place.vacated();
+        self.set_place(place);
+        self.write_place();
+    }
+
     // Records a start that made this child, or none.
     #[inline(never)]
     fn record_start(&mut self, child: Option<u32>)
         ensures { RecordsStart child self.old self.new }
     {
-        if let Some(pid) = child {
-            self.record_child(pid);
+        match child {
+            Some(pid) => self.record_child(pid),
+            None => self.vacate(),
         }
     }
 

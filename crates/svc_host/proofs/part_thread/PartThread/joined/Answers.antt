@@ -7,7 +7,3 @@ pub returns-in-Ended-clause-same : goal.returns-in-Ended-clause-same
 returns-in-Ended-clause-same g c =
     let reader = c.in-Ended.last.reader.value in
     rw c.in-Ended.is (refl, tells_none (history_at reader) (known_to reader))
-
-pub returns-in-Runs-clause-same : goal.returns-in-Runs-clause-same
-returns-in-Runs-clause-same g c =
-    rw c.in-Runs.is (c.join.ensures.home, reads_on c.in-Runs.running.status_reader.reader c.join.result.reader.value c.join.ensures.home c.join.ensures.known)
