@@ -4,8 +4,11 @@ pub mod Causes
 pub mod Collecting
 pub mod Forgetting
 pub mod Going
+pub mod Filters
+pub mod Looking
 pub mod Moving
 pub mod Naming
+pub mod Posting
 pub mod OneReader
 pub mod Rows
 pub mod Senders

@@ -1,5 +1,5 @@
 -- What the thread of a service gives back.
-use Rattle.std.specs.Prelude.{◌≡◌, ℕ}
+use Rattle.std.specs.Prelude.{◌≡◌, ℕ, IfSome}
 use Rattle.tai_status.specs.declared.phase.Phase.TheVariants as phase
 use Rattle.sup_core.specs.History.{phase_of}
 use Rattle.svc_mail.specs.declared.receiver.Receiver.{Receiver}
@@ -12,22 +12,16 @@ use Rattle.svc_house.specs.Mail.{items_of}
 use Rattle.svc_host.specs.declared.running.Place.{Place}
 use Rattle.svc_host.specs.declared.running.Place.TheVariants.{Thread, Here}
 use Rattle.svc_host.specs.declared.service.Served.{Served}
-use Rattle.svc_host.specs.declared.service.Served.TheVariants.{Gone, NotBegun}
 
 -- The service is gone, and the control bytes of its whole history are the letters that were taken of its mailbox.
 pub record IsServed {A : Type 0} (writer : Writer) (receiver : Receiver ℕ A) : Type 0 where
   pub gone : phase_of (history_of writer) ≡ phase.Gone
   pub bytes : bytes_in (published writer) ≡ items_of (taken_by receiver)
 
--- the writer of the station
-abbrev pub writer_of : {R : Type 0} → Served R → Writer
-writer_of (Gone parked receiver) = writer_in parked
-writer_of (NotBegun parked) = writer_in parked
-
 -- The writer that went comes back, and the service was served to its end, if it began.
 abbrev pub ServesOut : {R : Type 0} → Writer → Served R → Type 0
-ServesOut went (Gone parked receiver) = GoesOn went (writer_in parked) × IsServed (writer_in parked) receiver
-ServesOut went (NotBegun parked) = GoesOn went (writer_in parked)
+ServesOut went served =
+    GoesOn went (writer_in served.parked) × IfSome served.receiver (IsServed (writer_in served.parked))
 
 -- the writer of a service, as it went to its thread or is here
 abbrev pub writer_at : {R : Type 0} → Place R → Writer

@@ -267,8 +267,32 @@ fn keep_traces<M: Maker + Drop, R: Threads + Wait + Clock + Copy + Drop + Send +
     all
 }
 
-/// Posts to the part at a place what is next for it in the end of all services. Once a logger was asked to end with its
-/// process, its input ends behind all that its service wrote.
+/// How many milliseconds a part waits already for its end: 0 while the service itself runs.
+fn waited_for<M: Maker + Drop, R: Threads + Wait + Clock + Copy + Drop + Send + 'static>(
+    factory: &mut PartFactory<M, R>,
+    slot: u64,
+    service_runs: bool,
+) -> u64
+    ensures { M.calls factory.new.maker ≡ M.calls factory.old.maker }
+{
+    if service_runs { 0 } else { factory.wait_on(slot) }
+}
+
+/// Ends the input of a logger that was asked to end with its process, after all that its service wrote. Of any other part
+/// no input ends.
+fn end_input<M: Maker + Drop, R: Threads + Wait + Clock + Copy + Drop + Send + 'static>(
+    factory: &mut PartFactory<M, R>,
+    part: &Part<R>,
+)
+    ensures { EndsInput part.now (M.calls factory.old.maker) (M.calls factory.new.maker) }
+{
+    let id = part.id();
+    if part.is_reported() && id.role == Role::Log {
+        factory.maker.end_output(id.slot, false);
+    }
+}
+
+/// Posts to the part at a place what is next for it in the end of all services.
 fn end_part<M: Maker + Drop, R: Threads + Wait + Clock + Copy + Drop + Send + 'static>(
     factory: &mut PartFactory<M, R>,
     parts: &mut Vec<Part<R>>,
@@ -279,16 +303,10 @@ fn end_part<M: Maker + Drop, R: Threads + Wait + Clock + Copy + Drop + Send + 's
     ensures input { (d : HostPart) → EndsInput (slice_index_or parts.old.items place d)
         (M.calls factory.old.maker) (M.calls factory.new.maker) }
 {
-    let id = parts[place].id();
-    let service_runs = service_runs(parts, id.slot);
-    let waited = if service_runs {
-        0
-    } else {
-        factory.wait_on(id.slot)
-    };
-    if parts[place].is_reported() && id.role == Role::Log {
-        factory.maker.end_output(id.slot, false);
-    }
+    let slot = parts[place].id().slot;
+    let service_runs = service_runs(parts, slot);
+    let waited = waited_for(factory, slot, service_runs);
+    end_input(factory, &parts[place]);
     parts[place].end_next(&factory.rt, service_runs, waited);
 }
 

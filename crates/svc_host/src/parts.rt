@@ -1,5 +1,5 @@
 //! The parts that are there, as a list.
-ghost use Rattle.std.specs.Prelude.{◌≡◌, ◌<◌, ◌↔◌, Err, IfOk, OnOk, OnErr, MatchOption, length, map};
+ghost use Rattle.std.specs.Prelude.{◌≡◌, ◌<◌, ◌++◌, ◌↔◌, [], ◌∷◌, IsTrue, Err, IfOk, OnOk, OnErr, MatchOption, length, map};
 ghost use Rattle.std.specs.Prelude.{false, slice_index_or};
 ghost use Rattle.sup_core.specs.History.{state_of};
 ghost use Rattle.std.specs.List.{All, list_any};
@@ -20,6 +20,16 @@ use std::time::Clock;
 use sup_core::Machine;
 use tai_status::View;
 
+/// Whether it is this part.
+fn is_part<R: Threads + Wait + Clock + Copy + Drop + Send + 'static>(
+    part: &Part<R>,
+    id: PartId,
+) -> bool
+    ensures { IsTrue result ↔ (part.now.id ≡ id) }
+{
+    part.id() == id
+}
+
 /// The place of a part.
 pub(crate) fn place_of<R: Threads + Wait + Clock + Copy + Drop + Send + 'static>(
     parts: &[Part<R>],
@@ -28,7 +38,7 @@ pub(crate) fn place_of<R: Threads + Wait + Clock + Copy + Drop + Send + 'static>
     ensures { MatchOption result (IsNowhere id parts.now) (λ place. IsPlace id parts.now place) }
 {
     for place in 0..parts.len() {
-        if parts[place].id() == id {
+        if is_part(&parts[place], id) {
             return Some(place);
         }
     }
@@ -81,6 +91,19 @@ pub(crate) fn status_of<R: Threads + Wait + Clock + Copy + Drop + Send + 'static
     Some(machine_at(parts, place).view())
 }
 
+/// Adds what a part lost at its end, if it lost anything.
+fn add_loss<R: Threads + Wait + Clock + Copy + Drop + Send + 'static>(
+    losses: &mut Vec<(PartId, Loss)>,
+    part: &Part<R>,
+) -> Result<(), AllocError>
+    ensures { OnOk result (losses.new.items ≡ losses.old.items ++ losses_in (part.now ∷ [])) }
+{
+    if part.loss().is_some() {
+        losses.push((part.id(), part.loss()))?;
+    }
+    Ok(())
+}
+
 /// What the parts lost at their ends that is not forgotten, in their order.
 pub(crate) fn losses<R: Threads + Wait + Clock + Copy + Drop + Send + 'static>(
     alloc: Global,
@@ -90,9 +113,7 @@ pub(crate) fn losses<R: Threads + Wait + Clock + Copy + Drop + Send + 'static>(
 {
     let mut losses = Vec::new(alloc);
     for part in parts {
-        if part.loss().is_some() {
-            losses.push((part.id(), part.loss()))?;
-        }
+        add_loss(&mut losses, part)?;
     }
     Ok(losses)
 }
@@ -181,6 +202,19 @@ pub(crate) fn service_runs<R: Threads + Wait + Clock + Copy + Drop + Send + 'sta
     false
 }
 
+/// Adds a part, if it runs.
+fn add_running<R: Threads + Wait + Clock + Copy + Drop + Send + 'static>(
+    ids: &mut Vec<PartId>,
+    part: &Part<R>,
+) -> Result<(), AllocError>
+    ensures { OnOk result (ids.new.items ≡ ids.old.items ++ running_ids (part.now ∷ [])) }
+{
+    if !part.has_ended() {
+        ids.push(part.id())?;
+    }
+    Ok(())
+}
+
 /// The parts that run.
 pub(crate) fn running_ids<R: Threads + Wait + Clock + Copy + Drop + Send + 'static>(
     alloc: Global,
@@ -190,9 +224,7 @@ pub(crate) fn running_ids<R: Threads + Wait + Clock + Copy + Drop + Send + 'stat
 {
     let mut ids = Vec::with_capacity(alloc, parts.len())?;
     for part in parts {
-        if !part.has_ended() {
-            ids.push(part.id())?;
-        }
+        add_running(&mut ids, part)?;
     }
     Ok(ids)
 }

@@ -83,7 +83,10 @@ impl<R: Threads + Wait + Drop> Away<R> {
         let Away(place) = self;
         match place {
             Place::Thread(thread) => thread.join(rt),
-            Place::Here(parked) => Served::NotBegun(parked),
+            Place::Here(parked) => Served {
+                parked,
+                receiver: None,
+            },
         }
     }
 }
@@ -124,7 +127,8 @@ impl<R: Threads + Wait + Clock + Copy + Drop + Send + 'static> Running<R> {
             }),
             Err(refused) => {
                 shared.stay_out();
-                end(&rt, (refused.value)().into_writer(), status_reader);
+                let Served { parked, .. } = (refused.value)();
+                end(&rt, parked.into_writer(), status_reader);
                 None
             }
         }
@@ -145,14 +149,15 @@ impl<R: Threads + Wait + Clock + Copy + Drop + Send + 'static> Running<R> {
             shared,
             writer,
         } = self;
-        match writer.join(rt) {
-            Served::Gone(parked, receiver) => {
+        let Served { parked, receiver } = writer.join(rt);
+        match receiver {
+            Some(receiver) => {
                 let mut writer = parked.into_writer();
                 let last = Last::of(alloc, &mut status_reader.reader, &mut writer, receiver);
                 end(rt, writer, status_reader);
                 Ok(last)
             }
-            Served::NotBegun(parked) => Err(Running {
+            None => Err(Running {
                 status_reader,
                 shared,
                 writer: Away(Place::Here(parked)),

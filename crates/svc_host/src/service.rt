@@ -67,26 +67,11 @@ impl<W: World + Drop, G: Gate + Drop, R: Wait + Drop> Task<W, G, R> {
 
 /// What the thread of a service gives back.
 #[derive(Drop)]
-pub(crate) enum Served<R: Wait> {
-    /// The service is gone: the writer of its station, and the receiver of its mailbox.
-    Gone(Parked<R>, Receiver<u8>),
-    /// It did not begin, since it has no thread: the writer.
-    NotBegun(Parked<R>),
-}
-
-impl<R: Wait + Drop> Served<R> {
-    ghost use Rattle.std.specs.Prelude.{◌≡◌};
-    ghost use Rattle.svc_host.specs.Served.{writer_of};
-
-    /// The writer of the station.
-    pub(crate) fn into_writer(self) -> Writer
-        ensures { result ≡ writer_of self }
-    {
-        match self {
-            Served::Gone(parked, _receiver) => parked.into_writer(),
-            Served::NotBegun(parked) => parked.into_writer(),
-        }
-    }
+pub(crate) struct Served<R: Wait> {
+    /// The writer of its station.
+    pub(crate) parked: Parked<R>,
+    /// The receiver of its mailbox, once the service is gone. None: it did not begin, since it has no thread.
+    pub(crate) receiver: Option<Receiver<u8>>,
 }
 
 /// The writer comes back as the one that went, and the service is gone, if it began. For `spawn_with`.
@@ -213,8 +198,14 @@ pub(crate) fn serve_or_stay_out<W: World + Drop, G: Gate + Drop, R: Wait + Clock
     ensures { ServesOut (writer_in task.parked) result }
 {
     if task.shared.stays_out() {
-        return Served::NotBegun(task.into_parked());
+        return Served {
+            parked: task.into_parked(),
+            receiver: None,
+        };
     }
     let (parked, receiver) = serve(rt, task);
-    Served::Gone(parked, receiver)
+    Served {
+        parked,
+        receiver: Some(receiver),
+    }
 }

@@ -10,7 +10,7 @@ returns-clause-same g c =
     (goes_on_then _ _ _ c.keep_trace-has_trace.ensures.heard.goes_on c.note_loss.ensures.same)
 
 pub returns-clause-gives_back : goal.returns-clause-gives_back
-returns-clause-gives_back g c = record {
+returns-clause-gives_back g c = λ always. record {
   read = c.keep_trace-has_trace.new.part;
   goes_on = goes_on_then _ _ _ c.join.ensures.same c.keep_trace-has_trace.ensures.heard.goes_on;
   is_kept = c.keep_trace-has_trace.result;

@@ -7,3 +7,6 @@ invariant_of-self g c = came_then _ _ c.self.invariant (heard_runs _ _ refl c.st
 
 pub returns-clause-runs : goal.returns-clause-runs
 returns-clause-runs g c = rw (← c.self.view_is) (heard_runs _ _ refl c.status_of.ensures.parts)
+
+pub returns-clause-there : goal.returns-clause-there
+returns-clause-there g c = rw (← c.self.view_is) c.status_of.ensures.there
