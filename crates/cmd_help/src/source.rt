@@ -4,4 +4,4 @@
 pub(crate) const KIT: &str = "rattle-kit-13f logic dac8208d650f15bf";
 
 /// The sum of its sources, as packaging/source-sum says it.
-pub(crate) const SOURCE: &str = "5a524abcbbb9f4e99d8603ab50bb4d3fbe48d416cde6f603eb00950c71caa9fe";
+pub(crate) const SOURCE: &str = "4186ecdf27621e38e8cec43a75a21b0df5c2e928e5dc694327acd6fb7588162d";

@@ -7,10 +7,7 @@ ghost use Rattle.cmd_svscan.specs.Asking.{IsAsked};
 
 use scan_table::DirRow;
 use std::alloc::AllocError;
-use std::sync::Wait;
-use std::thread::Threads;
-use std::time::Clock;
-use svc_host::{Host, Unmade};
+use svc_host::{Host, Runtime, Unmade};
 use svc_house::ControlSender;
 use svc_maker::{FolderHolder, OwnFault};
 
@@ -18,7 +15,7 @@ use svc_maker::{FolderHolder, OwnFault};
 pub(crate) fn set_folder<M, R>(host: &mut Host<M, R>, folder: &str) -> Result<(), AllocError>
 where
     M: FolderHolder + Drop,
-    R: Threads + Wait + Clock + Copy + Drop + Send + 'static,
+    R: Runtime,
     ensures { IsAsked (SetFolder folder.now (is_ok result) ∷ []) host.old host.new }
 {
     host.ask_maker(|maker| maker.set_folder(folder))
@@ -28,7 +25,7 @@ where
 pub(crate) fn allow<M, R>(host: &mut Host<M, R>, descriptors: u64)
 where
     M: FolderHolder + Drop,
-    R: Threads + Wait + Clock + Copy + Drop + Send + 'static,
+    R: Runtime,
     ensures { IsAsked (Allowed descriptors ∷ []) host.old host.new }
 {
     host.ask_maker(|maker| maker.set_allowed(descriptors));
@@ -38,7 +35,7 @@ where
 pub(crate) fn prepare_outputs<M, R>(host: &mut Host<M, R>, rows: &[DirRow])
 where
     M: FolderHolder + Drop,
-    R: Threads + Wait + Clock + Copy + Drop + Send + 'static,
+    R: Runtime,
     ensures { IsAsked (Prepared rows.now ∷ []) host.old host.new }
 {
     host.ask_maker(|maker| maker.prepare(rows));
@@ -48,7 +45,7 @@ where
 pub(crate) fn admit_all<M, R>(host: &mut Host<M, R>)
 where
     M: FolderHolder + Drop,
-    R: Threads + Wait + Clock + Copy + Drop + Send + 'static,
+    R: Runtime,
     ensures { IsAsked (AdmittedAll ∷ []) host.old host.new }
 {
     host.ask_maker(|maker| maker.admit_all());
@@ -58,7 +55,7 @@ where
 pub(crate) fn refusals<M, R>(host: &mut Host<M, R>) -> Vec<Unmade>
 where
     M: FolderHolder + Drop,
-    R: Threads + Wait + Clock + Copy + Drop + Send + 'static,
+    R: Runtime,
     ensures { IsAsked (AskedRefusals ∷ []) host.old host.new }
 {
     host.ask_maker(|maker| maker.refusals())
@@ -68,7 +65,7 @@ where
 pub(crate) fn any_waits<M, R>(host: &mut Host<M, R>) -> bool
 where
     M: FolderHolder + Drop,
-    R: Threads + Wait + Clock + Copy + Drop + Send + 'static,
+    R: Runtime,
     ensures { IsAsked (AskedWaits result ∷ []) host.old host.new }
 {
     host.ask_maker(|maker| maker.any_waits())
@@ -83,7 +80,7 @@ pub(crate) fn serve_own<M, R>(
 ) -> Result<(), OwnFault>
 where
     M: FolderHolder + Drop,
-    R: Threads + Wait + Clock + Copy + Drop + Send + 'static,
+    R: Runtime,
     ensures { IsAsked (ServedOwn (string_bytes path) (is_ok result) ∷ []) host.old host.new }
 {
     host.ask_maker(|maker| maker.serve_own(path, record, sender))
@@ -93,7 +90,7 @@ where
 pub(crate) fn leave_own<M, R>(host: &mut Host<M, R>, record: &[u8; 20])
 where
     M: FolderHolder + Drop,
-    R: Threads + Wait + Clock + Copy + Drop + Send + 'static,
+    R: Runtime,
     ensures { IsAsked (LeftOwn ∷ []) host.old host.new }
 {
     host.ask_maker(|maker| maker.leave_own(record));

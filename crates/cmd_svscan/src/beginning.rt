@@ -9,10 +9,8 @@ use std::alloc::Global;
 use std::fs::Files;
 use std::net::Net;
 use std::process::{Processes, SystemProcess};
-use std::sync::Wait;
-use std::thread::Threads;
-use std::time::Clock;
 use std::{fs, process};
+use svc_host::Runtime;
 use svc_maker::{FolderHolder, OwnFault};
 use svc_world::FolderFault;
 use svscan_rounds::Begun;
@@ -39,7 +37,7 @@ fn begin<M, R>(
 ) -> Begun
 where
     M: FolderHolder + Drop,
-    R: Threads + Wait + Clock + Copy + Drop + Send + 'static,
+    R: Runtime,
     ensures { Begins folder.now running.old running.new }
 {
     let Ok(path) = format!(in alloc; "{folder}/.svscan") else {
@@ -67,7 +65,7 @@ pub(crate) fn open<R>(
 ) -> Result<(), Cause>
 where
     R: Files + Net + Processes<Started = SystemProcess>,
-    R: Threads + Wait + Clock + Copy + Send + Sync + Drop + 'static,
+    R: Runtime + Sync,
     ensures opens { Opens running.old running.new }
     ensures refused { OnErr result (running.new ≡ None) }
 {
@@ -93,7 +91,7 @@ fn try_begin<M, R>(
 ) -> Begun
 where
     M: FolderHolder + Drop,
-    R: Files + Threads + Wait + Clock + Copy + Drop + Send + 'static,
+    R: Files + Runtime,
     ensures { BeginsIf folder.now running.old result running.new }
 {
     if let Err(cause) = read_folder(&rt, alloc, folder) {
@@ -116,7 +114,7 @@ pub(crate) fn open_and_begin<R>(
 ) -> Begun
 where
     R: Files + Net + Processes<Started = SystemProcess>,
-    R: Threads + Wait + Clock + Copy + Send + Sync + Drop + 'static,
+    R: Runtime + Sync,
     ensures { OpensAndBegins folder.now running.old result running.new }
 {
     if let Err(cause) = open(rt, files, alloc, running) {

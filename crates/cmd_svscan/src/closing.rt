@@ -10,10 +10,8 @@ use crate::losses::{add_unwritten, remaining, unlogged};
 use crate::own_status::own_record;
 use crate::resting::running_clock;
 use std::alloc::Global;
-use std::sync::Wait;
-use std::thread::Threads;
-use std::time::{Clock, Duration};
-use svc_host::{Host, Maker};
+use std::time::Duration;
+use svc_host::{Host, Maker, Runtime};
 use svc_maker::FolderHolder;
 use svscan_rounds::{Remaining, Unlogged, rest_left};
 
@@ -24,7 +22,7 @@ const STEP_MILLIS: u64 = 20;
 fn end_in_steps<M, R>(rt: &R, host: &mut Host<M, R>) -> bool
 where
     M: Maker + Drop,
-    R: Threads + Wait + Clock + Copy + Drop + Send + 'static,
+    R: Runtime,
     ensures ends { GoesOnEnding host.old.parts host.new.parts }
     ensures all { result ≡ true → count_running host.new.parts ≡ 0 }
 {
@@ -41,11 +39,11 @@ where
     unreachable!()
 }
 
-/// The processes that still run: none at want of memory.
+/// The processes that still run, or none if there is no memory for the list.
 fn still_running<M, R>(alloc: Global, host: &mut Host<M, R>) -> Vec<Remaining>
 where
     M: Maker + Drop,
-    R: Threads + Wait + Clock + Copy + Drop + Send + 'static,
+    R: Runtime,
     ensures { FindsStill host.old result.items host.new }
 {
     match remaining(alloc, host) {
@@ -58,7 +56,7 @@ where
 pub(crate) fn end<M, R>(rt: R, alloc: Global, host: &mut Host<M, R>) -> Option<Vec<Remaining>>
 where
     M: Maker + Drop,
-    R: Threads + Wait + Clock + Copy + Drop + Send + 'static,
+    R: Runtime,
     ensures { Ends host.old (option_map (λ left. left.items) result) host.new }
 {
     if end_in_steps(&rt, host) {
@@ -71,7 +69,7 @@ where
 fn end_outputs<M, R>(rt: &R, host: &mut Host<M, R>)
 where
     M: Maker + Drop,
-    R: Threads + Wait + Clock + Copy + Drop + Send + 'static,
+    R: Runtime,
     ensures { Runs host.old host.new }
 {
     let begin = running_clock(rt);
@@ -89,7 +87,7 @@ where
 fn unlogged_as_far<M, R>(rt: &R, alloc: Global, host: &mut Host<M, R>) -> Vec<Unlogged>
 where
     M: Maker + Drop,
-    R: Threads + Wait + Clock + Copy + Drop + Send + 'static,
+    R: Runtime,
     ensures { FindsFirstUnlogged host.old result.items host.new }
 {
     match unlogged(rt, alloc, host) {
@@ -103,7 +101,7 @@ where
 pub(crate) fn leave<M, R>(rt: R, alloc: Global, host: &mut Host<M, R>) -> Vec<Unlogged>
 where
     M: FolderHolder + Drop,
-    R: Threads + Wait + Clock + Copy + Drop + Send + 'static,
+    R: Runtime,
     ensures { Leaves host.old result.items host.new }
 {
     end_outputs(&rt, host);

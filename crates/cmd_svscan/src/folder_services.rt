@@ -14,11 +14,8 @@ use std::alloc::Global;
 use std::fs::Files;
 use std::net::Net;
 use std::process::{Processes, SystemProcess};
-use std::sync::Wait;
 use std::thread;
-use std::thread::Threads;
-use std::time::Clock;
-use svc_host::Maker;
+use svc_host::{Maker, Runtime};
 use svc_maker::FolderHolder;
 use svscan_rounds::{
     Begun, ListFault, Listing, Remaining, RoundOut, ServiceSet, Unlogged, whole_rest,
@@ -60,7 +57,7 @@ pub enum Reply {
 }
 
 /// The next control byte of svscan's own, or none once the next round is due.
-fn hear_or_sleep<M: Maker + Drop, R: Threads + Wait + Clock + Copy + Drop + Send + 'static>(
+fn hear_or_sleep<M: Maker + Drop, R: Runtime>(
     rt: R,
     running: &mut Option<Running<M, R>>,
 ) -> Option<u8>
@@ -76,7 +73,7 @@ fn hear_or_sleep<M: Maker + Drop, R: Threads + Wait + Clock + Copy + Drop + Send
 }
 
 /// Goes on with the end of all services, where there is a host.
-fn try_end<M: Maker + Drop, R: Threads + Wait + Clock + Copy + Drop + Send + 'static>(
+fn try_end<M: Maker + Drop, R: Runtime>(
     rt: R,
     alloc: Global,
     running: &mut Option<Running<M, R>>,
@@ -90,7 +87,7 @@ fn try_end<M: Maker + Drop, R: Threads + Wait + Clock + Copy + Drop + Send + 'st
 }
 
 /// The services are left, where there is a host.
-fn try_leave<M: FolderHolder + Drop, R: Threads + Wait + Clock + Copy + Drop + Send + 'static>(
+fn try_leave<M: FolderHolder + Drop, R: Runtime>(
     rt: R,
     alloc: Global,
     running: &mut Option<Running<M, R>>,
@@ -112,7 +109,7 @@ fn try_list<M, R>(
 ) -> Result<Listing, ListFault>
 where
     M: FolderHolder + Drop,
-    R: Files + Threads + Wait + Clock + Copy + Drop + Send + 'static,
+    R: Files + Runtime,
     ensures { ListsIf running.old result running.new }
 {
     match running {
@@ -131,7 +128,7 @@ fn open_and_list<R>(
 ) -> Result<Listing, ListFault>
 where
     R: Files + Net + Processes<Started = SystemProcess>,
-    R: Threads + Wait + Clock + Copy + Send + Sync + Drop + 'static,
+    R: Runtime + Sync,
     ensures { OpensAndLists running.old result running.new }
 {
     let _ = open(rt, files, alloc, running);
@@ -139,7 +136,7 @@ where
 }
 
 /// One round over these rows of a folder, where there is a host.
-fn try_round<M: FolderHolder + Drop, R: Threads + Wait + Clock + Copy + Drop + Send + 'static>(
+fn try_round<M: FolderHolder + Drop, R: Runtime>(
     rt: R,
     alloc: Global,
     running: &mut Option<Running<M, R>>,
@@ -155,7 +152,7 @@ fn try_round<M: FolderHolder + Drop, R: Threads + Wait + Clock + Copy + Drop + S
 }
 
 /// Does what is requested. The host is made at the beginning, if it can be, and else at the first listing for which it
-/// can be, since there may be no beginning at want of memory.
+/// can be, since there may be no memory to begin.
 pub fn handle<R>(
     rt: R,
     files: HostRuntime,
@@ -165,7 +162,7 @@ pub fn handle<R>(
 ) -> Reply
 where
     R: Files + Net + Processes<Started = SystemProcess>,
-    R: Threads + Wait + Clock + Copy + Send + Sync + Drop + 'static,
+    R: Runtime + Sync,
     ensures { Serves request result running.old running.new }
 {
     match request {

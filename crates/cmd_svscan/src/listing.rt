@@ -106,7 +106,7 @@ where
     Ok((names, unnamed))
 }
 
-/// The names in the folder at a path, of which this is the state.
+/// The names in the folder at a path. The folder has this state.
 fn read_names<R: Files>(
     rt: &R,
     alloc: Global,

@@ -11,10 +11,8 @@ use cmd_base::SystemClock;
 use scan_table::DirRow;
 use std::alloc::Global;
 use std::fs::Files;
-use std::sync::Wait;
-use std::thread::Threads;
 use std::time::Clock;
-use svc_host::{Host, Maker};
+use svc_host::{Host, Maker, Runtime};
 use svc_maker::FolderHolder;
 use svscan_rounds::{ListFault, Listing, Quiet, Shortage, needed_names, shortage};
 use tai_status::TimeSource;
@@ -24,7 +22,7 @@ use tai_status::TimeSource;
 fn bring_up_to_date<M, R>(host: &mut Host<M, R>, is_quiet: bool)
 where
     M: Maker + Drop,
-    R: Threads + Wait + Clock + Copy + Drop + Send + 'static,
+    R: Runtime,
     ensures { IsUpToDate is_quiet host.old host.new }
 {
     join_unless(host, is_quiet);
@@ -35,7 +33,7 @@ where
 pub(crate) fn join_unless<M, R>(host: &mut Host<M, R>, is_left_out: bool)
 where
     M: Maker + Drop,
-    R: Threads + Wait + Clock + Copy + Drop + Send + 'static,
+    R: Runtime,
     ensures { JoinsUnless is_left_out host.old host.new }
 {
     if !is_left_out {
@@ -60,7 +58,7 @@ fn names_now<R: Files + Clock + Copy>(
     }
 }
 
-/// The rows of these names of which a scan has need, unless the round is idle. Whether it has need of any is noted.
+/// The rows that a scan needs of these names, unless the round is idle. Whether it needs any is noted.
 fn rows_needed<M, R>(
     rt: &R,
     alloc: Global,
@@ -71,7 +69,7 @@ fn rows_needed<M, R>(
 ) -> Result<Vec<DirRow>, ListFault>
 where
     M: Maker + Drop,
-    R: Files + Threads + Wait + Clock + Copy + Drop + Send + 'static,
+    R: Files + Runtime,
     ensures { FindsRows host.now.table.slots (map string_bytes names.now) quiet.old (rows_in result) quiet.new }
 {
     if quiet.is_idle {
@@ -105,7 +103,7 @@ fn look<M, R>(
 ) -> Result<Listing, ListFault>
 where
     M: FolderHolder + Drop,
-    R: Files + Threads + Wait + Clock + Copy + Drop + Send + 'static,
+    R: Files + Runtime,
     ensures { Looks running.old.host running.old.quiet (rows_listed result) running.new.host running.new.quiet }
 {
     let is_first = running.names.is_none();
@@ -144,7 +142,7 @@ pub(crate) fn list<M, R>(
 ) -> Result<Listing, ListFault>
 where
     M: FolderHolder + Drop,
-    R: Files + Threads + Wait + Clock + Copy + Drop + Send + 'static,
+    R: Files + Runtime,
     ensures { Lists running.old.host running.old.quiet result running.new.host running.new.quiet }
 {
     running.rests_since = rt.monotonic().ok();

@@ -8,19 +8,13 @@ ghost use Rattle.cmd_svscan.specs.Leftovers.{part_of, remaining_in, unlogged_in}
 
 use scan_table::PartId;
 use std::alloc::{AllocError, Global};
-use std::sync::Wait;
-use std::thread::Threads;
-use std::time::Clock;
-use svc_host::{Host, Loss, Maker};
+use svc_host::{Host, Loss, Maker, Runtime};
 use svc_maker::part_name;
 use svscan_rounds::{Remaining, Unfinished, Unlogged, Unmade, Untaken};
 use tai_status::{Name, Names, View};
 
 /// The name of the service in a slot: nothing, where there is none.
-fn name_at<M: Maker + Drop, R: Threads + Wait + Clock + Copy + Drop + Send + 'static>(
-    host: &Host<M, R>,
-    slot: u64,
-) -> &str
+fn name_at<M: Maker + Drop, R: Runtime>(host: &Host<M, R>, slot: u64) -> &str
     ensures { result.now ≡ name_at host.now.table.slots slot }
 {
     match host.name(slot) {
@@ -30,7 +24,7 @@ fn name_at<M: Maker + Drop, R: Threads + Wait + Clock + Copy + Drop + Send + 'st
 }
 
 /// The name by which a part is shown.
-fn shown_name<M: Maker + Drop, R: Threads + Wait + Clock + Copy + Drop + Send + 'static>(
+fn shown_name<M: Maker + Drop, R: Runtime>(
     alloc: Global,
     host: &Host<M, R>,
     part: PartId,
@@ -41,7 +35,7 @@ fn shown_name<M: Maker + Drop, R: Threads + Wait + Clock + Copy + Drop + Send + 
 }
 
 /// The control bytes that were not taken, by the parts that ended so.
-fn untaken_in<M: Maker + Drop, R: Threads + Wait + Clock + Copy + Drop + Send + 'static>(
+fn untaken_in<M: Maker + Drop, R: Runtime>(
     alloc: Global,
     host: &Host<M, R>,
     losses: &[(PartId, Loss)],
@@ -60,7 +54,7 @@ fn untaken_in<M: Maker + Drop, R: Threads + Wait + Clock + Copy + Drop + Send + 
 }
 
 /// The parts whose last trace was not kept.
-fn untraced_in<M: Maker + Drop, R: Threads + Wait + Clock + Copy + Drop + Send + 'static>(
+fn untraced_in<M: Maker + Drop, R: Runtime>(
     alloc: Global,
     host: &Host<M, R>,
     losses: &[(PartId, Loss)],
@@ -78,7 +72,7 @@ fn untraced_in<M: Maker + Drop, R: Threads + Wait + Clock + Copy + Drop + Send +
 
 /// What was lost at the ends of parts and is not forgotten: the control bytes that were not taken, and the parts whose
 /// last trace was not kept.
-pub(crate) fn losses_of<M: Maker + Drop, R: Threads + Wait + Clock + Copy + Drop + Send + 'static>(
+pub(crate) fn losses_of<M: Maker + Drop, R: Runtime>(
     alloc: Global,
     host: &Host<M, R>,
 ) -> Result<(Vec<Untaken>, Names), AllocError>
@@ -94,7 +88,7 @@ pub(crate) fn losses_of<M: Maker + Drop, R: Threads + Wait + Clock + Copy + Drop
 }
 
 /// A part that could not be made, by name.
-fn unmade_of<M: Maker + Drop, R: Threads + Wait + Clock + Copy + Drop + Send + 'static>(
+fn unmade_of<M: Maker + Drop, R: Runtime>(
     alloc: Global,
     host: &Host<M, R>,
     one: &svc_host::Unmade,
@@ -109,7 +103,7 @@ fn unmade_of<M: Maker + Drop, R: Threads + Wait + Clock + Copy + Drop + Send + '
 
 /// The parts that could not be made, by name: as many as there is memory for, since the next round makes them or fails
 /// again.
-pub(crate) fn unmade_in<M: Maker + Drop, R: Threads + Wait + Clock + Copy + Drop + Send + 'static>(
+pub(crate) fn unmade_in<M: Maker + Drop, R: Runtime>(
     alloc: Global,
     host: &Host<M, R>,
     failed: &[svc_host::Unmade],
@@ -130,7 +124,7 @@ pub(crate) fn unmade_in<M: Maker + Drop, R: Threads + Wait + Clock + Copy + Drop
 }
 
 /// The status of each part that runs, read one after the other.
-fn statuses<M: Maker + Drop, R: Threads + Wait + Clock + Copy + Drop + Send + 'static>(
+fn statuses<M: Maker + Drop, R: Runtime>(
     alloc: Global,
     host: &mut Host<M, R>,
 ) -> Result<Vec<(PartId, View)>, AllocError>
@@ -150,7 +144,7 @@ fn statuses<M: Maker + Drop, R: Threads + Wait + Clock + Copy + Drop + Send + 's
 }
 
 /// The processes of parts, by what was read of each.
-fn remaining_in<M: Maker + Drop, R: Threads + Wait + Clock + Copy + Drop + Send + 'static>(
+fn remaining_in<M: Maker + Drop, R: Runtime>(
     alloc: Global,
     host: &Host<M, R>,
     read: &[(PartId, View)],
@@ -169,7 +163,7 @@ fn remaining_in<M: Maker + Drop, R: Threads + Wait + Clock + Copy + Drop + Send 
 }
 
 /// The processes of the parts that run.
-pub(crate) fn remaining<M: Maker + Drop, R: Threads + Wait + Clock + Copy + Drop + Send + 'static>(
+pub(crate) fn remaining<M: Maker + Drop, R: Runtime>(
     alloc: Global,
     host: &mut Host<M, R>,
 ) -> Result<Vec<Remaining>, AllocError>
@@ -181,7 +175,7 @@ pub(crate) fn remaining<M: Maker + Drop, R: Threads + Wait + Clock + Copy + Drop
 
 /// Of each pair its slot and how many bytes did not reach its logger, as the host reports them: of all, or of as many
 /// as there is memory for.
-fn take_all_lost<M: Maker + Drop, R: Threads + Wait + Clock + Copy + Drop + Send + 'static>(
+fn take_all_lost<M: Maker + Drop, R: Runtime>(
     rt: &R,
     alloc: Global,
     host: &mut Host<M, R>,
@@ -203,7 +197,7 @@ fn take_all_lost<M: Maker + Drop, R: Threads + Wait + Clock + Copy + Drop + Send
 }
 
 /// What did not reach the loggers, by services: or as much as there is memory for.
-fn unlogged_in<M: Maker + Drop, R: Threads + Wait + Clock + Copy + Drop + Send + 'static>(
+fn unlogged_in<M: Maker + Drop, R: Runtime>(
     alloc: Global,
     host: &Host<M, R>,
     lost: &[(u64, u64)],
@@ -230,7 +224,7 @@ fn unlogged_in<M: Maker + Drop, R: Threads + Wait + Clock + Copy + Drop + Send +
 }
 
 /// What did not reach the loggers, by services: or as much as there is memory for.
-pub(crate) fn unlogged<M: Maker + Drop, R: Threads + Wait + Clock + Copy + Drop + Send + 'static>(
+pub(crate) fn unlogged<M: Maker + Drop, R: Runtime>(
     rt: &R,
     alloc: Global,
     host: &mut Host<M, R>,
@@ -243,10 +237,11 @@ pub(crate) fn unlogged<M: Maker + Drop, R: Threads + Wait + Clock + Copy + Drop 
 }
 
 /// Adds the parts whose records could not be written: all, or as many as there is memory for.
-pub(crate) fn add_unwritten<
-    M: Maker + Drop,
-    R: Threads + Wait + Clock + Copy + Drop + Send + 'static,
->(alloc: Global, host: &Host<M, R>, all: &mut Vec<Unlogged>) -> Result<(), AllocError>
+pub(crate) fn add_unwritten<M: Maker + Drop, R: Runtime>(
+    alloc: Global,
+    host: &Host<M, R>,
+    all: &mut Vec<Unlogged>,
+) -> Result<(), AllocError>
     ensures { IsPrefix all.old.items all.new.items }
 {
     for part in &host.owing_parts()? {

@@ -5,9 +5,8 @@ ghost use Rattle.cmd_svscan.specs.Serving.{IsNextByte, given_by};
 use crate::looking::join_unless;
 use crate::running::Running;
 use std::sync::Wait;
-use std::thread::Threads;
 use std::time::{Clock, Duration};
-use svc_host::{Host, Maker};
+use svc_host::{Host, Maker, Runtime};
 use svc_house::{Inbox, MailInbox};
 use svscan_rounds::{rest_left, whole_rest};
 
@@ -36,7 +35,7 @@ fn hear_until_over<M, R>(
 ) -> Option<u8>
 where
     M: Maker + Drop,
-    R: Threads + Wait + Clock + Copy + Drop + Send + 'static,
+    R: Runtime,
     ensures host { AreCollectedInTurn host.old host.new }
     ensures byte { IsNextByte (given_by inbox.old) result (given_by inbox.new) }
 {
@@ -58,7 +57,7 @@ where
 pub(crate) fn hear<M, R>(rt: R, running: &mut Running<M, R>) -> Option<u8>
 where
     M: Maker + Drop,
-    R: Threads + Wait + Clock + Copy + Drop + Send + 'static,
+    R: Runtime,
     ensures { Hears running.old result running.new }
 {
     let begin = running.rests_since;

@@ -9,11 +9,9 @@ use std::io;
 use std::marker::Model;
 use std::net::Net;
 use std::process::{Processes, SystemProcess};
-use std::sync::Wait;
-use std::thread::Threads;
-use std::time::{Clock, Duration};
+use std::time::Duration;
 use svc_door::Door;
-use svc_host::{Host, Maker};
+use svc_host::{Host, Maker, Runtime};
 use svc_house::MailInbox;
 use svc_maker::{FolderMaker, SystemParts};
 use svc_world::AdoptionWatch;
@@ -28,7 +26,7 @@ const TRACE: usize = 256;
 /// The services of this system that run: their host, and where svscan's own control bytes come. Contracts see it as
 /// `Serving`: the host, whether the next round is idle, and the bytes that came.
 #[derive(Drop)]
-pub struct Running<M: Maker + Drop, R: Threads + Wait + Clock + Copy + Drop + Send + 'static> {
+pub struct Running<M: Maker + Drop, R: Runtime> {
     pub(crate) host: Host<M, R>,
     pub(crate) inbox: Option<MailInbox>,
     // When the last round was over, by the running clock.
@@ -39,8 +37,7 @@ pub struct Running<M: Maker + Drop, R: Threads + Wait + Clock + Copy + Drop + Se
     pub(crate) quiet: Quiet,
 }
 
-impl<M: Maker + Drop, R: Threads + Wait + Clock + Copy + Drop + Send + 'static> Model
-    for Running<M, R> {
+impl<M: Maker + Drop, R: Runtime> Model for Running<M, R> {
     ghost use Rattle.cmd_svscan.specs.Serving.{Serving, given_by};
 
     ghost Value = { Serving };
@@ -59,7 +56,7 @@ pub type SystemHost<R> = Running<FolderMaker<SystemParts<R>>, R>;
 pub(crate) fn open_host<R>(rt: R, files: HostRuntime, alloc: Global) -> io::Result<SystemHost<R>>
 where
     R: Files + Net + Processes<Started = SystemProcess>,
-    R: Threads + Wait + Clock + Copy + Send + Sync + Drop + 'static,
+    R: Runtime + Sync,
     ensures { IfOk result IsNew }
 {
     let door = Door::open(&rt, alloc)?;

@@ -12,10 +12,7 @@ use crate::running::Running;
 use cmd_base::SystemClock;
 use scan_table::{DirRow, ScanFault};
 use std::alloc::{AllocError, Global};
-use std::sync::Wait;
-use std::thread::Threads;
-use std::time::Clock;
-use svc_host::{Host, HostOut};
+use svc_host::{Host, HostOut, Runtime};
 use svc_maker::FolderHolder;
 use svscan_rounds::{RoundOut, Unmade};
 use tai_status::{Names, TimeSource};
@@ -41,7 +38,7 @@ fn admit<M, R>(
 ) -> Vec<Unmade>
 where
     M: FolderHolder + Drop,
-    R: Threads + Wait + Clock + Copy + Drop + Send + 'static,
+    R: Runtime,
     ensures host { IsAsked (AdmittedAll ∷ AskedRefusals ∷ []) host.old host.new }
     ensures unmade { NamesUnmade host.old.table.slots failed.items result.items }
 {
@@ -55,7 +52,7 @@ where
 fn prepare<M, R>(host: &mut Host<M, R>, folder: &str, rows: &[DirRow]) -> Result<(), AllocError>
 where
     M: FolderHolder + Drop,
-    R: Threads + Wait + Clock + Copy + Drop + Send + 'static,
+    R: Runtime,
     ensures { Prepares folder.now rows.now (is_ok result) host.old host.new }
 {
     set_folder(host, folder)?;
@@ -77,7 +74,7 @@ fn scan<M, R>(
 ) -> Result<RoundOut, ScanFault>
 where
     M: FolderHolder + Drop,
-    R: Threads + Wait + Clock + Copy + Drop + Send + 'static,
+    R: Runtime,
     ensures { Scans folder.now host.old rows.now result host.new }
 {
     // Before the scan, since that gives the slots of what ended, and with them the names, to other services.
@@ -113,7 +110,7 @@ fn scan_unless<M, R>(
 ) -> Result<RoundOut, ScanFault>
 where
     M: FolderHolder + Drop,
-    R: Threads + Wait + Clock + Copy + Drop + Send + 'static,
+    R: Runtime,
     ensures { ScansUnless is_idle folder.now host.old rows.now result host.new }
 {
     if is_idle {
@@ -132,7 +129,7 @@ pub(crate) fn round<M, R>(
 ) -> Result<RoundOut, ScanFault>
 where
     M: FolderHolder + Drop,
-    R: Threads + Wait + Clock + Copy + Drop + Send + 'static,
+    R: Runtime,
     ensures { Rounds folder.now running.old.host running.old.quiet rows.now result
         running.new.host running.new.quiet }
 {

@@ -3,10 +3,7 @@ ghost use Rattle.host_law.specs.Alike.{PartsPublishAlike, ScansAreAlike};
 ghost use Rattle.host_law.specs.Whole.{IsOfSuite, RunsAreOfSuites};
 
 use std::alloc::Allocator;
-use std::sync::Wait;
-use std::thread::Threads;
-use std::time::Clock;
-use svc_host::{Host, Maker};
+use svc_host::{Host, Maker, Runtime};
 
 /// A scan of a host is a scan of each suite with the same table: it answers the same starts, restarts, drops and
 /// refusals, comes to the same table, but for the parts that could not be made, which have ended, keeps the parts that
@@ -24,11 +21,7 @@ pub fn parts_publish_alike<A: Allocator>()
 
 /// Whatever was done with a host so far, there are turns of a new suite, each of which it accepts, after which it has the
 /// host's table, and of each part of the host the trace of that part's own events.
-pub fn host_is_of_a_suite<
-    A: Allocator,
-    M: Maker + Drop,
-    R: Threads + Wait + Clock + Copy + Drop + Send + 'static,
->(host: &Host<M, R>)
+pub fn host_is_of_a_suite<A: Allocator, M: Maker + Drop, R: Runtime>(host: &Host<M, R>)
     ensures { IsOfSuite A host.now }
 {
     host.has_run();

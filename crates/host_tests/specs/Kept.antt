@@ -21,7 +21,10 @@ call_of (asked.EndedOutput slot at_once) = EndedOutput slot at_once
 call_of (asked.IsRead slot is_read) = AskedIsRead slot is_read
 call_of (asked.Lost slot has_logger count) = CountedLost slot has_logger count
 
--- A host over a maker that had been asked nothing has scanned these rows once: its maker was asked what a scan asks.
+-- a host without parts, over a maker that was asked nothing
+abbrev pub unasked : HostState
+unasked = record { table = new_table 0; parts = []; calls = Some [] }
+
+-- Such a host has scanned these rows once: its maker was asked what a scan asks.
 abbrev pub HasScannedOnce : List Row → Tai64n → HostState → Type 0
-HasScannedOnce rows label host =
-    (out : HostOut) × IsScanned (record { table = new_table 0; parts = []; calls = Some [] }) rows label out host
+HasScannedOnce rows label host = (out : HostOut) × IsScanned unasked rows label out host

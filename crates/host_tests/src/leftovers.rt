@@ -139,7 +139,12 @@ fn each_neighbour_has_its_own_process(rt: HostRuntime) {
     ];
     assert_eq!(rt; find_leftover(&INTENT, &all), Leftover::Unsure(50));
     // A process that left its folder, and has a child in that of a neighbour.
-    let all = [first, reaper, process(40, 20, 101, 7), next_door(1, 41, 40, 101, 7)];
+    let all = [
+        first,
+        reaper,
+        process(40, 20, 101, 7),
+        next_door(1, 41, 40, 101, 7),
+    ];
     assert_eq!(rt; find_leftover(&INTENT, &all), Leftover::Unsure(40));
 }
 

@@ -1,6 +1,6 @@
 //! What the maker of a host was asked, beside the parts that are there.
 ghost use Rattle.std.specs.Prelude.{◌≡◌, [], Some, IfSome};
-ghost use Rattle.host_tests.specs.Kept.{HasScannedOnce};
+ghost use Rattle.host_tests.specs.Kept.{HasScannedOnce, unasked};
 
 use crate::cast::Cast;
 use crate::kept_calls::Asked;
@@ -8,17 +8,28 @@ use crate::kept_maker::KeptMaker;
 use crate::threads::{finish, log_of, main_of, row};
 use scan_table::{DirRow, PartId};
 use std::alloc::Global;
-use std::sync::Wait;
 use std::test::Fail;
-use std::thread::Threads;
-use std::time::Clock;
-use svc_host::Host;
+use svc_host::{Host, Runtime};
 use svc_left::Opening;
 use tai_status::Label;
 
-/// A host over a maker that keeps its calls, after its first scan: the maker was asked what the written rules of a scan
-/// ask, from its first call on.
-fn scanned_once<R: Threads + Wait + Clock + Copy + Drop + Send + 'static>(
+/// A host whose maker was asked nothing, after its first scan: the maker was asked what the written rules of a scan ask.
+fn first_scan<R: Runtime>(
+    mut host: Host<KeptMaker, R>,
+    rows: &[DirRow],
+    label: Label,
+) -> Option<Host<KeptMaker, R>>
+    requires { host ≡ unasked }
+    ensures { IfSome result (HasScannedOnce rows.now label) }
+{
+    match host.scan(rows, label) {
+        Ok(_out) => Some(host),
+        Err(_) => None,
+    }
+}
+
+/// A host over a maker that keeps its calls, from the first on, after its first scan.
+fn scanned_once<R: Runtime>(
     rt: R,
     alloc: Global,
     maker: KeptMaker,
@@ -28,9 +39,8 @@ fn scanned_once<R: Threads + Wait + Clock + Copy + Drop + Send + 'static>(
     requires { maker.calls ≡ Some [] }
     ensures { IfSome result (HasScannedOnce rows.now label) }
 {
-    let mut host = Host::new(rt, alloc, maker, 4, 16).ok()?;
-    match host.scan(rows, label) {
-        Ok(_out) => Some(host),
+    match Host::new(rt, alloc, maker, 4, 16) {
+        Ok(host) => first_scan(host, rows, label),
         Err(_) => None,
     }
 }

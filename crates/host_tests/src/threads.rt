@@ -8,9 +8,7 @@ use scan_table::{DirRow, PartId, Role};
 use std::alloc::{AllocError, Global};
 use std::sync::{Arc, Wait};
 use std::test::Fail;
-use std::thread::Threads;
-use std::time::Clock;
-use svc_host::{Host, Maker, PostFault};
+use svc_host::{Host, Maker, PostFault, Runtime};
 use tai_status::{Label, Name, View, Want};
 
 pub(crate) fn main_of(slot: u64, life: u64) -> PartId {
@@ -66,7 +64,7 @@ impl Sight {
 }
 
 /// A host over a cast after its first round, over these rows, where that started these parts.
-fn begin<R: Threads + Wait + Clock + Copy + Drop + Send + 'static>(
+fn begin<R: Runtime>(
     rt: R,
     alloc: Global,
     cast: Cast,
@@ -86,12 +84,7 @@ fn begin<R: Threads + Wait + Clock + Copy + Drop + Send + 'static>(
 }
 
 /// Whether a part's status comes to show this.
-fn comes<R: Threads + Wait + Clock + Copy + Drop + Send + 'static>(
-    rt: &R,
-    host: &mut Host<Cast, R>,
-    part: PartId,
-    sight: Sight,
-) -> bool {
+fn comes<R: Runtime>(rt: &R, host: &mut Host<Cast, R>, part: PartId, sight: Sight) -> bool {
     for _ in 0..LOOKS {
         if host.status(part).is_some_and(|view| sight.is_in(view)) {
             return true;
@@ -113,12 +106,7 @@ fn arrives<R: Wait>(rt: &R, taken: &Taken, bytes: &[u8; 8]) -> bool {
 }
 
 /// Whether both come to have a process, and the second alone hears a letter to it.
-fn both_run<R: Threads + Wait + Clock + Copy + Drop + Send + 'static>(
-    rt: &R,
-    host: &mut Host<Cast, R>,
-    one: PartId,
-    other: PartId,
-) -> bool {
+fn both_run<R: Runtime>(rt: &R, host: &mut Host<Cast, R>, one: PartId, other: PartId) -> bool {
     comes(rt, host, one, Sight::Process)
         && comes(rt, host, other, Sight::Process)
         && host.post(other, b'd').is_ok()
@@ -127,10 +115,7 @@ fn both_run<R: Threads + Wait + Clock + Copy + Drop + Send + 'static>(
 }
 
 /// Ends all services, in order. How many there were.
-pub(crate) fn finish<M: Maker + Drop, R: Threads + Wait + Clock + Copy + Drop + Send + 'static>(
-    rt: &R,
-    host: &mut Host<M, R>,
-) -> Option<u64> {
+pub(crate) fn finish<M: Maker + Drop, R: Runtime>(rt: &R, host: &mut Host<M, R>) -> Option<u64> {
     let count = host.running_parts().ok()?.len();
     for _ in 0..LOOKS {
         if host.end_services() == 0 && host.end_outputs() {
@@ -142,11 +127,7 @@ pub(crate) fn finish<M: Maker + Drop, R: Threads + Wait + Clock + Copy + Drop + 
 }
 
 /// How many services ended, of two that wait for one another at their starts. None: one of them waited in vain.
-fn run_two<R: Threads + Wait + Clock + Copy + Drop + Send + 'static>(
-    rt: R,
-    alloc: Global,
-    cast: Cast,
-) -> Option<u64> {
+fn run_two<R: Runtime>(rt: R, alloc: Global, cast: Cast) -> Option<u64> {
     let (a, b) = (main_of(0, 1), main_of(2, 3));
     let rows = rows(alloc, &["a", "b"], false).ok()?;
     let mut host = begin(rt, alloc, cast, 4, &rows, &[a, b])?;
@@ -167,7 +148,7 @@ fn services_run_side_by_side(rt: HostRuntime) -> Result<(), Fail> {
 
 /// Posts two letters to a service that is at its gate, and opens the gate then. Whether the second found no room, and
 /// the first was heard.
-fn fills<R: Threads + Wait + Clock + Copy + Drop + Send + 'static>(
+fn fills<R: Runtime>(
     rt: &R,
     host: &mut Host<Cast, R>,
     part: PartId,
@@ -182,7 +163,7 @@ fn fills<R: Threads + Wait + Clock + Copy + Drop + Send + 'static>(
 }
 
 /// How many services ended, of one whose mailbox was filled. None: it was not reported so.
-fn fill_one<R: Threads + Wait + Clock + Copy + Drop + Send + 'static>(
+fn fill_one<R: Runtime>(
     rt: R,
     alloc: Global,
     cast: Cast,
@@ -211,11 +192,7 @@ fn a_full_mailbox_is_reported(rt: HostRuntime) -> Result<(), Fail> {
 }
 
 /// Posts `d` to each of these parts in turn: it comes to want down, and those after it go on wanting up.
-fn put_down<R: Threads + Wait + Clock + Copy + Drop + Send + 'static>(
-    rt: &R,
-    host: &mut Host<Cast, R>,
-    parts: &[PartId],
-) -> bool {
+fn put_down<R: Runtime>(rt: &R, host: &mut Host<Cast, R>, parts: &[PartId]) -> bool {
     for place in 0..parts.len() {
         if host.post(parts[place], b'd').is_err() {
             return false;
@@ -246,7 +223,7 @@ struct Rounds {
 }
 
 /// Makes rounds over these rows until so many parts were restarted and so many slots dropped.
-fn rounds_until<R: Threads + Wait + Clock + Copy + Drop + Send + 'static>(
+fn rounds_until<R: Runtime>(
     rt: &R,
     alloc: Global,
     host: &mut Host<Cast, R>,
@@ -279,11 +256,7 @@ fn rounds_until<R: Threads + Wait + Clock + Copy + Drop + Send + 'static>(
 }
 
 /// Whether each of these parts comes to have a process.
-fn all_come<R: Threads + Wait + Clock + Copy + Drop + Send + 'static>(
-    rt: &R,
-    host: &mut Host<Cast, R>,
-    parts: &[PartId],
-) -> bool {
+fn all_come<R: Runtime>(rt: &R, host: &mut Host<Cast, R>, parts: &[PartId]) -> bool {
     for part in parts {
         if !comes(rt, host, *part, Sight::Process) {
             return false;
@@ -294,7 +267,7 @@ fn all_come<R: Threads + Wait + Clock + Copy + Drop + Send + 'static>(
 
 /// Ends a part, and makes rounds until it comes back: whether it alone came back, in this life, and the old one is not
 /// there.
-fn comes_back<R: Threads + Wait + Clock + Copy + Drop + Send + 'static>(
+fn comes_back<R: Runtime>(
     rt: &R,
     alloc: Global,
     host: &mut Host<Cast, R>,
@@ -319,7 +292,7 @@ fn comes_back<R: Threads + Wait + Clock + Copy + Drop + Send + 'static>(
 
 /// Ends these parts, and makes rounds over no rows until two slots went: whether they are these, and the maker was
 /// reported to forget just these.
-fn are_dropped<R: Threads + Wait + Clock + Copy + Drop + Send + 'static>(
+fn are_dropped<R: Runtime>(
     rt: &R,
     alloc: Global,
     host: &mut Host<Cast, R>,
@@ -342,7 +315,7 @@ fn are_dropped<R: Threads + Wait + Clock + Copy + Drop + Send + 'static>(
 }
 
 /// Two pairs, from their first life to the end: what each part is joined to is its own.
-fn live<R: Threads + Wait + Clock + Copy + Drop + Send + 'static>(
+fn live<R: Runtime>(
     rt: &R,
     alloc: Global,
     host: &mut Host<Cast, R>,
@@ -367,12 +340,7 @@ fn live<R: Threads + Wait + Clock + Copy + Drop + Send + 'static>(
 }
 
 /// How many services were left at the end of two pairs' lives. None: something went wrong.
-fn run_pairs<R: Threads + Wait + Clock + Copy + Drop + Send + 'static>(
-    rt: R,
-    alloc: Global,
-    cast: Cast,
-    taken: [&Taken; 2],
-) -> Option<u64> {
+fn run_pairs<R: Runtime>(rt: R, alloc: Global, cast: Cast, taken: [&Taken; 2]) -> Option<u64> {
     let parts = [main_of(0, 1), log_of(0, 2), main_of(3, 4), log_of(3, 5)];
     let rows = rows(alloc, &["a", "b"], true).ok()?;
     let mut host = begin(rt, alloc, cast, 4, &rows, &parts)?;

@@ -3,8 +3,6 @@ use Rattle.std.proofs.Common.{◌≡◌, List, ◌++◌, ap, ◌∙◌}
 use Rattle.std.specs.Prelude.{not, filter, map}
 use Rattle.std.proofs.lemmas.List.Elements.{filter-append}
 use Rattle.std.proofs.lemmas.List.{map-append}
-use Rattle.scan_table.specs.declared.part.PartId.{PartId}
-use Rattle.svc_host.specs.declared.part.Loss.{Loss}
 use Rattle.svc_host.specs.Parts.{HostPart, has_loss, losses_in, running_ids}
 
 pub running_splits : (front back : List HostPart) → running_ids (front ++ back) ≡ running_ids front ++ running_ids back

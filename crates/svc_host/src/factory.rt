@@ -15,14 +15,14 @@ use crate::maker::{Maker, PartFault, PartResources, Reaper};
 use crate::pair::Pair;
 use crate::part::Part;
 use crate::running::{Running, end};
+use crate::runtime::Runtime;
 use crate::service::{Beginning, Task};
 use crate::shared::Activity;
 use scan_table::{DirRow, PartId, Role, ScanTable, find_row};
 use std::alloc::Global;
 use std::io;
-use std::sync::{Arc, Wait};
-use std::thread::{Builder, Threads};
-use std::time::Clock;
+use std::sync::Arc;
+use std::thread::Builder;
 use svc_house::Notifier;
 use svc_station::parked::Parked;
 use tai_status::{Cause, Label};
@@ -62,10 +62,7 @@ fn has_pair(pairs: &[Pair], slot: u64) -> bool
 }
 
 /// Starts the thread of a reaper.
-fn start_reaper<
-    A: Reaper + Drop + Send + 'static,
-    R: Threads + Wait + Clock + Copy + Drop + Send + 'static,
->(rt: R, reaper: A) -> io::Result<()> {
+fn start_reaper<A: Reaper + Drop + Send + 'static, R: Runtime>(rt: R, reaper: A) -> io::Result<()> {
     Builder::new()
         .stack_size(1)
         .spawn(&rt, move || reaper.run(rt))?;
@@ -74,10 +71,7 @@ fn start_reaper<
 
 /// What makes parts and pairs, and the pairs whose threads run.
 #[derive(Drop)]
-pub(crate) struct PartFactory<
-    M: Maker + Drop,
-    R: Threads + Wait + Clock + Copy + Drop + Send + 'static,
-> {
+pub(crate) struct PartFactory<M: Maker + Drop, R: Runtime> {
     pub(crate) rt: R,
     pub(crate) alloc: Global,
     pub(crate) maker: M,
@@ -88,7 +82,7 @@ pub(crate) struct PartFactory<
     pub(crate) rooms: Rooms,
 }
 
-impl<M: Maker + Drop, R: Threads + Wait + Clock + Copy + Drop + Send + 'static> PartFactory<M, R> {
+impl<M: Maker + Drop, R: Runtime> PartFactory<M, R> {
     /// Makes a part of the service of this name and starts its thread, or makes nothing.
     fn make(
         &mut self,

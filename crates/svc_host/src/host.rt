@@ -19,14 +19,14 @@ use crate::parts::{
     any_owes, forget_losses, losses, owing_ids, post_to, running, running_ids, service_runs,
     sight_at, status_of, stays,
 };
+use crate::runtime::Runtime;
 use crate::shared::Activity;
 use scan_table::{DirRow, PartId, Role, ScanFault, ScanOut, ScanTable};
 use std::alloc::{AllocError, Global};
 use std::marker::Model;
 use std::mem;
 use std::sync::{Arc, Wait};
-use std::thread::Threads;
-use std::time::{Clock, Duration};
+use std::time::Duration;
 use svc_house::{ControlSender, MailInbox, Notifier};
 use tai_status::{Label, Name, View};
 use thiserror::Error;
@@ -61,7 +61,7 @@ pub enum PostFault {
 /// The host of all services of one svscan. Contracts see it as `HostState`: the table of slots, and the parts that are
 /// there. What it did so far is a run from a host without parts (`CameToBe`), whatever was called.
 #[derive(Drop)]
-pub struct Host<M: Maker + Drop, R: Threads + Wait + Clock + Copy + Drop + Send + 'static> {
+pub struct Host<M: Maker + Drop, R: Runtime> {
     factory: PartFactory<M, R>,
     table: ScanTable,
     parts: Vec<Part<R>>,
@@ -69,8 +69,7 @@ pub struct Host<M: Maker + Drop, R: Threads + Wait + Clock + Copy + Drop + Send 
     kept_at: Option<u64>,
 }
 
-impl<M: Maker + Drop, R: Threads + Wait + Clock + Copy + Drop + Send + 'static> Model
-    for Host<M, R> {
+impl<M: Maker + Drop, R: Runtime> Model for Host<M, R> {
     ghost use Rattle.svc_host.specs.HostRun.{CameToBe};
     ghost use Rattle.svc_host.specs.Rounds.{HostState};
 
@@ -136,7 +135,7 @@ fn scan<T: Drop>(
 }
 
 /// Takes away the parts that go at a scan, and forgets the slots that it drops.
-fn take_away<M: Maker + Drop, R: Threads + Wait + Clock + Copy + Drop + Send + 'static>(
+fn take_away<M: Maker + Drop, R: Runtime>(
     factory: &mut PartFactory<M, R>,
     parts: &mut Vec<Part<R>>,
     scan: &ScanOut,
@@ -161,7 +160,7 @@ struct Begun<R: Wait + Drop> {
 }
 
 /// Begins a part, or notes that it can't be made.
-fn begin_one<M: Maker + Drop, R: Threads + Wait + Clock + Copy + Drop + Send + 'static>(
+fn begin_one<M: Maker + Drop, R: Runtime>(
     factory: &mut PartFactory<M, R>,
     table: &ScanTable,
     rows: &[DirRow],
@@ -186,7 +185,7 @@ fn begin_one<M: Maker + Drop, R: Threads + Wait + Clock + Copy + Drop + Send + '
 }
 
 /// Begins parts, each after the other, and notes those that can't be made.
-fn begin_all<M: Maker + Drop, R: Threads + Wait + Clock + Copy + Drop + Send + 'static>(
+fn begin_all<M: Maker + Drop, R: Runtime>(
     factory: &mut PartFactory<M, R>,
     table: &ScanTable,
     rows: &[DirRow],
@@ -217,7 +216,7 @@ fn end_all(table: &mut ScanTable, failed: &[Unmade])
 
 /// Joins the thread of a part, and keeps its last trace. Nothing comes to its mailbox then, and what was lost is noted.
 /// Whether it is joined: a part whose service has not begun stays as it was.
-fn join_part<M: Maker + Drop, R: Threads + Wait + Clock + Copy + Drop + Send + 'static>(
+fn join_part<M: Maker + Drop, R: Runtime>(
     factory: &mut PartFactory<M, R>,
     part: &mut Part<R>,
 ) -> bool
@@ -239,7 +238,7 @@ fn join_part<M: Maker + Drop, R: Threads + Wait + Clock + Copy + Drop + Send + '
 }
 
 /// Keeps the trace of the part at a place, where that has grown. Whether its newest one is kept.
-fn keep_trace<M: Maker + Drop, R: Threads + Wait + Clock + Copy + Drop + Send + 'static>(
+fn keep_trace<M: Maker + Drop, R: Runtime>(
     factory: &mut PartFactory<M, R>,
     parts: &mut Vec<Part<R>>,
     place: usize,
@@ -253,7 +252,7 @@ fn keep_trace<M: Maker + Drop, R: Threads + Wait + Clock + Copy + Drop + Send + 
 }
 
 /// Keeps the traces that have grown. Whether all newest ones are kept.
-fn keep_traces<M: Maker + Drop, R: Threads + Wait + Clock + Copy + Drop + Send + 'static>(
+fn keep_traces<M: Maker + Drop, R: Runtime>(
     factory: &mut PartFactory<M, R>,
     parts: &mut Vec<Part<R>>,
 ) -> bool
@@ -268,22 +267,23 @@ fn keep_traces<M: Maker + Drop, R: Threads + Wait + Clock + Copy + Drop + Send +
 }
 
 /// How many milliseconds a part waits already for its end: 0 while the service itself runs.
-fn waited_for<M: Maker + Drop, R: Threads + Wait + Clock + Copy + Drop + Send + 'static>(
+fn waited_for<M: Maker + Drop, R: Runtime>(
     factory: &mut PartFactory<M, R>,
     slot: u64,
     service_runs: bool,
 ) -> u64
     ensures { M.calls factory.new.maker ≡ M.calls factory.old.maker }
 {
-    if service_runs { 0 } else { factory.wait_on(slot) }
+    if service_runs {
+        0
+    } else {
+        factory.wait_on(slot)
+    }
 }
 
 /// Ends the input of a logger that was asked to end with its process, after all that its service wrote. Of any other part
 /// no input ends.
-fn end_input<M: Maker + Drop, R: Threads + Wait + Clock + Copy + Drop + Send + 'static>(
-    factory: &mut PartFactory<M, R>,
-    part: &Part<R>,
-)
+fn end_input<M: Maker + Drop, R: Runtime>(factory: &mut PartFactory<M, R>, part: &Part<R>)
     ensures { EndsInput part.now (M.calls factory.old.maker) (M.calls factory.new.maker) }
 {
     let id = part.id();
@@ -293,7 +293,7 @@ fn end_input<M: Maker + Drop, R: Threads + Wait + Clock + Copy + Drop + Send + '
 }
 
 /// Posts to the part at a place what is next for it in the end of all services.
-fn end_part<M: Maker + Drop, R: Threads + Wait + Clock + Copy + Drop + Send + 'static>(
+fn end_part<M: Maker + Drop, R: Runtime>(
     factory: &mut PartFactory<M, R>,
     parts: &mut Vec<Part<R>>,
     place: usize,
@@ -311,10 +311,7 @@ fn end_part<M: Maker + Drop, R: Threads + Wait + Clock + Copy + Drop + Send + 's
 }
 
 /// Posts to each part what is next for it in the end of all services.
-fn end_parts<M: Maker + Drop, R: Threads + Wait + Clock + Copy + Drop + Send + 'static>(
-    factory: &mut PartFactory<M, R>,
-    parts: &mut Vec<Part<R>>,
-)
+fn end_parts<M: Maker + Drop, R: Runtime>(factory: &mut PartFactory<M, R>, parts: &mut Vec<Part<R>>)
     ensures { EndSteps (length parts.old.items) parts.old.items parts.new.items }
 {
     for place in 0..parts.len() {
@@ -324,7 +321,7 @@ fn end_parts<M: Maker + Drop, R: Threads + Wait + Clock + Copy + Drop + Send + '
 
 /// Has the output of a slot's service end, of which all is put into the input of its logger or not. Whether svscan may
 /// leave it.
-fn end_output<M: Maker + Drop, R: Threads + Wait + Clock + Copy + Drop + Send + 'static>(
+fn end_output<M: Maker + Drop, R: Runtime>(
     maker: &mut M,
     parts: &mut Vec<Part<R>>,
     slot: u64,
@@ -339,7 +336,7 @@ fn end_output<M: Maker + Drop, R: Threads + Wait + Clock + Copy + Drop + Send + 
 }
 
 /// Has the output of the pair at a place end. Whether svscan may leave it.
-fn end_pair<M: Maker + Drop, R: Threads + Wait + Clock + Copy + Drop + Send + 'static>(
+fn end_pair<M: Maker + Drop, R: Runtime>(
     factory: &mut PartFactory<M, R>,
     parts: &mut Vec<Part<R>>,
     at: usize,
@@ -354,7 +351,7 @@ fn end_pair<M: Maker + Drop, R: Threads + Wait + Clock + Copy + Drop + Send + 's
     end_output(&mut factory.maker, parts, slot, is_put)
 }
 
-impl<M: Maker + Drop, R: Threads + Wait + Clock + Copy + Drop + Send + 'static> Host<M, R> {
+impl<M: Maker + Drop, R: Runtime> Host<M, R> {
     ghost use Rattle.std.specs.Prelude.{◌≡◌, ◌↔◌, ◌<◌, ◌≤◌, [], Err, IfOk, IfErr, IfSome, OnErr, MatchOption, true, false};
     ghost use Rattle.std.specs.Prelude.{length, map, option_copied, option_map, slice_index_or};
     ghost use Rattle.std.specs.Fn.{FnOnceReturnsAtMut};

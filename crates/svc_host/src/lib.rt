@@ -22,9 +22,11 @@ mod part_thread;
 mod parts;
 mod rest;
 mod running;
+mod runtime;
 mod service;
 mod shared;
 
 pub use host::{Host, HostOut, PostFault, Unmade};
 pub use maker::{Maker, Outlets, PartFault, PartResources, Reaper};
 pub use part::Loss;
+pub use runtime::Runtime;

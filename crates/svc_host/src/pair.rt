@@ -108,11 +108,7 @@ fn open_in_time<R: Wait>(
 
 /// Reads a pair's output and posts it, until it ends or the pair leaves. A read that fails is tried again. Whether it has
 /// ended: then all of it is posted.
-fn post_all<D: Read + Drop, R: Wait>(
-    rt: &R,
-    intake: &mut Intake<D>,
-    shared: &PairShared,
-) -> bool
+fn post_all<D: Read + Drop, R: Wait>(rt: &R, intake: &mut Intake<D>, shared: &PairShared) -> bool
     ensures same { IsSameSender intake.old.sender intake.new.sender }
     ensures opening { intake.new.opening ≡ intake.old.opening }
     ensures all { result ≡ true → IsRead intake.new.reader × (intake.new.kept ≡ None) }

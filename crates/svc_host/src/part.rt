@@ -6,12 +6,12 @@ use crate::ending::{EndStep, ProcessSight, end_step, is_log, sight_of};
 use crate::growth::Growth;
 use crate::part_thread::PartThread;
 use crate::running::Running;
+use crate::runtime::Runtime;
 use scan_table::PartId;
 use std::alloc::Global;
 use std::marker::Model;
 use std::sync::Wait;
 use std::thread::Threads;
-use std::time::Clock;
 use sup_core::Machine;
 use svc_house::ControlSender;
 use svc_left::Opening;
@@ -93,7 +93,7 @@ impl<R: Wait + Drop> Model for Part<R> {
     } };
 }
 
-impl<R: Threads + Wait + Clock + Copy + Drop + Send + 'static> Part<R> {
+impl<R: Runtime> Part<R> {
     ghost use Rattle.std.specs.Prelude.{◌≡◌, true, false, not, length, Some, MatchBool, MatchResult};
     ghost use Rattle.sup_core.specs.History.{phase_of, state_of};
     ghost use Rattle.tai_status.specs.declared.phase.Phase.{Phase};

@@ -12,12 +12,12 @@ ghost use Rattle.tai_status.specs.declared.phase.Phase.{Phase};
 
 use crate::growth::{Growth, text_of};
 use crate::running::Running;
+use crate::runtime::Runtime;
 use core::mem::replace_with;
 use std::alloc::{AllocError, Global};
 use std::snapshot::Snapshot;
 use std::sync::Wait;
 use std::thread::Threads;
-use std::time::Clock;
 use sup_core::Machine;
 use sup_trace::TraceText;
 use svc_house::last_reading;
@@ -169,7 +169,7 @@ pub(crate) enum PartThread<R: Wait + Drop> {
     Ended(Last),
 }
 
-impl<R: Threads + Wait + Clock + Copy + Drop + Send + 'static> PartThread<R> {
+impl<R: Runtime> PartThread<R> {
     ghost use Rattle.std.specs.Prelude.{◌≡◌, true, false, length};
     ghost use mathlib.Core.List.{IsPrefix};
     ghost use Rattle.sup_core.specs.History.{phase_of, state_of};

@@ -12,29 +12,21 @@ ghost use Rattle.svc_host.specs.Ending.{IsSight};
 use crate::ending::ProcessSight;
 use crate::host::PostFault;
 use crate::part::{Loss, Part};
+use crate::runtime::Runtime;
 use scan_table::{PartId, Role};
 use std::alloc::{AllocError, Global};
-use std::sync::Wait;
-use std::thread::Threads;
-use std::time::Clock;
 use sup_core::Machine;
 use tai_status::View;
 
 /// Whether it is this part.
-fn is_part<R: Threads + Wait + Clock + Copy + Drop + Send + 'static>(
-    part: &Part<R>,
-    id: PartId,
-) -> bool
+fn is_part<R: Runtime>(part: &Part<R>, id: PartId) -> bool
     ensures { IsTrue result ↔ (part.now.id ≡ id) }
 {
     part.id() == id
 }
 
 /// The place of a part.
-pub(crate) fn place_of<R: Threads + Wait + Clock + Copy + Drop + Send + 'static>(
-    parts: &[Part<R>],
-    id: PartId,
-) -> Option<usize>
+pub(crate) fn place_of<R: Runtime>(parts: &[Part<R>], id: PartId) -> Option<usize>
     ensures { MatchOption result (IsNowhere id parts.now) (λ place. IsPlace id parts.now place) }
 {
     for place in 0..parts.len() {
@@ -46,7 +38,7 @@ pub(crate) fn place_of<R: Threads + Wait + Clock + Copy + Drop + Send + 'static>
 }
 
 /// Posts a control byte to a part.
-pub(crate) fn post_to<R: Threads + Wait + Clock + Copy + Drop + Send + 'static>(
+pub(crate) fn post_to<R: Runtime>(
     rt: &R,
     parts: &mut Vec<Part<R>>,
     id: PartId,
@@ -67,10 +59,7 @@ pub(crate) fn post_to<R: Threads + Wait + Clock + Copy + Drop + Send + 'static>(
 }
 
 /// The machine of the part at a place, after what was read of its events.
-fn machine_at<R: Threads + Wait + Clock + Copy + Drop + Send + 'static>(
-    parts: &mut Vec<Part<R>>,
-    place: usize,
-) -> Machine
+fn machine_at<R: Runtime>(parts: &mut Vec<Part<R>>, place: usize) -> Machine
     requires { place < length parts.old.items }
     ensures step { IsHearing parts.old.items place parts.new.items }
     ensures reading { (d : HostPart) → result ≡ state_of (history_of (slice_index_or parts.new.items place d)) }
@@ -80,10 +69,7 @@ fn machine_at<R: Threads + Wait + Clock + Copy + Drop + Send + 'static>(
 }
 
 /// What the status record of a part reports.
-pub(crate) fn status_of<R: Threads + Wait + Clock + Copy + Drop + Send + 'static>(
-    parts: &mut Vec<Part<R>>,
-    id: PartId,
-) -> Option<View>
+pub(crate) fn status_of<R: Runtime>(parts: &mut Vec<Part<R>>, id: PartId) -> Option<View>
     ensures parts { AreHeard parts.old.items parts.new.items }
     ensures there { MatchOption result (IsNowhere id parts.old.items) (λ view. IsReading id parts.new.items view) }
 {
@@ -92,10 +78,7 @@ pub(crate) fn status_of<R: Threads + Wait + Clock + Copy + Drop + Send + 'static
 }
 
 /// Adds what a part lost at its end, if it lost anything.
-fn add_loss<R: Threads + Wait + Clock + Copy + Drop + Send + 'static>(
-    losses: &mut Vec<(PartId, Loss)>,
-    part: &Part<R>,
-) -> Result<(), AllocError>
+fn add_loss<R: Runtime>(losses: &mut Vec<(PartId, Loss)>, part: &Part<R>) -> Result<(), AllocError>
     ensures { OnOk result (losses.new.items ≡ losses.old.items ++ losses_in (part.now ∷ [])) }
 {
     if part.loss().is_some() {
@@ -105,7 +88,7 @@ fn add_loss<R: Threads + Wait + Clock + Copy + Drop + Send + 'static>(
 }
 
 /// What the parts lost at their ends that is not forgotten, in their order.
-pub(crate) fn losses<R: Threads + Wait + Clock + Copy + Drop + Send + 'static>(
+pub(crate) fn losses<R: Runtime>(
     alloc: Global,
     parts: &[Part<R>],
 ) -> Result<Vec<(PartId, Loss)>, AllocError>
@@ -119,9 +102,7 @@ pub(crate) fn losses<R: Threads + Wait + Clock + Copy + Drop + Send + 'static>(
 }
 
 /// Forgets what the parts lost at their ends.
-pub(crate) fn forget_losses<R: Threads + Wait + Clock + Copy + Drop + Send + 'static>(
-    parts: &mut Vec<Part<R>>,
-)
+pub(crate) fn forget_losses<R: Runtime>(parts: &mut Vec<Part<R>>)
     ensures { parts.new.items ≡ map without_loss parts.old.items }
 {
     for place in 0..parts.len() {
@@ -130,20 +111,14 @@ pub(crate) fn forget_losses<R: Threads + Wait + Clock + Copy + Drop + Send + 'st
 }
 
 /// How many parts run.
-pub(crate) fn running<R: Threads + Wait + Clock + Copy + Drop + Send + 'static>(
-    parts: &[Part<R>],
-) -> usize
+pub(crate) fn running<R: Runtime>(parts: &[Part<R>]) -> usize
     ensures { result ≡ count_running parts.now }
 {
     parts.iter().filter(|part| !part.has_ended()).count()
 }
 
 /// What is seen of the process of the part of this role in a slot.
-pub(crate) fn sight_at<R: Threads + Wait + Clock + Copy + Drop + Send + 'static>(
-    parts: &mut Vec<Part<R>>,
-    slot: u64,
-    role: Role,
-) -> ProcessSight
+pub(crate) fn sight_at<R: Runtime>(parts: &mut Vec<Part<R>>, slot: u64, role: Role) -> ProcessSight
     ensures { IsSight slot role parts.old.items parts.new.items result }
 {
     match place_at(parts, slot, role) {
@@ -153,11 +128,7 @@ pub(crate) fn sight_at<R: Threads + Wait + Clock + Copy + Drop + Send + 'static>
 }
 
 /// Whether it is the part of this role in a slot, and runs.
-fn runs_at<R: Threads + Wait + Clock + Copy + Drop + Send + 'static>(
-    part: &Part<R>,
-    slot: u64,
-    role: Role,
-) -> bool
+fn runs_at<R: Runtime>(part: &Part<R>, slot: u64, role: Role) -> bool
     ensures { result ≡ runs_at slot role part.now }
 {
     is_of(
@@ -171,11 +142,7 @@ fn runs_at<R: Threads + Wait + Clock + Copy + Drop + Send + 'static>(
 }
 
 /// The place of the part of this role in a slot, where it runs.
-fn place_at<R: Threads + Wait + Clock + Copy + Drop + Send + 'static>(
-    parts: &[Part<R>],
-    slot: u64,
-    role: Role,
-) -> Option<usize>
+fn place_at<R: Runtime>(parts: &[Part<R>], slot: u64, role: Role) -> Option<usize>
     ensures { MatchOption result (All (λ (part : HostPart). runs_at slot role part ≡ false) parts.now)
         (λ place. RunsHere slot role parts.now place) }
 {
@@ -188,10 +155,7 @@ fn place_at<R: Threads + Wait + Clock + Copy + Drop + Send + 'static>(
 }
 
 /// Whether the service itself runs in a slot.
-pub(crate) fn service_runs<R: Threads + Wait + Clock + Copy + Drop + Send + 'static>(
-    parts: &[Part<R>],
-    slot: u64,
-) -> bool
+pub(crate) fn service_runs<R: Runtime>(parts: &[Part<R>], slot: u64) -> bool
     ensures { result ≡ service_runs slot parts.now }
 {
     for part in parts {
@@ -203,10 +167,7 @@ pub(crate) fn service_runs<R: Threads + Wait + Clock + Copy + Drop + Send + 'sta
 }
 
 /// Adds a part, if it runs.
-fn add_running<R: Threads + Wait + Clock + Copy + Drop + Send + 'static>(
-    ids: &mut Vec<PartId>,
-    part: &Part<R>,
-) -> Result<(), AllocError>
+fn add_running<R: Runtime>(ids: &mut Vec<PartId>, part: &Part<R>) -> Result<(), AllocError>
     ensures { OnOk result (ids.new.items ≡ ids.old.items ++ running_ids (part.now ∷ [])) }
 {
     if !part.has_ended() {
@@ -216,7 +177,7 @@ fn add_running<R: Threads + Wait + Clock + Copy + Drop + Send + 'static>(
 }
 
 /// The parts that run.
-pub(crate) fn running_ids<R: Threads + Wait + Clock + Copy + Drop + Send + 'static>(
+pub(crate) fn running_ids<R: Runtime>(
     alloc: Global,
     parts: &[Part<R>],
 ) -> Result<Vec<PartId>, AllocError>
@@ -230,7 +191,7 @@ pub(crate) fn running_ids<R: Threads + Wait + Clock + Copy + Drop + Send + 'stat
 }
 
 /// The parts that run and owe what they could not write.
-pub(crate) fn owing_ids<R: Threads + Wait + Clock + Copy + Drop + Send + 'static>(
+pub(crate) fn owing_ids<R: Runtime>(
     alloc: Global,
     parts: &[Part<R>],
 ) -> Result<Vec<PartId>, AllocError> {
@@ -244,9 +205,7 @@ pub(crate) fn owing_ids<R: Threads + Wait + Clock + Copy + Drop + Send + 'static
 }
 
 /// Whether any part runs and owes what it could not write.
-pub(crate) fn any_owes<R: Threads + Wait + Clock + Copy + Drop + Send + 'static>(
-    parts: &[Part<R>],
-) -> bool {
+pub(crate) fn any_owes<R: Runtime>(parts: &[Part<R>]) -> bool {
     parts.iter().any(|part| part.owes())
 }
 

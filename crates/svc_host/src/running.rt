@@ -6,13 +6,13 @@ ghost use mathlib.Core.List.{IsPrefix};
 ghost use Rattle.svc_station.specs.Ends.{AreNewReaders, IsNewReader, known_to, number_of, reader_station, station};
 
 use crate::part_thread::Last;
+use crate::runtime::Runtime;
 use crate::service::{Served, ServesToItsEnd, Task, serve_or_stay_out};
 use crate::shared::PartShared;
 use std::alloc::Global;
 use std::marker::Model;
 use std::sync::{Arc, Wait};
 use std::thread::{Builder, PromisedHandle, Threads};
-use std::time::Clock;
 use svc_house::{Gate, World};
 use svc_station::parked::Parked;
 use svc_station::reader::Reader;
@@ -100,7 +100,7 @@ pub(crate) struct Running<R: Wait + Drop> {
     ghost home: { station writer ≡ reader_station status_reader.reader },
 }
 
-impl<R: Threads + Wait + Clock + Copy + Drop + Send + 'static> Running<R> {
+impl<R: Runtime> Running<R> {
     /// Starts a service in a thread of its own, or ends its station where none can be made.
     pub(crate) fn start<W: World + Drop + Send + 'static, G: Gate + Drop + Send + 'static>(
         rt: R,

@@ -25,8 +25,8 @@ use svc_house::{ControlSender, Notifier};
 use svc_left::{Found, Left, Leftover, Place};
 use svc_world::{
     AdoptionWatch, ChildReaper, ChildWorld, Flow, FolderFault, LoggerInput, Neighbours, OutputEnds,
-    OwnRun, Patience, ServiceFolder, SignalShell, Streams, Surroundings, SystemChildren,
-    drain, is_read, open_output, prepare_outputs,
+    OwnRun, Patience, ServiceFolder, SignalShell, Streams, Surroundings, SystemChildren, drain,
+    is_read, open_output, prepare_outputs,
 };
 use tai_status::{Cause, TimeSource};
 

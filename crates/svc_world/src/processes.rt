@@ -234,7 +234,11 @@ pub(crate) fn see_all<R: Files<File = File> + StatSource, F: Fn(u32) -> bool>(
             seen.is_late = seen.session == own.session && seen.tick > own.tick;
             if seen.tick >= intent.tick {
                 seen.is_here = is_here(pid);
-                seen.neighbour = if seen.is_here { 0 } else { near.folder_of(files, pid) };
+                seen.neighbour = if seen.is_here {
+                    0
+                } else {
+                    near.folder_of(files, pid)
+                };
             }
             all.push(seen)?;
         }

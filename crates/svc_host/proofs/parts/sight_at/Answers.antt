@@ -11,12 +11,24 @@ returns-in-Some g c =
     let new = c.sight.new.self in
     let here : RunsHere c.args.slot c.args.role parts place =
     subst (λ parts. RunsHere c.args.slot c.args.role parts place) c.deref.ensures.value c.in-Some.ensures in
-    inr (place, new, here.within, (λ d. (here.runs d, subst (λ (old : HostPart). IsRead old new)
-    (c.index_mut.ensures.value ∙ same_default parts place part d here.within) c.sight.ensures.read)),
-    refl, c.sight.ensures.sight)
+    inr (
+      place,
+      new,
+      here.within,
+      (λ d. (
+        here.runs d,
+        subst (λ (old : HostPart). IsRead old new)
+            (c.index_mut.ensures.value ∙ same_default parts place part d here.within) c.sight.ensures.read,
+      )),
+      refl,
+      c.sight.ensures.sight,
+    )
 
 pub returns-in-None : goal.returns-in-None
 returns-in-None g c =
-    inl (subst (λ (parts : List HostPart). (k : ℕ) (d : HostPart) → k < length parts
-    → runs_at c.args.slot c.args.role (slice_index_or parts k d) ≡ false) c.deref.ensures.value c.in-None.ensures,
-    refl, refl)
+    inl (
+      subst (λ (parts : List HostPart). (k : ℕ) (d : HostPart) → k < length parts
+          → runs_at c.args.slot c.args.role (slice_index_or parts k d) ≡ false) c.deref.ensures.value c.in-None.ensures,
+      refl,
+      refl,
+    )
