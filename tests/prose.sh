@@ -1,0 +1,45 @@
+#!/usr/bin/env bash
+# The documents are in plain English: no sentence has more than 35 words, no paragraph and no item of a list more than six lines,
+# and the words of the list below are not used. It looks at README, docs, the manual, the crates' pages and the other pages of
+# Markdown that are there (an installed tarball has fewer). Takes the program that the first word names.
+#
+# What is a sentence: text from a beginning of a paragraph or of an item to its first `.`, `!` or `?` before a blank or the end.
+# Text in backquotes counts as one word, and a word without a letter or digit counts as none. No sentences are headings, tables,
+# blocks of code, and the parts NAME, SYNOPSIS and SEE ALSO of a manual page. The words of the list are sought in tables too.
+# gate: 2 seconds, needs python3
+top=$(realpath "$(dirname "$0")/..")
+. "$top/tests/checks.sh" "$1"
+trap 'rm -rf "$room"' EXIT
+
+# Each word not to use (a pattern of Python; `^` is the beginning of a sentence); the word to use; where it is right (a pattern).
+cat >words <<'END'
+\bstands?\b|\bstood\b; is, are, was; stands? for
+\banswer(s|ed)?\b(?= (with|for|to|by|at)\b)|\b(it|supervisor|nobody|that|one|system|socket|mailbox) answers?\b|\bis answered\b; returns, prints, responds; [Tt]he answer (to|with)|answer to (a|the) start
+\bbehind\b; after, next to; behind a proxy
+\bbeside\b; next to, with;
+\bends? with\b; exits; ends? with (a star|its newline|the process|\d+ after)
+\bof (which|whom|whose)\b; that, whose, from which;
+\b(for )?(a )?want of\b; lack of, out of memory;
+^So\b; therefore, or begin with the subject; So far
+^Else\b|, else\b; otherwise;
+^Of (?!course); begin with the subject;
+\b(it|which|what|that|who|page|record|table|file|line) tells?\b; says, shows; [Nn]ote tells|by what it tells
+\bwhere\b; if, when, in which; [Ww]here to (change|look)|[Ww]here it (is|runs|goes)|place where|say where|no matter where|in the order|where packages? put|says where
+\blawful\b; valid;
+\bwhereof\b|\bthereof\b|\btherein\b|\bthereby\b|\bhereby\b|\bwhence\b|\bhence\b; say it anew;
+\bparted by\b|\bdoes not part\b; separated, distinguish;
+END
+
+
+cd "$top" || exit 1
+pages=()
+for page in *.md docs/*.md man/*.[1-8] {tests,bench,contrib,packaging}/README.md crates/*/README.md; do
+  [ -e "$page" ] && pages+=("$page")
+done
+python3 -B tests/prose.py "$room/words" "${pages[@]}" >"$room/found"
+is 'the pages were read' 0 "$?"
+for page in "${pages[@]}"; do
+  is "$page" 0 "$(grep -c "^$page:" "$room/found")"
+done
+cat "$room/found"
+counts prose
