@@ -73,7 +73,8 @@ def plain(text):
     """A text without links' targets, emphasis and numbers of items; text in backquotes is one word."""
     text = re.sub(r"\]\([^)]*\)", "]", text)
     text = re.sub(r"^([-*]|\d+\.) ", "", text)
-    return re.sub(r"`[^`]*`", "CODE", text).replace("**", "").replace("[", "").replace("]", "")
+    text = re.sub(r"`[^`]*`", "CODE", text)
+    return re.sub(r"CODE(?:,? (?:and |or )?CODE)+", "CODE", text).replace("**", "").replace("[", "").replace("]", "")
 
 
 for path in sys.argv[2:]:

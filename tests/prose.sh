@@ -4,7 +4,7 @@
 # Markdown that are there (an installed tarball has fewer). Takes the program that the first word names.
 #
 # What is a sentence: text from a beginning of a paragraph or of an item to its first `.`, `!` or `?` before a blank or the end.
-# Text in backquotes counts as one word, and a word without a letter or digit counts as none. No sentences are headings, tables,
+# Text in backquotes, and a list of such texts, counts as one word. A word without a letter or digit counts as none. No sentences are headings, tables,
 # blocks of code, and the parts NAME, SYNOPSIS and SEE ALSO of a manual page. The words of the list are sought in tables too.
 # gate: 2 seconds, needs python3
 top=$(realpath "$(dirname "$0")/..")
