@@ -1,4 +1,4 @@
-# Makes the manual page dtools-formats(5) of docs/FORMATS.md. Knows of Markdown what stands there: headings, paragraphs,
+# Makes the manual page dtools-formats(5) of docs/FORMATS.md. Knows of Markdown what is there: headings, paragraphs, lists,
 # tables, blocks of code, links to other pages, and text in back quotes.
 
 # What a piece of text is for mdoc: no escapes and no control lines of its own.
@@ -38,8 +38,9 @@ function text_line(text) {
 }
 
 function end_table() {
-  if (in_table) print ".El"
+  if (in_table || in_list) print ".El"
   in_table = 0
+  in_list = 0
 }
 
 # The cells of a row. A bar in back quotes is none between cells.
@@ -93,7 +94,17 @@ in_code { print plain($0); next }
   row($0)
   next
 }
-/^$/ { if (in_table) end_table(); is_open = 1; next }
+/^$/ { end_table(); is_open = 1; next }
+/^- / {
+  if (!in_list) print ".Bl -bullet"
+  in_list = 1
+  is_open = 0
+  is_first = 0
+  print ".It"
+  say(shown(substr($0, 3)))
+  next
+}
+in_list && /^  / { say(shown(substr($0, 3))); next }
 {
   if (is_open && !is_first) print ".Pp"
   is_open = 0
