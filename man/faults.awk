@@ -30,7 +30,7 @@ function rows(command,    row, cells, lines, count, at) {
   for (row = 1; row <= all; row++) {
     split(of[row], cells, / *\| */)
     if ((", " cells[1] ",") !~ (", " command ",")) continue
-    gsub(/SCRIPT/, command, cells[2])
+    if (command != "any") gsub(/COMMAND/, command, cells[2])
     count = split(cells[2], lines, "`")
     for (at = 2; at <= count; at += 2) {
       gsub(/\\/, "\\e", lines[at])
