@@ -80,8 +80,7 @@ install:
 	  contrib/dtools.service >$(DESTDIR)$(UNITS)/dtools.service
 	chmod 644 $(DESTDIR)$(UNITS)/dtools.service
 	for page in $(PAGES); do \
-	  if [ -e man/$$page ]; then awk -f man/faults.awk docs/FORMATS.md man/$$page; \
-	  else awk -f man/formats.awk docs/FORMATS.md; fi | \
+	  from=$$(ls man/$$page 2>/dev/null); awk -v page="$$from" -f man/formats.awk docs/FORMATS.md | \
 	    sed 's|/usr/lib/dtools|$(PREFIX)/lib/dtools|; s|/etc/dtools/service|$(SERVICES)|' | \
 	    gzip -9n >$(MANUAL)/man$${page##*.}/$$page.gz; \
 	done

@@ -1,5 +1,6 @@
 # Makes the manual page dtools-formats(5) of docs/FORMATS.md. Knows of Markdown what is there: headings, paragraphs, lists,
-# tables, blocks of code, links to other pages, and text in back quotes.
+# tables, blocks of code, links to other pages, and text in back quotes. With a variable `page` it prints that page instead, and
+# in place of a line `.\" faults of COMMAND..` the rows of `Faults and statuses` for these commands.
 
 # What a piece of text is for mdoc: no escapes and no control lines of its own.
 function plain(text) {
@@ -56,7 +57,59 @@ function row(line,    cells, count, at, text) {
   if (text != "") say(shown(text))
 }
 
-BEGIN {
+# Prints a meaning, each sentence on a line of its own, the first letter of it large, with a full stop at the end.
+function say_meaning(text,    at) {
+  sub(/^./, toupper(substr(text, 1, 1)), text)
+  if (text !~ /\.$/) text = text "."
+  while (match(text, /[.] +[A-Z`]/)) {
+    print shown(substr(text, 1, RSTART))
+    text = substr(text, RSTART + 1)
+    sub(/^ +/, "", text)
+  }
+  print shown(text)
+}
+
+# The rows of a command.
+function rows(command,    number, cells, lines, count, at) {
+  for (number = 1; number <= all; number++) {
+    split(of[number], cells, / *\| */)
+    if ((", " cells[1] ",") !~ (", " command ",")) continue
+    if (command != "any") gsub(/COMMAND/, command, cells[2])
+    count = split(cells[2], lines, "`")
+    for (at = 2; at <= count; at += 2) {
+      gsub(/\\/, "\\e", lines[at])
+      print ".It \"" lines[at] "\""
+    }
+    say_meaning(cells[3])
+    if (cells[4] ~ /^[0-9]+$/) print "Exit status " cells[4] "."
+    else if (cells[4] !~ /^-/) say_meaning("exit status " cells[4])
+  }
+}
+
+# The page, with these rows.
+function print_page(    line, words, count, at) {
+  while ((getline line <page) > 0) {
+    if (line !~ /^\.\\" faults of /) {
+      print line
+      continue
+    }
+    print ".Bl -diag"
+    count = split(line, words, " ")
+    for (at = 4; at <= count; at++) rows(words[at])
+    print ".El"
+  }
+}
+
+page != "" {
+  if (/^## /) in_part = /^## Faults/
+  if (in_part && /^\|/ && !/^\|[-|]*$/ && !/^\| command /) {
+    sub(/^\| */, "")
+    sub(/ *\|$/, "")
+    of[++all] = $0
+  }
+  next
+}
+page == "" && NR == 1 {
   print ".Dd November 25, 2026"
   print ".Dt DTOOLS-FORMATS 5"
   print ".Os"
@@ -112,6 +165,10 @@ in_list && /^  / { say(shown(substr($0, 3))); next }
   say(shown($0))
 }
 END {
+  if (page != "") {
+    print_page()
+    exit
+  }
   end_table()
   print ".Sh SEE ALSO"
   print ".Xr dtools 1 ,"
