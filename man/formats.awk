@@ -70,11 +70,11 @@ function say_meaning(text,    at) {
 }
 
 # The rows of a command.
-function rows(command,    number, cells, lines, count, at) {
+function rows(command, shown_as,    number, cells, lines, count, at) {
   for (number = 1; number <= all; number++) {
     split(of[number], cells, / *\| */)
     if ((", " cells[1] ",") !~ (", " command ",")) continue
-    if (command != "any") gsub(/COMMAND/, command, cells[2])
+    if (shown_as != "any") gsub(/COMMAND/, shown_as, cells[2])
     count = split(cells[2], lines, "`")
     for (at = 2; at <= count; at += 2) {
       gsub(/\\/, "\\e", lines[at])
@@ -95,7 +95,7 @@ function print_page(    line, words, count, at) {
     }
     print ".Bl -diag"
     count = split(line, words, " ")
-    for (at = 4; at <= count; at++) rows(words[at])
+    for (at = 4; at <= count; at++) rows(words[at], words[at] == "any" ? words[4] : words[at])
     print ".El"
   }
 }
