@@ -28,6 +28,9 @@ cat >words <<'END'
 \blawful\b; valid;
 \bwhereof\b|\bthereof\b|\btherein\b|\bthereby\b|\bhereby\b|\bwhence\b|\bhence\b; say it anew;
 \bparted by\b|\bdoes not part\b; separated, distinguish;
+\b(pass|passes|passed) over\b; ignore;
+\bstart(s|ed)? again and again\b|\b(is|was|be|are) started again\b; restart;
+\bmemory serves\b|\bserves? as\b; suffices, is;
 END
 
 
