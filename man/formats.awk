@@ -59,7 +59,7 @@ function row(line,    cells, count, at, text) {
 
 # Prints a meaning, each sentence on a line of its own, the first letter of it large, with a full stop at the end.
 function say_meaning(text,    at) {
-  sub(/^./, toupper(substr(text, 1, 1)), text)
+  if (text !~ /^svscan/) sub(/^./, toupper(substr(text, 1, 1)), text)
   if (text !~ /\.$/) text = text "."
   while (match(text, /[.] +[A-Z`]/)) {
     print shown(substr(text, 1, RSTART))
