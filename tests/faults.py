@@ -7,6 +7,7 @@ import os
 import re
 import shutil
 import signal
+import socket
 import subprocess
 import sys
 import threading
@@ -281,6 +282,46 @@ def supervised(fault, cycles):
     return met, [f"{fault}: {what}" for what in wrong]
 
 
+def unannounced(number):
+    """From this registration on the door can have none. The last one that is met is that of a connection, which is made before its
+    byte is sent: no event announces the byte, and it is taken within a second all the same, and not once the connection was
+    silent for too long, which is 5 s. A busy machine gets a second try."""
+    met, heard_in = silent_call(number)
+    if heard_in > 4:
+        met, heard_in = silent_call(number)
+    return met, [f"{number}: the byte is taken after {heard_in:.1f} s"] if heard_in > 4 else []
+
+
+def silent_call(number):
+    """Whether a registration from this one on was refused, and after how many seconds the byte of a call was taken."""
+    here = f"{room}/unannounced-{number}"
+    os.makedirs(here + "/d/web")
+    os.link("run0", here + "/d/web/run")
+    around = dict(os.environ, FAULT=f"epoll_ctl:{number}:12:on", FAULT_MET=here + "/met", LD_PRELOAD=room + "/faults.so")
+    with open(here + "/reported", "w") as reported:
+        svscan = subprocess.Popen([program, "svscan", here + "/d"], env=around, stdin=subprocess.DEVNULL,
+                                  stdout=subprocess.DEVNULL, stderr=reported, start_new_session=True)
+    folder, met, heard_in = here + "/d/web", here + "/met", 0
+    until(60, lambda: os.path.exists(met) or are_all(3, [folder]))
+    if not os.path.exists(met):
+        with socket.socket(socket.AF_UNIX) as caller:
+            caller.connect(folder + "/supervise/control")
+            time.sleep(0.5)
+            caller.send(b"d")
+            begin = time.monotonic()
+            until(60, lambda: are_all(4, [folder]))
+            heard_in = time.monotonic() - begin
+    for pid in started(folder):
+        if is_alive(pid, folder):
+            os.kill(pid, signal.SIGKILL)
+    if svscan.poll() is None:
+        os.killpg(svscan.pid, signal.SIGKILL)
+    svscan.wait()
+    is_met = os.path.exists(met)
+    shutil.rmtree(here, ignore_errors=True)
+    return is_met, heard_in
+
+
 def rounds(fault):
     """svscan of one round with one fault: it ends, and nothing that it started is left. Gives whether it was met, and what was wrong."""
     here = f"{room}/rounds-{fault}"
@@ -358,7 +399,8 @@ def commands():
 def svscans():
     """svscan, all trials side by side: they wait more than they work."""
     waiting = [in_turn("svscan DIR 1: each growth refused", lambda number: rounds(f"malloc:{number}:12"), 16),
-               in_turn("svscan: each growth refused", lambda number: supervised(f"malloc:{number}:12", False), 32)]
+               in_turn("svscan: each growth refused", lambda number: supervised(f"malloc:{number}:12", False), 32),
+               in_turn("svscan: a connection that no event announces", unannounced, 1)]
     for call, error in [("thread", 11), ("spawn", 11), ("accept", 24), ("socket", 24), ("pipe", 24), ("open", 24), ("open", 5),
                         ("read", 5), ("write", 28), ("rename", 28), ("unlink", 5), ("mkdir", 28), ("fchmod", 5), ("flock", 5),
                         ("bind", 13), ("listen", 12), ("epoll_create", 24), ("epoll_ctl", 12), ("fcntl", 5), ("getdents", 5),

@@ -1,4 +1,10 @@
 -- What a maker keeps of its calls.
+use Rattle.std.specs.Prelude.{List, [], Some}
+use Rattle.tai_status.specs.Label.{Tai64n}
+use Rattle.scan_table.specs.Slots.{Row}
+use Rattle.scan_table.specs.Table.{new_table}
+use Rattle.svc_host.specs.declared.host.HostOut.{HostOut}
+use Rattle.svc_host.specs.Rounds.{HostState, IsScanned}
 use Rattle.svc_host.specs.Calls.{Call, MadePart, MadePair, KeptTrace, EndedPart, ForgotSlot, WatchedOutputs, EndedOutput}
 use Rattle.svc_host.specs.Calls.{AskedIsRead, CountedLost}
 use Rattle.host_tests.specs.declared.kept_calls.Asked.{Asked}
@@ -14,3 +20,8 @@ call_of asked.Watched = WatchedOutputs
 call_of (asked.EndedOutput slot at_once) = EndedOutput slot at_once
 call_of (asked.IsRead slot is_read) = AskedIsRead slot is_read
 call_of (asked.Lost slot has_logger count) = CountedLost slot has_logger count
+
+-- A host over a maker that had been asked nothing has scanned these rows once: its maker was asked what a scan asks.
+abbrev pub HasScannedOnce : List Row → Tai64n → HostState → Type 0
+HasScannedOnce rows label host =
+    (out : HostOut) × IsScanned (record { table = new_table 0; parts = []; calls = Some [] }) rows label out host

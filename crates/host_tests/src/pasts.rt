@@ -1,4 +1,7 @@
 //! What the maker of a host was asked, beside the parts that are there.
+ghost use Rattle.std.specs.Prelude.{◌≡◌, [], Some, IfSome};
+ghost use Rattle.host_tests.specs.Kept.{HasScannedOnce};
+
 use crate::cast::Cast;
 use crate::kept_calls::Asked;
 use crate::kept_maker::KeptMaker;
@@ -13,14 +16,18 @@ use svc_host::Host;
 use svc_left::Opening;
 use tai_status::Label;
 
-/// A host over a maker that keeps its calls, after its first scan.
+/// A host over a maker that keeps its calls, after its first scan: the maker was asked what the written rules of a scan
+/// ask, from its first call on.
 fn scanned_once<R: Threads + Wait + Clock + Copy + Drop + Send + 'static>(
     rt: R,
     alloc: Global,
     maker: KeptMaker,
     rows: &[DirRow],
     label: Label,
-) -> Option<Host<KeptMaker, R>> {
+) -> Option<Host<KeptMaker, R>>
+    requires { maker.calls ≡ Some [] }
+    ensures { IfSome result (HasScannedOnce rows.now label) }
+{
     let mut host = Host::new(rt, alloc, maker, 4, 16).ok()?;
     match host.scan(rows, label) {
         Ok(_out) => Some(host),
