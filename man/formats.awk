@@ -2,14 +2,14 @@
 # tables, blocks of code, links to other pages, and text in back quotes. With a variable `page` it prints that page instead, and
 # in place of a line `.\" faults of COMMAND..` the rows of `Faults and statuses` for these commands.
 
-# What a piece of text is for mdoc: no escapes and no control lines of its own.
+# A text for mdoc, without escapes and control lines of its own.
 function plain(text) {
   gsub(/\\/, "\\e", text)
   if (text ~ /^['.]/) text = "\\\&" text
   return text
 }
 
-# A text whose pieces in back quotes are bold, and whose links are their words.
+# A text with bold pieces for those in back quotes, and links as their words.
 function shown(text,    out, pieces, count, at) {
   gsub(/\]\([^)]*\)/, "", text)
   gsub(/\[/, "", text)
@@ -44,7 +44,7 @@ function end_table() {
   in_list = 0
 }
 
-# The cells of a row. A bar in back quotes is none between cells.
+# The cells of a row.
 function row(line,    cells, count, at, text) {
   sub(/^\| */, "", line)
   sub(/ *\|$/, "", line)
@@ -57,7 +57,7 @@ function row(line,    cells, count, at, text) {
   if (text != "") say(shown(text))
 }
 
-# Prints a meaning, each sentence on a line of its own, the first letter of it large, with a full stop at the end.
+# Prints a meaning as sentences.
 function say_meaning(text,    at) {
   if (text !~ /^svscan/) sub(/^./, toupper(substr(text, 1, 1)), text)
   if (text !~ /\.$/) text = text "."
