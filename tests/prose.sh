@@ -1,11 +1,13 @@
 #!/usr/bin/env bash
 # The documents are in plain English: no sentence has more than 35 words, no paragraph and no item of a list more than six lines,
-# and the words of the list below are not used. It looks at README, docs, the manual, the crates' pages and the other pages of
-# Markdown that are there (an installed tarball has fewer). Takes the program that the first word names.
+# and the words of the list below are not used. It looks at README and the other pages next to it, docs, the manual, the crates'
+# pages, and README of tests, bench, contrib and packaging, as far as they are there (an installed tarball has fewer). Takes the
+# program that the first word names.
 #
-# What is a sentence: text from a beginning of a paragraph or of an item to its first `.`, `!` or `?` before a blank or the end.
-# Text in backquotes, and a list of such texts, counts as one word. A word without a letter or digit counts as none. No sentences are headings, tables,
-# blocks of code, and the parts NAME, SYNOPSIS and SEE ALSO of a manual page. The words of the list are sought in tables too.
+# A sentence goes from the beginning of a paragraph or of an item, or from the end of a sentence, to the first `.`, `!` or `?`
+# before a blank or the end. Text in backquotes, and a list of such texts, counts as one word. A word without a letter or digit
+# counts as none. Headings, tables, blocks of code, and the parts NAME, SYNOPSIS and SEE ALSO of a manual page have no sentences.
+# The words of the list are sought in tables too.
 # gate: 2 seconds, needs python3
 top=$(realpath "$(dirname "$0")/..")
 . "$top/tests/checks.sh" "$1"
@@ -45,4 +47,20 @@ for page in "${pages[@]}"; do
   is "$page" 0 "$(grep -c "^$page:" "$room/found")"
 done
 cat "$room/found"
+
+# What it finds: a sentence of 36 words and none of 35, seven lines and not six, a word of the list, in a table too, and nothing in
+# code; and the same in a manual page.
+cd "$room" || exit 1
+words() { seq -s ' ' "$1" | sed 's/[0-9]*/a&/g'; }
+# found FILE: the faults of a page, without their texts
+found() { python3 -B "$top/tests/prose.py" words "$1" | sed -E 's/^[^:]*:([0-9]+): (`[^`]*`|[0-9]+ [a-z]+).*/\1 \2/'; }
+{
+  printf '# So it stands\n\n%s. %s.\n\n' "$(words 36)" "$(words 35)"
+  printf 'one\n%.0s' 1 2 3 4 5 6; echo
+  printf 'one\n%.0s' 1 2 3 4 5 6 7; echo
+  printf 'It stands for it. So be it. `So it stands.`\n\n```\nSo it stands\n```\n\n| a | behind |\n|---|---|\n'
+} >page.md
+is 'a page' $'3 36 words\n12 7 lines\n20 `So`\n26 `behind`' "$(found page.md)"
+printf '.Sh NAME\nSo it stands\n.Sh DESCRIPTION\nIt is\n.Ql behind ,\nbehind it.\nSo\n.Bd -literal\nSo it stands\n.Ed\n.Pp\n%s,\n.Ar a .\n' "$(words 35)" >page.8
+is 'a manual page' $'4 `behind`\n4 `So`\n12 36 words' "$(found page.8)"
 counts prose
