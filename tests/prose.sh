@@ -15,18 +15,18 @@ trap 'rm -rf "$room"' EXIT
 
 # Each word not to use (a pattern of Python; `^` is the beginning of a sentence); the word to use; where it is right (a pattern).
 cat >words <<'END'
-\bstands?\b|\bstood\b; is, are, was; stands? for
-\banswer(s|ed)?\b(?= (with|for|to|by|at)\b)|\b(it|supervisor|nobody|that|one|system|socket|mailbox) answers?\b|\bis answered\b; returns, prints, responds; [Tt]he answer (to|with)|answer to (a|the) start
+\bstands?\b|\bstood\b; is, are, was; stands? (for|in for)
+\banswer(s|ed)?\b(?= (with|for|to|by|at)\b)|\b(it|supervisor|nobody|that|one|system|socket|mailbox) answers?\b|\bis answered\b; returns, prints, responds; [Tt]he answer to
 \bbehind\b; after, next to; behind a proxy
 \bbeside\b; next to, with;
-\bends? with\b; exits; ends? with (a star|its newline|the process|\d+ after)
+\bends? with\b; exits; ends? with a star
 \bof (which|whom|whose)\b; that, whose, from which;
 \b(for )?(a )?want of\b; lack of, out of memory;
-^So\b; therefore, or begin with the subject; So far
+^So\b; therefore, or begin with the subject;
 ^Else\b|, else\b; otherwise;
 ^Of (?!course); begin with the subject;
-\b(it|which|what|that|who|page|record|table|file|line) tells?\b; says, shows; [Nn]ote tells|by what it tells
-\bwhere\b; if, when, in which; [Ww]here to (change|look)|[Ww]here it (is|runs|goes)|place where|say where|no matter where|in the order|where packages? put|says where
+\b(it|which|what|that|who|page|record|table|file|line) tells?\b; says, shows; [Nn]ote tells
+\bwhere\b; if, when, in which; says? where
 \blawful\b; valid;
 \bwhereof\b|\bthereof\b|\btherein\b|\bthereby\b|\bhereby\b|\bwhence\b|\bhence\b; say it anew;
 \bparted by\b|\bdoes not part\b; separated, distinguish;
