@@ -1,5 +1,5 @@
 # try: builds nothing that stays and proves nothing; runs the worked scripts on the program, in a minute.
-# build: stamps the program with the sum of its sources, proves the crates that it stands on, as many side by side as there are
+# build: stamps the program with the sum of its sources, proves the crates that it uses, as many side by side as there are
 # processors, and builds it.
 # test: the gate.
 # check: runs the worked scripts and the scripts of tests/ on PROGRAM, which needs neither the kit nor a compiler.
@@ -16,7 +16,7 @@ NAMES ?=
 JOBS ?=
 PROGRAM ?= crates/dtools/out/dtools
 COMMANDS = svscan svc svstat svok svwait tai64n tai64nlocal readproctitle
-# Scripts that stand in a place of their own: multilog and envdir over the program, the others over tools of the system.
+# Scripts with a text of their own: multilog and envdir over the program, the others over tools of the system.
 SCRIPTS = multilog envdir setuidgid envuidgid softlimit setlock pgrphack fghack
 # Scripts that no other suite has a name of.
 OWN_SCRIPTS = svscan-run svscan-stop dtools-service
@@ -28,7 +28,7 @@ MANUAL = $(DESTDIR)$(PREFIX)/share/man
 UNITS ?= $(PREFIX)/lib/systemd/system
 SERVICES ?= /etc/dtools/service
 PAGES = $(notdir $(wildcard man/*.[1-8])) dtools-formats.5
-# The folders in which wrappers stand.
+# The folders of the wrappers.
 PLACES = $(WRAPPERS) $(if $(filter 1,$(NAMES)),$(BIN))
 # The tools of the system that scripts run, each as an edit of its path.
 USED = env flock getent nice prlimit setpriv setsid sleep
@@ -80,7 +80,7 @@ install:
 	  contrib/dtools.service >$(DESTDIR)$(UNITS)/dtools.service
 	chmod 644 $(DESTDIR)$(UNITS)/dtools.service
 	for page in $(PAGES); do \
-	  if [ -e man/$$page ]; then cat man/$$page; else awk -f man/formats.awk docs/FORMATS.md; fi | \
+	  from=$$(ls man/$$page 2>/dev/null); awk -v page="$$from" -f man/formats.awk docs/FORMATS.md | \
 	    sed 's|/usr/lib/dtools|$(PREFIX)/lib/dtools|; s|/etc/dtools/service|$(SERVICES)|' | \
 	    gzip -9n >$(MANUAL)/man$${page##*.}/$$page.gz; \
 	done

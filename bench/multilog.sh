@@ -1,9 +1,9 @@
 #!/usr/bin/env bash
-# Feeds 100 MB to `dtools multilog` over folders on a tmpfs, on one core, beside the loggers of daemontools, runit and s6,
-# and beside a program that only makes the same system calls and does none of the work (multilog.c). The programs take
+# Feeds 100 MB to `dtools multilog` over folders on a tmpfs, on one core, next to the loggers of daemontools, runit and s6,
+# and next to a program that only makes the same system calls and does none of the work (multilog.c). The programs take
 # turns; of five times the best counts. Then: how long one line takes from a pipe to `current`.
 #   multilog.sh [PROGRAM [MEGABYTES [ROW]]]    the rows are those whose names hold ROW
-# Peers that are missing are installed (apt-get) where that can be done, else passed over. Build the program first: make
+# Peers that are missing are installed (apt-get) if that can be done, otherwise skipped. Build the program first: make
 # build.
 set -euo pipefail
 here=$(cd "$(dirname "$0")" && pwd)

@@ -9,7 +9,7 @@ program=$PWD/crates/dtools/out/dtools
 folder=$(mktemp -d)
 trap 'rm -rf "$folder"' EXIT
 
-# A scan that finds so many pairs, and, where events are wanted, each service started and up, and then the events.
+# A scan that finds so many pairs, and, if events are wanted, each service started and up, and then the events.
 lines() { # pairs, scans, events
   awk -v pairs="$1" -v scans="$2" -v events="$3" 'BEGIN {
     row = ""

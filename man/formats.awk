@@ -1,14 +1,15 @@
-# Makes the manual page dtools-formats(5) of docs/FORMATS.md. Knows of Markdown what stands there: headings, paragraphs,
-# tables, blocks of code, links to other pages, and text in back quotes.
+# Makes the manual page dtools-formats(5) of docs/FORMATS.md. Knows of Markdown what is there: headings, paragraphs, lists,
+# tables, blocks of code, links to other pages, and text in back quotes. With a variable `page` it prints that page instead, and
+# in place of a line `.\" faults of COMMAND..` the rows of `Faults and statuses` for these commands.
 
-# What a piece of text is for mdoc: no escapes and no control lines of its own.
+# A text for mdoc, without escapes and control lines of its own.
 function plain(text) {
   gsub(/\\/, "\\e", text)
   if (text ~ /^['.]/) text = "\\\&" text
   return text
 }
 
-# A text whose pieces in back quotes are bold, and whose links are their words.
+# A text with bold pieces for those in back quotes, and links as their words.
 function shown(text,    out, pieces, count, at) {
   gsub(/\]\([^)]*\)/, "", text)
   gsub(/\[/, "", text)
@@ -38,11 +39,12 @@ function text_line(text) {
 }
 
 function end_table() {
-  if (in_table) print ".El"
+  if (in_table || in_list) print ".El"
   in_table = 0
+  in_list = 0
 }
 
-# The cells of a row. A bar in back quotes is none between cells.
+# The cells of a row.
 function row(line,    cells, count, at, text) {
   sub(/^\| */, "", line)
   sub(/ *\|$/, "", line)
@@ -55,7 +57,59 @@ function row(line,    cells, count, at, text) {
   if (text != "") say(shown(text))
 }
 
-BEGIN {
+# Prints a meaning as sentences.
+function say_meaning(text,    at) {
+  if (text !~ /^svscan/) sub(/^./, toupper(substr(text, 1, 1)), text)
+  if (text !~ /\.$/) text = text "."
+  while (match(text, /[.] +[A-Z`]/)) {
+    print shown(substr(text, 1, RSTART))
+    text = substr(text, RSTART + 1)
+    sub(/^ +/, "", text)
+  }
+  print shown(text)
+}
+
+# The rows of a command.
+function rows(command, shown_as,    number, cells, lines, count, at) {
+  for (number = 1; number <= all; number++) {
+    split(of[number], cells, / *\| */)
+    if ((", " cells[1] ",") !~ (", " command ",")) continue
+    if (shown_as != "any") gsub(/COMMAND/, shown_as, cells[2])
+    count = split(cells[2], lines, "`")
+    for (at = 2; at <= count; at += 2) {
+      gsub(/\\/, "\\e", lines[at])
+      print ".It \"" lines[at] "\""
+    }
+    say_meaning(cells[3])
+    if (cells[4] ~ /^[0-9]+$/) print "Exit status " cells[4] "."
+    else if (cells[4] !~ /^-/) say_meaning("exit status " cells[4])
+  }
+}
+
+# The page, with these rows.
+function print_page(    line, words, count, at) {
+  while ((getline line <page) > 0) {
+    if (line !~ /^\.\\" faults of /) {
+      print line
+      continue
+    }
+    print ".Bl -diag"
+    count = split(line, words, " ")
+    for (at = 4; at <= count; at++) rows(words[at], words[at] == "any" ? words[4] : words[at])
+    print ".El"
+  }
+}
+
+page != "" {
+  if (/^## /) in_part = /^## Faults/
+  if (in_part && /^\|/ && !/^\|[-|]*$/ && !/^\| command /) {
+    sub(/^\| */, "")
+    sub(/ *\|$/, "")
+    of[++all] = $0
+  }
+  next
+}
+page == "" && NR == 1 {
   print ".Dd November 25, 2026"
   print ".Dt DTOOLS-FORMATS 5"
   print ".Os"
@@ -93,7 +147,17 @@ in_code { print plain($0); next }
   row($0)
   next
 }
-/^$/ { if (in_table) end_table(); is_open = 1; next }
+/^$/ { end_table(); is_open = 1; next }
+/^- / {
+  if (!in_list) print ".Bl -bullet"
+  in_list = 1
+  is_open = 0
+  is_first = 0
+  print ".It"
+  say(shown(substr($0, 3)))
+  next
+}
+in_list && /^  / { say(shown(substr($0, 3))); next }
 {
   if (is_open && !is_first) print ".Pp"
   is_open = 0
@@ -101,6 +165,10 @@ in_code { print plain($0); next }
   say(shown($0))
 }
 END {
+  if (page != "") {
+    print_page()
+    exit
+  }
   end_table()
   print ".Sh SEE ALSO"
   print ".Xr dtools 1 ,"

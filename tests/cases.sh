@@ -1,7 +1,7 @@
 #!/usr/bin/env bash
 # Runs the worked scripts in tests/cases on the program that the first word names, without the kit: NAME is a case's
 # standard input, or the file that the word {} stands for, NAME.args its words, one a line, NAME.stdout what it must print.
-# What it prints, reports and ends with is compared with tests/cases.expected.
+# What it prints, reports and exits with is compared with tests/cases.expected.
 # gate: 15 seconds
 here=$(realpath "$(dirname "$0")")
 . "$here/checks.sh" "$1"
@@ -28,7 +28,7 @@ run_case() {
 for file in "$here"/cases/*.args; do
   name=$(basename "$file" .args)
   run_case "$name" >got
-  # The lines of this case: all from the one behind the case before it.
+  # The lines of this case: all from the one after the case before it.
   awk -v name="$name" '{ block = block $0 "\n" } /^case=/ { if ($1 == "case=" name) printf "%s", block; block = "" }' \
     "$here/cases.expected" >wanted
   is "$name" "$(cat wanted)" "$(cat got)"

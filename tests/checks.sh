@@ -1,4 +1,4 @@
-# What the scripts in this folder share. Each sources it with the program's path, and stands then in an empty folder of its
+# What the scripts in this folder share. Each sources it with the program's path, and is then in an empty folder of its
 # own, `room`, which it takes away as it leaves.
 set -u
 program=$(realpath "$1")
@@ -8,7 +8,7 @@ umask 022
 checked=0
 failed=0
 
-# is NAME WANTED GOT: counts a check, and prints it where it fails, behind its scenario where there is one
+# is NAME WANTED GOT: counts a check, and prints it if it fails, after its scenario if there is one
 is() {
   checked=$((checked + 1))
   [ "$2" = "$3" ] && return
@@ -26,7 +26,7 @@ kill_group() {
   kill -KILL -- "-$1" 2>/dev/null
 }
 
-# counts NAME: how many checks there were, and how many failed; fails where one did
+# counts NAME: how many checks there were, and how many failed; fails if one did
 counts() {
   echo "$1: $checked checks, $failed failed"
   [ "$failed" = 0 ]

@@ -1,12 +1,12 @@
 #!/usr/bin/env bash
 # The rules of multilog's page in numbers, whatever the devices give: reads of 1, 7, 1000 and 4096 bytes, writes of three, a
-# write that takes nothing or fails, a clock that stands. And what sim, tai64n, readproctitle and trace leave where they are
+# write that takes nothing or fails, a clock that stops. And what sim, tai64n, readproctitle and trace leave if they are
 # interrupted, or a read or a write of theirs fails: each byte's write in turn. Runs the program that the first word names by
-# way of libraries between it and the system (devices.c, faults.c), where there is a C compiler. The wanted values are worked
+# way of libraries between it and the system (devices.c, faults.c), if there is a C compiler. The wanted values are worked
 # by hand.
 # gate: 20 seconds, needs cc
 tests=$(dirname "$(realpath "$0")")
-# A file system in memory, where there is one: multilog has its files written to the disk.
+# A file system in memory, if there is one: multilog has its files written to the disk.
 [ -w /dev/shm ] && export TMPDIR=/dev/shm
 . "$tests/checks.sh" "$1"
 trap 'rm -rf "$room"' EXIT

@@ -1,6 +1,6 @@
 #!/usr/bin/env bash
 # The scripts that end all services in order: svscan-run under a burst of signals, with its limit of open files, and svscan-stop,
-# with services that pass over TERM, and as systemd runs it. Runs on the program that the first word names.
+# with services that ignore TERM, and as systemd runs it. Runs on the program that the first word names.
 # gate: 30 seconds
 top=$(realpath "$(dirname "$0")/..")
 . "$top/tests/checks.sh" "$1"
@@ -75,7 +75,7 @@ limit_of() {
 is 'the limit of open files stays' 200 "$(limit_of 200)"
 is 'it is raised to what twice these services need' 128 "$(limit_of 50)"
 
-# svscan-stop: what passes over TERM is killed, its logger writes its last lines, and svscan ends.
+# svscan-stop: what ignores TERM is killed, its logger writes its last lines, and svscan ends.
 service d/stubborn <<'END'
 trap '' TERM
 exec 2>&1

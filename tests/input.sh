@@ -5,7 +5,7 @@
 # python3 says what must come, by the rules of docs/FORMATS.md.
 # gate: 20 seconds, needs python3
 tests=$(realpath "$(dirname "$0")")
-# A file system in memory, where there is one: this makes thirty thousand files.
+# A file system in memory, if there is one: this makes thirty thousand files.
 [ -w /dev/shm ] && export TMPDIR=/dev/shm
 . "$tests/checks.sh" "$1"
 leave() {
@@ -146,7 +146,7 @@ for row in '65535 UnknownEvent' '65536 UnknownEvent' '65537 Line' '200000 Line';
   is "a line of ${row% *} and its newline" "sim: line 1: ${row#* } 100" "$("$program" sim <line 2>&1) $?"
 done
 
-# A thousand services: one more is refused, at each scan; where one has ended it is begun anew, or goes and makes room.
+# A thousand services: one more is refused, at each scan; one that has ended restarts, or goes and makes room.
 # scan LABEL NAMES..: the line of a scan that finds directories of these names, each with a file down
 scan() {
   printf 'scan @%s00000000' "$1"
@@ -175,7 +175,7 @@ is 'a thousand services, one gone' "$(cat answers <(echo "scan: 1 started, 0 res
 2000.main.2001 took record:${then}000000000000000000640004 -> down"))" \
   "$({ cat thousand; scan $then d{0001..1000}; } | "$program" sim 2>&1)"
 
-# A byte a read, where a C compiler is.
+# A byte a read, if there is a C compiler.
 if command -v cc >/dev/null; then
   cc -O1 -shared -fPIC -o devices.so "$tests/devices.c" -ldl || exit 1
   scripts=0

@@ -60,7 +60,7 @@ is 'the tools of another folder' 'exec /tools/setsid "$@"' "$(tail -n 1 root/usr
 run_make uninstall SERVICES=/service TOOLS=/tools
 is 'uninstall of that' 'root/usr root/usr/local root/usr/local/bin' "$(find root -mindepth 1 | sort | xargs)"
 
-# With NAMES=1 the wrappers stand in PREFIX/bin too; one of another suite stays when they are taken away.
+# With NAMES=1 the wrappers are in PREFIX/bin too; one of another suite stays when they are taken away.
 run_make install NAMES=1
 is 'with names' "$(sorted "$own $(wrappers bin)")" "$(found)"
 echo other >root/usr/local/bin/svok

@@ -1,6 +1,6 @@
 #!/usr/bin/env bash
 # `tai64nlocal`: local times of several zones, hostile lines, lines in pieces, and a million lines. The wanted values
-# were written down from daemontools 0.76 (cr.yp.to/daemontools/tai64nlocal.html); where Debian's daemontools are
+# were written down from daemontools 0.76 (cr.yp.to/daemontools/tai64nlocal.html); if Debian's daemontools are
 # installed, also what their tai64nlocal makes. Then the times of `trace --local`, and which trace is meant.
 # gate: 20 seconds
 top=$(realpath "$(dirname "$0")/..")
@@ -53,7 +53,7 @@ is 'TZDIR' '2026-11-25 06:32:03.123456789' "$(echo "$noon" | TZDIR=$room/zones l
 printf 'no zone' >zones/Broken
 is 'a broken zone' '2026-11-25 01:02:03.123456789' "$(echo "$noon" | TZDIR=$room/zones localised Broken)"
 is 'a folder' '2026-11-25 01:02:03.123456789' "$(echo "$noon" | localised "$room/zones")"
-# Each growth of memory is refused in turn, where there is a C compiler: never is another zone shown, with status 0.
+# Each growth of memory is refused in turn, if there is a C compiler: never is another zone shown, with status 0.
 if command -v cc >/dev/null && cc -O1 -shared -fPIC -o faults.so "$top/tests/faults.c" -ldl 2>/dev/null; then
   for zone in Asia/Kolkata "$room/zones/Here" EST5EDT; do
     right=$(echo "$noon" | localised "$zone")
@@ -137,7 +137,7 @@ localised UTC </dev/null >out
 is 'no input: status' 0 "$?"
 is 'no input: printed' '' "$(cat out)"
 
-# Seconds of all these years, and a million lines, beside daemontools' where it is installed.
+# Seconds of all these years, and a million lines, next to daemontools' if it is installed.
 RANDOM=7
 for number in {1..10000}; do
   second=$(((RANDOM << 30 | RANDOM << 15 | RANDOM) % 255611203200 - 2208902400))

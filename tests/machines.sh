@@ -1,5 +1,5 @@
 #!/usr/bin/env bash
-# The files in contrib/ that watch many machines, beside the program that the first word names: dtools-metrics; and where they
+# The files in contrib/ that watch many machines, next to the program that the first word names: dtools-metrics; and if they
 # are installed promtool, systemd-analyze and rsyslogd, which here ships what multilog writes to another rsyslogd on loopback.
 # gate: 15 seconds
 top=$(realpath "$(dirname "$0")/..")

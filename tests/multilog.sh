@@ -1,6 +1,6 @@
 #!/usr/bin/env bash
 # What no contract can say of multilog: that the system's own folders are what the program takes them for. Runs the
-# program that the first word names over real folders, prints each check that fails, and ends with how many did not.
+# program that the first word names over real folders, prints each check that fails, and at the end how many failed.
 # The wanted values are those of the multilog page of daemontools and of docs/FORMATS.md.
 # gate: 45 seconds, needs python3
 calls=$(realpath "$(dirname "$0")/calls.c")
@@ -111,7 +111,7 @@ ended 'choices' 0 yxy ./choice1 '-*' ./choice2 '+*x*' ./choice3 e =choice4
 is 'choices: logs' 'yyy yxy||yxy' "$(xargs <choice1/current)|$(xargs <choice2/current)|$(xargs <choice3/current)"
 is 'choices: status file' yxy "$(head -n 1 choice4)"
 
-# Size and number of a log are those of the words before it: 99999 and 10 where there are none.
+# Size and number of a log are those of the words before it: 99999 and 10 if there are none.
 as 1103000 >in
 ended 'sizes' 0 '' ./size1 s04096 n5 ./size2
 is 'sizes: none' '9 99999 3012' "$(olds size1) $(stat -c %s size1/@* | sort -u) $(size size1/current)"
@@ -141,7 +141,7 @@ head -c 201 /dev/zero | tr '\0' x >in
 ended 'an alert' 0 "$(head -c 200 /dev/zero | tr '\0' x)" e
 ended 'a status that has no folder' 111 'multilog: Store: unable to write nosuch/st: No such file or directory' =nosuch/st
 
-# Where a file is full.
+# When a file is full.
 as 2094 >in
 ended 'not full' 0 '' s4096 n2 ./edge
 is 'not full' '2095 0' "$(size edge/current) $(olds edge)"
@@ -242,7 +242,7 @@ is 'killed: lines were written' true "$([ "$(size seen)" -gt 10000 ] && echo tru
 : >in
 ended 'killed: started again' 0 '' s4096 n100000 ./killed
 
-# A limit on the size of a file, and a full disk: what stands is a front of the input.
+# A limit on the size of a file, and a full disk: what is there is a front of the input.
 yes 'a line of text' | head -n 200000 >in
 (
   trap '' XFSZ
@@ -262,9 +262,9 @@ if mount -t tmpfs -o size=64k none small 2>/dev/null; then
   is 'a full disk: a front' 0 "$?"
 fi
 
-# The calls in their order, which a library between the program and the system notes (calls.c), where there is a compiler.
+# The calls in their order, which a library between the program and the system notes (calls.c), if there is a compiler.
 # A log that is finished is written, then safe on the disk, and only then has its new name; no file that is there is written
-# over by that. A status file is made anew beside the old one, and takes its place whole.
+# over by that. A status file is made anew next to the old one, and takes its place whole.
 if command -v cc >/dev/null && cc -shared -fPIC -o calls.so "$calls" -ldl 2>/dev/null; then
   for number in {1..400}; do echo "line $number of the log, which has some more words"; done >in
   CALLS=noted LD_PRELOAD=./calls.so timeout 20 "$program" multilog s4096 n2 ./noting '-*' '+*9 of*' =noted.status <in 2>reported
@@ -285,7 +285,7 @@ if command -v cc >/dev/null && cc -shared -fPIC -o calls.so "$calls" -ldl 2>/dev
   is 'calls: it is not written over' kept "$(cat ./held/@*.s)"
   is 'calls: no log is renamed' '' "$(grep '^rename' again)"
 fi
-# The installed multilog: at TERM the line in hand is read to its end and written, and what is behind it stays in the pipe.
+# The installed multilog: at TERM the line in hand is read to its end and written, and what is after it stays in the pipe.
 # started FOLDER PIPE: starts the wrapper, and waits until the logger has its lock; `shell` and `logger` are their numbers
 started() {
   "$wrapper" n100000 "$1" <"$2" 6>&- 7>&- &
@@ -349,7 +349,7 @@ is 'the status is that of the logger' '100 multilog: word 1: SizeRange' "$? $(ca
 DTOOLS=$room/none "$wrapper" ./halves <in 2>reported
 is 'no program: status' 111 "$?"
 
-# ALRM: what is in current becomes an old file, at once where its last line is whole, or else behind that line's
+# ALRM: what is in current becomes an old file, at once if its last line is whole, or else after that line's
 # newline.
 # olds_hold FOLDER: the old files in the order of their names, as words
 olds_hold() { cat "$1/"@* 2>/dev/null | xargs; }
@@ -412,8 +412,8 @@ is 'three ALRMs in a flow: files that end within a line' 0 \
   "$(for f in turns/@*; do tail -c 1 "$f" | tr -d '\n'; done | wc -c)"
 
 # By the channel alone: a byte `a` is a rotation, the end is a stop. Each log by itself: an empty one is left alone, the
-# number of old files is kept, and the label is past the greatest one, where there is one.
-# heard WORDS SCRIPT..: multilog over no input and a channel in which these bytes stand, and then its end
+# number of old files is kept, and the label is past the greatest one, if there is one.
+# heard WORDS SCRIPT..: multilog over no input and a channel in which these bytes are, and then its end
 heard() {
   local words=$1
   shift
@@ -441,7 +441,7 @@ printf 'x\n' >by/four/current
 heard aaa ./by/four
 is 'three rotations, one line' '0 1' "$? $(olds by/four)"
 
-# 40 TERMs in a flow of lines: each is in the log once, and in order, and each logger ends with 0.
+# 40 TERMs in a flow of lines: each is in the log once, and in order, and each logger exits 0.
 # asked_40_times NAME COUNT PAUSE: lines with numbers up to COUNT, each after a pause of so many seconds
 asked_40_times() {
   local turn ends=0
@@ -472,7 +472,7 @@ asked_40_times 1 6000000 0
 asked_40_times 2 2500 0.001
 asked_40_times 3 150 0.02
 
-# The channel is the pipe that the environment names; where it names none there is none, and TERM ends the program.
+# The channel is the pipe that the environment names; if it names none there is none, and TERM ends the program.
 echo x >in
 for channel in x '' 0 2 9 -1 4294967299; do
   DTOOLS_STOP_FD=$channel timeout 20 "$program" multilog ./named <in 3>&- 9>&-
@@ -483,7 +483,7 @@ is 'a channel that is not open' 0 "$?"
 DTOOLS_STOP_FD=3 timeout 20 "$program" multilog ./named <in 3</dev/null
 is 'a channel that is no pipe' 0 "$?"
 is 'no channel: all is read' 9 "$(wc -l <named/current)"
-# The word stands in the channel before the program begins, which looks at it first.
+# The word is in the channel before the program begins, which looks at it first.
 printf x >word
 : >end
 for word in word end; do
@@ -496,7 +496,7 @@ done
 is 'another command has no channel' 1 "$(DTOOLS_STOP_FD=3 timeout 20 "$program" tai64n <in 3< <(:) | wc -l)"
 
 # Stamps: the clock is read once a read, and lines that were read together differ by a nanosecond each; so they rise, also
-# where the clock goes back.
+# if the clock goes back.
 # nanos LINE: the time of a stamp in nanoseconds of Unix time, and ten seconds
 nanos() {
   local label=${1:1:24}

@@ -2,7 +2,7 @@
 # The package in fresh Debians under a real systemd: `nspawn.sh PROGRAM [FOLDER [SUITE..]]` makes the package of the program,
 # boots a tree of each suite (bookworm and trixie if none is named) by systemd-nspawn, and has it installed there by the
 # lines of the README. Then: svscan is killed, ends by `svc -q`, is upgraded, is killed six times in a row, and the services
-# keep their processes; `systemctl stop` leaves none, nor does it of one that passes over TERM; restart, reload, poweroff.
+# keep their processes; `systemctl stop` leaves none, nor does it of one that ignores TERM; restart, reload, poweroff.
 # It needs root, debootstrap with a network, and some minutes, so it is no part of all.sh. The trees stay in FOLDER, which is
 # /var/tmp/dtools-trees, for the next run. What cannot run here is skipped by name.
 top=$(realpath "$(dirname "$0")/..")
@@ -117,7 +117,7 @@ checks() {
   is 'stop: all have ended' '' "$(living $old)"
   is 'stop: the last words are logged' goodbye "$(tail -n 1 "$folder/web/log/main/current" | cut -d ' ' -f 2-)"
   is 'stop: the unit is inactive' inactive "$(state ActiveState)"
-  # One that passes over TERM: the wait for it is made short.
+  # One that ignores TERM: the wait for it is made short.
   mkdir -p /etc/systemd/system/dtools.service.d
   printf '[Service]\nExecStop=\nExecStop=/usr/lib/dtools/bin/svscan-stop %s 3\n' "$folder" >/etc/systemd/system/dtools.service.d/short.conf
   rm "$folder/stubborn/down"
@@ -135,7 +135,7 @@ checks() {
   is 'it goes' 0 "$?"
   is 'it leaves no link that dangles' '' "$(find /etc/systemd /usr/share/bash-completion -xtype l 2>/dev/null)"
 
-  # The names in /usr/bin, on request only, beside daemontools.
+  # The names in /usr/bin, on request only, next to daemontools.
   dpkg -i after.deb
   own=$(sha256sum </usr/bin/svstat)
   /usr/lib/dtools/dtools-names --add

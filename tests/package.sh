@@ -1,8 +1,8 @@
 #!/usr/bin/env bash
 # What the package does on a system: it is installed, used by the README's first minute, upgraded while services run, refuses
 # to go while they run, and leaves nothing. Makes it of the program that the first word names, and installs it into a copy of
-# this machine's own system, which an overlay makes, or with the word `debootstrap` into a fresh Debian 12. Needs root, and
-# runs where a package can't be made or installed only what it can.
+# this machine's own system, which an overlay makes, or with the word `debootstrap` into a fresh Debian 12. Needs root. If
+# a package can't be made or installed, it runs only what it can.
 # gate: 50 seconds, needs dpkg-deb strip
 top=$(realpath "$(dirname "$0")/..")
 . "$top/tests/checks.sh" "$1"
@@ -39,7 +39,7 @@ fi
 # The package before this one.
 packaging/build "$program" "$room/before" 1.9.9
 
-# What is done inside the copy. The README's first minute is typed as it stands there.
+# What is done inside the copy. The README's first minute is typed as it is there.
 awk '/^## /{ in_it = /one minute/ } in_it && /^```sh$/ { shows = 1; next } /^```/ { shows = 0 } in_it && shows' "$top/README.md" >minute
 is 'the README has a first minute' yes "$(grep -q svscan-run minute && echo yes)"
 cat >inside <<'END'

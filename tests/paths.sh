@@ -7,6 +7,7 @@ top=$(realpath "$(dirname "$0")/..")
 . "$top/tests/checks.sh" "$1"
 trap 'rm -rf "$room"' EXIT
 cd "$top" || exit 1
+[ -d crates ] || { echo 'paths: skipped, the sources are not here'; exit 0; }
 
 # rows: the lines of the table, each one's words in backquotes
 rows=0

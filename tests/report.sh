@@ -1,7 +1,7 @@
 #!/usr/bin/env bash
 # What `svstat --json` and `svstat --metrics` write, over folders that are made here: status records of given bytes, files of
 # counts, names of any bytes, sockets at which python3 listens, and a service that a real svscan keeps. Runs the program that
-# the first word names. python3's own reader reads the lines of JSON, and a small one here the metrics, beside promtool where
+# the first word names. python3's own reader reads the lines of JSON, and a small one here the metrics, next to promtool if
 # that is installed; what they must then hold is written down from docs/FORMATS.md.
 # gate: 15 seconds, needs python3
 . "$(dirname "$0")/checks.sh" "$1"
@@ -34,8 +34,8 @@ while True:
 # bytes DIGITS: the bytes of these hexadecimal digits
 bytes() { printf "$(printf '%s' "$1" | sed 's/../\\x&/g')"; }
 
-# members FIRST LAST FOLDERS..: of each line that comes the members in their order, where the first is the folder's path. The
-# seconds since the first second of 2001 are S, where the clock stood between these two.
+# members FIRST LAST FOLDERS..: of each line that comes the members in their order, the first being the folder's path. The
+# seconds since the first second of 2001 are S, if the clock was between these two.
 cat >members.py <<'END'
 import json, sys
 first, last, folders = int(sys.argv[1]), int(sys.argv[2]), sys.argv[3:]
@@ -66,7 +66,7 @@ object() {
   is "$name" "$wanted" "$(python3 members.py "$before" "$(date +%s)" "$@" <out 2>&1)"
 }
 
-# record NAME DIGITS WANTED: what is said of s where its status has these bytes
+# record NAME DIGITS WANTED: what is said of s if its status has these bytes
 label=400000003a4fc88a00000000
 record() {
   bytes "$2" >s/supervise/status
@@ -123,7 +123,7 @@ if [ "$(id -u)" = 0 ] && command -v setpriv >/dev/null; then
 fi
 
 # samples FIRST LAST FOLDERS..: the samples that come, each as its metric, the folder's place and its value, with seconds as
-# above. It reads the text by its own rules: help and type once, before the samples of their metric, which stand together.
+# above. It reads the text by its own rules: help and type once, before the samples of their metric, which come together.
 cat >samples.py <<'END'
 import re, sys
 first, last, folders = int(sys.argv[1]), int(sys.argv[2]), sys.argv[3:]
@@ -168,13 +168,13 @@ metrics() {
   fi
 }
 
-# phases NAME: the samples of a service's phase, where it stands in this one
+# phases NAME: the samples of a service's phase, if it is in this one
 phases() {
   local phase
   for phase in starting settling up down resting gone; do echo "phase[$phase] 0 $([ "$phase" = "$1" ] && echo 1 || echo 0)"; done
 }
 
-# measured NAME DIGITS UP PHASE WANTED PAUSED SECONDS: the samples of s where its status has these bytes
+# measured NAME DIGITS UP PHASE WANTED PAUSED SECONDS: the samples of s if its status has these bytes
 measured() {
   bytes "$2" >s/supervise/status
   metrics "metrics: $1" "supervised 0 1
@@ -235,7 +235,7 @@ bytes "${label}671200000078" >s/supervise/status
 metrics 'counts beside a bad record' 'supervised 0 1' s
 rm s/supervise/status s/supervise/counts
 
-# Names of any bytes: of each what is said where nobody is there, and where its record is read.
+# Names of any bytes: what is said of each when nobody is there, and when its record is read.
 up='up=true pid=4711 seconds="S" phase="up" want="up" paused=false normally="up" exiting=false'
 names=('a b' '"' '\' '\"' "'" '{"path":"x"}' $'a\nb' $'\n' $'\t\r\b\f' $'\x01\x1f\x7f' '\u0041' '--json' '-x' 'grün' '日本' '🦀'
   $'\xe2\x80\xa8' "$(printf 'n%.0s' $(seq 255))" "$(printf '"%.0s' $(seq 255))" "$(printf '\\%.0s' $(seq 255))"
@@ -255,7 +255,7 @@ for name in "${names[@]}"; do
   printf '%s %s\n' $((place + 1)) $place >"./$name/supervise/counts"
   place=$((place + 1))
 done
-# each METRIC [VALUE]: that sample of each name; where no value is given it is one more than the place of the name
+# each METRIC [VALUE]: that sample of each name; if no value is given it is one more than the place of the name
 each() { for place in "${!names[@]}"; do echo "$1 $place ${2-$((place + 1))}"; done; }
 metrics 'metrics: all names' "$(
   each supervised 1

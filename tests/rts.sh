@@ -119,7 +119,7 @@ unset input TZ
 
 # multilog: what is selected, in which log; a size; the alert; the status file.
 printf 'abc\nabd\nxyz\n\nlast' >lines
-# logged BIN SCRIPT..: the lines of ./log/current, and what it ends with
+# logged BIN SCRIPT..: the lines of ./log/current, and its status
 logged() {
   rm -rf log
   "$@" <lines >out 2>err

@@ -1,7 +1,7 @@
 #!/usr/bin/env bash
 # What no contract can say of svscan: that real services in real folders are started, kept, reported, logged and ended. Runs
 # the program that the first word names over folders of its own, a scenario for each matter and all side by side, prints
-# each check that fails, and ends with how many did not. Further words are the scenarios that are wanted, where not all
+# each check that fails, and at the end how many failed. Further words are the scenarios that are wanted, if not all
 # are. The wanted values are those of the daemontools pages and of docs/FORMATS.md. It needs python3, for clients that
 # send what svc never does.
 # gate: 100 seconds, needs python3
@@ -11,7 +11,7 @@ export LC_ALL=C
 under=()
 
 # Kills what the svscans of a scenario started: each of them with its services is a process group, and so is a scenario.
-# The numbers of the groups stand in a file.
+# The numbers of the groups are in a file.
 kill_groups() {
   local group
   while read -r group; do kill_group "$group"; done <"$1"
@@ -87,7 +87,7 @@ start() {
   echo "$svscan" >>"$room/$scenario.groups"
 }
 
-# start_session REPORTED WORDS..: the same in a session of its own, as a service manager does. Where svscan is a job of a shell,
+# start_session REPORTED WORDS..: the same in a session of its own, as a service manager does. If svscan is a job of a shell,
 # and is killed while a service is paused, the kernel sends HUP to all of its group.
 start_session() {
   local reported=$1
@@ -99,7 +99,7 @@ start_session() {
 }
 
 # service FOLDER: makes a service, whose run is a script of sh from standard input. The folder appears with all it has:
-# svscan passes over names that begin with a dot.
+# svscan ignores names that begin with a dot.
 service() {
   local made
   made=$(dirname "$1")/.made
@@ -294,7 +294,7 @@ counts_are() { [ "$(cat "$2/supervise/counts" 2>/dev/null)" = "$1" ]; }
 
 # as many processes ended as began
 counts_are_even() { grep -qE '^([0-9]+) \1$' "$1/supervise/counts"; }
-# it was wanted once, and is down: a record without a process stands between two lives, too
+# it was wanted once, and is down: a record without a process is between two lives, too
 has_run_once() { wants o "$1" && [ "$(phase "$1")" = '0 4' ]; }
 # its file exit speaks of the process that noted its number in pid
 ended_last() { [ "$(cat "$1/pid")" = "$(cut -d ' ' -f 1 "$1/supervise/exit")" ]; }
@@ -421,7 +421,7 @@ links() {
   is 'nothing was reported' '' "$(cat reported reported.out)"
 }
 
-# A service that passes over TERM.
+# A service that ignores TERM.
 stubborn() {
   service d/web <<'END'
 trap '' TERM
@@ -532,7 +532,7 @@ ends_with() {
 }
 
 # What a killed logger had read and not written may be missing: at most one block of 32,768 bytes a kill, and one line a
-# kill may be torn by that. No line stands twice or before an earlier one.
+# kill may be torn by that. No line comes twice or before an earlier one.
 cat >stream.py <<'END'
 import re, sys
 kills = int(sys.argv[2])
@@ -647,7 +647,7 @@ END
   is 'nothing was reported' '' "$(cat reported1 reported2 reported3)"
 }
 
-# Where svscan has no descriptor left the kernel can't be asked of a process that it adopted: that lives on, and is not
+# If svscan has no descriptor left the kernel can't be asked of a process that it adopted: that lives on, and is not
 # started a second time. What ends meanwhile is found once there are descriptors again.
 starved() {
   local web hard
@@ -789,7 +789,7 @@ new_boot() {
   kill -KILL "$other"
 }
 
-# Where the folder of a process can't be looked into, it is adopted all the same.
+# If the folder of a process can't be looked into, it is adopted all the same.
 other_user() {
   setpriv --bounding-set -sys_ptrace --inh-caps -sys_ptrace true 2>/dev/null || return
   service d/web <<'END'
@@ -1346,7 +1346,7 @@ all_are() {
 
 not_served() { not is_served "$1"; }
 
-# Threads, descriptors and sockets are given back where services and pairs end, 100 of them.
+# Threads, descriptors and sockets are given back when services and pairs end, 100 of them.
 given_back() {
   sleeper d/stays
   start reported d
@@ -1386,14 +1386,14 @@ ends_gone() {
 }
 
 # What is posted to a service that ends without it is reported, once: here d and x are taken after the second of its start,
-# and the rest never. So is a trace that can't be written.
+# and the rest never. The same holds of a trace that can't be written.
 untaken() {
   sleeper d/short
   : >d/short/down
   sleeper d/other
   start reported d
   soon 'both are served' 10 all_are is_served d/short d/other
-  # It is gone at once behind x, since it is down.
+  # It is gone at once after x, since it is down.
   python3 ../say.py d/short/supervise/control xccc
   soon 'bytes are reported' 15 holds '^svscan: short: 3 bytes were not taken$' reported
   soon 'it begins anew' 10 is_served d/short
@@ -1468,7 +1468,7 @@ refused() {
   soon 'svscan is dead' 3 is_gone "$svscan"
   start reported2 d
   soon 'the next one is served' 5 is_served d/.svscan
-  # Where its folder can't be made, it runs without.
+  # If its folder can't be made, it runs without.
   sleeper e/web
   echo 'no folder' >e/.svscan
   start reported3 e
@@ -1486,7 +1486,7 @@ while :; do sleep 0.05; done
 END
 }
 
-# What services say while all end is logged: where svscan is asked to end, and where its rounds are over.
+# What services say while all end is logged: when svscan is asked to end, and when its rounds are over.
 last_words() {
   speaker d/web
   logger d/web/log
@@ -1817,7 +1817,7 @@ unchanged() {
   soon 'one after a rest' 8 is_up d/third
 }
 
-# What stands in the folder when a service begins anew counts, though rounds passed in which it was not looked at.
+# What is in the folder when a service begins anew counts, though rounds passed in which it was not looked at.
 begins_anew() {
   mkdir d
   sleeper d/web
@@ -1999,7 +1999,7 @@ full_put_down() {
   soon 'u starts it' 5 has_lines 2 web.starts
 }
 
-# Where the place of a service can't be written no process begins: it is said, and it begins as soon as it can be.
+# If the place of a service can't be written no process begins: it is said, and it begins as soon as it can be.
 placeless() {
   sleeper d/web
   mkdir -p d/web/supervise/place

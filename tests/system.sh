@@ -1,6 +1,6 @@
 #!/usr/bin/env bash
 # What no contract can say: that the system's own files, folders, children, pipes and clock are what the program takes
-# them for. Runs the program that the first word names, prints each check that fails, and ends with how many did not.
+# them for. Runs the program that the first word names, prints each check that fails, and at the end how many failed.
 # The wanted values are those of the daemontools pages and of docs/FORMATS.md.
 # gate: 10 seconds
 top=$(realpath "$(dirname "$0")/..")
@@ -95,7 +95,7 @@ ended 'one more that is not taken' 111 'trace: line 65539: Line' "$program" trac
 { cat entries; printf 'bytes h\n'; } >more
 ended 'one more that is none' 111 'trace: line 65539: UnknownEvent' "$program" trace more
 
-# The clock: a stamp stands between two readings of the system's own, to the nanosecond.
+# The clock: a stamp is between two readings of the system's own, to the nanosecond.
 for _ in 1 2 3; do
   before=$(date +%s%N)
   stamp=$(echo x | "$program" tai64n)
@@ -115,7 +115,7 @@ coproc_input=${simulating[1]}
 exec {coproc_input}>&-
 wait
 
-# Which dtools this is, by which kit it was built, and from which sources: those here, where they are.
+# Which dtools this is, by which kit it was built, and from which sources: those here, if they are.
 for word in version --version; do
   ended "$word" 0 '' "$program" "$word"
   is "$word: lines" 'dtools kit source ' "$(cut -d ' ' -f 1 out | tr '\n' ' ')"

@@ -195,7 +195,7 @@ begun 'a record that is none comes' -u s
 status s 00
 over 'a record that is none comes' 111 'wait: s: bad status record: Length'
 
-# The time: it does not end before it, and then it does. Between two looks are 45 ms at least, on any machine, and where nothing
+# The time: it does not end before it, and then it does. Between two looks are 45 ms at least, on any machine, and if nothing
 # changes, after the first second or so, 22 times as much: so in four seconds are 27 at most.
 status s "$label$none"00$down"00$phase_down"
 : >s/supervise/looks
@@ -206,7 +206,7 @@ is "the time: at least 4 s, and it was $took ms" yes "$([ "$took" -ge 4000 ] && 
 looks=$(stat -c %s s/supervise/looks)
 is "the time: 2 to 27 looks, and there were $looks" yes "$([ "$looks" -ge 2 ] && [ "$looks" -le 27 ] && echo yes)"
 
-# Where something changes meanwhile, looks come one rest apart: ten of them without that would take ten seconds.
+# If something changes meanwhile, looks come one rest apart: ten of them without that would take ten seconds.
 : >s/supervise/looks
 begun 'it changes in a quiet time' s
 until_true looked 26 s
@@ -291,7 +291,7 @@ begun 'a full queue' full
 : >full/accept
 over 'a full queue' 0 ''
 
-# As another user, where this one may be that.
+# As another user, if this one may be that.
 if [ "$(id -u)" = 0 ] && command -v setpriv >/dev/null; then
   chmod 711 . t
   chmod 700 t/supervise

@@ -145,7 +145,7 @@ for day in 2000-02-28 2000-02-29 2000-03-01 2024-12-31 2025-01-01 2100-02-28 210
   is "the day $day" "s is up since $day 23:59:58 (" "$(grep -o '^s is up since [^(]*(' out)"
 done
 
-# What a trace says beside a record that it leads to. Supervise began at the moment 1, and asked for a start.
+# What a trace says next to a record that it leads to. Supervise began at the moment 1, and asked for a start.
 again
 begun=$(record 1 0 0 $up)
 status 90 4711 0 $up 0 3
@@ -195,7 +195,7 @@ status 88 0 0 $down 0 4
 trace 9 up "$(record 85 11261 0 $down)" - 'death 88'
 said 'd is folded' 0 's is down since {88}, normally up. Process 11261 ran 3.0 s and ended.'
 
-# How it ended: where its file exit says that of the very process, and time, of which the trace says.
+# How it ended: if its file exit is about the process and the time that the trace has.
 # ended_so WORDS..: writes how the last process of s ended; MOMENT is when
 ended_so() { printf '%s @%s\n' "$1" "$(digits "$2")" >s/supervise/exit; }
 again
@@ -300,7 +300,7 @@ said 'restarts that were asked for are not flapping' 0 's is down since {90}, be
 mapfile -t entries < <(asked 4740 40; for start_at in 50 60 65 70 75 89; do crash $((4700 + start_at)) $start_at; done)
 trace 0 starting "$begun" - "${entries[@]}"
 said 'one of six was asked for' 0 's is down since {90}, being started, wanted up, normally up. Process 4789 ran 1.0 s and ended without a control byte. It is flapping: 6 starts in the last 60 s.'
-# Events before the entries were folded: where the machine before them is of the last 60 seconds, there may be more.
+# Events before the entries were folded: if the machine before them is of the last 60 seconds, there may be more.
 mapfile -t entries < <(for start_at in 60 70 80 89; do crash $((4700 + start_at)) $start_at; done)
 trace 7 starting "$(record 55 0 0 $up)" - "${entries[@]}"
 said 'folded lately' 0 's is down since {90}, being started, wanted up, normally up. Process 4789 ran 1.0 s and ended without a control byte. At least 4 starts in the last 60 s.'
@@ -422,7 +422,7 @@ for second in $(seq "$before" "$(date +%s)"); do
   [ "$(sed -n 3p out)" = "$(date -u -d "@$second" '+%F %T')$(many 58 ' ')now" ] && found=yes
 done
 is 'all to come: scale' yes "$found"
-# A trace that does not lead to the record says nothing of what is behind its last label.
+# A trace that does not lead to the record says nothing of what is after its last label.
 status "$(past 70)" 4799 0 $up 0 3
 trace 0 starting "$begun" - "started 4711 $(past 0)" "clock $(past 0 1)" "death $(past 60)" "started 4712 $(past 60 1)" \
   "clock $(past 60 2)" 'byte h'
@@ -501,7 +501,7 @@ time.sleep(60)
 listeners+=($!)
 for _ in $(seq 100); do [ -e full/supervise/ready ] && break; sleep 0.02; done
 said 'a full queue' 111 "full can't be reached." full
-# As another user, where this one may be that.
+# As another user, if this one may be that.
 if [ "$(id -u)" = 0 ] && command -v setpriv >/dev/null; then
   chmod 711 . s
   chmod 700 s/supervise
