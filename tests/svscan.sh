@@ -2108,10 +2108,10 @@ time.sleep(60)
 END
   local reaper=$! web
   for number in 1 2 3 4 5; do soon "w$number is up" 8 is_settled "d/w$number"; done
-  cat first >>"$room/$scenario.groups"
+  echo "$(cat first)" >>"$room/$scenario.groups"
   kill -KILL "$(cat first)"
   soon 'the next one' 5 test -e second
-  cat second >>"$room/$scenario.groups"
+  echo "$(cat second)" >>"$room/$scenario.groups"
   for number in 1 2 3 4 5; do soon "w$number is adopted" 8 is_served "d/w$number"; done
   sleep 1.5
   # At five moments of the five seconds between two rounds.
@@ -2120,9 +2120,8 @@ END
     kill -KILL "$web"
     sleep 0.1
     is "w$number is a zombie" Z "$(state "$web")"
-    sleep 2.3
+    sleep 2.9
     is "w$number was started again" 2 "$(count "d/w$number/starts")"
-    sleep 0.6
   done
   kill "$reaper"
 }

@@ -4,4 +4,4 @@
 pub(crate) const KIT: &str = "rattle-kit-13f logic dac8208d650f15bf";
 
 /// The sum of its sources, as packaging/source-sum says it.
-pub(crate) const SOURCE: &str = "4186ecdf27621e38e8cec43a75a21b0df5c2e928e5dc694327acd6fb7588162d";
+pub(crate) const SOURCE: &str = "1939869f8c600d363e7fba460a8c148c0172bc39bbdd163a1f5936b91c4452a6";
