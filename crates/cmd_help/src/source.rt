@@ -4,4 +4,4 @@
 pub(crate) const KIT: &str = "rattle-kit-13f logic dac8208d650f15bf";
 
 /// The sum of its sources, as packaging/source-sum says it.
-pub(crate) const SOURCE: &str = "1939869f8c600d363e7fba460a8c148c0172bc39bbdd163a1f5936b91c4452a6";
+pub(crate) const SOURCE: &str = "278c6d6ec3cd230ab713d1948f489548e5c90fa4b51d343201e079277d3b763d";

@@ -3,3 +3,4 @@ pub mod InTurn
 pub mod Leftovers
 pub mod ListedNames
 pub mod Naming
+pub mod Opening
