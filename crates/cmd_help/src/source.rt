@@ -4,4 +4,4 @@
 pub(crate) const KIT: &str = "rattle-kit-13f logic dac8208d650f15bf";
 
 /// The sum of its sources, as packaging/source-sum says it.
-pub(crate) const SOURCE: &str = "278c6d6ec3cd230ab713d1948f489548e5c90fa4b51d343201e079277d3b763d";
+pub(crate) const SOURCE: &str = "0cee18f87aa8610acdd5e5c710e37f3ac96f2388431c5801ef30206cd7949ba0";

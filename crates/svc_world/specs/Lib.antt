@@ -1,4 +1,3 @@
-pub mod Adoption
 pub mod Calls
 pub mod Watch
 pub mod Commands

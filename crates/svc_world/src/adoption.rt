@@ -1,8 +1,5 @@
 //! The processes that an earlier svscan started, and one thread that looks after all of them.
-ghost use Rattle.std.specs.Prelude.{◌≡◌};
-ghost use Rattle.svc_world.specs.Adoption.{look_of};
-
-use crate::processes::{AdoptedProcess, folder_of, has_ended};
+use crate::processes::{AdoptedProcess, has_ended};
 use std::alloc::{AllocError, Global};
 use std::io;
 use std::sync::atomic::{AtomicBool, Ordering};
@@ -14,34 +11,8 @@ use svc_house::{News, Notifier};
 /// After how many seconds is looked again whether the adopted processes live.
 const LOOK_SECONDS: u64 = 1;
 
-/// At every which look the lines of all processes are read, and at every which one it is asked whether they have ended.
-const LINES_EVERY: u64 = 60;
-
-const ENDS_EVERY: u64 = 2;
-
-/// What one look at a process looks at. Each costs the kernel about twice as much as the one before.
-#[derive(Clone, Copy, Debug, PartialEq, Eq)]
-pub(crate) enum Look {
-    /// Whether there is a process of that number.
-    Number,
-    /// Whether it has ended too, and waits for its parent.
-    End,
-    /// Its line: whether another process has its number, too.
-    Line,
-}
-
-/// What the look of this number looks at.
-fn look_of(looks: u64) -> Look
-    ensures { result ≡ look_of looks }
-{
-    if looks % LINES_EVERY == 0 {
-        Look::Line
-    } else if looks % ENDS_EVERY == 0 {
-        Look::End
-    } else {
-        Look::Number
-    }
-}
+/// At every which look the lines of all processes are read.
+const LINES_EVERY: u64 = 10;
 
 /// A process that was adopted, and what its service waits for.
 #[derive(Drop)]
@@ -51,16 +22,14 @@ struct Adopted {
 }
 
 impl Adopted {
-    /// Whether the process lives still. Its line decides, if a look shows that it may not. If the kernel can't be asked, it
-    /// lives.
-    fn lives(&self, look: Look) -> bool {
-        let AdoptedProcess { files, pid, .. } = &self.process;
-        let may_be_gone = match look {
-            Look::Number => matches!(folder_of(files, *pid), Ok(None)),
-            Look::End => has_ended(files, *pid),
-            Look::Line => true,
-        };
-        !may_be_gone || self.process.lives()
+    /// Whether the process lives still: by one look at the folder in which it runs, or by its line, if it runs in none or
+    /// the line is to be read anyway. The line shows too whether another process has its number. If the kernel can't be
+    /// asked, it lives.
+    fn lives(&self, reads_line: bool) -> bool {
+        if !reads_line && !has_ended(&self.process.files, self.process.pid) {
+            return true;
+        }
+        self.process.lives()
     }
 }
 
@@ -135,7 +104,7 @@ fn watch<R: Wait + Drop>(rt: R, state: &WatchState) {
             return;
         }
         looks = looks.wrapping_add(1);
-        let longest = if look_at_all(&rt, state, look_of(looks)) {
+        let longest = if look(&rt, state, looks % LINES_EVERY == 0) {
             Some(Duration::from_secs(LOOK_SECONDS))
         } else {
             None
@@ -145,10 +114,10 @@ fn watch<R: Wait + Drop>(rt: R, state: &WatchState) {
 }
 
 /// Looks at each process once. Whether one lives still.
-fn look_at_all<R: Wait>(rt: &R, state: &WatchState, look: Look) -> bool {
+fn look<R: Wait>(rt: &R, state: &WatchState, reads_lines: bool) -> bool {
     let mut adopted = state.adopted.lock(rt);
     adopted.retain(|one| {
-        let lives = one.lives(look);
+        let lives = one.lives(reads_lines);
         if !lives {
             one.notifier.notify(News::seen());
         }
