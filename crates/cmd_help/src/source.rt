@@ -4,4 +4,4 @@
 pub(crate) const KIT: &str = "rattle-kit-13f logic dac8208d650f15bf";
 
 /// The sum of its sources, as packaging/source-sum says it.
-pub(crate) const SOURCE: &str = "0cee18f87aa8610acdd5e5c710e37f3ac96f2388431c5801ef30206cd7949ba0";
+pub(crate) const SOURCE: &str = "bec77fb1da49581163d2a41acac732dfb2ded60138492f75997381e3d6745b65";

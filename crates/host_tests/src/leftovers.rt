@@ -30,7 +30,7 @@ fn process(pid: u32, parent: u64, tick: u64, session: u64) -> Seen {
     }
 }
 
-// The same, in the folder of this neighbour, of which a start is not known either.
+// The same, in the folder of this neighbour, whose start is not known either.
 fn next_door(neighbour: u64, pid: u32, parent: u64, tick: u64, session: u64) -> Seen {
     Seen {
         neighbour,

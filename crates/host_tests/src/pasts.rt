@@ -1,4 +1,4 @@
-//! What the maker of a host was asked, beside the parts that are there.
+//! What the maker of a host was asked, next to the parts that are there.
 ghost use Rattle.std.specs.Prelude.{◌≡◌, [], Some, IfSome};
 ghost use Rattle.host_tests.specs.Kept.{HasScannedOnce, unasked};
 

@@ -1,4 +1,4 @@
-//! Pasts that are kept: what a clock gave and what a store holds, beside what the code that ran over them promises.
+//! Pasts that are kept: what a clock gave and what a store holds, next to what the code that ran over them promises.
 ghost use Rattle.std.specs.Prelude.{◌≡◌, ◌∷◌, [], codes, length, IfOk};
 ghost use Rattle.tai_status.specs.Lines.{lines_of, stamped};
 ghost use Rattle.mlog_script.specs.Script.{Log};
@@ -71,7 +71,7 @@ fn run_two_parts<R: Abort>(
     Ok((files, clock.into_readings()))
 }
 
-/// A rotation behind the first part: an old file with its line, and the lines of the second part in the current file.
+/// A rotation after the first part: an old file with its line, and the lines of the second part in the current file.
 #[test]
 fn a_log_keeps_what_it_was_given(rt: HostRuntime) -> Result<(), Fail> {
     let start = Label::from_unix(0, 0).ok_or("a label")?;
