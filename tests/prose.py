@@ -69,6 +69,29 @@ def blocks_of_manual(lines):
         yield (*block, not column)
 
 
+def blocks_of_code(lines):
+    """(first line, 1, text, True) of each paragraph and item of the comments."""
+    block, kind, fenced = None, "", False
+    for number, line in enumerate(lines, 1):
+        found = re.match(r"\s*(///|//!|//|--)( |$)(.*)", line)
+        mark, text = (found[1], found[3]) if found else ("", "")
+        if text.startswith("```"):
+            fenced = not fenced
+        is_text = text.strip() and not fenced and not text.startswith(("```", "    ", "#"))
+        if block and (mark != kind or not is_text or re.match(r" *([-*]|\d+\.) ", text)):
+            yield (*block, True)
+            block = None
+        if is_text:
+            block = (block[0], 1, block[2] + " " + text.strip()) if block else (number, 1, text.strip())
+        kind = mark
+    if block:
+        yield (*block, True)
+
+
+def reader_of(path):
+    return blocks_of_manual if re.search(r"\.[1-8]$", path) else blocks_of_code if path.endswith((".rt", ".antt")) else blocks_of_markdown
+
+
 def plain(text):
     """A text without links' targets, emphasis and numbers of items; text in backquotes is one word."""
     text = re.sub(r"\]\([^)]*\)", "]", text)
@@ -79,8 +102,7 @@ def plain(text):
 
 for path in sys.argv[2:]:
     lines = open(path).read().split("\n")
-    is_manual = re.search(r"\.[1-8]$", path)
-    for first, count, text, has_sentences in (blocks_of_manual if is_manual else blocks_of_markdown)(lines):
+    for first, count, text, has_sentences in reader_of(path)(lines):
         if count > MOST_LINES:
             print(f"{path}:{first}: {count} lines in a row: {plain(text)[:60]}")
         sentences = re.split(r"(?<=[.!?])[)\"]*\s+", plain(text)) if has_sentences else [cell.strip() for cell in plain(text).split("|")]

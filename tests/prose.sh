@@ -1,8 +1,8 @@
 #!/usr/bin/env bash
 # The documents are in plain English: no sentence has more than 35 words, no paragraph and no item of a list more than six lines,
 # and the words of the list below are not used. It looks at README and the other pages next to it, docs, the manual, the crates'
-# pages, and README of tests, bench, contrib and packaging, as far as they are there (an installed tarball has fewer). Takes the
-# program that the first word names.
+# pages, and README of tests, bench, contrib and packaging, as far as they are there (an installed tarball has fewer). It also
+# looks at the comments of the crates' code. Takes the program that the first word names.
 #
 # A sentence goes from the beginning of a paragraph or of an item, or from the end of a sentence, to the first `.`, `!` or `?`
 # before a blank or the end. Text in backquotes, and a list of such texts, counts as one word. A word without a letter or digit
@@ -48,6 +48,14 @@ for page in "${pages[@]}"; do
 done
 cat "$room/found"
 
+# The comments of a crate's code, definitions and proofs.
+for crate in crates/*/; do
+  [ -d "$crate/src" ] || continue
+  crate=${crate%/}
+  find "$crate" \( -name '*.rt' -o -name '*.antt' \) -print0 | sort -z | xargs -0 python3 -B tests/prose.py "$room/words" >"$room/found"
+  is "comments of $crate" '' "$(cat "$room/found")"
+done
+
 # What it finds: a sentence of 36 words and none of 35, seven lines and not six, a word of the list, in a table too, and nothing in
 # code; and the same in a manual page.
 cd "$room" || exit 1
@@ -61,6 +69,8 @@ found() { python3 -B "$top/tests/prose.py" words "$1" | sed -E 's/^[^:]*:([0-9]+
   printf 'It stands for it. So be it. `So it stands.`\n\n```\nSo it stands\n```\n\n| a | behind |\n|---|---|\n'
 } >page.md
 is 'a page' $'3 36 words\n12 7 lines\n20 `So`\n26 `behind`' "$(found page.md)"
+printf '/// So it stands\n/// for it.\nfn behind() {} // behind\n    -- It is\n    -- behind it.\n' >page.rt
+is 'comments' $'1 `So`\n4 `behind`' "$(found page.rt)"
 printf '.Sh NAME\nSo it stands\n.Sh DESCRIPTION\nIt is\n.Ql behind ,\nbehind it.\nSo\n.Bd -literal\nSo it stands\n.Ed\n.Pp\n%s,\n.Ar a .\n' "$(words 35)" >page.8
 is 'a manual page' $'4 `behind`\n4 `So`\n12 36 words' "$(found page.8)"
 counts prose

@@ -4,4 +4,4 @@
 pub(crate) const KIT: &str = "rattle-kit-13f logic dac8208d650f15bf";
 
 /// The sum of its sources, as packaging/source-sum says it.
-pub(crate) const SOURCE: &str = "bec77fb1da49581163d2a41acac732dfb2ded60138492f75997381e3d6745b65";
+pub(crate) const SOURCE: &str = "ac49558ad929edb24df61d830e48d230387b7d3ba51ab86931180ab65fb53a0a";

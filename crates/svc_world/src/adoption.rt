@@ -1,8 +1,11 @@
 //! The processes that an earlier svscan started, and one thread that looks after all of them.
-use crate::processes::{AdoptedProcess, has_ended};
+ghost use Rattle.std.specs.Prelude.{◌≡◌, ◌<◌, true, false, IfErr, IfOk};
+
+use crate::processes::{AdoptedProcess, StatSource, folder_of, has_ended, lives_by};
+use crate::stat::Stat;
 use std::alloc::{AllocError, Global};
 use std::io;
-use std::sync::atomic::{AtomicBool, Ordering};
+use std::sync::atomic::{AtomicBool, AtomicU64, Ordering};
 use std::sync::{Arc, Mutex, Wait};
 use std::thread::{Builder, Threads};
 use std::time::Duration;
@@ -11,25 +14,60 @@ use svc_house::{News, Notifier};
 /// After how many seconds is looked again whether the adopted processes live.
 const LOOK_SECONDS: u64 = 1;
 
-/// At every which look the lines of all processes are read.
-const LINES_EVERY: u64 = 10;
+/// One look of this many also shows whether a process has ended and waits for its parent.
+const ENDS_EVERY: u64 = 2;
+
+/// The number of a process's folder in /proc that is not known. No folder has it.
+const UNKNOWN: u64 = 0;
 
 /// A process that was adopted, and what its service waits for.
 #[derive(Drop)]
 struct Adopted {
     process: AdoptedProcess,
     notifier: Arc<Notifier, Global>,
+    /// The number of the process's folder in /proc at the last reading of its line.
+    folder: AtomicU64,
+}
+
+/// Whether a process need not be looked at more closely: its folder has the number that is known, and it does not seem to
+/// have ended. The folder of a later process with the same process number has another number.
+fn is_unchanged(known: u64, found: u64, may_have_ended: bool) -> bool
+    ensures known { result ≡ true → 0 < known }
+    ensures same { result ≡ true → found ≡ known }
+    ensures living { result ≡ true → may_have_ended ≡ false }
+    ensures otherwise { 0 < known → found ≡ known → may_have_ended ≡ false → result ≡ true }
+{
+    known != UNKNOWN && found == known && !may_have_ended
+}
+
+/// The number to compare with at the next look. A folder is known only if the line was read after it was found: another
+/// process may have it.
+fn known_by(line: &io::Result<Option<Stat>>, found: u64) -> u64
+    ensures read { IfOk line.now (λ _. result ≡ found) }
+    ensures unread { IfErr line.now (λ _. result ≡ 0) }
+{
+    match line {
+        Ok(_) => found,
+        Err(_) => UNKNOWN,
+    }
 }
 
 impl Adopted {
-    /// Whether the process lives still: by one look at the folder in which it runs, or by its line, if it runs in none or
-    /// the line is to be read anyway. The line shows too whether another process has its number. If the kernel can't be
-    /// asked, it lives.
-    fn lives(&self, reads_line: bool) -> bool {
-        if !reads_line && !has_ended(&self.process.files, self.process.pid) {
+    /// Whether the process still lives. Its line in /proc is read only if its folder there is not the known one, or if it
+    /// may have ended. If the kernel can't be asked, it lives.
+    fn lives(&self, looks_for_end: bool) -> bool {
+        let AdoptedProcess { files, pid, tick } = &self.process;
+        let found = match folder_of(files, *pid) {
+            Ok(Some(number)) => number,
+            _ => UNKNOWN,
+        };
+        let may_have_ended = looks_for_end && has_ended(files, *pid);
+        if is_unchanged(self.folder.load(Ordering::SeqCst), found, may_have_ended) {
             return true;
         }
-        self.process.lives()
+        let line = files.stat_of(*pid);
+        self.folder.store(known_by(&line, found), Ordering::SeqCst);
+        lives_by(line, *tick)
     }
 }
 
@@ -78,7 +116,11 @@ impl AdoptionWatch {
         process: AdoptedProcess,
         notifier: Arc<Notifier, Global>,
     ) -> Result<(), AllocError> {
-        let adopted = Adopted { process, notifier };
+        let adopted = Adopted {
+            process,
+            notifier,
+            folder: AtomicU64::new(UNKNOWN),
+        };
         let news = News::add(rt, &self.state.adopted, adopted)?;
         self.state.notifier.notify(news);
         Ok(())
@@ -104,7 +146,7 @@ fn watch<R: Wait + Drop>(rt: R, state: &WatchState) {
             return;
         }
         looks = looks.wrapping_add(1);
-        let longest = if look(&rt, state, looks % LINES_EVERY == 0) {
+        let longest = if look(&rt, state, looks % ENDS_EVERY == 0) {
             Some(Duration::from_secs(LOOK_SECONDS))
         } else {
             None
@@ -114,10 +156,10 @@ fn watch<R: Wait + Drop>(rt: R, state: &WatchState) {
 }
 
 /// Looks at each process once. Whether one lives still.
-fn look<R: Wait>(rt: &R, state: &WatchState, reads_lines: bool) -> bool {
+fn look<R: Wait>(rt: &R, state: &WatchState, looks_for_ends: bool) -> bool {
     let mut adopted = state.adopted.lock(rt);
     adopted.retain(|one| {
-        let lives = one.lives(reads_lines);
+        let lives = one.lives(looks_for_ends);
         if !lives {
             one.notifier.notify(News::seen());
         }

@@ -127,7 +127,7 @@ pub(crate) fn tick_of<S: StatSource>(processes: &S, pid: u32) -> io::Result<Opti
 
 /// Whether the process lives that began at this tick, by what was found of the one of its number. Where the kernel
 /// could not be asked, it does: taken for dead it would be started again.
-fn lives_by(found: io::Result<Option<Stat>>, tick: u64) -> bool
+pub(crate) fn lives_by(found: io::Result<Option<Stat>>, tick: u64) -> bool
     ensures asked { IfOk found (λ stat. LivesSince tick stat result) }
     ensures unasked { IfErr found (λ _. result ≡ true) }
 {
