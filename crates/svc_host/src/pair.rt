@@ -1,6 +1,6 @@
 //! The two threads that carry a pair's output to its logger: one reads it, and begins the other, which puts it, at the
 //! first bytes. Until then there is no box, and no block.
-ghost use Rattle.std.specs.Prelude.{◌≡◌, ◌<◌, [], true, IfSome, IfErr, IfOk, None, ◌∷◌, OnOk};
+ghost use Rattle.std.specs.Prelude.{◌≡◌, ◌<◌, [], true, false, IfSome, IfErr, IfOk, None, ◌∷◌, OnOk};
 ghost use mathlib.Core.List.{IsPrefix};
 ghost use Rattle.tai_status.specs.Counted.{IsRead};
 ghost use Rattle.svc_house.specs.Calls.{ExtendedWhileKept};
@@ -176,6 +176,8 @@ fn next_outlet<O: Outlet + Drop, S: Outlets<O>, R: Wait>(
 fn begin_life<O: Outlet + Drop, S: Outlets<O>>(relay: &mut Relay<O>, outlets: &mut S) -> bool
     ensures same { IsSameReceiver relay.old.receiver relay.new.receiver }
     ensures bytes { bytes_put relay.new ≡ bytes_put relay.old }
+    ensures begins { result ≡ true → (relay.new.here ≡ []) × IfSome relay.new.shown (λ bytes. bytes ≡ []) }
+    ensures none { result ≡ false → relay.new ≡ relay.old }
 {
     match outlets.next() {
         Some(outlet) => {
