@@ -7,3 +7,4 @@ pub mod Left
 pub mod Flow
 pub mod Owed
 pub mod Linger
+pub mod Adoption

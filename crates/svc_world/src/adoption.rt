@@ -1,5 +1,6 @@
 //! The processes that an earlier svscan started, and one thread that looks after all of them.
-ghost use Rattle.std.specs.Prelude.{◌≡◌, ◌<◌, true, false, IfErr, IfOk};
+ghost use Rattle.std.specs.Prelude.{◌≡◌, IfErr, IfOk};
+ghost use Rattle.svc_world.specs.Adoption.{is_unchanged};
 
 use crate::processes::{AdoptedProcess, StatSource, folder_of, has_ended, lives_by};
 use crate::stat::Stat;
@@ -14,7 +15,8 @@ use svc_house::{News, Notifier};
 /// After how many seconds is looked again whether the adopted processes live.
 const LOOK_SECONDS: u64 = 1;
 
-/// One look of this many also shows whether a process has ended and waits for its parent.
+/// One look of this many shows whether a process has ended and waits for its parent. The others show whether another
+/// process has its number.
 const ENDS_EVERY: u64 = 2;
 
 /// The number of a process's folder in /proc that is not known. No folder has it.
@@ -29,19 +31,28 @@ struct Adopted {
     folder: AtomicU64,
 }
 
-/// Whether a process need not be looked at more closely: its folder has the number that is known, and it does not seem to
-/// have ended. The folder of a later process with the same process number has another number.
-fn is_unchanged(known: u64, found: u64, may_have_ended: bool) -> bool
-    ensures known { result ≡ true → 0 < known }
-    ensures same { result ≡ true → found ≡ known }
-    ensures living { result ≡ true → may_have_ended ≡ false }
-    ensures otherwise { 0 < known → found ≡ known → may_have_ended ≡ false → result ≡ true }
-{
-    known != UNKNOWN && found == known && !may_have_ended
+/// What one call of the system shows of an adopted process.
+#[derive(Clone, Copy, Debug, PartialEq, Eq)]
+enum Glance {
+    /// The number of its folder in /proc. The folder of a later process with the same process number has another number.
+    Folder(u64),
+    /// Whether it may have ended and wait for its parent.
+    End(bool),
 }
 
-/// The number to compare with at the next look. A folder is known only if the line was read after it was found: another
-/// process may have it.
+/// Returns whether a process is the known one and lives, as far as one call shows. If not, its line is read.
+fn is_unchanged(known: u64, glance: Glance) -> bool
+    ensures { result ≡ is_unchanged known glance }
+{
+    known != UNKNOWN
+        && match glance {
+            Glance::Folder(number) => number == known,
+            Glance::End(has_ended) => !has_ended,
+        }
+}
+
+/// Returns the folder's number to compare with at the next look. It is known only if the line was read after it was found:
+/// the folder may be another process's.
 fn known_by(line: &io::Result<Option<Stat>>, found: u64) -> u64
     ensures read { IfOk line.now (λ _. result ≡ found) }
     ensures unread { IfErr line.now (λ _. result ≡ 0) }
@@ -52,19 +63,28 @@ fn known_by(line: &io::Result<Option<Stat>>, found: u64) -> u64
     }
 }
 
+/// The number of a process's folder in /proc, as far as the kernel says it.
+fn folder_number(files: &HostRuntime, pid: u32) -> u64 {
+    match folder_of(files, pid) {
+        Ok(Some(number)) => number,
+        _ => UNKNOWN,
+    }
+}
+
 impl Adopted {
-    /// Whether the process still lives. Its line in /proc is read only if its folder there is not the known one, or if it
-    /// may have ended. If the kernel can't be asked, it lives.
+    /// Returns whether the process still lives. A look makes one call of the system if that shows no change. If the kernel
+    /// can't be asked, the process lives.
     fn lives(&self, looks_for_end: bool) -> bool {
         let AdoptedProcess { files, pid, tick } = &self.process;
-        let found = match folder_of(files, *pid) {
-            Ok(Some(number)) => number,
-            _ => UNKNOWN,
+        let glance = if looks_for_end {
+            Glance::End(has_ended(files, *pid))
+        } else {
+            Glance::Folder(folder_number(files, *pid))
         };
-        let may_have_ended = looks_for_end && has_ended(files, *pid);
-        if is_unchanged(self.folder.load(Ordering::SeqCst), found, may_have_ended) {
+        if is_unchanged(self.folder.load(Ordering::SeqCst), glance) {
             return true;
         }
+        let found = folder_number(files, *pid);
         let line = files.stat_of(*pid);
         self.folder.store(known_by(&line, found), Ordering::SeqCst);
         lives_by(line, *tick)
