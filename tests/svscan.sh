@@ -1290,7 +1290,7 @@ END
   mkdir none
   ended 'an empty folder' 0 '' none 1
   local words usage
-  usage=$'dtools: usage\ndtools svscan [DIR [ROUNDS]], over the working directory where no DIR is given'
+  usage=$'dtools: usage\ndtools svscan [DIR [ROUNDS]]; DIR is the working directory if it is not given'
   for words in 'd 0' 'd 00' 'd 01' 'd -1' 'd +1' 'd x' 'd 4294967296' 'a b c' 'd 1 1'; do
     # shellcheck disable=SC2086
     ended "usage: $words" 100 "$usage" $words

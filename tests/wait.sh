@@ -321,7 +321,7 @@ wait: : No such file or directory' ''
 
 # Words.
 usage='dtools: usage
-dtools wait [-u|-d|-x] [-t SECONDS] SERVICE.., with u up, d down, x no longer supervised'
+dtools wait [-u|-d|-x] [-t SECONDS] SERVICE..; u up, d down, x no longer supervised'
 ended 'no words' 100 "$usage"
 ended 'no service' 100 "$usage" -u
 ended 'no service behind --' 100 "$usage" -t 1 --

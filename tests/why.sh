@@ -481,8 +481,8 @@ said 'no status' 111 "s is supervised, but its status can't be read."
 mkdir -p dead/supervise empty closed
 python3 -c 'import socket; s = socket.socket(socket.AF_UNIX); s.bind("dead/supervise/ok")'
 said 'no such folder' 111 'nosuch is not supervised: there is no such folder.' nosuch 'why: nosuch: No such file or directory'
-said 'an empty folder' 0 'empty is not supervised: nobody answers at its supervise/ok.' empty
-said 'a dead socket' 0 'dead is not supervised: nobody answers at its supervise/ok.' dead
+said 'an empty folder' 0 'empty is not supervised: nothing accepts connections at its supervise/ok.' empty
+said 'a dead socket' 0 'dead is not supervised: nothing accepts connections at its supervise/ok.' dead
 : >file
 said 'a file' 111 'file is not supervised: there is no such folder.' file 'why: file: Not a directory'
 ln -s self self
@@ -539,7 +539,7 @@ status=$?
 reported 'in order' 111 's is up since @7fffffffffffffff3b9ac9ff (0 s), process 4711.
 nosuch is not supervised: there is no such folder.
 -x is up since @7fffffffffffffff3b9ac9ff (0 s), process 4711.
-empty is not supervised: nobody answers at its supervise/ok.' 'why: nosuch: No such file or directory'
+empty is not supervised: nothing accepts connections at its supervise/ok.' 'why: nosuch: No such file or directory'
 timeout 5 "$program" why --timeline >out 2>reported </dev/null
 status=$?
 reported 'a timeline of nothing' 0 '' ''
@@ -552,7 +552,7 @@ nosuch is not supervised: there is no such folder.
 $unreported" 'why: nosuch: No such file or directory'
 timeout 5 "$program" why empty --timeline >out 2>reported </dev/null
 status=$?
-reported 'a service of that name' 111 'empty is not supervised: nobody answers at its supervise/ok.
+reported 'a service of that name' 111 'empty is not supervised: nothing accepts connections at its supervise/ok.
 --timeline is not supervised: there is no such folder.' 'why: --timeline: No such file or directory'
 timeout 5 "$program" why --timeline s >/dev/full 2>reported </dev/null
 status=$?

@@ -10,29 +10,29 @@ pub fn page_of(command: Command) -> &'static [u8]
 {
     match command {
         Command::Svscan => {
-            b"dtools svscan [DIR [ROUNDS]], over the working directory where no DIR is given\n"
+            b"dtools svscan [DIR [ROUNDS]]; DIR is the working directory if it is not given\n"
         }
         Command::Svc => {
-            b"dtools svc [-W] [-udopchaitkx12q] SERVICE.., with u up, d down, o once, x exit, and signals\n"
+            b"dtools svc [-W] [-udopchaitkx12q] SERVICE..; u up, d down, o once, x exit, and signals\n"
         }
         Command::Svstat => b"dtools svstat [--json | --metrics] SERVICE..\n",
         Command::Svok => b"dtools svok SERVICE\n",
         Command::Wait => {
-            b"dtools wait [-u|-d|-x] [-t SECONDS] SERVICE.., with u up, d down, x no longer supervised\n"
+            b"dtools wait [-u|-d|-x] [-t SECONDS] SERVICE..; u up, d down, x no longer supervised\n"
         }
         Command::Multilog => {
-            b"dtools multilog ACTION.., of t, -PATTERN, +PATTERN, e, =FILE, sSIZE, nNUMBER, folders\n"
+            b"dtools multilog ACTION..: t, -PATTERN, +PATTERN, e, =FILE, sSIZE, nNUMBER, folders\n"
         }
         Command::Tai64n => b"dtools tai64n\n",
         Command::Tai64nlocal => b"dtools tai64nlocal\n",
         Command::Envdir =>
             b"dtools envdir DIR PROGRAM WORDS.., or dtools envdir --shell DIR [ENVIRON [PROGRAM WORDS..]]\n",
         Command::Readproctitle => {
-            b"dtools readproctitle WORD.., of which the last is as long as the title\n"
+            b"dtools readproctitle WORD..; the last word is as long as the title\n"
         }
         Command::Sim => b"dtools sim, with a script on standard input, or dtools sim table\n",
         Command::Trace => {
-            b"dtools trace FILE|SERVICE [--break SPEC] [--local], where SPEC is byte:C, phase:PHASE or signal:NAME\n"
+            b"dtools trace FILE|SERVICE [--break SPEC] [--local]; SPEC is byte:C, phase:PHASE or signal:NAME\n"
         }
         Command::Why => b"dtools why [--timeline] SERVICE..\n",
         Command::Help => b"dtools help [COMMAND]\n",

@@ -59,7 +59,7 @@ HelpEnds (word ∷ other ∷ words) status old new faults reports = Refuses comm
 
 -- what `version` prints: which dtools this is, the line of the kit that built it, and the sum of its sources
 abbrev pub version_text : List ℕ
-version_text = printed (codes "dtools 2.0.0" ∷ (codes "kit " ++ KIT.now) ∷ (codes "source " ++ SOURCE.now) ∷ [])
+version_text = printed (codes "dtools 2.1.0" ∷ (codes "kit " ++ KIT.now) ∷ (codes "source " ++ SOURCE.now) ∷ [])
 
 -- `version` takes no words.
 abbrev pub VersionEnds : (words : List (List ℕ)) (status : ℕ) (old new faults reports : Device) → Type 0

@@ -13,7 +13,7 @@ overview = printed (
     codes "dtools COMMAND WORDS..: supervision and logging of services" ∷
     codes "  svscan         keeps the services of a folder running" ∷
     codes "  svc            controls services" ∷
-    codes "  svstat         shows how services stand" ∷
+    codes "  svstat         shows the state of services" ∷
     codes "  svok           says whether a service is supervised" ∷
     codes "  wait           returns once services are up, or down, or no longer supervised" ∷
     codes "  multilog       logs lines into folders" ∷
@@ -21,15 +21,15 @@ overview = printed (
     codes "  tai64nlocal    shows labels as local times" ∷
     codes "  envdir         runs a program in the environment that a folder holds" ∷
     codes "  readproctitle  keeps the last bytes of its input" ∷
-    codes "  sim            answers a script of events as supervise would" ∷
+    codes "  sim            replies to a script of events as supervise would" ∷
     codes "  trace          explains the last events of a service" ∷
-    codes "  why            says in plain words how a service stands, and why" ∷
+    codes "  why            says in plain words which state a service is in, and why" ∷
     codes "  help COMMAND   shows the words of a command; man dtools-COMMAND has the rest" ∷
     codes "  version        says which dtools this is" ∷ [])
 
 -- the page of `svc`, with the letter of each control byte
 abbrev pub svc_page : List ℕ
-svc_page = codes "dtools svc [-W] [-" ++ letters ++ codes "] SERVICE.., with u up, d down, o once, x exit, and signals"
+svc_page = codes "dtools svc [-W] [-" ++ letters ++ codes "] SERVICE..; u up, d down, o once, x exit, and signals"
 
 abbrev pub SvcPageHasEachLetter : Type 0
 SvcPageHasEachLetter = page command.Svc ≡ printed (svc_page ∷ [])

@@ -69,7 +69,7 @@ fn version_text() -> ArrayString<192>
     ensures { result.bytes ≡ version_text }
 {
     let mut text = ArrayString::new();
-    text.push_str("dtools 2.0.0\nkit ");
+    text.push_str("dtools 2.1.0\nkit ");
     text.push_str(KIT);
     text.push_str("\nsource ");
     text.push_str(SOURCE);

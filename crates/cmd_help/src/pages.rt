@@ -12,7 +12,7 @@ pub fn overview() -> &'static [u8]
     b"dtools COMMAND WORDS..: supervision and logging of services
   svscan         keeps the services of a folder running
   svc            controls services
-  svstat         shows how services stand
+  svstat         shows the state of services
   svok           says whether a service is supervised
   wait           returns once services are up, or down, or no longer supervised
   multilog       logs lines into folders
@@ -20,9 +20,9 @@ pub fn overview() -> &'static [u8]
   tai64nlocal    shows labels as local times
   envdir         runs a program in the environment that a folder holds
   readproctitle  keeps the last bytes of its input
-  sim            answers a script of events as supervise would
+  sim            replies to a script of events as supervise would
   trace          explains the last events of a service
-  why            says in plain words how a service stands, and why
+  why            says in plain words which state a service is in, and why
   help COMMAND   shows the words of a command; man dtools-COMMAND has the rest
   version        says which dtools this is
 "
@@ -34,10 +34,10 @@ pub fn help_of(command: Command) -> &'static [u8]
 {
     match command {
         Command::Svc => {
-            b"dtools svc [-W] [-udopchaitkx12q] SERVICE.., with u up, d down, o once, x exit, and signals
-  u  up: start it, and again whenever it ends
-  d  down: send TERM and CONT, and do not start it again
-  o  once: start it, and not again
+            b"dtools svc [-W] [-udopchaitkx12q] SERVICE..; u up, d down, o once, x exit, and signals
+  u  up: start it, and restart it whenever it exits
+  d  down: send TERM and CONT, and do not restart it
+  o  once: start it, and do not restart it
   p  pause: send STOP
   c  continue: send CONT
   h  send HUP
@@ -45,7 +45,7 @@ pub fn help_of(command: Command) -> &'static [u8]
   i  send INT
   t  send TERM
   k  send KILL
-  x  exit: supervise no more, once it is down
+  x  exit: stop supervising it once it is down
   1  send USR1
   2  send USR2
   q  send QUIT

@@ -4,4 +4,4 @@
 pub(crate) const KIT: &str = "rattle-kit-13f logic dac8208d650f15bf";
 
 /// The sum of its sources, as packaging/source-sum says it.
-pub(crate) const SOURCE: &str = "ac49558ad929edb24df61d830e48d230387b7d3ba51ab86931180ab65fb53a0a";
+pub(crate) const SOURCE: &str = "dd5937646fbf3bd4cbc2809942b8441f62b917fb3f7aca7013b8b7260741bf4b";

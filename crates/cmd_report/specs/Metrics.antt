@@ -106,7 +106,7 @@ sample_line sample found = line_of_value sample found.folder.now (value_in sampl
 -- the help and the type of a metric, which stand before its first sample
 unfoldable pub head_text : Sample → List ℕ
 head_text sample.Supervised =
-    codes "# HELP dtools_service_supervised Whether the supervisor of the service answers." ++ 10 ∷ []
+    codes "# HELP dtools_service_supervised Whether the supervisor of the service accepts connections." ++ 10 ∷ []
     ++ codes "# TYPE dtools_service_supervised gauge" ++ 10 ∷ []
 head_text sample.Up = codes "# HELP dtools_service_up Whether the service runs." ++ 10 ∷ []
     ++ codes "# TYPE dtools_service_up gauge" ++ 10 ∷ []

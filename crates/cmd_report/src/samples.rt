@@ -157,7 +157,7 @@ pub(crate) fn head_text(sample: Sample) -> &'static str
 {
     match sample {
         Sample::Supervised => {
-            "# HELP dtools_service_supervised Whether the supervisor of the service answers.
+            "# HELP dtools_service_supervised Whether the supervisor of the service accepts connections.
 # TYPE dtools_service_supervised gauge
 "
         }

@@ -76,7 +76,7 @@ abbrev pub absence_words : Absence → List ℕ
 absence_words absence.NoFolder = codes " is not supervised: there is no such folder."
 absence_words absence.NoPermission = codes " can't be reached: no permission."
 absence_words absence.Unreachable = codes " can't be reached."
-absence_words absence.Nobody = codes " is not supervised: nobody answers at its supervise/ok."
+absence_words absence.Nobody = codes " is not supervised: nothing accepts connections at its supervise/ok."
 
 -- the line of what a look at the service in a folder found, without a newline
 abbrev pub found_line : (folder : List ℕ) → Found → List ℕ

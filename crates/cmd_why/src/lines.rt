@@ -119,7 +119,7 @@ fn absence_words(absence: Absence) -> &'static str
         Absence::NoFolder => " is not supervised: there is no such folder.",
         Absence::NoPermission => " can't be reached: no permission.",
         Absence::Unreachable => " can't be reached.",
-        Absence::Nobody => " is not supervised: nobody answers at its supervise/ok.",
+        Absence::Nobody => " is not supervised: nothing accepts connections at its supervise/ok.",
     }
 }
 

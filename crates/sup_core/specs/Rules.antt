@@ -58,9 +58,9 @@ control letter signals meaning = record { letter = letter; signals = signals; me
 -- the control bytes, in the order in which the table is printed
 abbrev pub controls : List Control
 controls =
-    control (codes "u") [] (codes "up: start it, and again whenever it ends") ∷
-    control (codes "d") (TERM ∷ CONT ∷ []) (codes "down: send TERM and CONT, and do not start it again") ∷
-    control (codes "o") [] (codes "once: start it, and not again") ∷
+    control (codes "u") [] (codes "up: start it, and restart it whenever it exits") ∷
+    control (codes "d") (TERM ∷ CONT ∷ []) (codes "down: send TERM and CONT, and do not restart it") ∷
+    control (codes "o") [] (codes "once: start it, and do not restart it") ∷
     control (codes "p") (STOP ∷ []) (codes "pause: send STOP") ∷
     control (codes "c") (CONT ∷ []) (codes "continue: send CONT") ∷
     control (codes "h") (HUP ∷ []) (codes "send HUP") ∷
@@ -68,7 +68,7 @@ controls =
     control (codes "i") (INT ∷ []) (codes "send INT") ∷
     control (codes "t") (TERM ∷ []) (codes "send TERM") ∷
     control (codes "k") (KILL ∷ []) (codes "send KILL") ∷
-    control (codes "x") [] (codes "exit: supervise no more, once it is down") ∷
+    control (codes "x") [] (codes "exit: stop supervising it once it is down") ∷
     control (codes "1") (USR1 ∷ []) (codes "send USR1") ∷
     control (codes "2") (USR2 ∷ []) (codes "send USR2") ∷
     control (codes "q") (QUIT ∷ []) (codes "send QUIT") ∷ []
