@@ -1,4 +1,4 @@
-//! The processes that an earlier svscan started, and one thread that looks after all of them.
+//! The processes that an earlier svscan started, and the one thread that watches all of them.
 ghost use Rattle.std.specs.Prelude.{◌≡◌, ◌<◌, true, false, IfErr, IfOk};
 
 use crate::processes::{AdoptedProcess, StatSource, folder_of, has_ended, lives_by};
@@ -11,26 +11,26 @@ use std::thread::{Builder, Threads};
 use std::time::Duration;
 use svc_house::{News, Notifier};
 
-/// After how many seconds is looked again whether the adopted processes live.
+/// The seconds between two looks at the adopted processes.
 const LOOK_SECONDS: u64 = 1;
 
-/// One look of this many also shows whether a process has ended and waits for its parent.
+/// Every look whose number is a multiple of this also checks whether a process has ended and waits for its parent.
 const ENDS_EVERY: u64 = 2;
 
-/// The number of a process's folder in /proc that is not known. No folder has it.
+/// Stands for an inode number of a process's folder in /proc that is not known. No folder has this number.
 const UNKNOWN: u64 = 0;
 
-/// A process that was adopted, and what its service waits for.
+/// An adopted process, and the notifier that its service waits for.
 #[derive(Drop)]
 struct Adopted {
     process: AdoptedProcess,
     notifier: Arc<Notifier, Global>,
-    /// The number of the process's folder in /proc at the last reading of its line.
+    /// The inode number of the process's folder in /proc when its line was last read.
     folder: AtomicU64,
 }
 
-/// Whether a process need not be looked at more closely: its folder has the number that is known, and it does not seem to
-/// have ended. The folder of a later process with the same process number has another number.
+/// Returns whether a process needs no closer look: its folder has the known number, and it does not seem to have ended.
+/// The folder of a later process with the same process number has another number.
 fn is_unchanged(known: u64, found: u64, may_have_ended: bool) -> bool
     ensures known { result ≡ true → 0 < known }
     ensures same { result ≡ true → found ≡ known }
@@ -40,8 +40,8 @@ fn is_unchanged(known: u64, found: u64, may_have_ended: bool) -> bool
     known != UNKNOWN && found == known && !may_have_ended
 }
 
-/// The number to compare with at the next look. A folder is known only if the line was read after it was found: another
-/// process may have it.
+/// Returns the folder's number to compare with at the next look. A folder is known only if the line was read after the
+/// folder was found, because another process may have it.
 fn known_by(line: &io::Result<Option<Stat>>, found: u64) -> u64
     ensures read { IfOk line.now (λ _. result ≡ found) }
     ensures unread { IfErr line.now (λ _. result ≡ 0) }
@@ -53,8 +53,8 @@ fn known_by(line: &io::Result<Option<Stat>>, found: u64) -> u64
 }
 
 impl Adopted {
-    /// Whether the process still lives. Its line in /proc is read only if its folder there is not the known one, or if it
-    /// may have ended. If the kernel can't be asked, it lives.
+    /// Returns whether the process still lives. Reads its line in /proc only if its folder there is not the known one,
+    /// or if the process may have ended. If the kernel can't be asked, the process counts as alive.
     fn lives(&self, looks_for_end: bool) -> bool {
         let AdoptedProcess { files, pid, tick } = &self.process;
         let found = match folder_of(files, *pid) {
@@ -71,7 +71,7 @@ impl Adopted {
     }
 }
 
-/// What the thread shares with those who adopt.
+/// What the thread shares with those who adopt processes.
 #[derive(Drop)]
 struct WatchState {
     adopted: Mutex<Vec<Adopted>>,
@@ -79,8 +79,8 @@ struct WatchState {
     notifier: Notifier,
 }
 
-/// Looks once a second whether the adopted processes live, in a thread of its own, and notifies the service of each
-/// that does not. Whoever has the process finds itself that it is gone.
+/// A thread that checks once a second whether the adopted processes live, and notifies the service of each one that
+/// does not. The service itself then finds that its process is gone.
 pub struct AdoptionWatch {
     state: Arc<WatchState, Global>,
 }
@@ -109,7 +109,7 @@ impl AdoptionWatch {
         Ok(AdoptionWatch { state })
     }
 
-    /// Looks after a process from now on, and notifies once it is gone.
+    /// Watches a process from now on, and notifies its service once the process is gone.
     pub(crate) fn add<R: Wait>(
         &self,
         rt: &R,
@@ -138,7 +138,7 @@ fn start<R: Threads + Wait + Copy + Send + Drop + 'static>(
     Ok(())
 }
 
-/// Looks again and again, until the watch is closed. While no process is adopted it rests.
+/// Looks repeatedly until the watch is closed. Rests without a time limit while no process is adopted.
 fn watch<R: Wait + Drop>(rt: R, state: &WatchState) {
     let mut looks: u64 = 0;
     for _ in rt.forever() {
@@ -155,7 +155,7 @@ fn watch<R: Wait + Drop>(rt: R, state: &WatchState) {
     }
 }
 
-/// Looks at each process once. Whether one lives still.
+/// Looks at each process once. Returns whether any still lives.
 fn look<R: Wait>(rt: &R, state: &WatchState, looks_for_ends: bool) -> bool {
     let mut adopted = state.adopted.lock(rt);
     adopted.retain(|one| {
