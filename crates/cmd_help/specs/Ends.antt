@@ -33,24 +33,25 @@ pub record Refuses (command : Command) (status : ℕ) (old new faults reports : 
   pub unwritten : new ≡ old
   pub reports_it : Reports faults reports (usage_text command)
 
--- the names of the commands, as a report of a fault begins
+-- the names of the commands, as the report of a fault begins
 abbrev pub help_name : List ℕ
 help_name = codes "help: "
 
 abbrev pub version_name : List ℕ
 version_name = codes "version: "
 
--- A page is printed; where a word named nothing that has one, it is refused.
+-- A page is printed. A word that names nothing with a page is refused.
 abbrev pub PageEnds : (page : Option (List ℕ)) → (status : ℕ) (old new faults reports : Device) → Type 0
 PageEnds None status old new faults reports = Refuses command.Help status old new faults reports
 PageEnds (Some text) status old new faults reports = Prints text help_name status old new faults reports
 
--- what is printed of the command that a word names, or of the installed program
+-- what is printed about the command, or the installed program, that a word names
 abbrev pub page_named : (word : List ℕ) → Option Command → Option (List ℕ)
 page_named word (Some command) = Some (help_of command)
 page_named word None = tool_page word
 
--- `help`, by its words: none, the overview; one, the page of the command or the installed program that it names
+-- How `help` ends, by its words. Without a word, it prints the overview. With one word, it prints the page of the
+-- command or the installed program with that name.
 abbrev pub HelpEnds : (words : List (List ℕ)) (status : ℕ) (old new faults reports : Device) → Type 0
 HelpEnds [] status old new faults reports = Prints overview help_name status old new faults reports
 HelpEnds (word ∷ []) status old new faults reports =

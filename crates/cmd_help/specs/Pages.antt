@@ -7,7 +7,7 @@ use Rattle.sup_core.specs.Rules.{Control, controls, letters}
 use Rattle.cmd_base.specs.declared.command.Command.{Command}
 use Rattle.cmd_base.specs.declared.command.Command.TheVariants as command
 
--- the commands, a line each
+-- the commands, one on each line
 abbrev pub overview : List ℕ
 overview = printed (
     codes "dtools COMMAND WORDS..: supervision and logging of services" ∷
@@ -27,7 +27,7 @@ overview = printed (
     codes "  help COMMAND   shows the words of a command; man dtools-COMMAND has the rest" ∷
     codes "  version        says which dtools this is" ∷ [])
 
--- the page of `svc`, with the letter of each control byte
+-- the page of `svc`, with the letter of each control byte; and the law that it has them all
 abbrev pub svc_page : List ℕ
 svc_page = codes "dtools svc [-W] [-" ++ letters ++ codes "] SERVICE..; u up, d down, o once, x exit, and signals"
 
@@ -38,12 +38,12 @@ SvcPageHasEachLetter = page command.Svc ≡ printed (svc_page ∷ [])
 abbrev pub letter_line : Control → List ℕ
 letter_line row = codes "  " ++ row.letter ++ codes "  " ++ row.meaning
 
--- what `help` prints of a command: its page, and of `svc` a line for each control byte too
+-- what `help` prints about a command: its page, and for `svc` also one line for each control byte
 abbrev pub help_of : Command → List ℕ
 help_of command.Svc = printed (svc_page ∷ map letter_line controls)
 help_of command = page command
 
--- The programs that are installed next to `dtools` and are not its commands, each with what `help` prints of it.
+-- The programs that are installed next to `dtools` and are not its commands, each with what `help` prints about it.
 abbrev pub tools : List (List ℕ × List ℕ)
 tools = (
     (codes "svwait", page command.Wait) ∷
@@ -56,6 +56,6 @@ tools = (
     (codes "svscan-run", codes "svscan-run [DIR]" ++ 10 ∷ []) ∷
     (codes "dtools-service", codes "dtools-service --add FOLDER [NAME], --remove NAME, --list [NAME]" ++ 10 ∷ []) ∷ [])
 
--- what `help` prints of such a program
+-- what `help` prints about such a program
 abbrev pub tool_page : (name : List ℕ) → Option (List ℕ)
 tool_page name = lookup (bytes_eq name) tools

@@ -11,7 +11,7 @@ use cmd_base::{Command, DONE, report_device, usage};
 use std::io::Write;
 use tai_status::Output;
 
-/// Prints a text, or says that the writer failed, and why. The name of the command comes with its `: `.
+/// Prints a text, or reports that the writer failed, and why. The name of the command includes its `: `.
 fn print<W: Write, E: Write>(
     text: &[u8],
     command: &[u8],
@@ -26,7 +26,7 @@ fn print<W: Write, E: Write>(
     }
 }
 
-/// The page of the command that a word names, or of the installed program.
+/// Returns the page of the command, or of the installed program, that a word names.
 fn page_named(word: &str) -> Option<&'static [u8]>
     ensures { option_copied result ≡ page_named word.now (command_named word.now) }
 {
@@ -47,9 +47,9 @@ fn print_page<W: Write, E: Write>(word: &str, writer: &mut Output<W>, faults: &m
     }
 }
 
-/// The command `help`: prints which commands there are, or with the name of one, or of a program that is installed
-/// next to this one, which words that takes; of `svc` also what each letter means. Returns the status: 0; 100 for a
-/// word that names neither, and for more words; 111 for a fault of the writer.
+/// The command `help`: prints which commands there are. With the name of a command, or of a program that is installed
+/// next to this one, it prints which words that takes, and for `svc` also what each letter means. Returns the exit
+/// status: 0; 100 for a word that names neither, and for more words; 111 for a fault of the writer.
 pub fn run_help<W: Write, E: Write>(
     words: &[&str],
     writer: &mut Output<W>,
@@ -64,7 +64,7 @@ pub fn run_help<W: Write, E: Write>(
     }
 }
 
-/// What `version` prints: which dtools this is, by which kit it was built, and from which sources.
+/// Returns what `version` prints: which dtools this is, which kit built it, and from which sources.
 fn version_text() -> ArrayString<192>
     ensures { result.bytes ≡ version_text }
 {
@@ -78,8 +78,8 @@ fn version_text() -> ArrayString<192>
 }
 
 /// The command `version`: prints the version of this program, the line of the kit that built it, and the sum of the
-/// sources that it was built from, each on a line. Answers the status: 0; 100 for any word; 111 for a fault of the
-/// writer.
+/// sources that it was built from, one on each line. Returns the exit status: 0; 100 for any word; 111 for a fault of
+/// the writer.
 pub fn run_version<W: Write, E: Write>(
     words: &[&str],
     writer: &mut Output<W>,

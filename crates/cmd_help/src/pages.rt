@@ -5,7 +5,7 @@ ghost use Rattle.cmd_help.specs.Pages.{SvcPageHasEachLetter, help_of, overview, 
 
 use cmd_base::{Command, page_of};
 
-/// What `help` prints without a word: the commands, a line each.
+/// Returns what `help` prints without a word: the commands, one on each line.
 pub fn overview() -> &'static [u8]
     ensures { result.now ≡ overview }
 {
@@ -28,7 +28,7 @@ pub fn overview() -> &'static [u8]
 "
 }
 
-/// What `help` prints of a command: its page, and of `svc` a line for each control byte too.
+/// Returns what `help` prints about a command: its page, and for `svc` also one line for each control byte.
 pub fn help_of(command: Command) -> &'static [u8]
     ensures { result.now ≡ help_of command }
 {
@@ -55,13 +55,13 @@ pub fn help_of(command: Command) -> &'static [u8]
     }
 }
 
-/// The page of `svc` names each control byte, and no other letter but `W`.
+/// States that the page of `svc` names each control byte, and no other letter except `W`.
 pub fn svc_page_has_each_letter()
     ensures { SvcPageHasEachLetter }
 {}
 
-/// What `help` prints of a program that is installed next to `dtools` and is not its command: which words it takes.
-/// None if there is no such program.
+/// Returns what `help` prints about a program that is installed next to `dtools` and is not one of its commands: which
+/// words it takes. Returns None if there is no such program.
 pub fn tool_page(name: &str) -> Option<&'static [u8]>
     ensures page { option_copied result ≡ tool_page name.now }
 {

@@ -58,7 +58,7 @@ dated date is =
       day_to = omega (arith, days.1);
     }
 
--- it as a date of the calendar's crate
+-- the same as a date of the calendar's crate
 abbrev calendar_date : (date : CivilDate) → IsDated date → Date
 calendar_date date is = record {
   year = pos date.year;

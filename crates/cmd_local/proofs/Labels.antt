@@ -27,7 +27,7 @@ pub digits_within : (xs : List ℕ) → leading_digits xs ≤ length xs
 digits_within [] = omega arith
 digits_within (x ∷ xs) = within_by x xs (is_lower_digit x) refl (digits_within xs)
 
--- More bytes count where all before them are digits.
+-- More bytes count only if all bytes before them are digits.
 all_by : (x : ℕ) (xs more : List ℕ) (is : Bool) → is_lower_digit x ≡ is → leading_digits (x ∷ xs) ≡ length (x ∷ xs)
     → (leading_digits xs ≡ length xs → length xs ≤ leading_digits (xs ++ more))
     → length (x ∷ xs) ≤ leading_digits (x ∷ xs ++ more)
@@ -167,7 +167,7 @@ labelled_more ahead (Some label) line more is rest =
       | false ↦ λ none. let no_label : None ≡ Some label = sym (label-none line none) ∙ is in cc no_label
     ] refl
 
--- What follows a front that is no more a label's stays as it is.
+-- What follows a front that can no longer become a label is unchanged.
 pub localised_line-more : (ahead : ℤ → ℤ) (line more : List ℕ) → 0 < length line → is_open line ≡ false
     → localised_line ahead (line ++ more) ≡ localised_line ahead line ++ more
 localised_line-more ahead line more some shut =

@@ -26,7 +26,7 @@ find-the test x (y ∷ ys) passes only (inl same) = first_by test x y ys passes 
 find-the test x (y ∷ ys) passes only (inr later) =
     found_by test x y ys (test y) refl (only y (inl refl)) (find-the test x ys passes (λ z is. only z (inr is)) later)
 
--- Where no member passes, none is found.
+-- If no member passes, none is found.
 pub find-none : {X : Type 0} (test : X → Bool) (xs : List X) → ((y : X) → In y xs → test y ≡ false)
     → find test xs ≡ None
 find-none test [] fails = refl

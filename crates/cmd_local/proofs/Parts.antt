@@ -102,7 +102,7 @@ Makes-front ahead part some shut is = record {
       ∙ append_assoc (localised_line ahead part) (take_through 10 more) (localised ahead (drop_through 10 more));
 }
 
--- a part of a line, where what begins one is known to be a label or none
+-- a part of a line, if it is known whether its beginning is a label
 pub Makes-part : (ahead : ℤ → ℤ) (inside : Bool) (part : List ℕ) (ends : Bool) → 0 < length part → IsPart part ends
     → (inside ≡ false → ends ≡ false → is_open part ≡ false)
     → Makes ahead inside part (made ahead inside part) (not ends) []
@@ -123,7 +123,7 @@ Makes-then {ahead} {a} {b} {c} {xs} {ys} {s} {t} {held} first second = record {
       ∙ sym (append_assoc s t (passed ahead c (held ++ more)));
 }
 
--- Bytes behind what was made may be held.
+-- Bytes after what was made may be held.
 pub Makes-held : {ahead : ℤ → ℤ} {a b : Bool} {xs s : List ℕ} (held : List ℕ) → Makes ahead a xs s b []
     → Makes ahead a (xs ++ held) s b held
 Makes-held {ahead} {a} {b} {xs} {s} held first = record {

@@ -12,7 +12,7 @@ pub record CivilDate : Type 0 where
   pub month : ℕ
   pub day : ℕ
 
--- a date of the calendar, of a year from 0 on
+-- a date of the calendar; its year is at least 0
 abbrev pub plain : Date → CivilDate
 plain date = record { year = unsigned_abs date.year; month = date.month; day = date.day }
 
@@ -49,7 +49,8 @@ clock_text second = two_digits (second / 3_600) ++ 58 ∷ two_digits (second / 6
 abbrev pub time_text : CivilDate → (second : ℕ) → List ℕ
 time_text date second = date_text date ++ 32 ∷ clock_text second
 
--- the text of so many seconds after 1970-01-01 00:00:00 on a clock whose days have 24 hours, in the years 1900 to 9999
+-- the text of this many seconds after 1970-01-01 00:00:00, on a clock whose days have 24 hours, in the years 1900 to
+-- 9999
 unfoldable pub civil_text : ℤ → Option (List ℕ)
 civil_text second =
     option_map (λ date. time_text date (unsigned_abs (int_rem_euclid second (pos 86_400))))

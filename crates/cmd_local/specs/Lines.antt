@@ -23,7 +23,7 @@ abbrev pub unpacked : {E : Type 0} → Result (List ℕ) E → Option Tai64n
 unpacked (Ok bytes) = Some (record { sec = from_be_bytes w64 (take 8 bytes); nano = from_be_bytes w32 (drop 8 bytes) })
 unpacked (Err fault) = None
 
--- the seconds and nanoseconds that a line begins with, which may be more than a second has
+-- the seconds and nanoseconds that a line begins with; the nanoseconds may be more than a second has
 unfoldable pub label_of : List ℕ → Option Tai64n
 label_of line = if has_label line then unpacked (decode_sized (take 24 (drop 1 line)) 12) else None
 
@@ -36,11 +36,11 @@ abbrev pub with_label : (ahead : ℤ → ℤ) → Option Tai64n → List ℕ →
 with_label ahead None line = line
 with_label ahead (Some label) line = with_time (local_text ahead label.sec) label.nano line
 
--- A line with local time in place of its label, where clocks are ahead of UTC by so much. Without a label, or where its
--- local time is not in the years 1900 to 9999, the line is as it was.
+-- A line with local time in place of its label, if clocks are ahead of UTC by this much. Without a label, or if its
+-- local time is not in the years 1900 to 9999, the line is unchanged.
 abbrev pub localised_line : (ahead : ℤ → ℤ) → List ℕ → List ℕ
 localised_line ahead line = with_label ahead (label_of line) line
 
--- each line so, in order
+-- each line changed this way, in order
 abbrev pub localised : (ahead : ℤ → ℤ) → List ℕ → List ℕ
 localised ahead text = flat_map (localised_line ahead) (lines_of text)

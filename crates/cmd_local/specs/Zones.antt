@@ -8,7 +8,7 @@ use Rattle.jiff.specs.ZoneView.{plain_zone}
 use Rattle.cmd_local.specs.declared.local_zone.LocalZone.{LocalZone}
 use Rattle.cmd_local.specs.declared.local_zone.LocalZone.TheVariants as zone
 
--- a second of Unix time, or the nearest that the table of a zone reports of
+-- a second of Unix time, or the nearest one that is looked up in the table of a zone
 abbrev pub nearest_second : ℤ → ℤ
 nearest_second second = int_max (neg_ℤ (pos 377_705_023_201)) (int_min second (pos 253_402_207_200))
 

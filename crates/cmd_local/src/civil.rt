@@ -12,7 +12,7 @@ const DAY: i64 = 86_400;
 /// The length of a time's text, in bytes.
 pub const TIME_LEN: usize = 19;
 
-/// The digit of a number at the place of a unit.
+/// Returns the digit of a number at the place of a unit.
 pub fn digit(unit: u32, number: u32) -> u8
     requires { 0 < unit }
     ensures { result ≡ digit unit number }
@@ -37,7 +37,7 @@ fn four_digits(number: u32) -> [u8; 4]
     ]
 }
 
-/// Nanoseconds as nine digits.
+/// Returns nanoseconds as nine digits.
 pub fn nine_digits(number: u32) -> [u8; 9]
     ensures { result ≡ nine_digits number }
 {
@@ -54,7 +54,7 @@ pub fn nine_digits(number: u32) -> [u8; 9]
     ]
 }
 
-/// The text of a date and of the seconds since midnight.
+/// Returns the text of a date and of the seconds since midnight.
 fn time_text(year: u32, month: u32, day: u32, second: u32) -> [u8; TIME_LEN]
     ensures { result ≡ time_text (record { year = year; month = month; day = day }) second }
 {
@@ -69,14 +69,14 @@ fn time_text(year: u32, month: u32, day: u32, second: u32) -> [u8; TIME_LEN]
     ]
 }
 
-/// The seconds since midnight.
+/// Returns the seconds since midnight.
 fn second_of_day(second: i64) -> u32
     ensures { result ≡ unsigned_abs (int_rem_euclid second (pos 86_400)) }
 {
     second.rem_euclid(DAY) as u32
 }
 
-/// The text of a date and of the seconds since midnight.
+/// Returns the text of a date and of the seconds since midnight.
 fn date_time_text(date: Date, second: u32) -> [u8; TIME_LEN]
     ensures { result ≡ time_text (plain date) second }
 {
@@ -84,8 +84,8 @@ fn date_time_text(date: Date, second: u32) -> [u8; TIME_LEN]
     time_text(year, u32::from(date.month), u32::from(date.day), second)
 }
 
-/// The text of so many seconds after 1970-01-01 00:00:00 on a clock whose days have 24 hours, where its year is
-/// from 1900 to 9999.
+/// Returns the text of this many seconds after 1970-01-01 00:00:00, on a clock whose days have 24 hours. Returns None
+/// if the year is not from 1900 to 9999.
 pub fn civil_text(second: i64) -> Option<[u8; TIME_LEN]>
     ensures { result ≡ civil_text second }
 {

@@ -1,5 +1,5 @@
-//! The command `tai64nlocal`: lines with local time in place of TAI64N labels; and a label's local time as text, for
-//! other commands.
+//! The command `tai64nlocal`: lines with local time in place of TAI64N labels. Other commands use it for a label's
+//! local time as text.
 #![tactic(auto)]
 
 mod civil;

@@ -1,4 +1,4 @@
-//! The lines of a text, one part after another.
+//! The lines of a text, part by part.
 ghost use Rattle.std.specs.Prelude.{◌≡◌, ◌+◌, ◌<◌, ◌≤◌, ◌-◌, ◌++◌, ◌∷◌, [], min, drop, take, length, true, false};
 ghost use Rattle.std.specs.Prelude.{not, ◌&&◌};
 ghost use Rattle.std.specs.Prelude.{OnOk, OnErr, IfOk, IfSome};
@@ -19,7 +19,7 @@ use std::io::Write;
 use std::marker::Model;
 use tai_status::{Block, DeviceFault, Output};
 
-/// How many digits a label has.
+/// The number of digits in a label.
 const DIGITS: usize = 24;
 
 /// The length of a label's text: an `@` and its digits.
@@ -59,14 +59,14 @@ struct Part {
     ends: bool,
 }
 
-/// Whether a byte is a lower-case hexadecimal digit.
+/// Returns whether a byte is a lower-case hexadecimal digit.
 fn is_lower_digit(byte: u8) -> bool
     ensures { result ≡ is_lower_digit byte }
 {
     matches!(byte, b'0'..=b'9' | b'a'..=b'f')
 }
 
-/// How many lower-case hexadecimal digits some bytes begin with, or 25 where there are more.
+/// Returns how many lower-case hexadecimal digits some bytes begin with, or 25 if there are more.
 fn leading_digits(bytes: &[u8]) -> usize
     ensures { result ≡ min (leading_digits bytes.now) 25 }
 {
@@ -77,7 +77,7 @@ fn leading_digits(bytes: &[u8]) -> usize
     count
 }
 
-/// Whether a line begins with a label.
+/// Returns whether a line begins with a label.
 fn has_label(line: &[u8]) -> bool
     ensures { result ≡ has_label line.now }
 {
@@ -87,7 +87,7 @@ fn has_label(line: &[u8]) -> bool
     }
 }
 
-/// The seconds and nanoseconds of 24 digits.
+/// Returns the seconds and nanoseconds of 24 digits.
 fn unpack(digits: &[u8]) -> Option<Stamp>
     requires { length digits.now ≡ 24 }
     ensures { result ≡ unpacked (decode_sized digits.now 12) }
@@ -102,7 +102,7 @@ fn unpack(digits: &[u8]) -> Option<Stamp>
     })
 }
 
-/// What the label says that a line begins with, where it begins with one.
+/// Returns what the label says that a line begins with, if it begins with one.
 #[tactic(auto, using(crate::proofs::Labels::labelled_long), unfolding(crate::specs::Lines::label_of))]
 fn label_of(line: &[u8]) -> Option<Stamp>
     ensures value { result ≡ label_of line.now }
@@ -115,7 +115,7 @@ fn label_of(line: &[u8]) -> Option<Stamp>
     }
 }
 
-/// Whether what there is of a line may go on to be a label.
+/// Returns whether a line with this beginning may still begin with a label.
 fn is_open(line: &[u8]) -> bool
     ensures { result ≡ is_open line.now }
 {
@@ -126,7 +126,7 @@ fn is_open(line: &[u8]) -> bool
 }
 
 impl LastTime {
-    /// The second 0, before any other.
+    /// Begins with the second 0.
     pub fn new<Z: Zone>(zone: &Z) -> LastTime
         ensures { result.text ≡ local_text (Z.ahead_at zone.now) result.sec }
     {
@@ -136,7 +136,7 @@ impl LastTime {
         }
     }
 
-    /// The local time of a second, which is kept.
+    /// Returns the local time of a second, and keeps it.
     fn time_of<Z: Zone>(&mut self, zone: &Z, sec: u64) -> Option<[u8; TIME_LEN]>
         requires { self.old.text ≡ local_text (Z.ahead_at zone.now) self.old.sec }
         ensures value { result ≡ local_text (Z.ahead_at zone.now) sec }
@@ -150,7 +150,7 @@ impl LastTime {
     }
 }
 
-/// A point and nine digits.
+/// Returns a point and nine digits.
 fn short_fraction(nano: u32) -> [u8; 10]
     ensures { result ≡ 46 ∷ nine_digits nano }
 {
@@ -159,7 +159,7 @@ fn short_fraction(nano: u32) -> [u8; 10]
     bytes
 }
 
-/// A point and ten digits.
+/// Returns a point and ten digits.
 fn long_fraction(nano: u32) -> [u8; 11]
     ensures { result ≡ 46 ∷ digit 1_000_000_000 nano ∷ nine_digits nano }
 {
@@ -189,7 +189,7 @@ fn put_time<W: Write>(
     }
 }
 
-/// Puts a time and nanoseconds, and bytes.
+/// Puts a time and nanoseconds, and then these bytes.
 fn put_stamped<W: Write>(
     time: &[u8],
     nano: u32,
@@ -208,7 +208,7 @@ fn put_stamped<W: Write>(
     block.put(rest, writer)
 }
 
-/// Puts a line, or enough of its front to say whether it has a label.
+/// Puts a line, or as much of its front as shows whether it has a label.
 pub fn put_line<Z: Zone, W: Write>(
     zone: &Z,
     line: &[u8],
@@ -252,7 +252,8 @@ fn first_part(bytes: &[u8]) -> Part
     }
 }
 
-/// Whether the first part of some bytes waits for more of them: it begins a line, and may go on to be a label.
+/// Returns whether the first part of some bytes waits for more of them: it begins a line, and may still be the
+/// beginning of a label.
 fn waits(part: Part, inside: bool, bytes: &[u8]) -> bool
     ensures { result ≡ (not part.ends && not inside && is_open bytes.now) }
 {
@@ -284,7 +285,8 @@ fn put_part<Z: Zone, W: Write>(
     }
 }
 
-/// Puts the lines of some bytes, but for what may go on to be a label at their end. Says where that begins.
+/// Puts the lines of some bytes, except for an end that may still be the beginning of a label. Returns the place of
+/// that end.
 pub fn put_lines<Z: Zone, W: Write>(
     zone: &Z,
     bytes: &[u8],

@@ -1,4 +1,4 @@
-//! The zone of a computer.
+//! The time zone of a computer.
 ghost use Rattle.std.specs.Prelude.{◌≡◌};
 ghost use Rattle.jiff_core.specs.Timestamp.{nanos_of_seconds};
 ghost use Rattle.cmd_local.specs.Zones.{nearest_second, zone_ahead};
@@ -7,13 +7,13 @@ use crate::zone::Zone;
 use jiff::Timestamp;
 use jiff::tz::{TimeZone, Tzif};
 
-/// The first second of Unix time that the offset of a zone is asked for, and the last. Before and after them it
-/// is taken to be what it is then.
+/// The first and the last second of Unix time for which the offset of a zone is looked up. Earlier seconds have the
+/// offset of the first one, and later seconds that of the last one.
 const FIRST: i64 = -377_705_023_201;
 
 const LAST: i64 = 253_402_207_200;
 
-/// A time zone: UTC, the table of a zone's file, or a rule as POSIX has it.
+/// A time zone: UTC, the table of a zone's file, or a POSIX rule.
 #[derive(Drop)]
 pub enum LocalZone {
     Utc,
@@ -21,7 +21,7 @@ pub enum LocalZone {
     Rule(TimeZone<'static>),
 }
 
-/// The instant of a second, or the nearest that there is.
+/// Returns the instant of a second, or the nearest one that can be looked up.
 fn nearest(second: i64) -> Timestamp
     ensures { result.nanosecond ≡ nanos_of_seconds (nearest_second second) }
 {

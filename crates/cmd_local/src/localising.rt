@@ -14,14 +14,14 @@ use cmd_base::{Command, DONE, report_device, usage};
 use std::io::{Read, Write};
 use tai_status::{BLOCK, Block, DeviceFault, Input, Output};
 
-/// Why lines went no further.
+/// Why not all lines were written.
 #[derive(Clone, Copy, Debug, PartialEq, Eq)]
 pub enum LocalFault {
     Read,
     Write,
 }
 
-/// Moves the bytes from one place to another to the front.
+/// Moves the bytes between two places to the front.
 fn move_to_front(bytes: &mut [u8], start: usize, end: usize)
     requires order { start ≤ end }
     requires within { end ≤ length bytes.old }
@@ -30,7 +30,7 @@ fn move_to_front(bytes: &mut [u8], start: usize, end: usize)
     bytes.copy_within(start..end, 0);
 }
 
-/// Reads once, behind the bytes up to a place.
+/// Reads once, into the place after the bytes up to `at`.
 fn read_behind<D: Read>(
     bytes: &mut [u8],
     at: usize,
@@ -49,7 +49,8 @@ fn read_behind<D: Read>(
     reader.read(&mut bytes[at..])
 }
 
-/// Writes the lines of some bytes, but for what may go on to be a label at their end. Says where that begins.
+/// Writes the lines of some bytes, except for an end that may still be the beginning of a label. Returns the place of
+/// that end.
 fn write_lines<Z: Zone, W: Write>(
     zone: &Z,
     bytes: &[u8],
@@ -74,7 +75,7 @@ fn write_lines<Z: Zone, W: Write>(
     Ok(at)
 }
 
-/// Writes what is held of a line as its input ends.
+/// Writes what is held of a line when its input ends.
 fn write_rest<Z: Zone, W: Write>(
     zone: &Z,
     held: &[u8],
@@ -93,8 +94,8 @@ fn write_rest<Z: Zone, W: Write>(
     block.flush(writer)
 }
 
-/// Writes the whole input with local time. What a read gave is written before the next read, but for what may go
-/// on to be a label at its end.
+/// Writes the whole input with local time. What a read returned is written before the next read, except for an end that
+/// may still be the beginning of a label.
 fn localise_input<Z: Zone, D: Read, W: Write>(
     zone: &Z,
     reader: &mut Input<D>,
@@ -134,7 +135,7 @@ fn localise_input<Z: Zone, D: Read, W: Write>(
     }
 }
 
-/// Reports which device failed, and why, and returns the status of that.
+/// Reports which device failed, and why, and returns the exit status for that.
 fn report_unlocalised<D: Read, W: Write, E: Write>(
     fault: LocalFault,
     reader: &Input<D>,
@@ -166,12 +167,11 @@ fn run_input<Z: Zone, D: Read, W: Write, E: Write>(
     }
 }
 
-/// The command `tai64nlocal`: writes each line of the reader with the local time of the zone in place of the label
-/// that it begins with, as `2026-11-25 01:33:02.123456789` (<https://cr.yp.to/daemontools/tai64nlocal.html>). A
-/// label is an `@` and exactly 24 digits, which are lower-case hexadecimal. A line that begins with none, or with one
-/// whose local time is not in the years 1900 to 9999, stays as it is. Lines may have any length. It takes no words.
-/// Returns the status: 0; 100 for wrong words; 111 for a fault of the reader or the writer, which is reported with its
-/// cause.
+/// The command `tai64nlocal`: writes each line of the reader with the local time of the zone in place of the label that
+/// it begins with, as `2026-11-25 01:33:02.123456789` (<https://cr.yp.to/daemontools/tai64nlocal.html>). A label is an
+/// `@` and exactly 24 digits, which are lower-case hexadecimal. A line without a label, or with one whose local time is
+/// not in the years 1900 to 9999, stays as it is. Lines may have any length. The command takes no words. Returns the
+/// exit status: 0; 100 for wrong words; 111 for a fault of the reader or the writer, which is reported with its cause.
 pub fn run_tai64nlocal<Z: Zone, D: Read, W: Write, E: Write>(
     zone: &Z,
     words: &[&str],

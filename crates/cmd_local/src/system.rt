@@ -1,4 +1,4 @@
-//! The files and variables that say in which zone a computer is.
+//! The files and variables that say in which time zone a computer is.
 use crate::local_zone::LocalZone;
 use jiff::tz::{TimeZone, Tzif};
 use std::alloc::AllocError;
@@ -6,19 +6,19 @@ use std::env::VarError;
 use std::io::{ErrorKind, Read};
 use std::{env, fs};
 
-/// The file of the zone that a computer is in.
+/// The file with the computer's zone.
 const SYSTEM_ZONE: &str = "/etc/localtime";
 
-/// The folder of the files of zones, where the variable TZDIR names no other.
+/// The folder with the files of zones, if the variable TZDIR names no other.
 const ZONES: &str = "/usr/share/zoneinfo";
 
-/// When the clocks change by a rule that does not say it, as the C library has it.
+/// When the clocks change by a rule that does not say it, as in the C library.
 const CHANGES: &str = ",M3.2.0,M11.1.0";
 
-/// How many bytes of a zone's file are read at most.
+/// The most bytes read of a zone's file.
 const MOST_BYTES: u64 = 1 << 20;
 
-/// No zone, or that there was no memory to read it, where that is the fault.
+/// Returns no zone, or `AllocError` if the fault was a lack of memory.
 fn unread(fault: ErrorKind) -> Result<Option<LocalZone>, AllocError> {
     if fault == ErrorKind::OutOfMemory {
         Err(AllocError)
@@ -27,7 +27,7 @@ fn unread(fault: ErrorKind) -> Result<Option<LocalZone>, AllocError> {
     }
 }
 
-/// The zone of the file at a path, where it is one.
+/// Returns the zone of the file at a path, if it is the file of a zone.
 fn read_table(rt: &HostRuntime, path: &str) -> Result<Option<LocalZone>, AllocError> {
     match fs::metadata(rt, path) {
         Ok(found) if found.is_file() => {}
@@ -49,7 +49,7 @@ fn read_table(rt: &HostRuntime, path: &str) -> Result<Option<LocalZone>, AllocEr
     }
 }
 
-/// The folder of the files of zones.
+/// Returns the folder with the files of zones.
 fn zones_folder(rt: &HostRuntime) -> Result<Option<String>, AllocError> {
     match env::var(rt, "TZDIR") {
         Ok(folder) => Ok(Some(folder)),
@@ -58,7 +58,7 @@ fn zones_folder(rt: &HostRuntime) -> Result<Option<String>, AllocError> {
     }
 }
 
-/// The zone of the file of this name, where there is one.
+/// Returns the zone of the file with this name, if there is one.
 fn read_named(rt: &HostRuntime, name: &str) -> Result<Option<LocalZone>, AllocError> {
     if name.starts_with('/') {
         return read_table(rt, name);
@@ -69,12 +69,12 @@ fn read_named(rt: &HostRuntime, name: &str) -> Result<Option<LocalZone>, AllocEr
     read_table(rt, path.as_str())
 }
 
-/// A name without the colon that it may begin with.
+/// Returns a name without the colon that it may begin with.
 fn without_colon(text: &str) -> &str {
     text.strip_prefix(':').unwrap_or(text)
 }
 
-/// The zone of a rule, as POSIX has it, where it is one.
+/// Returns the zone of a POSIX rule, if this text is one.
 fn rule_zone(rt: &HostRuntime, rule: &str) -> Result<Option<LocalZone>, AllocError> {
     if let Ok(zone) = TimeZone::posix(rule) {
         return Ok(Some(LocalZone::Rule(zone)));
@@ -83,7 +83,7 @@ fn rule_zone(rt: &HostRuntime, rule: &str) -> Result<Option<LocalZone>, AllocErr
     Ok(TimeZone::posix(whole.as_str()).ok().map(LocalZone::Rule))
 }
 
-/// The zone that a name or a rule says, where it says one.
+/// Returns the zone that a name or a rule says, if it says one.
 fn named_zone(rt: &HostRuntime, name: &str) -> Result<Option<LocalZone>, AllocError> {
     if name.is_empty() {
         return Ok(None);
@@ -94,9 +94,10 @@ fn named_zone(rt: &HostRuntime, name: &str) -> Result<Option<LocalZone>, AllocEr
     }
 }
 
-/// The zone of this computer: that of the variable TZ, which is the name of a file below /usr/share/zoneinfo, or
-/// below TZDIR, the absolute path of one, or a rule, as `EST5EDT,M3.2.0,M11.1.0`; without TZ that of /etc/localtime.
-/// It is UTC where TZ is empty, and where there is no such zone. `AllocError` comes where memory for it is refused.
+/// Returns the zone of this computer. The variable TZ may be the name of a file below /usr/share/zoneinfo, or below
+/// TZDIR; the absolute path of such a file; or a rule, as `EST5EDT,M3.2.0,M11.1.0`. Without TZ, the zone is that of
+/// /etc/localtime. If TZ is empty, or there is no such zone, the zone is UTC. Returns `AllocError` only if memory for
+/// it is refused.
 pub fn system_zone(rt: &HostRuntime) -> Result<LocalZone, AllocError> {
     let zone = match env::var(rt, "TZ") {
         Ok(text) => named_zone(rt, without_colon(text.as_str()))?,

@@ -1,4 +1,4 @@
--- Folders of logs: what calls in turn do.
+-- Folders of logs: what calls do one after the other.
 use Rattle.std.proofs.Common.{◌≡◌, ℕ, ◌+◌, ◌<◌, true, false, List, [], ◌∷◌, ◌++◌, length, map, drop, get_or, Option}
 use Rattle.std.proofs.Common.{Some, None, refl, sym, ap, ◌∙◌, arith, subst, append_assoc, append-nil}
 use Rattle.std.specs.Prelude.{IfSome, IsSome, MatchOption, unwrap_or, take, Result, Ok, Err, OnOk, OnErr}
@@ -108,7 +108,7 @@ renamed_gone a b name h =
       | Some bytes ↦ λ e. ap (λ (f : Folder). f.current) e
     ] (h.1)
 
--- a finish that is not begun anew
+-- a finish without a new current file
 pub renamed_files : (a b c : Option Folder) (name : List ℕ) → Changes a b Syncs → Changes b c (Renames name)
     → Reaches (files_of a) (files_of c) []
 renamed_files None None None name h k = tt
@@ -326,7 +326,7 @@ none_removed (Some a) len kept =
       | Some bytes ↦ ap (λ (t : List Old). record { current = bytes; olds = t }) none
     ]
 
--- the same, where the first name was read and removed at its place
+-- the same, if the first name was read and removed at its place
 pub kept-removed-first : (a b : Option Folder) (first : List ℕ) (names : List (List ℕ)) (len : ℕ)
     → Changes a b (Removes first) → 0 < length names
     → first ≡ get_or names 0 first → IsKept a names len → IsKept b (take 0 names ++ drop 1 names) len
@@ -352,7 +352,7 @@ if_some_any : {X : Type 0} (x : Option X) (P : Type 0) → P → IfSome x (λ _.
 if_some_any None P p = tt
 if_some_any (Some x) P p = p
 
--- A log whose current file was finished has one again, where the files are reported.
+-- A log whose current file was finished has one again, if the files are reported.
 pub finish_begins : (o s n c : Option Folder) (name : List ℕ) → Changes o s Syncs → Changes s n (Renames name)
     → Changes n c Opens
     → IfSome (files_of o) (λ _. IsSome (files_of c))

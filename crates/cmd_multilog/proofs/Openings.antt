@@ -189,7 +189,7 @@ one_more a b c script log path o none one is =
     (subst (λ (ps : List (List ℕ)). Extended a.asked c.asked ps) (sym (one_further (folders_of script) log path is))
     (extended-both a.asked b.asked c.asked paths (path ∷ []) o.asked_for one))
 
--- no call failed by which folders are opened, but for want of memory
+-- no call to open folders failed, except for a lack of memory
 not_refused : (a b c : Shelf) (fault : Error) → b.gave ≡ a.gave → IsCause fault b.gave c.gave
     → error_kind fault ≡ error.OutOfMemory → NoneRefused a.gave c.gave
 not_refused a b c fault well (inl gave) kind = inr (record {
@@ -199,7 +199,7 @@ not_refused a b c fault well (inl gave) kind = inr (record {
 })
 not_refused a b c fault well (inr (same, lacks)) kind = inl (same ∙ well)
 
--- one did
+-- one call failed
 refused : (a b c : Shelf) (fault : Error) → b.gave ≡ a.gave → IsCause fault b.gave c.gave
     → error_kind fault ≢ error.OutOfMemory
     → OneRefused (cause_of (raw_os_error fault) (error_kind fault)) a.gave c.gave

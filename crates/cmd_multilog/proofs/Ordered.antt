@@ -1,4 +1,4 @@
--- Names in byte order, and where one more comes to stand.
+-- Names in byte order, and the place of one more.
 use Rattle.std.proofs.Common.{◌≡◌, ℕ, suc, zero, ◌+◌, ◌<◌, ◌≤◌, Bool, true, false, List, [], ◌∷◌, ◌++◌, length, take}
 use Rattle.std.proofs.Common.{drop, get_or, refl, sym, ap, ◌∙◌, arith, subst}
 use Rattle.std.proofs.Math.Seq.{drop-cons, drop-length}
@@ -18,11 +18,11 @@ is_below first second = is_lt (slice_cmp nat_cmp first second)
 byte_order : IsStrictWeakOrder is_below
 byte_order = ranks_by nat_list_cmp_total (λ (name : List ℕ). name)
 
--- The first of these names, where there is one, is not smaller than a name.
+-- The first of these names, if there is one, is not smaller than a name.
 abbrev StartsAbove : List ℕ → List (List ℕ) → Type 0
 StartsAbove name names = (d : List ℕ) → 0 < length names → is_below (get_or names 0 d) name ≡ false
 
--- One more stands before the others.
+-- One more comes before the others.
 
 one_above : (first : List ℕ) (names : List (List ℕ)) → StartsAbove first names → AreInOrder names
     → (k : ℕ) (d : List ℕ) → k + 1 < length (first ∷ names)
@@ -40,14 +40,14 @@ ordered-cons first names above order = λ k d low within. one_above first names 
 starts_above : (first : List ℕ) (names : List (List ℕ)) → AreInOrder (first ∷ names) → StartsAbove first names
 starts_above first names order = λ d some. order 0 d (omega arith) (omega (arith, some))
 
--- The first is taken away.
+-- The first is removed.
 ordered-rest : (first : List ℕ) (names : List (List ℕ)) → AreInOrder (first ∷ names) → AreInOrder names
 ordered-rest first names order = λ k d low within.
     let e : suc k + 1 ≡ suc (k + 1) = omega arith in
     subst (λ (n : ℕ). is_below (get_or (first ∷ names) n d) (get_or names k d) ≡ false) e
     (order (suc k) d (omega arith) (omega (arith, within)))
 
--- One more is put in its place.
+-- One more is inserted at its place.
 
 with_name-above : (name first : List ℕ) (names : List (List ℕ)) → is_below name first ≡ false → StartsAbove first names
     → StartsAbove first (with_name name names)
@@ -83,7 +83,7 @@ all_below name names last d order within below k to =
       | false ↦ λ not. sym (byte_order.chain (get_or names last d) (get_or names k d) name far not) ∙ below
     ] refl
 
--- it stands behind all that are smaller
+-- it comes after all that are smaller
 behind : (name : List ℕ) (names : List (List ℕ)) (at : ℕ) (d : List ℕ) → at ≤ length names
     → ((k : ℕ) → k < at → is_below (get_or names k d) name ≡ true)
     → with_name name names ≡ take at names ++ with_name name (drop at names)
@@ -94,7 +94,7 @@ behind name (first ∷ names) (suc at) d within below =
     rw here (ap (λ (t : List (List ℕ)). first ∷ t)
     (behind name names at d (omega (arith, within)) (λ k less. below (suc k) (omega (arith, less)))))
 
--- it stands before those from a place on
+-- it comes before those from a place on
 abbrev pub IsBefore : List ℕ → List (List ℕ) → ℕ → Type 0
 IsBefore name names place = with_name name (drop place names) ≡ name ∷ drop place names
 
@@ -120,7 +120,7 @@ place_behind name names place last here order within next is below before =
     behind name names place here within (λ k less. all k (omega (arith, less, next)))
     ∙ ap (λ (t : List (List ℕ)). take place names ++ t) before
 
--- One more is put in its place, or nothing is.
+-- One more is inserted at its place, or nothing is.
 pub ordered_put : (put : Bool) (name : List ℕ) (names new : List (List ℕ)) (place : ℕ) → AreInOrder names
     → with_name name names ≡ take place names ++ name ∷ drop place names
     → new ≡ (if put then insert names place name else names) → AreInOrder new

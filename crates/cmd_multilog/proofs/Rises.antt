@@ -6,7 +6,7 @@ use Rattle.std.proofs.lemmas.Bool.Decides.{nat_tests}
 use Rattle.tai_status.specs.Label.{Tai64n, IsLabel, greatest, is_earlier, plus_nano}
 use Rattle.cmd_multilog.specs.Rising.{later, Ask, Give, Renew, given, AreReadings, Rise}
 
--- One label is earlier than another by its second, or by its nanosecond.
+-- One label is earlier than another in its second, or in its nanosecond.
 abbrev Precedes : Tai64n → Tai64n → Type 0
 Precedes a b = (a.sec < b.sec) ⊎ ((a.sec ≡ b.sec) × (a.nano < b.nano))
 
@@ -40,7 +40,7 @@ none_past : (r : Tai64n) → IsLabel r → Precedes greatest r → ⊥
 none_past r label (inl x) = (let s = label.sec in omega (arith, s, x))
 none_past r label (inr x) = (let n = label.nano in let m = x.1 in omega (arith, n, m))
 
--- One label is earlier than another, or that is the greatest.
+-- One label is earlier than another, or the other is the greatest.
 abbrev IsBelow : Tai64n → Tai64n → Type 0
 IsBelow a b = (is_earlier a b ≡ true) ⊎ (b ≡ greatest)
 

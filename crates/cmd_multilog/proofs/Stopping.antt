@@ -1,4 +1,4 @@
--- What a logger is given, read by read, and what is behind it.
+-- What a logger gets, read by read, and what comes after it.
 use Rattle.std.proofs.Common.{◌≡◌, ℕ, suc, zero, ◌-◌, ◌<◌, ◌≤◌, Bool, true, false, nat_eq, List, [], ◌∷◌, ◌++◌, length}
 use Rattle.std.proofs.Common.{take, Option, Some, None, refl, sym, ap, ◌∙◌, arith, subst, inl, inr, append_assoc}
 use Rattle.std.proofs.Common.{append-nil}
@@ -16,7 +16,7 @@ use Rattle.cmd_multilog.specs.Stop.{before_second, StopsAtALine, LosesNothing}
 
 -- The line in hand
 
--- whether a line is in hand behind some bytes is reported by the last
+-- the last of some bytes says whether a line is in hand after them
 line_at : (was : Bool) (bs : List ℕ) (k : ℕ) → k < length bs
     → not (nat_eq (slice_index_or bs k 0) 10) ≡ is_in_line was (take (suc k) bs)
 line_at was [] k within = absurd (omega (arith, within))
@@ -33,7 +33,7 @@ in_line_append : (was : Bool) (xs ys : List ℕ) → is_in_line was (xs ++ ys) �
 in_line_append was [] ys = refl
 in_line_append was (x ∷ xs) ys = in_line_append (not (x == 10)) xs ys
 
--- What is given
+-- What a logger gets
 
 given_behind : (was : Bool) (xs ys : List ℕ) (words : List Word)
     → (xs ++ ys) ++ rest_behind (is_in_line was (xs ++ ys)) words
@@ -72,12 +72,12 @@ next_goes (b ∷ c ∷ bs) ys one = absurd (omega (arith, one))
 
 -- Words
 
--- the parts behind a word, from the beginning of the next
+-- the parts after a word, from the beginning of the next one
 abbrev heard_from : Bool → List ℕ → List Word → List (List ℕ)
 heard_from rotates bytes words =
     if rotates then part_of bytes words ∷ parts_behind (is_in_line false bytes) words else []
 
--- what is left of what comes, and what is behind it
+-- what is left of what comes, and what comes after it
 abbrev left_of : Bool → Bool → Option Coming → Option (List ℕ)
 left_of stopped in_line coming =
     left_in (record {
@@ -177,7 +177,7 @@ is_over stopped in_line None over = tt
 is_over true in_line (Some coming) over = ap (λ (c : Coming). rest_of_line in_line c.before) over ∙ rest_of_none in_line
 is_over false in_line (Some coming) over = ap (given in_line) over
 
--- what a read comes to where no word was heard
+-- the result of a read if no word was heard
 pub reads_on : {E : Type 0} (left : Option (List ℕ)) (old new : Listening) (r : Result ℕ E) (into : List ℕ)
     → left_in old ≡ left → old.stopped ≡ false → new.stopped ≡ old.stopped
     → IfOk r (λ count. Changes old.coming new.coming (Reads (take count into)))
@@ -201,7 +201,7 @@ reads_on left old new (Err e) into kept going same reads line over err =
     subst (λ (l : Option (List ℕ)). Keeps l (left_in new)) kept
     (subst (λ (l : Listening). Keeps (left_in old) (left_in l)) (sym err) (Keeps-same (left_in old)))
 
--- what a read of at most one byte comes to behind a word, where a line is in hand
+-- the result of a read of at most one byte after a word, if a line is in hand
 pub reads_line : {E : Type 0} (left : Option (List ℕ)) (old new : Listening) (r : Result ℕ E) (into : List ℕ)
     → left_in old ≡ left → old.stopped ≡ true → old.in_line ≡ true → new.stopped ≡ old.stopped
     → length into ≤ 1
@@ -228,7 +228,7 @@ reads_line left old new (Err e) into kept stopped begun same one reads line over
     subst (λ (l : Option (List ℕ)). Keeps l (left_in new)) kept
     (subst (λ (l : Listening). Keeps (left_in old) (left_in l)) (sym err) (Keeps-same (left_in old)))
 
--- the parts behind stay
+-- the parts after it are unchanged
 pub behind_on : {E : Type 0} (behind : Option (List (List ℕ))) (old new : Listening) (r : Result ℕ E) (into : List ℕ)
     → behind_in old ≡ behind → old.stopped ≡ false → new.stopped ≡ old.stopped
     → IfOk r (λ count. Changes old.coming new.coming (Reads (take count into)))
@@ -345,7 +345,7 @@ between_lines before bytes ends =
       ends = elim ends [ inl none ↦ inl (whole ∙ none) | inr ended ↦ inr (inl (ap (is_in_line true) whole ∙ ended)) ];
     }
 
--- a line is in hand behind some bytes, whatever was before them
+-- a line is in hand after some bytes, whatever was before them
 either_line : (b : ℕ) (bs bytes : List ℕ) (in_line : Bool) → is_in_line true (b ∷ bs) ≡ in_line
     → IsLinesOf ((b ∷ bs) ++ rest_of_line in_line bytes) ((b ∷ bs) ++ bytes)
 either_line b bs bytes true is = behind_line (b ∷ bs) bytes is
@@ -376,7 +376,7 @@ line_whole true (b ∷ bytes) = line_step b bytes (b == 10) (line_whole true byt
 abbrev joined : List (List ℕ) → List ℕ
 joined parts = flat_map (λ part. part) parts
 
--- what is behind the first word, in one piece and in parts
+-- what comes after the first word, in one piece and in parts
 abbrev Behind : Bool → List Word → Type 0
 Behind in_line words = all_behind words ≡ rest_behind in_line words
     ++ (joined (parts_behind in_line words) ++ unread in_line words)
@@ -419,7 +419,7 @@ gave_all : (new : Option (List ℕ)) (all bytes : List ℕ) → Consumes (Some a
 gave_all None all bytes gave end = absurd gave
 gave_all (Some left) all bytes gave end = sym (append-nil bytes) ∙ ap (λ (t : List ℕ). bytes ++ t) (sym end) ∙ sym gave
 
--- A reader that gave all that was known of it gave just that.
+-- A reader that returned all that was known of it returned exactly that.
 pub all_given : (old new : Option (List ℕ)) (all bytes : List ℕ) → old ≡ Some all → Consumes old new bytes → IsAtEnd new
     → bytes ≡ all
 all_given old new all bytes known gave end =

@@ -22,7 +22,7 @@ use Rattle.cmd_multilog.specs.declared.fault.OpenFault.TheVariants as why
 use Rattle.cmd_multilog.specs.declared.fault.NoScript.{NoScript}
 use Rattle.cmd_multilog.specs.declared.fault.NoScript.TheVariants as no
 
--- What `multilog` works with: its store, its input, what the clock gave, and where it reports faults.
+-- What `multilog` works with: its store, its input, what the clock returned, and the device on which it reports faults.
 pub record Stage : Type 0 where
   pub store : Shelf
   pub feed : Feed
@@ -35,11 +35,11 @@ stage store feed readings faults =
 
 -- The script
 
--- These words say this script.
+-- These words stand for this script.
 abbrev pub IsSaidBy : List Act → List (List ℕ) → Type 0
 IsSaidBy script words = map said words ≡ map (λ action. Ok action) script
 
--- Why words are no script: the first bad word is reported; or there is none, and no memory.
+-- Why words are not a script: this is the first bad word; or there is none, and there is no memory.
 abbrev pub IsRefusal : NoScript → List (List ℕ) → Type 0
 IsRefusal (no.Refused fault) words =
     MatchOption (first_fault words) (fault.kind ≡ kind.OutOfMemory) (λ first. fault ≡ first)
@@ -59,7 +59,7 @@ pub record DoesNothing (old new : Stage) : Type 0 where
   pub feed : new.feed ≡ old.feed
   pub readings : new.readings ≡ old.readings
 
--- The words are no script: nothing is done, and it is reported why.
+-- The words are not a script: nothing is done, and it is reported why.
 pub record Refuses (words : List (List ℕ)) (status : ℕ) (old new : Stage) : Type 0 where
   pub why : NoScript
   pub refusal : IsRefusal why words
@@ -74,7 +74,7 @@ open_report script (why.Unopened log cause) =
     unopened_report (unwrap_or (slice_get (folders_of script) log) []) cause
 open_report script why.OutOfMemory = memory_report
 
--- A log can't be opened, or there is no memory: nothing is read, and it is reported.
+-- A log can't be opened, or there is no memory: nothing is read, and that is reported.
 pub record OpensNotAll (script : List Act) (status : ℕ) (old new : Stage) : Type 0 where
   pub cause : OpenFault
   pub opens : OpensUpTo old.store new.store script cause
@@ -85,7 +85,7 @@ pub record OpensNotAll (script : List Act) (status : ℕ) (old new : Stage) : Ty
 
 -- The run
 
--- what a run has to do with
+-- what a run works with; and the exit status after it
 abbrev pub play_of : Stage → Play
 play_of s = play s.feed (state_of s.store) s.readings
 
@@ -93,7 +93,7 @@ abbrev pub run_status : Option RunFault → ℕ
 run_status None = 0
 run_status (Some fault) = 111
 
--- what a call of the store is of: the folder of a log, the path of a status file, or standard error
+-- what a call of the store is about: the folder of a log, the path of a status file, or standard error
 abbrev pub object_of : List Act → StoreCall → List ℕ
 object_of script (call.Append log) = unwrap_or (slice_get (folders_of script) log) []
 object_of script (call.Finish log) = unwrap_or (slice_get (folders_of script) log) []
@@ -101,17 +101,17 @@ object_of script (call.Remove log) = unwrap_or (slice_get (folders_of script) lo
 object_of script (call.Status file) = unwrap_or (slice_get (file_paths script) file) []
 object_of script call.Alert = codes "standard error"
 
--- what is reported of a call of the store that failed
+-- what is reported about a call of the store that failed
 abbrev pub trouble_report : List Act → StoreTrouble → List ℕ
 trouble_report script trouble =
     call_words trouble.call ++ (object_of script trouble.call ++ store_note trouble)
 
--- what is reported of a fault of the store: the call that failed last, and why, if it is known
+-- what is reported about a fault of the store: the last call that failed, and why, if it is known
 abbrev pub store_report : List Act → (last : Option StoreTrouble) → List ℕ
 store_report script (Some trouble) = trouble_report script trouble
 store_report script None = codes "multilog: Store" ++ 10 ∷ []
 
--- what is reported of a fault of the run: of one of the input, the cause of its last fault
+-- what is reported about a fault of the run; for one of the input, this includes the cause of its last fault
 abbrev pub fault_report : List Act → (cause : Option Cause) → (last : Option StoreTrouble) → RunFault → List ℕ
 fault_report script cause last run.Read = codes "multilog: " ++ (codes "Read" ++ device_note cause)
 fault_report script cause last run.Store = store_report script last
@@ -123,7 +123,7 @@ abbrev pub ReportsRun : List Act → (cause : Option Cause) → (last : Option S
 ReportsRun script cause last None old new = new ≡ old
 ReportsRun script cause last (Some fault) old new = Reports old new (fault_report script cause last fault)
 
--- The script was run over opened logs, part by part of the input, no folder was asked for, and the fault is reported.
+-- The script was run over opened logs, for each part of the input. No folder was asked for, and the fault is reported.
 pub record RunsOpened (script : List Act) (status : ℕ) (old new : Stage) : Type 0 where
   pub ran : Option RunFault
   pub asked : new.store.asked ≡ old.store.asked
@@ -131,7 +131,7 @@ pub record RunsOpened (script : List Act) (status : ℕ) (old new : Stage) : Typ
   pub status_is : status ≡ run_status ran
   pub reported : ReportsRun script new.feed.device.cause new.store.last ran old.faults new.faults
 
--- The logs were opened, with no call that failed, and then the script was run.
+-- The logs were opened without a call that failed, and then the script was run.
 pub record RunsScript (script : List Act) (status : ℕ) (old new : Stage) : Type 0 where
   pub opened : Shelf
   pub well : opened.gave ≡ old.store.gave
@@ -141,12 +141,12 @@ pub record RunsScript (script : List Act) (status : ℕ) (old new : Stage) : Typ
 abbrev pub ScriptEnds : List Act → ℕ → Stage → Stage → Type 0
 ScriptEnds script status old new = OpensNotAll script status old new ⊎ RunsScript script status old new
 
--- `multilog`, by its words
+-- How `multilog` ends, by its words
 abbrev pub MultilogEnds : List (List ℕ) → ℕ → Stage → Stage → Type 0
 MultilogEnds words status old new =
     Refuses words status old new ⊎ ((script : List Act) × IsSaidBy script words × ScriptEnds script status old new)
 
--- The same, over devices, each before and after: the store, the input, the clock, and where faults are reported.
+-- The same, over devices, each before and after: the store, the input, the clock, and the device for faults.
 abbrev pub EndsBy : {I C : Type 0} → (I → Feed) → (C → Option (List Tai64n)) → List (List ℕ) → ℕ
     → (store store_now : Shelf) → (input input_now : I) → (clock clock_now : C) → (faults faults_now : Device)
     → Type 0

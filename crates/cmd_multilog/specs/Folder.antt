@@ -10,8 +10,8 @@ use Rattle.tai_status.specs.Extended.{Extended}
 use Rattle.mlog_files.specs.Files.{Old, Files, with_old}
 use Rattle.cmd_multilog.specs.Names.{old_names}
 
--- A folder: its path; whether this process holds its lock; its current file, where it has one, and whether all of that
--- is on the disk for certain; and its old files, in byte order of their names.
+-- A folder: its path; whether this process holds its lock; its current file, if it has one, and whether all of that is
+-- certainly on the disk. Its old files are in byte order of their names.
 pub record Folder : Type 0 where
   pub path : List ℕ
   pub locked : Bool
@@ -19,7 +19,7 @@ pub record Folder : Type 0 where
   pub synced : Bool
   pub olds : List Old
 
--- the files of a log in a folder: none are reported while it has no current file
+-- the files of a log in a folder; none are reported while it has no current file
 abbrev pub files_in : Folder → Option Files
 files_in folder = option_map (λ bytes. record { current = bytes; olds = folder.olds }) folder.current
 
@@ -27,7 +27,7 @@ abbrev pub files_of : Option Folder → Option Files
 files_of None = None
 files_of (Some folder) = files_in folder
 
--- A folder that is reported changes so. It goes on being reported.
+-- A folder that is reported changes this way. It is still reported afterwards.
 abbrev pub Changes : Option Folder → Option Folder → (Folder → Folder → Type 0) → Type 0
 Changes None None change = ⊤
 Changes None (Some new) change = ⊥
@@ -46,7 +46,7 @@ Locks old new = new ≡ record {
   olds = old.olds;
 }
 
--- The current file is opened, and made where it is missing.
+-- The current file is opened, and made if it is missing.
 abbrev pub Opens : Folder → Folder → Type 0
 Opens old new = new ≡ record {
   path = old.path;
@@ -56,7 +56,7 @@ Opens old new = new ≡ record {
   olds = old.olds;
 }
 
--- This piece is appended to the current file, which is there.
+-- This piece is appended to the current file, which exists.
 abbrev pub Extends : List ℕ → Folder → Folder → Type 0
 Extends piece old new = MatchOption old.current ⊥ (λ bytes. new ≡ record {
   path = old.path;
@@ -66,7 +66,7 @@ Extends piece old new = MatchOption old.current ⊥ (λ bytes. new ≡ record {
   olds = old.olds;
 })
 
--- All of the current file goes to the disk.
+-- All of the current file is written out to the disk.
 abbrev pub Syncs : Folder → Folder → Type 0
 Syncs old new = new ≡ record {
   path = old.path;
@@ -80,7 +80,7 @@ Syncs old new = new ≡ record {
 abbrev pub has_old : List ℕ → List Old → Bool
 has_old name olds = list_any (λ old. bytes_eq name old.name) olds
 
--- The current file, which is there, becomes the old file of a name that no old file has.
+-- The current file, which exists, becomes the old file with a name that no old file has.
 abbrev pub Renames : List ℕ → Folder → Folder → Type 0
 Renames name old new = (has_old name old.olds ≡ false) × MatchOption old.current ⊥ (λ bytes. new ≡ record {
   path = old.path;
@@ -90,12 +90,12 @@ Renames name old new = (has_old name old.olds ≡ false) × MatchOption old.curr
   olds = with_old (record { name = name; bytes = bytes }) old.olds;
 })
 
--- the old files without the first of this name
+-- the old files without the first one with this name
 abbrev pub without : List ℕ → List Old → List Old
 without name [] = []
 without name (old ∷ olds) = if bytes_eq name old.name then olds else old ∷ without name olds
 
--- The old file of a name is removed.
+-- The old file with a name is removed.
 abbrev pub Removes : List ℕ → Folder → Folder → Type 0
 Removes name old new = new ≡ record {
   path = old.path;
@@ -105,7 +105,7 @@ Removes name old new = new ≡ record {
   olds = without name old.olds;
 }
 
--- The folder is locked, and its current file opened.
+-- The folder is locked, and its current file is opened.
 abbrev pub Begins : Folder → Folder → Type 0
 Begins old new = new ≡ record {
   path = old.path;
@@ -115,8 +115,8 @@ Begins old new = new ≡ record {
   olds = old.olds;
 }
 
--- Why a log is not opened: a call on its folder gave this error, and no other call failed; or none did, and there was
--- no memory.
+-- Why a log is not opened: a call for its folder returned this error, and no other call failed; or none failed, and
+-- there was no memory.
 abbrev pub IsCause : Error → (past now : Option (List Error)) → Type 0
 IsCause error past now =
     Extended past now (error ∷ []) ⊎ ((now ≡ past) × (error_kind error ≡ OutOfMemory))
@@ -135,7 +135,7 @@ IsSynced folder = IfSome folder (λ f. f.synced ≡ true)
 abbrev pub HasLength : Option Folder → ℕ → Type 0
 HasLength folder len = IfSome folder (λ f. IfSome f.current (λ bytes. len ≡ length bytes))
 
--- Of these names those of old files are the folder's.
+-- Those of these names that are names of old files are the folder's.
 abbrev pub HasNames : Option Folder → List (List ℕ) → Type 0
 HasNames folder names = IfSome folder (λ f. old_names names ≡ map (λ old. old.name) f.olds)
 
@@ -152,9 +152,9 @@ StaysAt None (Some new) = ⊥
 StaysAt (Some old) None = ⊥
 StaysAt (Some old) (Some new) = new.path ≡ old.path
 
--- Status files, and the disk
+-- Status files
 
--- a status file: its path, and the contents that it was given, of which it holds the last
+-- a status file: its path, and the contents that it was given; it has the last one
 pub record Status : Type 0 where
   pub path : List ℕ
   pub given : List (List ℕ)
@@ -162,7 +162,7 @@ pub record Status : Type 0 where
 abbrev pub given_of : Option Status → Option (List (List ℕ))
 given_of status = option_map (λ s. s.given) status
 
--- The file was given this content, once. It goes on being reported.
+-- The file was given this content, once. It is still reported afterwards.
 abbrev pub Receives : Option Status → Option Status → List ℕ → Type 0
 Receives None None content = ⊤
 Receives None (Some new) content = ⊥

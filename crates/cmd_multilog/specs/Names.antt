@@ -14,7 +14,7 @@ begins_with_at (first ∷ rest) = first == 64
 abbrev pub is_old_name : List ℕ → Bool
 is_old_name name = begins_with_at name && nat_le 25 (length name)
 
--- the names with one more, before the first that is not smaller
+-- the names with one more, inserted before the first one that is not smaller
 abbrev pub with_name : List ℕ → List (List ℕ) → List (List ℕ)
 with_name name [] = name ∷ []
 with_name name (first ∷ names) =

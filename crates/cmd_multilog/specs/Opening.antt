@@ -17,22 +17,22 @@ use Rattle.cmd_multilog.specs.declared.fault.OpenFault.TheVariants as why
 abbrev pub folders_of : List Act → List (List ℕ)
 folders_of script = map (λ plan. plan.folder) (log_plans script)
 
--- These folders are those at these paths, each locked, with its current file, and nothing else was done to them.
+-- These are the folders at these paths, each locked and with its current file, and nothing else was done to them.
 abbrev pub AllBegun : List (List ℕ) → List (Option Folder) → Type 0
 AllBegun [] [] = ⊤
 AllBegun [] (folder ∷ folders) = ⊥
 AllBegun (path ∷ paths) [] = ⊥
 AllBegun (path ∷ paths) (folder ∷ folders) = IsBegunAt path folder × AllBegun paths folders
 
--- These status files are those at these paths.
+-- These are the status files at these paths.
 abbrev pub AllPlaced : List (List ℕ) → List (Option Status) → Type 0
 AllPlaced [] [] = ⊤
 AllPlaced [] (status ∷ statuses) = ⊥
 AllPlaced (path ∷ paths) [] = ⊥
 AllPlaced (path ∷ paths) (status ∷ statuses) = IfSome status (λ s. s.path ≡ path) × AllPlaced paths statuses
 
--- The logs in the folders at these paths were opened, in order, and the status files at these placed. The system was
--- asked for the folders at these paths. All else is as before.
+-- The logs in the folders at these paths were opened, in order, and the status files at these paths were placed. The
+-- system was asked for the folders at these paths. Everything else is as before.
 pub record Opens (old new : Shelf) (paths files asked : List (List ℕ)) : Type 0 where
   pub folders : List (Option Folder)
   pub placed : List (Option Status)
@@ -44,32 +44,32 @@ pub record Opens (old new : Shelf) (paths files asked : List (List ℕ)) : Type 
   pub asked_for : Extended old.asked new.asked asked
   pub failures : new.failures ≡ old.failures
 
--- Why the log of this number is not opened, by the error: for want of memory, or since it can't be.
+-- Why the log with this number is not opened, from the error: there is no memory, or it can't be opened.
 abbrev pub IsFault : Error → (log : ℕ) → OpenFault → Type 0
 IsFault error log fault =
     ((error_kind error ≡ kind.OutOfMemory) × (fault ≡ why.OutOfMemory))
     ⊎ ((error_kind error ≢ kind.OutOfMemory)
     × (fault ≡ why.Unopened log (cause_of (raw_os_error error) (error_kind error))))
 
--- One call failed by which folders are opened, and not for want of memory, but for this cause.
+-- One call to open folders failed, not for a lack of memory, but for this cause.
 pub record OneRefused (cause : Cause) (past now : Option (List Error)) : Type 0 where
   pub error : Error
   pub gave : Extended past now (error ∷ [])
   pub kind_is : error_kind error ≢ kind.OutOfMemory
   pub cause_is : cause ≡ cause_of (raw_os_error error) (error_kind error)
 
--- One call failed by which folders are opened, for want of memory.
+-- One call to open folders failed, for a lack of memory.
 pub record OneLacksMemory (past now : Option (List Error)) : Type 0 where
   pub error : Error
   pub gave : Extended past now (error ∷ [])
   pub kind_is : error_kind error ≡ kind.OutOfMemory
 
--- No call failed by which folders are opened, but for want of memory.
+-- No call to open folders failed, except for a lack of memory.
 abbrev pub NoneRefused : (past now : Option (List Error)) → Type 0
 NoneRefused past now = (now ≡ past) ⊎ OneLacksMemory past now
 
--- The logs before one were opened, and then no more: no folder behind that one's was asked for. That one can't be
--- opened where the system refused it, and there is no memory only where it refused none.
+-- The logs before one were opened, and no more: no folder after that one's was asked for. That one can't be opened if
+-- the system refused it. There is a lack of memory only if the system refused none.
 abbrev pub OpensUpTo : (old new : Shelf) (script : List Act) → OpenFault → Type 0
 OpensUpTo old new script (why.Unopened log cause) =
     (log < length (folders_of script)) × OneRefused cause old.gave new.gave

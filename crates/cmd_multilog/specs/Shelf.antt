@@ -1,4 +1,4 @@
--- What a store over folders holds, and what it says of it.
+-- What a store over folders holds, and what it says about it.
 use Rattle.std.specs.Prelude.{◌≡◌, ◌⊎◌, ⊤, ℕ, List, [], ◌∷◌, ◌++◌, length, Option, Some, None, IfSome, slice_get}
 use Rattle.std.specs.IoError.{error_kind, raw_os_error}
 use Rattle.std.specs.declared.io.Error.{Error}
@@ -11,9 +11,9 @@ use Rattle.cmd_multilog.specs.declared.fault.StoreTrouble.{StoreTrouble}
 use Rattle.cmd_multilog.specs.Folder.{Folder, files_of, Begins, Status, given_of}
 use Rattle.tai_status.specs.Extended.{Extended}
 
--- The folders of the logs and the status files, as far as the system reports them; the alerts; the folders that the
--- system was asked for, and the errors that the calls gave by which these are opened; how many calls failed since, and
--- which one of them was the last, and why.
+-- The folders of the logs and the status files, as far as the system reports them; and the alerts. Also the folders
+-- that the system was asked for, and the errors from the calls that open these. Also how many calls failed since, and
+-- which was the last one, and why.
 pub record Shelf : Type 0 where
   pub logs : List (Option Folder)
   pub statuses : List (Option Status)
@@ -23,7 +23,7 @@ pub record Shelf : Type 0 where
   pub failures : ℕ
   pub last : Option StoreTrouble
 
--- a call that failed by an error, and why
+-- a call that failed with an error, and why
 abbrev pub trouble_of : StoreCall → Error → StoreTrouble
 trouble_of call error = record { call = call; cause = cause_of (raw_os_error error) (error_kind error) }
 
@@ -32,12 +32,12 @@ abbrev pub files_at : Option (Option Folder) → Option Files
 files_at None = None
 files_at (Some folder) = files_of folder
 
--- the contents that the status file at a place was given
+-- the contents that were given to the status file at a place
 abbrev pub given_at : Option (Option Status) → Option (List (List ℕ))
 given_at None = None
 given_at (Some status) = given_of status
 
--- the store that it is
+-- the state of the store
 abbrev pub state_of : Shelf → StoreState
 state_of shelf = record {
   logs = length shelf.logs;
@@ -51,14 +51,14 @@ state_of shelf = record {
   };
 }
 
--- The shelf is as before, but for what the system was asked for and gave.
+-- The shelf is as before, except for what the system was asked for and returned.
 pub record AddsNone (old new : Shelf) : Type 0 where
   pub logs : new.logs ≡ old.logs
   pub statuses : new.statuses ≡ old.statuses
   pub alerts : new.alerts ≡ old.alerts
   pub failures : new.failures ≡ old.failures
 
--- A folder is that at a path, locked, with its current file, and nothing was done to it.
+-- This is the folder at a path, locked and with its current file, and nothing else was done to it.
 abbrev pub IsBegunAt : List ℕ → Option Folder → Type 0
 IsBegunAt path None = ⊤
 IsBegunAt path (Some folder) = (found : Folder) × (found.path ≡ path) × Begins found folder
@@ -77,12 +77,12 @@ pub record OpensLog (old new : Shelf) (path : List ℕ) : Type 0 where
 abbrev pub AsksForOne : Shelf → Shelf → List ℕ → Type 0
 AsksForOne old new path = Extended old.asked new.asked (path ∷ [])
 
--- The system was asked for the folder at a path, which is not opened; or it was not, for want of memory.
+-- The system was asked for the folder at a path, which is not opened; or it was not asked, for a lack of memory.
 abbrev pub AsksFor : Error → (old new : Shelf) (path : List ℕ) → Type 0
 AsksFor error old new path =
     AsksForOne old new path ⊎ ((new.asked ≡ old.asked) × (error_kind error ≡ OutOfMemory))
 
--- The status file at a path is the next.
+-- The status file at a path is the next one.
 pub record AddsStatus (old new : Shelf) (path : List ℕ) : Type 0 where
   pub status : Option Status
   pub at : IfSome status (λ s. s.path ≡ path)

@@ -21,10 +21,10 @@ use std::alloc::Allocator;
 use std::io::Write;
 use tai_status::{Cause, Output, TimeSource};
 
-/// What is reported if it is out of memory.
+/// What is reported if there is no memory.
 const NO_MEMORY: &[u8] = b"multilog: OutOfMemory\n";
 
-/// Why words are no script, where there is no memory: the first bad word is reported, also then.
+/// Returns why words are not a script if there is no memory. Even then, the first bad word is reported.
 fn starved(words: &[&str]) -> NoScript
     ensures { IsRefusal result (texts words.now) }
 {
@@ -48,7 +48,7 @@ fn read_script<A: Allocator + Clone>(alloc: &A, words: &[&str]) -> Result<Script
     }
 }
 
-/// Says why words are no script, and answers the status of that.
+/// Reports why words are not a script, and returns the exit status for that.
 fn report_refusal<E: Write>(why: NoScript, faults: &mut Output<E>) -> u8
     ensures status { result ≡ refusal_status why }
     ensures reported { Reports faults.old faults.new (refusal_report why) }
@@ -61,7 +61,7 @@ fn report_refusal<E: Write>(why: NoScript, faults: &mut Output<E>) -> u8
     }
 }
 
-/// The folder of the log of a number, empty where there is none.
+/// Returns the folder of the log with a number. It is empty if there is none.
 fn folder_of<B: Allocator + Clone>(script: &Script<B>, log: usize) -> &[u8]
     ensures { result.now ≡ unwrap_or (slice_get (folders_of script.now) log) [] }
 {
@@ -71,7 +71,7 @@ fn folder_of<B: Allocator + Clone>(script: &Script<B>, log: usize) -> &[u8]
     }
 }
 
-/// Says why not all logs are opened, and answers the status of that.
+/// Reports why not all logs are opened, and returns the exit status for that.
 fn report_unopened<B: Allocator + Clone, E: Write>(
     why: OpenFault,
     script: &Script<B>,
@@ -92,7 +92,7 @@ fn report_unopened<B: Allocator + Clone, E: Write>(
     }
 }
 
-/// The path of the status file of a number, empty where there is none.
+/// Returns the path of the status file with a number. It is empty if there is none.
 fn file_of<B: Allocator + Clone>(script: &Script<B>, file: usize) -> &[u8]
     ensures { result.now ≡ unwrap_or (slice_get (file_paths script.now) file) [] }
 {
@@ -102,7 +102,7 @@ fn file_of<B: Allocator + Clone>(script: &Script<B>, file: usize) -> &[u8]
     }
 }
 
-/// What a call of the store is of: the folder of a log, the path of a status file, or standard error.
+/// Returns what a call of the store is about: the folder of a log, the path of a status file, or standard error.
 fn object_of<B: Allocator + Clone>(script: &Script<B>, call: StoreCall) -> &[u8]
     ensures { result.now ≡ object_of script.now call }
 {
@@ -115,7 +115,7 @@ fn object_of<B: Allocator + Clone>(script: &Script<B>, call: StoreCall) -> &[u8]
     }
 }
 
-/// Says which call of the store failed, and why, and answers the status of that.
+/// Reports which call of the store failed, and why, and returns the exit status for that.
 fn report_trouble<B: Allocator + Clone, E: Write>(
     trouble: StoreTrouble,
     script: &Script<B>,
@@ -133,7 +133,7 @@ fn report_trouble<B: Allocator + Clone, E: Write>(
     )
 }
 
-/// Reports which call of the store failed last, and why, if it is known, and returns the status of that.
+/// Reports which call of the store failed last, and why, if it is known, and returns the exit status for that.
 fn report_store<B: Allocator + Clone, E: Write>(
     last: Option<StoreTrouble>,
     script: &Script<B>,
@@ -148,8 +148,8 @@ fn report_store<B: Allocator + Clone, E: Write>(
     }
 }
 
-/// Reports why a run ended early, and returns the status of that. `cause` is that of the last fault of the input, and
-/// `last` the call of the store that failed last.
+/// Reports why a run ended early, and returns the exit status for that. `cause` is that of the last fault of the input,
+/// and `last` is the last call of the store that failed.
 fn report_run<B: Allocator + Clone, E: Write>(
     fault: RunFault,
     cause: Option<Cause>,
@@ -169,10 +169,17 @@ fn report_run<B: Allocator + Clone, E: Write>(
 }
 
 /// The command `multilog`: reads lines, and hands them out to the logs, alerts and status files that its words ask for
-/// (<https://cr.yp.to/daemontools/multilog.html>). No words are a lawful script. After each part of the input but the
-/// last the current files that aren't empty become old files. Returns the status: 0; 100 for words that are no script,
-/// and then nothing is made or read; 111 if a log can't be opened, for a fault of the input or the store, if a log has
-/// no greater label, and if it is out of memory, for the words only if none of them is bad.
+/// (<https://cr.yp.to/daemontools/multilog.html>). No words are a valid script. After each part of the input except the
+/// last, the current files that aren't empty become old files.
+///
+/// Returns the exit status:
+///
+/// - 0;
+/// - 100 for words that are not a script, and then nothing is made or read;
+/// - 111 if a log can't be opened, for a fault of the input or the store, if a log has no greater label, and for a lack
+///   of memory.
+///
+/// A lack of memory for the words is reported only if none of them is bad.
 pub fn run_multilog<D, A, I, E, C>(
     alloc: A,
     store: &mut FolderStore<D, A>,

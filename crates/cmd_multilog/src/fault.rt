@@ -1,4 +1,4 @@
-//! Why `multilog` ends early, and what it says of that.
+//! Why `multilog` ends early, and what it reports about that.
 ghost use Rattle.std.specs.Prelude.{◌≡◌, ◌≤◌, length};
 ghost use Rattle.cmd_multilog.specs.Sayings.{call_words, open_note, open_words, script_report};
 ghost use Rattle.cmd_multilog.specs.Sayings.{script_status, store_note, where_in};
@@ -11,12 +11,12 @@ use tai_status::Cause;
 /// Why the logs and status files of a script are not opened.
 #[derive(Clone, Copy, Debug, PartialEq, Eq)]
 pub enum OpenFault {
-    /// The log of this number can't be opened, for this cause.
+    /// The log with this number can't be opened, for this cause.
     Unopened(usize, Cause),
     OutOfMemory,
 }
 
-/// A call of the store, of the log or the status file of a number.
+/// A call of the store, for the log or the status file with a number.
 #[derive(Clone, Copy, Debug, PartialEq, Eq)]
 pub enum StoreCall {
     /// A front of a piece was to be appended to the current file.
@@ -38,7 +38,7 @@ pub struct StoreTrouble {
     pub cause: Cause,
 }
 
-/// Why there is no script.
+/// Why words are not a script.
 #[derive(Clone, Copy, Debug, PartialEq, Eq)]
 pub enum NoScript {
     /// A word is refused, or there is no memory for its action.
@@ -47,7 +47,7 @@ pub enum NoScript {
     OutOfMemory,
 }
 
-/// What is reported of a fault of the script.
+/// Returns what is reported about a fault of the script.
 pub(crate) fn script_text(fault: ScriptFault) -> ArrayString<64>
     ensures { result.bytes ≡ script_report fault }
 {
@@ -60,7 +60,7 @@ pub(crate) fn script_text(fault: ScriptFault) -> ArrayString<64>
     out
 }
 
-/// The status of a fault of the script.
+/// Returns the exit status for a fault of the script.
 pub(crate) fn script_status(fault: ScriptFault) -> u8
     ensures { result ≡ script_status fault }
 {
@@ -70,7 +70,7 @@ pub(crate) fn script_status(fault: ScriptFault) -> u8
     }
 }
 
-/// Why a log can't be opened, in words. A call that would wait is that for the lock.
+/// Returns why a log can't be opened, in words. The call that would wait is the one for the lock.
 fn open_words(cause: Cause) -> &'static str
     ensures words { result.now ≡ open_words cause }
     ensures short { length result.now ≤ 34 }
@@ -81,7 +81,7 @@ fn open_words(cause: Cause) -> &'static str
     }
 }
 
-/// Why a log can't be opened, as it is reported behind its folder.
+/// Returns why a log can't be opened, as it is reported after its folder.
 pub(crate) fn open_note(cause: Cause) -> ArrayString<64>
     ensures { result.bytes ≡ open_note cause }
 {
@@ -92,7 +92,7 @@ pub(crate) fn open_note(cause: Cause) -> ArrayString<64>
     note
 }
 
-/// What a call was to do, as it is reported in front of what it was to be done to.
+/// Returns what a call was to do, as it is reported before the object of the call.
 pub(crate) fn call_words(call: StoreCall) -> &'static [u8]
     ensures { result.now ≡ call_words call }
 {
@@ -105,7 +105,7 @@ pub(crate) fn call_words(call: StoreCall) -> &'static [u8]
     }
 }
 
-/// The file of a log that a call is of, behind its folder.
+/// Returns the file of a log that a call is about, after its folder.
 fn where_in(call: StoreCall) -> &'static str
     ensures words { result.now ≡ where_in call }
     ensures short { length result.now ≤ 8 }
@@ -116,7 +116,7 @@ fn where_in(call: StoreCall) -> &'static str
     }
 }
 
-/// Why a call failed, as it is reported behind what it was to be done to.
+/// Returns why a call failed, as it is reported after the object of the call.
 pub(crate) fn store_note(trouble: StoreTrouble) -> ArrayString<64>
     ensures { result.bytes ≡ store_note trouble }
 {

@@ -10,8 +10,8 @@ use std::io::{Error, ErrorKind};
 use std::marker::Model;
 use tai_status::Label;
 
-/// A log in a folder, which is locked while the log is there. The names of its old files are kept in byte order, so
-/// that the folder is listed once.
+/// A log in a folder, which is locked while the log exists. The names of its old files are kept in byte order, so that
+/// the folder is listed only once.
 #[derive(Drop)]
 pub struct FolderLog<F: LogFolder + Drop, A: Allocator = Global> {
     folder: F,
@@ -30,8 +30,8 @@ impl<F: LogFolder + Drop, A: Allocator> Model for FolderLog<F, A> {
     ghost invariant = { λ log. IsKept (F.folder log.folder) log.olds.names.items log.length };
 }
 
-/// Locks a folder, opens its current file, and lists it. Answers how many bytes that file has, and the names of old
-/// files. Want of memory comes only where no call on the folder failed.
+/// Locks a folder, opens its current file, and lists it. Returns how many bytes that file has, and the names of old
+/// files. Returns a lack of memory only if no call for the folder failed.
 pub(crate) fn begin<F: LogFolder, A: Allocator + Clone>(
     folder: &mut F,
     alloc: &A,
@@ -55,7 +55,8 @@ impl<F: LogFolder + Drop, A: Allocator + Clone> FolderLog<F, A> {
     ghost use Rattle.mlog_files.specs.Store.{Reaches};
     ghost use Rattle.cmd_multilog.specs.Folder.{IsKept, StaysAt, files_of};
 
-    /// The log in a folder that was begun, whose current file has so many bytes, and these names of old files.
+    /// Makes the log of a folder that was begun. Its current file has this many bytes, and these are the names of its
+    /// old files.
     pub(crate) fn new(folder: F, length: u64, olds: OldNames<A>) -> FolderLog<F, A>
         requires { IsKept (F.folder folder) olds.names.items length }
         ensures { result ≡ F.folder folder }
@@ -67,7 +68,7 @@ impl<F: LogFolder + Drop, A: Allocator + Clone> FolderLog<F, A> {
         }
     }
 
-    /// Appends a front of the piece to the current file, and says how long it is.
+    /// Appends a front of the piece to the current file, and returns the length of that front.
     pub(crate) fn append(&mut self, piece: &[u8]) -> io::Result<usize>
         ensures bound { IfOk result (λ count. count ≤ length piece.now) }
         ensures some { IfOk result (λ count. 0 < length piece.now → 0 < count) }
@@ -84,8 +85,8 @@ impl<F: LogFolder + Drop, A: Allocator + Clone> FolderLog<F, A> {
         Ok(count)
     }
 
-    /// Has the current file put on the disk, makes it the old file of a label, and begins a new one. All memory is
-    /// taken first. Where the new one can't be made, the log has no current file.
+    /// Writes the current file out to the disk, makes it the old file with a label, and begins a new one. All memory is
+    /// taken first. If the new file can't be made, the log has no current file.
     pub(crate) fn finish(&mut self, label: &Label) -> io::Result<()>
         ensures ok { OnOk result (Reaches (files_of self.old) (files_of self.new) (Finish label.now ∷ [])) }
         ensures begun { OnOk result (IfSome (files_of self.old) (λ _. IsSome (files_of self.new))) }
@@ -103,7 +104,7 @@ impl<F: LogFolder + Drop, A: Allocator + Clone> FolderLog<F, A> {
         }
     }
 
-    /// Removes the old file whose name is smallest, where there is one.
+    /// Removes the old file with the smallest name, if there is one.
     pub(crate) fn remove_smallest(&mut self) -> io::Result<()>
         ensures ok { OnOk result (Reaches (files_of self.old) (files_of self.new) (Remove ∷ [])) }
         ensures err { OnErr result (self.new ≡ self.old) }
@@ -117,21 +118,21 @@ impl<F: LogFolder + Drop, A: Allocator + Clone> FolderLog<F, A> {
         Ok(())
     }
 
-    /// How many bytes the current file has.
+    /// Returns how many bytes the current file has.
     pub(crate) fn length(&self) -> u64
         ensures { IfSome (files_of self.now) (λ files. result ≡ length files.current) }
     {
         self.length
     }
 
-    /// How many old files there are.
+    /// Returns how many old files there are.
     pub(crate) fn old_count(&self) -> u64
         ensures { IfSome (files_of self.now) (λ files. result ≡ length files.olds) }
     {
         self.olds.names.len() as u64
     }
 
-    /// The greatest label in the names of the old files.
+    /// Returns the greatest label in the names of the old files.
     pub(crate) fn last_label(&self) -> Option<Label>
         ensures { IfSome (files_of self.now) (λ files. result ≡ greatest_label files.olds) }
     {

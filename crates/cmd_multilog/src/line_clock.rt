@@ -1,4 +1,4 @@
-//! The clock of a logger, which is read once a read.
+//! The clock of a logger, which is read once for each read of the input.
 ghost use Rattle.std.specs.Prelude.{◌≡◌, MatchOption};
 ghost use Rattle.cmd_multilog.specs.Rising.{later};
 
@@ -6,7 +6,7 @@ use crate::rising::RisingLabels;
 use std::cell::Cell;
 use tai_status::{Label, TimeSource};
 
-/// The labels of a logger's lines, as its input and its clock share them: the input says when bytes came or a word was
+/// The labels of a logger's lines, which its input and its clock share. The input says when bytes came or a word was
 /// heard, and the clock gives a label for each line. They say nothing to contracts.
 #[derive(Drop)]
 pub struct LineLabels {
@@ -14,19 +14,19 @@ pub struct LineLabels {
 }
 
 impl LineLabels {
-    /// No bytes came yet.
+    /// Makes labels before any bytes have come.
     pub fn new() -> LineLabels {
         LineLabels {
             labels: Cell::new(None),
         }
     }
 
-    /// Goes on from this reading of the clock.
+    /// Continues from this reading of the clock.
     pub(crate) fn renew(&self, reading: Label) {
         self.labels.set(Some(renewed(self.labels.get(), reading)));
     }
 
-    /// The label of the next line, if bytes came.
+    /// Returns the label of the next line, if bytes have come.
     fn give(&self) -> Option<Label> {
         let mut labels = self.labels.get()?;
         let label = labels.give();
@@ -35,7 +35,7 @@ impl LineLabels {
     }
 }
 
-/// Labels that go on from this reading: from the first reading, or as labels that rise do.
+/// Returns labels that continue from this reading: they begin with the first reading, and then rise.
 fn renewed(labels: Option<RisingLabels>, reading: Label) -> RisingLabels
     ensures { MatchOption labels (result ≡ reading) (λ old. result ≡ later old reading) }
 {
@@ -48,7 +48,7 @@ fn renewed(labels: Option<RisingLabels>, reading: Label) -> RisingLabels
     }
 }
 
-/// A clock that a logger's input renews: of lines that were read together each has a label of a nanosecond past the one
+/// A clock that a logger's input renews. If lines were read together, the label of each is one nanosecond past the one
 /// before. If no logger's input was read, it is its own clock.
 #[derive(Drop)]
 pub struct LineClock<'l, C: TimeSource + Drop> {
@@ -57,7 +57,7 @@ pub struct LineClock<'l, C: TimeSource + Drop> {
 }
 
 impl<'l, C: TimeSource + Drop> LineClock<'l, C> {
-    /// The clock of the lines that this input reads.
+    /// Makes the clock for the lines that this input reads.
     pub fn new(clock: C, labels: &'l LineLabels) -> LineClock<'l, C> {
         LineClock { clock, labels }
     }

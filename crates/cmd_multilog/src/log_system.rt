@@ -1,12 +1,12 @@
-//! The layer over the operating system: folders of logs, status files, and where alerts go.
+//! The layer over the operating system: folders of logs, status files, and the destination of alerts.
 ghost use Rattle.std.specs.Prelude.{◌≡◌};
 
 use crate::names::FileName;
 use std::alloc::{AllocError, Allocator};
 use std::io;
 
-/// The folder of a log. Contracts see what stands in it, and which errors the calls gave by which it is opened, where
-/// it says that. A call that fails changed nothing.
+/// The folder of a log. Contracts see what is in it, and which errors came from the calls that open it, if the type
+/// says so. A call that fails changes nothing.
 pub trait LogFolder {
     ghost use Rattle.std.specs.Prelude.{◌≡◌, ◌<◌, ◌≤◌, ◌∷◌, [], List, Option, None, length, take, IfOk, IfErr};
     ghost use Rattle.std.specs.Prelude.{OnOk, OnErr};
@@ -17,17 +17,17 @@ pub trait LogFolder {
 
     ghost folder: { Self → Option Folder } = { λ _. None };
 
-    // the errors that its calls gave, in order
+    // the errors that its calls returned, in order
     ghost gave: { Self → Option (List Error) } = { λ _. None };
 
-    /// Takes the lock, without waiting for another process that has it. It is held until the folder is let go.
+    /// Takes the lock, without waiting for another process that has it. The lock is held until the folder is dropped.
     fn lock(&mut self) -> io::Result<()>
         ensures ok { OnOk result (Changes (folder self.old) (folder self.new) Locks) }
         ensures err { OnErr result (folder self.new ≡ folder self.old) }
         ensures well { OnOk result (gave self.new ≡ gave self.old) }
         ensures gave { IfErr result (λ error. Extended (gave self.old) (gave self.new) (error ∷ [])) };
 
-    /// Opens the current file for appending, and makes it where it is missing.
+    /// Opens the current file for appending. Makes it if it is missing.
     fn open_current(&mut self) -> io::Result<()>
         requires locked { IsLocked (folder self.old) }
         ensures ok { OnOk result (Changes (folder self.old) (folder self.new) Opens) }
@@ -35,21 +35,21 @@ pub trait LogFolder {
         ensures well { OnOk result (gave self.new ≡ gave self.old) }
         ensures gave { IfErr result (λ error. Extended (gave self.old) (gave self.new) (error ∷ [])) };
 
-    /// How many bytes the current file has.
+    /// Returns how many bytes the current file has.
     fn length(&mut self) -> io::Result<u64>
         ensures ok { IfOk result (HasLength (folder self.new)) }
         ensures same { folder self.new ≡ folder self.old }
         ensures well { OnOk result (gave self.new ≡ gave self.old) }
         ensures gave { IfErr result (λ error. Extended (gave self.old) (gave self.new) (error ∷ [])) };
 
-    /// All names in the folder. One that is no text is a fault.
+    /// Returns all names in the folder. A name that is not text is a fault.
     fn names<A: Allocator + Clone>(&mut self, alloc: &A) -> io::Result<Vec<FileName<A>, A>>
         ensures ok { IfOk result (λ names. HasNames (folder self.new) names.items) }
         ensures same { folder self.new ≡ folder self.old }
         ensures well { OnOk result (gave self.new ≡ gave self.old) }
         ensures gave { IfErr result (λ error. Extended (gave self.old) (gave self.new) (error ∷ [])) };
 
-    /// Appends a front of the piece to the current file, and says how long it is.
+    /// Appends a front of the piece to the current file, and returns the length of that front.
     fn append(&mut self, piece: &[u8]) -> io::Result<usize>
         ensures bound { IfOk result (λ count. count ≤ length piece.now) }
         ensures some { IfOk result (λ count. 0 < length piece.now → 0 < count) }
@@ -57,38 +57,39 @@ pub trait LogFolder {
             Changes (folder self.old) (folder self.new) (Extends (take count piece.now))) }
         ensures err { OnErr result (folder self.new ≡ folder self.old) };
 
-    /// Has all of the current file put on the disk.
+    /// Writes all of the current file out to the disk.
     fn sync(&mut self) -> io::Result<()>
         ensures ok { OnOk result (Changes (folder self.old) (folder self.new) Syncs) }
         ensures err { OnErr result (folder self.new ≡ folder self.old) };
 
-    /// Makes the current file the old file of a name that nothing in the folder has. There is no current file then.
+    /// Makes the current file the old file with a name that nothing in the folder has. After that there is no current
+    /// file.
     fn rename(&mut self, name: &[u8]) -> io::Result<()>
         requires synced { IsSynced (folder self.old) }
         ensures ok { OnOk result (Changes (folder self.old) (folder self.new) (Renames name.now)) }
         ensures err { OnErr result (folder self.new ≡ folder self.old) };
 
-    /// Removes the old file of a name.
+    /// Removes the old file with a name.
     fn remove(&mut self, name: &[u8]) -> io::Result<()>
         ensures ok { OnOk result (Changes (folder self.old) (folder self.new) (Removes name.now)) }
         ensures err { OnErr result (folder self.new ≡ folder self.old) };
 }
 
-/// The place of a status file. Contracts see its path and the contents that it was given, where it says that.
+/// The place of a status file. Contracts see its path and the contents that it was given, if the type says so.
 pub trait StatusFile {
     ghost use Rattle.std.specs.Prelude.{◌≡◌, Option, None, OnOk, OnErr};
     ghost use Rattle.cmd_multilog.specs.Folder.{Status, Receives};
 
     ghost status: { Self → Option Status } = { λ _. None };
 
-    /// Replaces what the file holds. After a fault it holds what it held.
+    /// Replaces the content of the file. After a fault it has the content it had.
     fn replace(&mut self, content: &[u8]) -> io::Result<()>
         ensures ok { OnOk result (Receives (status self.old) (status self.new) content.now) }
         ensures err { OnErr result (status self.new ≡ status self.old) };
 }
 
 /// What the operating system does for logs, and standard error. Contracts see which folders it was asked for, which
-/// errors the calls gave by which these are opened, and what it alerted, where it says that.
+/// errors came from the calls that open these, and what it alerted, if the type says so.
 pub trait LogSystem {
     type Folder: LogFolder + Drop;
 
@@ -103,12 +104,12 @@ pub trait LogSystem {
     // the folders that it was asked for, in order
     ghost asked: { Self → Option (List (List ℕ)) } = { λ _. None };
 
-    // the errors that it gave for a folder, and those of the folders that it took back, in order
+    // the errors that it returned for a folder, and those of the folders that it took back, in order
     ghost gave: { Self → Option (List Error) } = { λ _. None };
 
     ghost alerts: { Self → Option (List ℕ) } = { λ _. None };
 
-    /// The folder at a path. It is made where it is missing. The list of its errors goes on from this one's.
+    /// Returns the folder at a path. Makes it if it is missing. The list of its errors continues this one's.
     fn folder(&mut self, path: &[u8]) -> io::Result<Self::Folder>
         ensures path { IfOk result (λ folder. IfSome (Self.Folder.folder folder) (λ f. f.path ≡ path.now)) }
         ensures goes_on { IfOk result (λ folder. Self.Folder.gave folder ≡ gave self.old) }
@@ -117,17 +118,17 @@ pub trait LogSystem {
         ensures asked { Extended (asked self.old) (asked self.new) (path.now ∷ []) }
         ensures alerts { alerts self.new ≡ alerts self.old };
 
-    /// Takes a folder back that can't be begun, with the list of its errors.
+    /// Takes back a folder that can't be begun, with the list of its errors.
     fn take_back(&mut self, folder: Self::Folder)
         ensures gave { gave self.new ≡ Self.Folder.gave folder }
         ensures asked { asked self.new ≡ asked self.old }
         ensures alerts { alerts self.new ≡ alerts self.old };
 
-    /// The place of the status file at a path. Nothing is made yet.
+    /// Returns the place of the status file at a path. Nothing is made yet.
     fn status_file(&self, path: &[u8]) -> Result<Self::Status, AllocError>
         ensures { IfOk result (λ file. IfSome (Self.Status.status file) (λ s. s.path ≡ path.now)) };
 
-    /// Alerts a front of the piece, and says how long it is.
+    /// Alerts a front of the piece, and returns the length of that front.
     fn alert(&mut self, piece: &[u8]) -> io::Result<usize>
         ensures bound { IfOk result (λ count. count ≤ length piece.now) }
         ensures some { IfOk result (λ count. 0 < length piece.now → 0 < count) }

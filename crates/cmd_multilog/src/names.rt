@@ -11,7 +11,7 @@ use std::alloc::{AllocError, Allocator, Global};
 use std::marker::Model;
 use tai_status::{Label, text};
 
-/// How long a label's text is.
+/// The length of a label's text.
 const LABEL: usize = 25;
 
 /// A name in the folder of a log.
@@ -33,7 +33,7 @@ impl<A: Allocator> FileName<A> {
     ghost use Rattle.mlog_files.specs.Files.{old_name};
     ghost use Rattle.mlog_files.specs.Named.{label_in};
 
-    /// The name of these bytes.
+    /// Makes the name with these bytes.
     pub fn new(alloc: A, bytes: &[u8]) -> Result<FileName<A>, AllocError>
         ensures { IfOk result (λ name. name ≡ bytes.now) }
     {
@@ -42,7 +42,7 @@ impl<A: Allocator> FileName<A> {
         Ok(FileName { bytes: name })
     }
 
-    /// The name of the old file of a label.
+    /// Returns the name of the old file with a label.
     pub(crate) fn of_label(alloc: A, label: &Label) -> Result<FileName<A>, AllocError>
         ensures { IfOk result (λ name. name ≡ old_name label.now) }
     {
@@ -52,14 +52,14 @@ impl<A: Allocator> FileName<A> {
         Ok(FileName { bytes: name })
     }
 
-    /// The name's bytes.
+    /// Returns the name's bytes.
     pub fn as_slice(&self) -> &[u8]
         ensures { result.now ≡ self.now }
     {
         self.bytes.as_slice()
     }
 
-    // The label in the name.
+    // Returns the label in the name.
     fn label(&self) -> Option<Label>
         ensures { result ≡ label_in self.now }
     {
@@ -67,7 +67,7 @@ impl<A: Allocator> FileName<A> {
     }
 }
 
-/// The greatest label in names.
+/// Returns the greatest label in names.
 pub(crate) fn greatest_in<A: Allocator>(names: &[FileName<A>]) -> Option<Label>
     ensures { result ≡ greatest_in names.now }
 {
@@ -78,22 +78,22 @@ pub(crate) fn greatest_in<A: Allocator>(names: &[FileName<A>]) -> Option<Label>
     greatest
 }
 
-// Whether a name is that of an old file.
+// Returns whether a name is that of an old file.
 fn is_old_name(name: &[u8]) -> bool
     ensures { result ≡ is_old_name name.now }
 {
     name.first() == Some(&b'@') && LABEL <= name.len()
 }
 
-// Whether a name comes before another, in byte order.
+// Returns whether a name comes before another, in byte order.
 fn is_below(first: &[u8], second: &[u8]) -> bool
     ensures { result ≡ is_lt (slice_cmp nat_cmp first.now second.now) }
 {
     first.cmp(second).is_lt()
 }
 
-// Where a name comes to stand among names in byte order. The place is sought from the end: that of a new label is
-// there.
+// Returns the place that a name gets among names in byte order. The search begins at the end, because a new label
+// belongs there.
 fn place_of<A: Allocator>(names: &[FileName<A>], name: &[u8]) -> usize
     requires { AreInOrder names.now }
     ensures within { result ≤ length names.now }
@@ -117,7 +117,7 @@ pub(crate) struct OldNames<A: Allocator = Global> {
 }
 
 impl<A: Allocator> OldNames<A> {
-    /// Puts a name in its place.
+    /// Inserts a name at its place.
     pub(crate) fn insert(&mut self, name: FileName<A>) -> Result<(), AllocError>
         ensures ok { OnOk result (self.new.names.items ≡ with_name name self.old.names.items) }
         ensures err { OnErr result (self.new.names.items ≡ self.old.names.items) }
@@ -129,7 +129,7 @@ impl<A: Allocator> OldNames<A> {
     }
 }
 
-/// The names of old files among names, in byte order.
+/// Returns the names of old files among names, in byte order.
 pub(crate) fn old_names<A: Allocator + Clone>(
     alloc: &A,
     names: Vec<FileName<A>, A>,

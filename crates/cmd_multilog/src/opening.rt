@@ -11,7 +11,7 @@ use std::alloc::{AllocError, Allocator};
 use std::io::{Error, ErrorKind};
 use tai_status::Cause;
 
-/// Why a log is not opened.
+/// Returns why a log is not opened.
 fn fault_of(error: Error, log: usize) -> OpenFault
     ensures { IsFault error log result }
 {
@@ -21,7 +21,7 @@ fn fault_of(error: Error, log: usize) -> OpenFault
     OpenFault::Unopened(log, Cause::of(&error))
 }
 
-/// Opens the logs of a script, in order, up to the first that can't be opened.
+/// Opens the logs of a script, in order, up to the first one that can't be opened.
 fn open_logs<D: LogSystem + Drop, A: Allocator + Clone, B: Allocator + Clone>(
     store: &mut FolderStore<D, A>,
     alloc: &A,

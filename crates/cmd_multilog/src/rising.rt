@@ -6,8 +6,8 @@ ghost use Rattle.cmd_multilog.specs.Rising.{later};
 use std::marker::Model;
 use tai_status::Label;
 
-/// The labels of a logger's lines: each is a nanosecond past the one before, or the reading of the clock that came
-/// between, where that is later. So they rise, whatever the clock gives. Contracts see the next label.
+/// The labels of a logger's lines. Each is one nanosecond past the one before, or the reading of the clock that came in
+/// between, if that is later. The labels therefore rise, whatever the clock returns. Contracts see the next label.
 #[derive(Clone, Copy, Debug)]
 pub struct RisingLabels {
     next: Label,
@@ -24,14 +24,14 @@ impl Model for RisingLabels {
 }
 
 impl RisingLabels {
-    /// Labels from this reading on.
+    /// Makes labels that begin with this reading.
     pub fn new(reading: Label) -> RisingLabels
         ensures { result ≡ reading }
     {
         RisingLabels { next: reading }
     }
 
-    /// Goes on from this reading, where it is past all labels that were given.
+    /// Continues from this reading, if it is past all labels that were given.
     pub fn renew(&mut self, reading: Label)
         ensures { self.new ≡ later self.old reading }
     {
@@ -40,7 +40,7 @@ impl RisingLabels {
         }
     }
 
-    /// The next label.
+    /// Returns the next label.
     pub fn give(&mut self) -> Label
         ensures label { result ≡ self.old }
         ensures next { self.new ≡ plus_nano self.old }

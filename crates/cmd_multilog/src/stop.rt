@@ -1,5 +1,5 @@
-//! The input of a logger that can be asked to rotate its logs, and to stop: both come at a line's end, so that no line
-//! is lost or parted.
+//! The input of a logger that can be asked to rotate its logs, and to stop. Both happen at the end of a line, so that
+//! no line is lost or split.
 ghost use Rattle.std.specs.Prelude.{◌≡◌, ◌<◌, ◌≤◌, ◌^◌, true, false, IfOk, OnOk, OnErr, length, take};
 
 use mlog_core::PartedInput;
@@ -7,13 +7,13 @@ use std::io;
 use std::marker::Model;
 use tai_status::{Cause, DeviceFault};
 
-/// How often a logger's input is read at most.
+/// The most reads of a logger's input.
 const MOST_READS: u64 = 1 << 48;
 
 /// What a wait found.
 #[derive(Clone, Copy, Debug, PartialEq, Eq)]
 pub enum Heard {
-    /// There is input, or its end.
+    /// There is input, or the input is at its end.
     Input,
     /// The logger is asked to stop.
     Stop,
@@ -21,7 +21,7 @@ pub enum Heard {
     Rotate,
 }
 
-/// The input of a logger, with the channel by which it is asked to stop or to rotate. Contracts see what comes, where
+/// The input of a logger, with the channel through which it is asked to stop or to rotate. Contracts see what comes, if
 /// it is reported, and how many of its calls failed.
 pub trait LoggerInput {
     ghost use Rattle.std.specs.Prelude.{◌≡◌, ◌<◌, ℕ, Option, None, IfOk, OnOk, OnErr, length, take};
@@ -33,14 +33,14 @@ pub trait LoggerInput {
 
     ghost failures: { Self → ℕ };
 
-    /// Waits until there is input, or its end, or a word is heard, which goes before.
+    /// Waits until there is input, or its end, or a word is heard. A word goes first.
     fn wait(&mut self) -> io::Result<Heard>
         ensures ok { IfOk result (λ heard. Changes (coming self.old) (coming self.new) (Hears heard)) }
         ensures err { OnErr result (coming self.new ≡ coming self.old) }
         ensures works { OnOk result (failures self.new ≡ failures self.old) }
         ensures fails { OnErr result (Rose (failures self.old) (failures self.new)) };
 
-    /// Reads once, and again where that is interrupted. It gives no byte only at the end of the input, or into an empty
+    /// Reads once, and again if that is interrupted. Returns no bytes only at the end of the input, or for an empty
     /// buffer.
     fn read_once(&mut self, into: &mut [u8]) -> io::Result<usize>
         ensures bound { ReadsAtMost result into.new }
@@ -52,9 +52,9 @@ pub trait LoggerInput {
         ensures fails { OnErr result (Rose (failures self.old) (failures self.new)) };
 }
 
-/// A reader of whole lines. Once it hears a word it reads the line in hand to its newline, byte by byte, and its part
-/// is at its end then. After a rotation the next part begins there; what comes after a stop and that line is not
-/// read. It counts its faults, of a wait as of a read, and keeps the cause of the last one.
+/// A reader of whole lines. Once it hears a word, it reads the line in hand to its newline, byte by byte, and then its
+/// part is at its end. After a rotation, the next part begins there. After a stop, whatever comes after that line is
+/// not read. The reader counts its faults, of waits and of reads, and keeps the cause of the last one.
 #[derive(Drop)]
 pub struct Stoppable<S: LoggerInput + Drop> {
     input: S,
@@ -94,7 +94,7 @@ impl<S: LoggerInput + Drop> Stoppable<S> {
     ghost use Rattle.cmd_multilog.specs.Stop.{Changes, Reads, IsOver, is_in_line, left_in, behind_in};
     ghost use Rattle.cmd_multilog.specs.Stop.{SameCounts, SameWord};
 
-    /// A reader that has heard no word yet, at the beginning of a line.
+    /// Makes a reader that has heard no word yet, at the beginning of a line.
     pub fn new(input: S) -> Stoppable<S>
         ensures { result ≡ record {
           coming = S.coming input;
@@ -118,7 +118,7 @@ impl<S: LoggerInput + Drop> Stoppable<S> {
         }
     }
 
-    // Waits for input or a word, unless one was heard in this part.
+    // Waits for input or a word, unless a word was heard in this part.
     fn listen(&mut self) -> io::Result<()>
         ensures left { left_in self.new ≡ left_in self.old }
         ensures behind { behind_in self.new ≡ behind_in self.old }
@@ -140,7 +140,7 @@ impl<S: LoggerInput + Drop> Stoppable<S> {
         Ok(())
     }
 
-    // Reads once, and notes whether a line is in hand behind what it read.
+    // Reads once, and notes whether a line is in hand after what was read.
     fn take(&mut self, into: &mut [u8]) -> io::Result<usize>
         ensures bound { ReadsAtMost result into.new }
         ensures ok { IfOk result (λ count. Changes self.old.coming self.new.coming (Reads (take count into.new))) }
@@ -159,7 +159,7 @@ impl<S: LoggerInput + Drop> Stoppable<S> {
         Ok(count)
     }
 
-    // Listens, and reads: of a part in which a word was heard a byte of the line in hand.
+    // Listens, and reads. In a part in which a word was heard, reads one byte of the line in hand.
     fn read_lines(&mut self, into: &mut [u8]) -> io::Result<usize>
         ensures bound { ReadsAtMost result into.new }
         ensures bytes { ReadConsumes (left_in self.old) (left_in self.new) result into.new }
@@ -187,7 +187,7 @@ impl<S: LoggerInput + Drop> PartedInput for Stoppable<S> {
 
     ghost feed = { feed_of };
 
-    /// Reads once of the part, as the trait says. It gives no byte and no end where a call of its input failed.
+    /// Reads once from the part, as the trait says. If a call of its input failed, returns neither bytes nor an end.
     fn read_part(&mut self, into: &mut [u8]) -> Result<usize, DeviceFault>
         ensures bound { IfOk result (λ count. count ≤ length into.new) }
         ensures bytes { ReadConsumes (feed_of self.old).device.bytes (feed_of self.new).device.bytes result into.new }

@@ -11,7 +11,7 @@ use std::io::Error;
 use std::marker::Model;
 use tai_status::{Cause, Label};
 
-/// A status file in its place.
+/// A status file at its place.
 #[derive(Drop)]
 struct PlacedStatus<S: StatusFile + Drop> {
     file: S,
@@ -36,7 +36,7 @@ impl<S: StatusFile + Drop> PlacedStatus<S> {
         PlacedStatus { file }
     }
 
-    // Replaces what the file holds.
+    // Replaces the content of the file.
     fn replace(&mut self, content: &[u8]) -> io::Result<()>
         ensures ok { OnOk result (Receives self.old self.new content.now) }
         ensures err { OnErr result (self.new ≡ self.old) }
@@ -52,7 +52,7 @@ pub struct FolderStore<D: LogSystem + Drop, A: Allocator = Global> {
     logs: Vec<FolderLog<D::Folder, A>, A>,
     statuses: Vec<PlacedStatus<D::Status>, A>,
     failures: u64,
-    /// The call that failed last, and why.
+    /// The last call that failed, and why.
     last: Option<StoreTrouble>,
 }
 
@@ -78,7 +78,7 @@ impl<D: LogSystem + Drop, A: Allocator + Clone> FolderStore<D, A> {
     ghost use Rattle.cmd_multilog.specs.Folder.{IsCause};
     ghost use Rattle.cmd_multilog.specs.Shelf.{OpensLog, AsksFor, AddsStatus, AddsNone, trouble_of};
 
-    /// A store over a disk.
+    /// Makes a store over a system.
     pub fn new(system: D, alloc: A) -> Result<FolderStore<D, A>, AllocError>
         ensures logs { IfOk result (λ store. store.logs ≡ []) }
         ensures statuses { IfOk result (λ store. store.statuses ≡ []) }
@@ -97,8 +97,8 @@ impl<D: LogSystem + Drop, A: Allocator + Clone> FolderStore<D, A> {
         })
     }
 
-    /// Opens the log in the folder at a path, as the next one: makes the folder where it is missing, locks it, opens
-    /// its current file and lists it. Want of memory comes only where no call of the system failed otherwise.
+    /// Opens the log in the folder at a path, as the next one: makes the folder if it is missing, locks it, opens its
+    /// current file and lists it. Returns a lack of memory only if no call of the system failed otherwise.
     pub(crate) fn open_log(&mut self, alloc: &A, path: &[u8]) -> io::Result<()>
         ensures ok { OnOk result (OpensLog self.old self.new path.now) }
         ensures fits { OnOk result (length self.new.logs < 2 ^ 64) }
@@ -121,7 +121,7 @@ impl<D: LogSystem + Drop, A: Allocator + Clone> FolderStore<D, A> {
         }
     }
 
-    /// Has the next status file at a path.
+    /// Adds the next status file, at a path.
     pub(crate) fn add_status(&mut self, path: &[u8]) -> Result<(), AllocError>
         ensures ok { OnOk result (AddsStatus self.old self.new path.now) }
         ensures fits { OnOk result (length self.new.statuses < 2 ^ 64) }
@@ -134,14 +134,14 @@ impl<D: LogSystem + Drop, A: Allocator + Clone> FolderStore<D, A> {
         Ok(())
     }
 
-    /// The call that failed last, and why.
+    /// Returns the last call that failed, and why.
     pub(crate) fn last_trouble(&self) -> Option<StoreTrouble>
         ensures { result ≡ self.now.last }
     {
         self.last
     }
 
-    // Counts a failed call, and keeps which it is, and why.
+    // Counts a failed call, and keeps which one it is, and why it failed.
     fn fail(&mut self, call: StoreCall, error: &Error) -> StoreFault
         ensures last { self.new.last ≡ Some (trouble_of call error.now) }
         ensures rose { Rose self.old.failures self.new.failures }

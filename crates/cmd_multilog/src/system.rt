@@ -9,24 +9,24 @@ use std::io::{Error, ErrorKind, Write};
 use std::os::unix::fs::{DirBuilderExt, OpenOptionsExt, PermissionsExt};
 use std::{fs, io, str};
 
-/// The modes of what is made, less the umask, as daemontools has them: only the owner reads a log's folder and takes
-/// its lock.
+/// The modes of what is made, without the bits of the umask, as in daemontools: only the owner reads a log's folder and
+/// takes its lock.
 const FOLDER_MODE: u32 = 0o700;
 
 const LOCK_MODE: u32 = 0o600;
 
 const STATUS_MODE: u32 = 0o600;
 
-/// The mode of a current file, whatever the umask.
+/// The mode of a current file, whatever the umask is.
 const CURRENT_MODE: u32 = 0o644;
 
-/// The mode of a current file that is whole and on the disk, and so of an old file.
+/// The mode of a current file that is complete and on the disk, and therefore of an old file.
 const FINISHED_MODE: u32 = 0o744;
 
-/// What a mode lets others than the owner do.
+/// The bits of a mode that let others than the owner do something.
 const OTHERS: u32 = 0o077;
 
-/// How often a write is tried that is interrupted.
+/// The most tries of a write that is interrupted.
 const TRIES: u32 = 1000;
 
 /// The folder of a log on this system. It says nothing to contracts.
@@ -39,7 +39,7 @@ pub struct SystemFolder<R: Files<File = File> + Drop, A: Allocator = Global> {
     current: Option<File>,
 }
 
-/// The text of a name or a path.
+/// Returns the text of a name or a path.
 fn text_of(bytes: &[u8]) -> io::Result<&str> {
     match str::from_utf8(bytes) {
         Ok(text) => Ok(text),
@@ -47,7 +47,7 @@ fn text_of(bytes: &[u8]) -> io::Result<&str> {
     }
 }
 
-/// The path of a name in a folder.
+/// Returns the path of a name in a folder.
 fn path_in<A: Allocator>(alloc: A, folder: &str, name: &str) -> Result<String<A>, AllocError> {
     let mut path = String::from_str(alloc, folder)?;
     path.push('/')?;
@@ -55,15 +55,15 @@ fn path_in<A: Allocator>(alloc: A, folder: &str, name: &str) -> Result<String<A>
     Ok(path)
 }
 
-/// Opens a file for appending, and makes it with a mode where it is missing.
+/// Opens a file for appending. Makes it with a mode if it is missing.
 fn open_to_append<R: Files<File = File>>(runtime: &R, path: &str, mode: u32) -> io::Result<File> {
     let mut how = OpenOptions::new();
     how.append(true).create(true).mode(mode);
     how.open(runtime, path)
 }
 
-/// Closes a lock to others, who could hold it for ever else. Only its owner may; a lock of somebody else stays as it
-/// is.
+/// Closes a lock to others, who could otherwise hold it for ever. Only its owner may do that; a lock of somebody else
+/// stays as it is.
 fn close_to_others(lock: &File) {
     if let Ok(found) = lock.metadata() {
         if found.permissions().mode() & OTHERS != 0 {
@@ -72,7 +72,7 @@ fn close_to_others(lock: &File) {
     }
 }
 
-/// Writes a front of the piece, and again where a write was interrupted.
+/// Writes a front of the piece, and tries again if a write was interrupted.
 fn write_front<W: Write>(writer: &mut W, piece: &[u8]) -> io::Result<usize>
     ensures bound { IfOk result (λ count. count ≤ length piece.now) }
     ensures some { IfOk result (λ count. 0 < length piece.now → 0 < count) }
@@ -96,7 +96,7 @@ fn write_front<W: Write>(writer: &mut W, piece: &[u8]) -> io::Result<usize>
 }
 
 impl<R: Files<File = File> + Drop, A: Allocator + Clone> SystemFolder<R, A> {
-    /// The path of a name in the folder.
+    /// Returns the path of a name in the folder.
     fn path_of(&self, name: &str) -> io::Result<String<A>> {
         Ok(path_in(self.alloc.clone()?, self.path.as_str(), name)?)
     }
@@ -191,7 +191,7 @@ pub struct SystemStatus<R: Files<File = File> + Drop, A: Allocator = Global> {
     new: Vec<u8, A>,
 }
 
-/// Makes a new file at a path. What is there already goes first: a link is not followed.
+/// Makes a new file at a path. Removes what is already there first, so that no link is followed.
 fn make_anew<R: Files<File = File>>(runtime: &R, path: &str) -> io::Result<File> {
     let mut how = OpenOptions::new();
     how.write(true).create_new(true).mode(STATUS_MODE);
@@ -204,7 +204,7 @@ fn make_anew<R: Files<File = File>>(runtime: &R, path: &str) -> io::Result<File>
     }
 }
 
-/// Makes a new file of this content, with this mode.
+/// Makes a new file with this content and this mode.
 fn write_file<R: Files<File = File>>(
     runtime: &R,
     path: &str,
@@ -218,7 +218,7 @@ fn write_file<R: Files<File = File>>(
     file.write_all(content)
 }
 
-/// The mode of the file at a path, or that of a new status file where there is none.
+/// Returns the mode of the file at a path, or that of a new status file if there is none.
 fn mode_at<R: Files<File = File>>(runtime: &R, path: &str) -> u32 {
     match fs::metadata(runtime, path) {
         Ok(found) if found.is_file() => found.permissions().mode() & 0o777,
@@ -244,7 +244,7 @@ pub struct SystemLogs<R: Files<File = File> + Copy + Drop, E: Write + Drop, A: A
 }
 
 impl<R: Files<File = File> + Copy + Drop, E: Write + Drop, A: Allocator> SystemLogs<R, E, A> {
-    /// Those of this runtime. Alerts go to this writer.
+    /// Makes the logs of this runtime. Alerts go to this writer.
     pub fn new(runtime: R, faults: E, alloc: A) -> SystemLogs<R, E, A> {
         SystemLogs {
             runtime,

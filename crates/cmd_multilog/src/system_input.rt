@@ -1,4 +1,4 @@
-//! The system's own input, and the pipe by which a logger is asked to stop or to rotate its logs.
+//! The system's own input, and the pipe through which a logger is asked to stop or to rotate its logs.
 ghost use Rattle.std.specs.Prelude.{◌≡◌};
 ghost use Rattle.std.specs.Io.{ReadsAtMost};
 ghost use Rattle.tai_status.specs.Counted.{Rose};
@@ -12,16 +12,16 @@ use std::os::unix::fs::FileTypeExt;
 use std::{env, fs, io};
 use tai_status::TimeSource;
 
-/// The environment's variable that has the number of the channel's descriptor.
+/// The environment variable with the number of the channel's descriptor.
 const CHANNEL: &str = "DTOOLS_STOP_FD";
 
 /// The byte of the channel that asks for a rotation.
 const ROTATE: u8 = b'a';
 
-/// How often a wait or a read is begun again that was interrupted.
+/// The most times that a wait or a read is repeated after an interruption.
 const TRIES: u64 = 1 << 48;
 
-/// What the system's wait for both descriptors found. Of the two the channel goes first.
+/// What the system's wait for both descriptors found. If both are ready, the channel goes first.
 enum Ready {
     Input,
     Channel,
@@ -39,7 +39,7 @@ enum Word {
     Nothing,
 }
 
-/// The standard input, and the channel where there is one. After each read, and where a rotation is heard, the clock is
+/// The standard input, and the channel if there is one. After each read, and after a rotation is heard, the clock is
 /// read for the labels of the lines. Contracts see how many of its calls failed, and nothing of what comes.
 #[derive(Drop)]
 pub struct SystemInput<'l, R: Read + Drop, C: TimeSource + Drop> {
@@ -50,8 +50,8 @@ pub struct SystemInput<'l, R: Read + Drop, C: TimeSource + Drop> {
     failures: u64,
 }
 
-/// The descriptor of the pipe that the environment names as the channel, where there is one. It is to be asked before
-/// the program opens any file, which may get that number.
+/// Returns the descriptor of the pipe that the environment names as the channel, if there is one. This must be called
+/// before the program opens any file, which may get that number.
 pub fn stop_channel(rt: &HostRuntime) -> Option<i32> {
     let number = env::var(rt, CHANNEL).ok()?.as_str().parse::<i32>().ok()?;
     if number < 3 {
@@ -92,7 +92,7 @@ fn wait_for_either(channel: i32) -> io::Result<Ready> {
     Ok(Ready::Neither)
 }
 
-/// Reads a byte of the channel, which is ready. Its end is a stop, and so is every byte but one.
+/// Reads a byte from the channel, which is ready. Its end asks for a stop, and so does every byte except one.
 fn read_word(channel: i32) -> Word {
     let mut byte = [0u8; 1];
     let count = libc::read(channel, &mut byte);
@@ -106,8 +106,8 @@ fn read_word(channel: i32) -> Word {
 }
 
 impl<'l, R: Read + Drop, C: TimeSource + Drop> SystemInput<'l, R, C> {
-    /// This input, which is descriptor 0, the channel under this descriptor, and the labels that go on from readings of
-    /// this clock.
+    /// Makes this input, which is descriptor 0, with the channel that has this descriptor. The labels continue from
+    /// readings of this clock.
     pub fn new(
         input: R,
         channel: Option<i32>,
@@ -131,7 +131,7 @@ impl<'l, R: Read + Drop, C: TimeSource + Drop> SystemInput<'l, R, C> {
         self.labels.renew(reading);
     }
 
-    /// Counts a call that failed so.
+    /// Counts a call that failed this way.
     fn count(&mut self, fault: Error) -> Error
         ensures { Rose self.old.failures self.new.failures }
     {
@@ -166,7 +166,7 @@ impl<'l, R: Read + Drop, C: TimeSource + Drop> SystemInput<'l, R, C> {
         Err(Error::from(ErrorKind::Interrupted))
     }
 
-    /// Reads once, and again where that is interrupted.
+    /// Reads once, and again if that is interrupted.
     fn take(&mut self, into: &mut [u8]) -> io::Result<usize>
         ensures bound { ReadsAtMost result into.new }
         ensures same { self.new.failures ≡ self.old.failures }

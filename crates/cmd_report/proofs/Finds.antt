@@ -1,4 +1,4 @@
--- What was found of services, one after the other.
+-- What was found about services, one after the other.
 use Rattle.std.proofs.Common.{◌≡◌, ℕ, List, [], ◌∷◌, ◌++◌, refl, sym, ap, ◌∙◌, subst}
 use Rattle.std.proofs.lemmas.List.{map-append}
 use Rattle.cmd_svc.specs.Sight.{Sight}
@@ -12,7 +12,7 @@ finds_all-then files [] found old middle new done one =
 finds_all-then files (first ∷ founds) found old middle new done one =
     (done.0, (done.1.0, finds_all-then files founds found done.0 middle new done.1.1 one))
 
--- One service more
+-- One more service
 pub finds_words-then : (files : CountFiles) (words : List (List ℕ)) (founds : List Found) (word : List ℕ)
     (found : Found)
     (old middle new : Sight) → FindsWords files words founds old middle → found.folder.now ≡ word

@@ -1,4 +1,4 @@
--- Labels read as what they were written of.
+-- Labels read as the texts that they were written from.
 use Rattle.std.proofs.Common.{◌≡◌, ◌≢◌, ℕ, ◌==◌, true, false, List, [], ◌∷◌, ◌++◌, refl, sym, ◌∙◌, subst}
 use Rattle.std.proofs.lemmas.Bool.Decides.{Decides-eqb}
 use Rattle.cmd_report.specs.Metrics.{label_byte, label_text}

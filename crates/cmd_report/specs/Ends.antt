@@ -1,4 +1,4 @@
--- How `svstat` ends, by its words, of which the first may name a form.
+-- How `svstat` ends, by its words; the first one may name a form.
 use Rattle.std.specs.Prelude.{◌≡◌, ◌≢◌, ℕ, List, [], ◌∷◌, codes}
 use Rattle.tai_status.specs.Counted.{Device}
 use Rattle.cmd_svc.specs.Sight.{Sight}
@@ -6,8 +6,7 @@ use Rattle.cmd_svc.specs.Svstat.{SvstatEnds, shown_line}
 use Rattle.cmd_report.specs.Json.{json_line}
 use Rattle.cmd_report.specs.MetricsEnds.{CountFiles, MetricsEnds}
 
--- The first word names the form in which the services behind it are reported; or it is a service, and the form is
--- svstat's.
+-- The first word names the form of the reports on the services after it; or it is a service, and the form is svstat's.
 pub record FormEnds (files : CountFiles) (word : List ℕ) (services : List (List ℕ)) (status : ℕ) (sight sees : Sight)
     (writer writes faults reports : Device) : Type 0 where
   pub json : word ≡ codes "--json" → SvstatEnds json_line services status sight sees writer writes faults reports

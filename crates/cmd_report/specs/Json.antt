@@ -18,7 +18,7 @@ use Rattle.cmd_svc.specs.declared.services.Unreached.TheVariants as unreached
 use Rattle.cmd_svc.specs.declared.look.Look.{Look}
 use Rattle.cmd_svc.specs.declared.look.Look.TheVariants as look
 
--- These tokens were written after those that stood there.
+-- These tokens were written after those that were there.
 pub record Adds (old new : Written) (more : List Token) : Type 0 where
   pub before : new.before ≡ old.before
   pub tokens : new.tokens ≡ old.tokens ++ more
@@ -33,7 +33,7 @@ want_name want.Up = codes "up"
 want_name want.Down = codes "down"
 want_name want.Once = codes "once"
 
--- why nothing is known of a service
+-- why nothing is known about a service
 abbrev pub unreached_text : Unreached → List ℕ
 unreached_text unreached.NotRunning = codes "supervise not running"
 unreached_text unreached.Denied = codes "unable to open supervise/ok: Permission denied"
@@ -53,11 +53,11 @@ number_member name value = key name ∷ number (decimal value) ∷ []
 unfoldable pub null_member : (name : List ℕ) → List Token
 null_member name = key name ∷ null ∷ []
 
--- a process number, where there is one
+-- a process number, if there is one
 unfoldable pub pid_member : Status → List Token
 pid_member status = if is_running status then number_member (codes "pid") status.pid else null_member (codes "pid")
 
--- what a record of 18 bytes does not say
+-- the phase, which a record of 18 bytes does not have
 unfoldable pub phase_member : Loaded → List Token
 phase_member (Old status) = null_member (codes "phase")
 phase_member (New full) = string_member (codes "phase") (phase_name full.phase)
@@ -85,7 +85,7 @@ standing_members loaded normally_up now =
     ++ asked_members (status_in loaded) normally_up
     ++ exiting_member loaded
 
--- the members behind the path
+-- the members after the path
 abbrev pub look_members : Look → List Token
 look_members (look.Unreached why) = string_member (codes "error") (unreached_text why)
 look_members look.Unread = string_member (codes "error") (codes "unable to read status")
@@ -98,6 +98,6 @@ abbrev pub look_tokens : (folder : List ℕ) → Look → List Token
 look_tokens folder look =
     begin_object ∷ [] ++ string_member (codes "path") folder ++ look_members look ++ end_object ∷ []
 
--- the line of a look at the service in a folder, without a newline
+-- the line about a look at the service in a folder, without a newline
 abbrev pub json_line : (folder : List ℕ) → Look → List ℕ
 json_line folder look = print (look_tokens folder look)

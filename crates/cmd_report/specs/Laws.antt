@@ -1,4 +1,4 @@
--- What is true of the definitions alone.
+-- What is true for the definitions alone.
 use Rattle.std.specs.Prelude.{◌≡◌, ℕ, List, ◌++◌, codes}
 use Rattle.cmd_svc.specs.Svstat.{look_line, fault_name}
 use Rattle.cmd_svc.specs.declared.services.Unreached.{Unreached}
@@ -6,12 +6,12 @@ use Rattle.cmd_svc.specs.declared.look.Look.TheVariants as look
 use Rattle.tai_status.specs.declared.record.RecordFault.{RecordFault}
 use Rattle.cmd_report.specs.Json.{unreached_text}
 
--- What is reported of a service that was not reached is what svstat's line has behind the folder.
+-- What is reported about a service that was not reached is what svstat's line has after the folder.
 abbrev pub SameUnreached : Type 0
 SameUnreached = (folder : List ℕ) (why : Unreached)
     → look_line folder (look.Unreached why) ≡ folder ++ (codes ": " ++ unreached_text why)
 
--- And so it is where a status could not be read, and where it is no record.
+-- The same holds if a status could not be read, and if it is not a record.
 abbrev pub SameUnread : Type 0
 SameUnread = (folder : List ℕ) → look_line folder look.Unread ≡ folder ++ (codes ": " ++ codes "unable to read status")
 

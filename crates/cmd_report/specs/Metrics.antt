@@ -1,5 +1,6 @@
--- What is reported of services as metrics, in Prometheus' text exposition format
--- (prometheus.io/docs/instrumenting/exposition_formats): a sample a line, those of one metric together behind its help.
+-- What is reported about services as metrics, in Prometheus' text exposition format
+-- (prometheus.io/docs/instrumenting/exposition_formats). Each line has a sample. Those of one metric are together,
+-- after its help.
 use Rattle.std.specs.Prelude.{ℕ, ◌==◌, Bool, true, false, if◌then◌else◌, List, [], ◌∷◌, ◌++◌, codes, decimal}
 use Rattle.std.specs.Prelude.{flat_map, bytes_eq, Option, Some, None}
 use Rattle.tai_status.specs.Label.{Tai64n}
@@ -20,12 +21,12 @@ use Rattle.cmd_report.specs.declared.samples.Sample.TheVariants as sample
 
 -- Values
 
--- whether a supervisor answered
+-- whether a supervisor responded
 abbrev pub is_supervised : Look → Bool
 is_supervised (look.Unreached why) = false
 is_supervised other = true
 
--- whether it stands in a phase, where a record says that
+-- whether supervise is in a phase, if a record says that
 abbrev pub phase_value : Phase → Loaded → Option ℕ
 phase_value phase (Old status) = None
 phase_value phase (New full) = Some (flag_byte (bytes_eq (phase_name full.phase) (phase_name phase)))
@@ -50,7 +51,7 @@ abbrev pub deaths_in : Option Counts → Option ℕ
 deaths_in None = None
 deaths_in (Some counts) = Some counts.deaths
 
--- the value of a sample of a service, where there is one
+-- the value of a sample of a service, if there is one
 unfoldable pub value_in : Sample → Found → Option ℕ
 value_in sample.Supervised found = Some (flag_byte (is_supervised found.look))
 value_in sample.Starts found = starts_in found.counts
@@ -59,7 +60,7 @@ value_in other found = look_value other found.look
 
 -- Text
 
--- what stands in the value of a label for a byte
+-- what is in the value of a label for a byte
 unfoldable pub label_byte : ℕ → List ℕ
 label_byte byte =
     if byte == 92 then codes "\\\\"
@@ -81,16 +82,16 @@ metric_name sample.Paused = codes "dtools_service_paused"
 metric_name sample.Starts = codes "dtools_service_starts_total"
 metric_name sample.Deaths = codes "dtools_service_deaths_total"
 
--- the labels of a sample behind that of its service
+-- the labels of a sample after that of its service
 unfoldable pub more_labels : Sample → List ℕ
 more_labels (sample.InPhase phase) = codes ",phase=\"" ++ phase_name phase ++ codes "\""
 more_labels other = []
 
--- a value, as a line ends
+-- a value, at the end of a line
 unfoldable pub value_end : ℕ → List ℕ
 value_end value = codes "} " ++ decimal value ++ 10 ∷ []
 
--- the line of a sample of this value
+-- the line of a sample with this value
 unfoldable pub valued_line : Sample → (folder : List ℕ) → ℕ → List ℕ
 valued_line sample folder value =
     metric_name sample ++ codes "{service=\"" ++ label_text folder ++ codes "\"" ++ more_labels sample
@@ -103,7 +104,7 @@ line_of_value sample folder (Some value) = valued_line sample folder value
 abbrev pub sample_line : Sample → Found → List ℕ
 sample_line sample found = line_of_value sample found.folder.now (value_in sample found)
 
--- the help and the type of a metric, which stand before its first sample
+-- the help and the type of a metric, which come before its first sample
 unfoldable pub head_text : Sample → List ℕ
 head_text sample.Supervised =
     codes "# HELP dtools_service_supervised Whether the supervisor of the service accepts connections." ++ 10 ∷ []
@@ -131,7 +132,7 @@ head_text other = []
 abbrev pub sample_lines : Sample → List Found → List ℕ
 sample_lines sample founds = head_text sample ++ flat_map (sample_line sample) founds
 
--- all samples, those of one metric together
+-- all samples, with those of one metric together
 abbrev pub all_samples : List Sample
 all_samples =
     sample.Supervised ∷ sample.Up ∷ sample.Seconds ∷ sample.InPhase phase.Starting ∷ sample.InPhase phase.Settling

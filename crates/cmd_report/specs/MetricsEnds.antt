@@ -15,16 +15,16 @@ use Rattle.cmd_report.specs.Metrics.{metrics_text}
 use Rattle.cmd_report.specs.declared.counts.Counts.{Counts}
 use Rattle.cmd_report.specs.declared.found.Found.{Found}
 
--- What the files `counts` hold, where that is known: of the service in a folder the bytes, or that they can't be read
+-- What the files `counts` hold, if that is known: the bytes for the service in a folder, or that they can't be read
 abbrev pub CountFiles : Type 0
 CountFiles = List ℕ → Option (Option (List ℕ))
 
--- the counts that a file says, where there is one
+-- the counts that a file has, if there is one
 abbrev pub counts_of : Option (List ℕ) → Option Counts
 counts_of None = None
 counts_of (Some bytes) = counts_in bytes
 
--- Counts are read where the status was read, and only there.
+-- Counts are read if the status was read, and only then.
 abbrev pub AreCounts : (known : Option (Option (List ℕ))) → Look → Option Counts → Type 0
 AreCounts known (look.Standing loaded normally_up now) counts =
     (read : Option (List ℕ)) × (IsKnown known read × (counts ≡ counts_of read))
@@ -50,7 +50,7 @@ pub record FindsWords (files : CountFiles) (words : List (List ℕ)) (founds : L
   pub words_are : words ≡ folders_of founds
   pub finds : FindsAll files founds old new
 
--- There was no memory: some words in front were looked at.
+-- There was no memory: some words at the front were looked at.
 pub record FindsFront (files : CountFiles) (words : List (List ℕ)) (old new : Sight) : Type 0 where
   pub founds : List Found
   pub rest : List (List ℕ)
@@ -59,7 +59,8 @@ pub record FindsFront (files : CountFiles) (words : List (List ℕ)) (old new : 
 
 -- Ends
 
--- Each word was looked at, and all was written; then it is reported of each folder that is not there, and nothing else.
+-- Each word was looked at, and everything was written. Then it is reported for each folder that does not exist why, and
+-- nothing else is reported.
 pub record WritesAll (files : CountFiles) (words : List (List ℕ)) (status : ℕ) (old new : Scene)
     (faults reports : Device) : Type 0 where
   pub founds : List Found
@@ -88,7 +89,7 @@ pub record WritesNothing (files : CountFiles) (words : List (List ℕ)) (status 
   pub status_is : status ≡ 111
   pub reported : Reports faults reports (svstat_report why.OutOfMemory new.writer)
 
--- By what was looked at and written.
+-- How `svstat --metrics` ends: everything was written, or a front, or nothing.
 abbrev pub WritesMetrics : (files : CountFiles) (words : List (List ℕ)) (status : ℕ) (old new : Scene)
     (faults reports : Device) → Type 0
 WritesMetrics files words status old new faults reports =

@@ -10,8 +10,8 @@ use std::alloc::Allocator;
 use std::io::Write;
 use tai_status::{Output, TimeSource};
 
-/// The command `svstat`: where its first word is `--json` as [`run_json`], and where it is `--metrics` as
-/// [`run_metrics`], over the words behind that one; else as [`run_svstat`], over all.
+/// The command `svstat`. If its first word is `--json`, it works as [`run_json`], and if that is `--metrics`, as
+/// [`run_metrics`], over the words after that one. Otherwise it works as [`run_svstat`], over all words.
 pub fn run_report<S, F, A, W, E, C>(
     alloc: A,
     observer: &mut Observer<S, C>,

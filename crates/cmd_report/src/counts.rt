@@ -10,8 +10,8 @@ pub struct Counts {
     pub deaths: u64,
 }
 
-/// What the bytes of a file `counts` say: one line `STARTS DEATHS`, two decimal numbers below 2^64 with no zero in
-/// front. Anything else is none.
+/// Returns what the bytes of a file `counts` say: one line `STARTS DEATHS`, two decimal numbers below 2^64 without
+/// leading zeros. Returns None for anything else.
 pub fn counts_in(bytes: &[u8]) -> Option<Counts>
     ensures { result ≡ counts_in bytes.now }
 {
@@ -21,7 +21,7 @@ pub fn counts_in(bytes: &[u8]) -> Option<Counts>
     }
 }
 
-/// The place of the first byte that is this one.
+/// Returns the place of the first byte with this value.
 fn first_place(bytes: &[u8], wanted: u8) -> Option<usize>
     ensures place { result ≡ position (λ byte. byte == wanted) bytes.now }
     ensures within { IfSome result (λ place. place < length bytes.now) }
@@ -29,7 +29,7 @@ fn first_place(bytes: &[u8], wanted: u8) -> Option<usize>
     bytes.iter().position(|byte| *byte == wanted)
 }
 
-/// What a line says, without its newline.
+/// Returns what a line says, without its newline.
 fn line_counts(line: &[u8]) -> Option<Counts>
     ensures { result ≡ line_counts line.now }
 {
@@ -39,7 +39,7 @@ fn line_counts(line: &[u8]) -> Option<Counts>
     }
 }
 
-/// Counts of which both are known.
+/// Returns the counts, if both are known.
 fn both(starts: Option<u64>, deaths: Option<u64>) -> Option<Counts>
     ensures { result ≡ both starts deaths }
 {
@@ -49,7 +49,7 @@ fn both(starts: Option<u64>, deaths: Option<u64>) -> Option<Counts>
     }
 }
 
-/// The number of these digits, where it fits into 64 bits.
+/// Returns the number with these digits, if it fits into 64 bits.
 #[tactic(auto, unfolding(crate::specs::Counts::number_of))]
 fn number_of(digits: &[u8]) -> Option<u64>
     ensures { result ≡ number_of digits.now }
@@ -64,7 +64,7 @@ fn number_of(digits: &[u8]) -> Option<u64>
     Some(value as u64)
 }
 
-/// Whether bytes are one digit or more, with no zero in front of others.
+/// Returns whether bytes are one or more digits, without a leading zero before other digits.
 #[tactic(auto, unfolding(crate::specs::Counts::is_numeral))]
 fn is_numeral(bytes: &[u8]) -> bool
     ensures { result ≡ is_numeral bytes.now }
@@ -72,21 +72,21 @@ fn is_numeral(bytes: &[u8]) -> bool
     !bytes.is_empty() && are_digits(bytes) && (bytes.len() == 1 || bytes[0] != b'0')
 }
 
-/// Whether all bytes are digits.
+/// Returns whether all bytes are digits.
 fn are_digits(bytes: &[u8]) -> bool
     ensures { result ≡ list_all is_digit bytes.now }
 {
     bytes.iter().all(|byte| is_digit(*byte))
 }
 
-/// Whether a byte is a digit.
+/// Returns whether a byte is a digit.
 fn is_digit(byte: u8) -> bool
     ensures { result ≡ is_digit byte }
 {
     byte.is_ascii_digit()
 }
 
-/// The number of some digits, or the greatest where it is greater.
+/// Returns the number with these digits, or the greatest number if it is greater.
 #[tactic(auto, using(crate::proofs::Numbers::value_more))]
 fn value_of(digits: &[u8]) -> u128
     ensures { result ≡ min (value_of digits.now) (2 ^ 128 - 1) }
@@ -98,7 +98,7 @@ fn value_of(digits: &[u8]) -> u128
     value
 }
 
-/// The number that a further digit makes, or the greatest where it is greater.
+/// Returns the number that results from one more digit, or the greatest number if it is greater.
 fn with_digit(value: u128, digit: u8) -> u128
     ensures { result ≡ min (value * 10 + (digit - 48)) (2 ^ 128 - 1) }
 {

@@ -10,7 +10,7 @@ use cmd_svc::{Look, Observer, Services, look_at};
 use std::alloc::{AllocError, Allocator};
 use tai_status::TimeSource;
 
-/// What the file `counts` of the service in a folder says, where it can be read.
+/// Reads what the file `counts` of the service in a folder says, if its status was read.
 fn read_counts<F: CountFiles>(files: &F, folder: &str, look: &Look) -> Option<Counts>
     ensures { AreCounts (F.counts_at files.now folder.now) look.now result }
 {
@@ -23,7 +23,7 @@ fn read_counts<F: CountFiles>(files: &F, folder: &str, look: &Look) -> Option<Co
     }
 }
 
-/// Looks at the service in a folder, and reads its counts where its status was read.
+/// Looks at the service in a folder, and reads its counts if its status was read.
 fn find_one<'a, S: Services, F: CountFiles, C: TimeSource>(
     observer: &mut Observer<S, C>,
     files: &F,

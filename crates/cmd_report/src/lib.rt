@@ -1,5 +1,5 @@
-//! What stands of services, for programs: `svstat --json`, a JSON object a line, and `svstat --metrics`, in the text
-//! format of Prometheus.
+//! The state of services, for programs: `svstat --json`, with one JSON object on each line, and `svstat --metrics`, in
+//! the text format of Prometheus.
 #![tactic(auto)]
 
 mod command;

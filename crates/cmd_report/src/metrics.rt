@@ -1,4 +1,4 @@
-//! What was found of services, as metrics.
+//! What was found about services, as metrics.
 ghost use Rattle.std.specs.Prelude.{◌≡◌, ◌++◌, decimal, flat_map, IfOk, OnOk};
 ghost use Rattle.cmd_report.specs.Metrics.{label_byte, label_text, line_of_value, metrics_text, more_labels};
 ghost use Rattle.cmd_report.specs.Metrics.{sample_line, sample_lines, value_end, valued_line};
@@ -9,7 +9,7 @@ use itoa::Buffer;
 use std::alloc::{AllocError, Allocator};
 use tai_status::{Phase, phase_name};
 
-/// All samples, those of one metric together.
+/// All samples, with those of one metric together.
 const SAMPLES: [Sample; 13] = [
     Sample::Supervised,
     Sample::Up,
@@ -26,10 +26,10 @@ const SAMPLES: [Sample; 13] = [
     Sample::Deaths,
 ];
 
-/// What was found of services, in the text exposition format of Prometheus
-/// (<https://prometheus.io/docs/instrumenting/exposition_formats/>): each metric with its help and its type, and
-/// behind it a line for each service that has a value of it, in the order of the services. `AllocError` comes only
-/// where the allocator refuses the memory for the text.
+/// Returns what was found about services, in the text exposition format of Prometheus
+/// (<https://prometheus.io/docs/instrumenting/exposition_formats/>). Each metric has its help and its type, and after
+/// these one line for each service that has a value of it, in the order of the services. Returns `AllocError` only if
+/// the allocator refuses the memory for the text.
 #[tactic(auto, unfolding(crate::specs::Metrics::metrics_text))]
 pub fn metrics_text<A: Allocator>(alloc: A, founds: &[Found]) -> Result<Vec<u8, A>, AllocError>
     ensures { IfOk result (λ text. text.items ≡ metrics_text founds.now) }
@@ -39,7 +39,7 @@ pub fn metrics_text<A: Allocator>(alloc: A, founds: &[Found]) -> Result<Vec<u8, 
     Ok(out)
 }
 
-/// Writes samples of each service that has them.
+/// Writes the samples of each service that has them.
 fn push_samples<A: Allocator>(
     out: &mut Vec<u8, A>,
     samples: &[Sample],
@@ -61,7 +61,7 @@ fn push_text<A: Allocator>(out: &mut Vec<u8, A>, text: &str) -> Result<(), Alloc
     out.extend_from_slice(text.as_bytes())
 }
 
-/// Writes a sample of each service that has it, behind the help of its metric where that is the first.
+/// Writes a sample of each service that has it, after the help of its metric if that sample is the first.
 fn push_sample<A: Allocator>(
     out: &mut Vec<u8, A>,
     sample: Sample,
@@ -87,7 +87,7 @@ fn push_lines<A: Allocator>(
     Ok(())
 }
 
-/// Writes a sample of a service, where it has that.
+/// Writes a sample of a service, if it has that sample.
 fn push_found<A: Allocator>(
     out: &mut Vec<u8, A>,
     sample: Sample,
@@ -101,7 +101,7 @@ fn push_found<A: Allocator>(
     }
 }
 
-/// Writes the line of a sample of this value.
+/// Writes the line of a sample with this value.
 #[tactic(auto, unfolding(crate::specs::Metrics::valued_line))]
 fn push_line<A: Allocator>(
     out: &mut Vec<u8, A>,
@@ -142,7 +142,7 @@ fn push_label_byte<A: Allocator>(out: &mut Vec<u8, A>, byte: u8) -> Result<(), A
     }
 }
 
-/// Writes the labels of a sample behind that of its service.
+/// Writes the labels of a sample after that of its service.
 #[tactic(auto, unfolding(crate::specs::Metrics::more_labels))]
 fn push_labels<A: Allocator>(out: &mut Vec<u8, A>, sample: Sample) -> Result<(), AllocError>
     ensures { OnOk result (out.new.items ≡ out.old.items ++ more_labels sample) }
@@ -157,7 +157,7 @@ fn push_labels<A: Allocator>(out: &mut Vec<u8, A>, sample: Sample) -> Result<(),
     }
 }
 
-/// Writes a value, as a line ends.
+/// Writes a value, at the end of a line.
 #[tactic(auto, unfolding(crate::specs::Metrics::value_end))]
 fn push_value<A: Allocator>(out: &mut Vec<u8, A>, value: u64) -> Result<(), AllocError>
     ensures { OnOk result (out.new.items ≡ out.old.items ++ value_end value) }

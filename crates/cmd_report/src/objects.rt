@@ -1,4 +1,4 @@
-//! The line of a look as a JSON object.
+//! The line about a look as a JSON object.
 ghost use Rattle.std.specs.Prelude.{◌≡◌, ◌++◌, codes, IfOk, OnOk};
 ghost use Rattle.json.specs.Lex.{tokens};
 ghost use Rattle.cmd_svc.specs.Words.{texts};
@@ -15,25 +15,24 @@ use std::alloc::{AllocError, Allocator};
 use std::io::Write;
 use tai_status::{Label, Loaded, Output, RecordFault, TimeSource, View, Want, phase_name};
 
-/// A look at the service in a folder as one JSON object (RFC 8259), without a newline. Its members, in this order, of a
-/// service whose status was read:
+/// Returns a look at the service in a folder as one JSON object (RFC 8259), without a newline. If its status was read,
+/// the object has these members, in this order:
 ///
-/// | member | value |
-/// |---|---|
-/// | `path` | the folder, as it was given |
-/// | `up` | whether it runs |
-/// | `pid` | its process number, `null` where it does not run |
-/// | `seconds` | whole seconds since its last change of process, 0 where that is still to come |
-/// | `phase` | `starting`, `settling`, `up`, `down`, `resting` or `gone`; `null`: a record of 18 bytes says none |
-/// | `want` | `up`, `down` or `once` |
-/// | `paused` | whether it is paused |
-/// | `normally` | `down` where its folder has a file `down`, else `up` |
-/// | `exiting` | whether supervise is to end; `null`: a record of 18 bytes does not say |
+/// - `path`: the folder, as it was given;
+/// - `up`: whether it runs;
+/// - `pid`: its process number, or `null` if it does not run;
+/// - `seconds`: the whole seconds since its last change of process, or 0 if that is still to come;
+/// - `phase`: `starting`, `settling`, `up`, `down`, `resting` or `gone`, or `null` for a record of 18 bytes, which has
+///   none;
+/// - `want`: `up`, `down` or `once`;
+/// - `paused`: whether it is paused;
+/// - `normally`: `down` if its folder has a file `down`, and otherwise `up`;
+/// - `exiting`: whether supervise is to end, or `null` for a record of 18 bytes, which does not say it.
 ///
-/// Of any other there are `path` and `error`: what svstat's line has behind the folder and `: `.
+/// Otherwise there are `path` and `error`: what svstat's line has after the folder and `: `.
 ///
-/// In a string `"`, `\` and bytes below 32 are escaped, and all else stays. `AllocError` comes only where the allocator
-/// refuses the memory for the line.
+/// In a string, `"`, `\` and bytes below 32 are escaped, and everything else is unchanged. Returns `AllocError` only if
+/// the allocator refuses the memory for the line.
 pub fn json_line<A: Allocator>(
     alloc: A,
     folder: &str,
@@ -89,7 +88,7 @@ fn add_number<A: Allocator>(
     writer.u64(value)
 }
 
-/// Writes a member of which nothing is known.
+/// Writes a member with the value `null`.
 #[tactic(auto, unfolding(crate::specs::Json::null_member))]
 fn add_null<A: Allocator>(writer: &mut Writer<A>, name: &str) -> Result<(), AllocError>
     ensures { OnOk result (Adds writer.old writer.new (null_member name.now)) }
@@ -98,7 +97,7 @@ fn add_null<A: Allocator>(writer: &mut Writer<A>, name: &str) -> Result<(), Allo
     writer.null()
 }
 
-/// Writes the members of a look, behind its path.
+/// Writes the members of a look, after its path.
 fn add_members<A: Allocator>(writer: &mut Writer<A>, look: &Look) -> Result<(), AllocError>
     ensures { OnOk result (Adds writer.old writer.new (look_members look.now)) }
 {
@@ -114,7 +113,7 @@ fn add_members<A: Allocator>(writer: &mut Writer<A>, look: &Look) -> Result<(), 
     }
 }
 
-/// Why nothing is known of a service.
+/// Returns why nothing is known about a service.
 fn unreached_text(why: Unreached) -> &'static str
     ensures { result.now ≡ unreached_text why }
 {
@@ -125,7 +124,7 @@ fn unreached_text(why: Unreached) -> &'static str
     }
 }
 
-/// Why a status is no record.
+/// Returns why a status is not a record.
 fn bad_text(fault: RecordFault) -> &'static str
     ensures { result.now ≡ codes "bad status record: " ++ fault_name fault }
 {
@@ -141,7 +140,7 @@ fn bad_text(fault: RecordFault) -> &'static str
     }
 }
 
-/// Writes how a service stands.
+/// Writes the state of a service.
 #[tactic(auto, unfolding(crate::specs::Json::standing_members))]
 fn add_standing<A: Allocator>(
     writer: &mut Writer<A>,
@@ -158,14 +157,14 @@ fn add_standing<A: Allocator>(
     add_exiting(writer, loaded)
 }
 
-/// Whether a service runs.
+/// Returns whether a service runs.
 fn is_running(view: &View) -> bool
     ensures { result ≡ is_running view.now }
 {
     view.pid >= 1
 }
 
-/// Writes whether a service runs, by which process, and for how long it has stood so.
+/// Writes whether a service runs, with which process, and how long it has been in that state.
 #[tactic(auto, unfolding(crate::specs::Json::process_members))]
 fn add_process<A: Allocator>(
     writer: &mut Writer<A>,
@@ -179,7 +178,7 @@ fn add_process<A: Allocator>(
     add_number(writer, "seconds", now.sec.saturating_sub(view.label.sec))
 }
 
-/// Writes the number of a process, where there is one.
+/// Writes the number of a process, if there is one.
 #[tactic(auto, unfolding(crate::specs::Json::pid_member))]
 fn add_pid<A: Allocator>(writer: &mut Writer<A>, view: &View) -> Result<(), AllocError>
     ensures { OnOk result (Adds writer.old writer.new (pid_member view.now)) }
@@ -191,7 +190,7 @@ fn add_pid<A: Allocator>(writer: &mut Writer<A>, view: &View) -> Result<(), Allo
     }
 }
 
-/// Writes where supervise stands, where a record says that.
+/// Writes the phase of supervise, if a record has it.
 #[tactic(auto, unfolding(crate::specs::Json::phase_member))]
 fn add_phase<A: Allocator>(writer: &mut Writer<A>, loaded: &Loaded) -> Result<(), AllocError>
     ensures { OnOk result (Adds writer.old writer.new (phase_member loaded.now)) }
@@ -202,7 +201,7 @@ fn add_phase<A: Allocator>(writer: &mut Writer<A>, loaded: &Loaded) -> Result<()
     }
 }
 
-/// Writes what is wanted, whether a service is paused, and how it normally stands.
+/// Writes what is wanted, whether a service is paused, and what its normal state is.
 #[tactic(auto, unfolding(crate::specs::Json::asked_members))]
 fn add_asked<A: Allocator>(
     writer: &mut Writer<A>,
@@ -216,7 +215,7 @@ fn add_asked<A: Allocator>(
     add_string(writer, "normally", side_name(normally_up))
 }
 
-/// What is wanted, in a word.
+/// Returns what is wanted, in a word.
 fn want_name(want: Want) -> &'static str
     ensures { result.now ≡ want_name want }
 {
@@ -227,14 +226,14 @@ fn want_name(want: Want) -> &'static str
     }
 }
 
-/// Up or down, in a word.
+/// Returns up or down, in a word.
 fn side_name(up: bool) -> &'static str
     ensures { result.now ≡ side_name up }
 {
     if up { "up" } else { "down" }
 }
 
-/// Writes whether supervise is to end, where a record says that.
+/// Writes whether supervise is to end, if a record says it.
 #[tactic(auto, unfolding(crate::specs::Json::exiting_member))]
 fn add_exiting<A: Allocator>(writer: &mut Writer<A>, loaded: &Loaded) -> Result<(), AllocError>
     ensures { OnOk result (Adds writer.old writer.new (exiting_member loaded.now)) }

@@ -12,8 +12,9 @@ use std::io::Write;
 use tai_status::{Output, TimeSource};
 
 /// The command `svstat --metrics`: looks at the service in each folder that its words name, in order, and then writes
-/// what was found as [`metrics_text`], and says of each folder that is not there why. Answers the status: 0; 111 for
-/// want of memory, and then nothing was written; 111 for a fault of the writer.
+/// what was found as [`metrics_text`] does. Then it reports for each folder that does not exist why.
+///
+/// Returns the exit status: 0; 111 for a lack of memory, and then nothing was written; 111 for a fault of the writer.
 pub fn run_metrics<S, F, A, W, E, C>(
     alloc: A,
     observer: &mut Observer<S, C>,

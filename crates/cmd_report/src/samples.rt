@@ -13,13 +13,13 @@ use tai_status::{Label, Loaded, Phase, View, Want, phase_name};
 /// A sample that a service has of a metric.
 #[derive(Clone, Copy, Debug, PartialEq, Eq)]
 pub enum Sample {
-    /// Whether its supervisor answers.
+    /// Whether its supervisor responds.
     Supervised,
     /// Whether it runs.
     Up,
     /// Whole seconds since its last change of process.
     Seconds,
-    /// Whether supervise stands in this phase with it.
+    /// Whether supervise is in this phase.
     InPhase(Phase),
     /// Whether it is to be up.
     WantedUp,
@@ -31,8 +31,9 @@ pub enum Sample {
     Deaths,
 }
 
-/// The value of a sample of a service, where there is one: of `Supervised` always; of `Starts` and `Deaths` where its
-/// counts were read; of a phase where its record has 20 bytes; of the others where its status was read.
+/// Returns the value of a sample of a service, if there is one. There always is one for `Supervised`. There is one for
+/// `Starts` and `Deaths` if its counts were read, for a phase if its record has 20 bytes, and for the others if its
+/// status was read.
 #[tactic(auto, unfolding(crate::specs::Metrics::value_in))]
 pub fn value_in(sample: Sample, found: &Found) -> Option<u64>
     ensures { result ≡ value_in sample found.now }
@@ -45,14 +46,14 @@ pub fn value_in(sample: Sample, found: &Found) -> Option<u64>
     }
 }
 
-/// 1 where it holds, else 0.
+/// Returns 1 if it holds, and otherwise 0.
 fn flag(holds: bool) -> u64
     ensures { result ≡ flag_byte holds }
 {
     if holds { 1 } else { 0 }
 }
 
-/// Whether a supervisor answered.
+/// Returns whether a supervisor responded.
 fn is_supervised(look: &Look) -> bool
     ensures { result ≡ is_supervised look.now }
 {
@@ -62,7 +63,7 @@ fn is_supervised(look: &Look) -> bool
     }
 }
 
-/// How many starts are counted.
+/// Returns how many starts are counted.
 fn starts_in(counts: Option<Counts>) -> Option<u64>
     ensures { result ≡ starts_in counts }
 {
@@ -72,7 +73,7 @@ fn starts_in(counts: Option<Counts>) -> Option<u64>
     }
 }
 
-/// How many deaths are counted.
+/// Returns how many deaths are counted.
 fn deaths_in(counts: Option<Counts>) -> Option<u64>
     ensures { result ≡ deaths_in counts }
 {
@@ -82,7 +83,7 @@ fn deaths_in(counts: Option<Counts>) -> Option<u64>
     }
 }
 
-/// The value of a sample that a look reports.
+/// Returns the value of a sample that a look has.
 fn look_value(sample: Sample, look: &Look) -> Option<u64>
     ensures { result ≡ look_value sample look.now }
 {
@@ -92,7 +93,7 @@ fn look_value(sample: Sample, look: &Look) -> Option<u64>
     }
 }
 
-/// The value of a sample that a status says.
+/// Returns the value of a sample that a status has.
 fn standing_value(sample: Sample, loaded: &Loaded, now: &Label) -> Option<u64>
     ensures { result ≡ standing_value sample loaded.now now.now }
 {
@@ -107,14 +108,14 @@ fn standing_value(sample: Sample, loaded: &Loaded, now: &Label) -> Option<u64>
     }
 }
 
-/// Whether a service runs.
+/// Returns whether a service runs.
 fn is_running(view: &View) -> bool
     ensures { result ≡ is_running view.now }
 {
     view.pid >= 1
 }
 
-/// Whether a service is to be up.
+/// Returns whether a service is to be up.
 fn wants_up(want: Want) -> bool
     ensures { result ≡ wants_up want }
 {
@@ -124,7 +125,7 @@ fn wants_up(want: Want) -> bool
     }
 }
 
-/// Whether supervise stands in a phase, where a record says that.
+/// Returns whether supervise is in a phase, if a record says that.
 fn phase_value(phase: Phase, loaded: &Loaded) -> Option<u64>
     ensures { result ≡ phase_value phase loaded.now }
 {
@@ -134,7 +135,7 @@ fn phase_value(phase: Phase, loaded: &Loaded) -> Option<u64>
     }
 }
 
-/// The name of a sample's metric.
+/// Returns the name of a sample's metric.
 pub(crate) fn metric_name(sample: Sample) -> &'static str
     ensures { result.now ≡ metric_name sample }
 {
@@ -150,7 +151,7 @@ pub(crate) fn metric_name(sample: Sample) -> &'static str
     }
 }
 
-/// The help and the type of a metric, which stand before its first sample.
+/// Returns the help and the type of a metric, for its first sample. They come before that sample.
 #[tactic(auto, unfolding(crate::specs::Metrics::head_text))]
 pub(crate) fn head_text(sample: Sample) -> &'static str
     ensures { result.now ≡ head_text sample }

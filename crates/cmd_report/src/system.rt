@@ -6,10 +6,10 @@ use arrayvec::ArrayString;
 use std::io::{Error, ErrorKind, Read};
 use std::{fs, io};
 
-/// How long a path is at most on this system, with the zero behind it.
+/// The longest path on this system, in bytes, with the zero at its end.
 const PATH_BYTES: usize = 4096;
 
-/// The path of something in a folder. One that is longer than any path of this system is a fault.
+/// Returns the path of something in a folder. A path that is longer than any on this system is a fault.
 fn path_in(folder: &str, rest: &str) -> io::Result<ArrayString<PATH_BYTES>>
     ensures { IfOk result (λ path. path.bytes ≡ folder.now ++ rest.now) }
 {
@@ -20,8 +20,8 @@ fn path_in(folder: &str, rest: &str) -> io::Result<ArrayString<PATH_BYTES>>
     Ok(path)
 }
 
-/// The first bytes of the file `counts` of the service in a folder. What is there and is no file is not opened: that
-/// could wait.
+/// Returns the first bytes of the file `counts` of the service in a folder. If something else is there, it is not
+/// opened: opening it could wait.
 fn read_front(runtime: &HostRuntime, folder: &str) -> io::Result<CountsFront> {
     let path = path_in(folder, "/supervise/counts")?;
     if !fs::metadata(runtime, path.as_str())?.is_file() {

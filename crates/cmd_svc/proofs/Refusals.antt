@@ -1,4 +1,4 @@
--- Why words are no order.
+-- Why words are not an order.
 use Rattle.std.proofs.Common.{◌≡◌, ℕ, Option, Some, None, Result, Ok, Err, subst}
 use Rattle.std.specs.Prelude.{MatchOption, IsOkUnless, IsErrOf}
 use Rattle.cmd_svc.specs.declared.order.SvcFault.{SvcFault}
@@ -23,7 +23,7 @@ pub letter-refused : {T : Type 0} (unknown : Option ℕ) (r : Result T SvcFault)
 letter-refused None r letter P Q why is q = absurd (not_memory letter r is why)
 letter-refused (Some first) r letter P Q why is q = subst Q (same_letter letter first r is why) q
 
--- Where there was no memory no letter is unknown.
+-- If there was no memory, no letter is unknown.
 pub memory-lacks : {T : Type 0} (unknown : Option ℕ) (r : Result T SvcFault) (P : Type 0) (Q : ℕ → Type 0)
     → MatchOption unknown (IsOkUnless r OutOfMemory) (λ first. IsErrOf r (UnknownLetter first))
     → r ≡ Err OutOfMemory → P → MatchOption unknown P Q
@@ -33,7 +33,7 @@ memory-lacks (Some first) r P Q why is p = absurd (never_both first r is why)
 never_served : {T : Type 0} (order : T) (b : ℕ) (r : Result T SvcFault) → r ≡ Ok order → r ≡ Err (UnknownLetter b) → ⊥
 never_served order b r h k = cc
 
--- Where there is an order no letter is unknown.
+-- If there is an order, no letter is unknown.
 pub order-serves : {T : Type 0} (unknown : Option ℕ) (r : Result T SvcFault) (order : T) (P : Type 0) (Q : ℕ → Type 0)
     → MatchOption unknown (IsOkUnless r OutOfMemory) (λ first. IsErrOf r (UnknownLetter first))
     → r ≡ Ok order → P → MatchOption unknown P Q

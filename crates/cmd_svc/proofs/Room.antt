@@ -17,7 +17,7 @@ pub nothing_is_ordered : AreKnownOnce []
 unfolding IsDistinct
 nothing_is_ordered = record { known = refl; once = search rules }
 
--- what passes a test with one of known letters is known
+-- what equals a known letter is known
 known_where_equal : (x q : ℕ) → (q == x) ≡ true → is_letter x ≡ true → is_letter q ≡ true
 known_where_equal x q same known = grind (arith, nat_eq_equiv.symm, nat_eq_equiv.congr)
 
@@ -25,7 +25,7 @@ known_among : (xs : List ℕ) (q : ℕ) → list_all is_letter xs ≡ true → i
 known_among [] q all here = search rules
 known_among (x ∷ xs) q all here = grind (arith, common_steps, known_where_equal x q, known_among xs q)
 
--- One more known letter that is not there.
+-- One more known letter that is not there yet.
 pub ordered_push : (bytes : List ℕ) (letter : ℕ) → AreKnownOnce bytes → is_letter letter ≡ true
     → is_among bytes letter ≡ false
     → AreKnownOnce (bytes ++ letter ∷ [])
@@ -40,7 +40,7 @@ few_ordered bytes ordered =
     length-le_from_is_member nat_eq_equiv bytes letters ordered.once
     (λ q here. known_among bytes q ordered.known here)
 
--- So there is room for one that is not there.
+-- Therefore there is room for one that is not there yet.
 pub room : (bytes : List ℕ) (letter : ℕ) → AreKnownOnce bytes → is_letter letter ≡ true → is_among bytes letter ≡ false
     → length bytes < LETTER_COUNT
 room bytes letter ordered known apart =

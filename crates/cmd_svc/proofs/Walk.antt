@@ -17,7 +17,7 @@ pub known_here : (letters : List ℕ) (i : ℕ) → i < length letters → is_le
     → first_unknown (drop (i + 1) letters) ≡ first_unknown (drop i letters)
 known_here letters i within known = let e = drop-cons letters i 0 within in grind (arith, common_steps, e)
 
--- The next letter is put at the end, unless it is there.
+-- The next letter is added at the end, unless it is already there.
 pub added_next : (before letters now new : List ℕ) (i : ℕ) → i < length letters
     → now ≡ without_earlier (before ++ take i letters)
     → new ≡ (if is_among now (get_or letters i 0) then now else now ++ get_or letters i 0 ∷ [])
@@ -28,20 +28,20 @@ added_next before letters now new i within e put =
     let joined = append_assoc before (take i letters) (get_or letters i 0 ∷ []) in
     grind (arith, common_steps, more, step, joined)
 
--- The letters from an option word on are its own and those of the words after it.
+-- The letters from an option word on are its own letters and those of the words after it.
 pub option_here : (words : List (Bor (List ℕ))) (i : ℕ) (d : Bor (List ℕ)) → i < length words
     → is_option (get_or words i d).now ≡ true
     → option_letters (map (λ word. word.now) (drop i words))
     ≡ drop 1 (get_or words i d).now ++ option_letters (map (λ word. word.now) (drop (i + 1) words))
 option_here words i d within option = let e = drop-cons words i d within in grind (arith, common_steps, e)
 
--- Where all of the first are known, the first unknown one is among the others.
+-- If all of the first are known, the first unknown one is among the others.
 pub unknown_later : (first others : List ℕ) → first_unknown first ≡ None → first_unknown (first ++ others)
     ≡ first_unknown others
 unknown_later [] others none = refl
 unknown_later (letter ∷ first) others none = grind (arith, common_steps, unknown_later first others)
 
--- The first unknown one of the first is the first of all.
+-- The first unknown one among the first letters is the first of all.
 pub unknown_before : (first others : List ℕ) (letter : ℕ) → first_unknown first ≡ Some letter
     → first_unknown (first ++ others) ≡ Some letter
 unknown_before [] others letter some = grind (arith, common_steps)
@@ -54,7 +54,7 @@ pub reported : (unknown : Option ℕ) (r : Result Unit SvcFault) (e : SvcFault)
 reported None r e cases refused = absurd (grind (arith, common_steps))
 reported (Some letter) r e cases refused = (letter, refl, cc)
 
--- Letters that were taken: none is unknown.
+-- Letters that were accepted: none is unknown.
 pub taken : (unknown : Option ℕ) (r : Result Unit SvcFault) (x : Unit)
     → MatchOption unknown (IsOk r) (λ letter. r ≡ Err (UnknownLetter letter)) → r ≡ Ok x → unknown ≡ None
 taken None r x cases fine = refl
@@ -76,7 +76,7 @@ reported_first words i d letters r e within option own same cases refused =
     let first = unknown_before (drop 1 (get_or words i d).now) rest fault.0 (ap first_unknown (sym own) ∙ fault.1) in
     (fault.0, sym same ∙ ap first_unknown (option_here words i d within option) ∙ first, fault.2)
 
--- An option word's letters were taken: the first unknown letter is further on.
+-- An option word's letters were accepted: the first unknown letter comes later.
 pub taken_first : (words : List (Bor (List ℕ))) (i : ℕ) (d : Bor (List ℕ)) (letters : List ℕ) (r : Result Unit SvcFault)
     (x : Unit)
     → i < length words → is_option (get_or words i d).now ≡ true → letters ≡ drop 1 (get_or words i d).now

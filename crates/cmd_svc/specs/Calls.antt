@@ -1,14 +1,17 @@
--- What a client asks of the folders of services, and what came of it.
+-- What a client asks of the folders of services, and the results.
 use Rattle.std.specs.Prelude.{ℕ, Bool, List, Option}
 use Rattle.tai_status.specs.declared.cause.Cause.{Cause}
 use Rattle.cmd_svc.specs.declared.services.Unreached.{Unreached}
 
--- A call of the service in a folder, with what came of it: bytes were sent to it, and arrived, or why they did not;
--- whether it is supervised was asked, and it is, or why it was not reached; its status file was read, of which these
--- are the first 21 bytes, or could not be read; a file `down` was looked for; when something in its folder `supervise`
--- changed last was asked, and it was at this time, or that could not be reported; whether there is a folder was asked,
--- and there is, or why there is none; for how many hundredths of a second a process has lived was asked, and it was so
--- many, or it does not live.
+-- A call for the service in a folder, with its result. The calls, in the order of the constructors:
+--
+-- - Bytes were sent to it, and they arrived, or this is why they did not.
+-- - It was asked whether it is supervised, and it is, or this is why it was not reached.
+-- - Its status file was read, and these are its first 21 bytes at most, or it could not be read.
+-- - A file `down` was looked for.
+-- - It was asked when something in its folder `supervise` last changed, and it was at this time, or that was not found.
+-- - It was asked whether there is a folder, and there is, or this is why there is none.
+-- - It was asked for how many hundredths of a second a process has lived, and it was this many, or it does not live.
 pub data Call : Type 0 where
   Sent : (folder bytes : List ℕ) → (fault : Option Unreached) → Call
   Reached : (folder : List ℕ) → (fault : Option Unreached) → Call

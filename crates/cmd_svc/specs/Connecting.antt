@@ -1,11 +1,11 @@
--- What a connection to a service that fails reports.
+-- What a failed connection to a service says.
 use Rattle.std.specs.declared.io.ErrorKind.{ErrorKind}
 use Rattle.std.specs.declared.io.ErrorKind.TheVariants.{PermissionDenied, WouldBlock, BrokenPipe, ConnectionReset}
 use Rattle.cmd_svc.specs.declared.services.Unreached.{Unreached}
 use Rattle.cmd_svc.specs.declared.services.Unreached.TheVariants.{NotRunning, Denied, Unanswered}
 
--- why a service is not reached: this user may not connect; it is there and has no room for one more, or ended as it was
--- reported; or nothing accepts connections there
+-- why a service is not reached: this user may not connect; or it exists, and has no room for one more or ended when it
+-- was sent something; or nothing accepts connections there
 abbrev pub unreached_by : ErrorKind → Unreached
 unreached_by PermissionDenied = Denied
 unreached_by WouldBlock = Unanswered

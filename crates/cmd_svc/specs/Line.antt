@@ -1,4 +1,4 @@
--- The line that says how a service stands, as svstat prints it (cr.yp.to/daemontools/svstat.html).
+-- The line that says in which state a service is, as svstat prints it (cr.yp.to/daemontools/svstat.html).
 use Rattle.std.specs.Prelude.{ℕ, ◌-◌, nat_le, Bool, true, false, not, ◌&&◌, if◌then◌else◌, List, [], ◌++◌, codes}
 use Rattle.std.specs.Prelude.{decimal}
 use Rattle.tai_status.specs.Label.{Tai64n}
@@ -22,18 +22,18 @@ wants_down Up = false
 wants_down Down = true
 wants_down Once = false
 
--- A service runs where it has a process, whose number is at least 1.
+-- A service runs if it has a process, whose number is at least 1.
 abbrev pub is_running : Status → Bool
 is_running status = nat_le 1 status.pid
 
 abbrev pub state_text : Status → List ℕ
 state_text status = if is_running status then codes "up (pid " ++ decimal status.pid ++ codes ")" else codes "down"
 
--- whole seconds since the last change of process, 0 where that is still to come
+-- whole seconds since the last change of process, 0 if that is still to come
 abbrev pub seconds : Status → Tai64n → ℕ
 seconds status now = now.sec - status.label.sec
 
--- a note, where it holds
+-- a note, if it applies; and the notes on what is normal and on what is wanted
 abbrev pub note : Bool → List ℕ → List ℕ
 note holds text = if holds then text else []
 
@@ -47,13 +47,13 @@ want_notes status =
     note (not (is_running status) && wants_up status.want) (codes ", want up")
     ++ note (is_running status && wants_down status.want) (codes ", want down")
 
--- a phase that its process does not report
+-- the note on a phase that does not show from the process
 abbrev pub phase_note : Phase → List ℕ
 phase_note phase.Up = []
 phase_note phase.Down = []
 phase_note other = codes ", " ++ phase_name other
 
--- where supervise stands and whether it is to end, where a record says that
+-- the note on the phase of supervise, if a record has it; and whether a record says that supervise is to end
 abbrev pub phase_notes : Loaded → List ℕ
 phase_notes (Old status) = []
 phase_notes (New full) = phase_note full.phase
@@ -62,7 +62,7 @@ abbrev pub is_exiting : Loaded → Bool
 is_exiting (Old status) = false
 is_exiting (New full) = full.exiting
 
--- what a status says of the service in this folder
+-- what a status says about the service in this folder
 abbrev pub plain_line : List ℕ → Status → Bool → Tai64n → List ℕ
 plain_line folder status normally_up now =
     folder ++ codes ": " ++ state_text status ++ codes " " ++ decimal (seconds status now) ++ codes " seconds"
@@ -70,7 +70,7 @@ plain_line folder status normally_up now =
     ++ note status.paused (codes ", paused")
     ++ want_notes status
 
--- the line of a service in this folder, without a newline
+-- the line about a service in this folder, without a newline
 abbrev pub status_line : List ℕ → Loaded → Bool → Tai64n → List ℕ
 status_line folder loaded normally_up now =
     plain_line folder (status_in loaded) normally_up now

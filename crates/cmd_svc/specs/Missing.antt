@@ -1,4 +1,4 @@
--- What is reported of services whose folders are not there.
+-- What is reported about services whose folders don't exist.
 use Rattle.std.specs.Prelude.{◌≡◌, ℕ, List, [], ◌∷◌, ◌++◌, Option, Some, None}
 use Rattle.tai_status.specs.Counted.{Device, Reports}
 use Rattle.tai_status.specs.Extended.{Extended}
@@ -7,7 +7,7 @@ use Rattle.tai_status.specs.declared.cause.Cause.{Cause}
 use Rattle.cmd_svc.specs.Calls.{Call, SoughtFolder}
 use Rattle.cmd_svc.specs.Turns.{InTurn}
 
--- What is asked of services, and where faults are reported.
+-- What is asked of services, and the device for reports of faults.
 pub record Telling : Type 0 where
   pub calls : Option (List Call)
   pub faults : Device
@@ -26,6 +26,6 @@ pub record TellsMissing (command folder : List ℕ) (old new : Telling) : Type 0
   pub sought : Extended old.calls new.calls (SoughtFolder folder fault ∷ [])
   pub reported : ReportsMissing command folder fault old.faults new.faults
 
--- The same of each of these folders, in order.
+-- The same for each of these folders, in order.
 abbrev pub TellsEach : (command : List ℕ) (folders : List (List ℕ)) (old new : Telling) → Type 0
 TellsEach command folders old new = InTurn (TellsMissing command) folders old new

@@ -3,7 +3,7 @@ use Rattle.std.specs.Prelude.{List, Option}
 use Rattle.tai_status.specs.Label.{Tai64n}
 use Rattle.cmd_svc.specs.Calls.{Call}
 
--- The calls that were made, and what the clock gave.
+-- The calls that were made, and what the clock returned.
 pub record Sight : Type 0 where
   pub calls : Option (List Call)
   pub readings : Option (List Tai64n)

@@ -14,7 +14,7 @@ use Rattle.cmd_svc.specs.declared.services.Unreached.TheVariants as unreached
 use Rattle.cmd_svc.specs.Turns.{InTurn}
 use Rattle.cmd_svc.specs.Missing.{TellsEach, telling}
 
--- What `svc` works with: the calls that were made, and where it reports faults.
+-- What `svc` works with: the calls that were made, and the device on which it reports faults.
 pub record Effects : Type 0 where
   pub calls : Option (List Call)
   pub faults : Device
@@ -22,7 +22,7 @@ pub record Effects : Type 0 where
 abbrev pub effects : (calls : Option (List Call)) (faults : Device) → Effects
 effects calls faults = record { calls = calls; faults = faults }
 
--- What it works with as it sends: whether a service was not reached so far, too.
+-- What it works with while it sends: the same, and whether a service was not reached so far.
 pub record Sending : Type 0 where
   pub effects : Effects
   pub missed : Bool
@@ -30,34 +30,34 @@ pub record Sending : Type 0 where
 abbrev pub sending : (calls : Option (List Call)) (faults : Device) (missed : Bool) → Sending
 sending calls faults missed = record { effects = effects calls faults; missed = missed }
 
--- Sayings
+-- Messages
 
--- why a service was not reached, as it is reported behind its folder
+-- why a service was not reached, as it is reported after its folder
 abbrev pub reason : Unreached → List ℕ
 reason unreached.NotRunning = codes ": not running" ++ 10 ∷ []
 reason unreached.Denied = codes ": Permission denied" ++ 10 ∷ []
 reason unreached.Unanswered = codes ": no answer" ++ 10 ∷ []
 
--- what is reported of a service that can't be reached
+-- what is reported about a service that can't be reached
 abbrev pub unreached_report : (folder : List ℕ) (why : Unreached) → List ℕ
 unreached_report folder why = codes "svc: warning: unable to control " ++ (folder ++ reason why)
 
--- what is reported of a letter that svc does not know
+-- what is reported about a letter that svc does not know
 abbrev pub letter_report : (letter : ℕ) → List ℕ
 letter_report letter = codes "svc: unknown letter " ++ (encode_lower (letter ∷ []) ++ 10 ∷ [])
 
--- what is reported of want of memory
+-- what is reported if there is no memory
 abbrev pub memory_report : List ℕ
 memory_report = codes "svc: OutOfMemory" ++ 10 ∷ []
 
 -- Services
 
--- That bytes arrived is not reported, and that they did not is, with the reason.
+-- If the bytes arrived, nothing is reported. If they did not, that is reported, with the reason.
 abbrev pub ReportsFault : (fault : Option Unreached) (folder : List ℕ) (old new : Device) → Type 0
 ReportsFault None folder old new = new ≡ old
 ReportsFault (Some why) folder old new = Reports old new (unreached_report folder why)
 
--- These bytes are sent to the service in a folder, once; that they did not arrive is reported, once, and kept.
+-- These bytes are sent to the service in a folder, once. If they did not arrive, that is reported once, and remembered.
 pub record Serves (bytes folder : List ℕ) (old new : Sending) : Type 0 where
   pub fault : Option Unreached
   pub sent : Extended old.effects.calls new.effects.calls (Sent folder bytes fault ∷ [])
@@ -66,8 +66,8 @@ pub record Serves (bytes folder : List ℕ) (old new : Sending) : Type 0 where
 
 -- Ends
 
--- Each service got the bytes of the words, which may be none, or it is reported that it can't be reached; then it is
--- reported of each folder that is not there. The status says whether a service could not be reached.
+-- Each service got the bytes of the words, which may be none, or it is reported that it can't be reached. Then it is
+-- reported for each folder that does not exist why. The status says whether a service could not be reached.
 pub record ServesWords (missed_status : ℕ) (words : List (List ℕ)) (status : ℕ) (old new : Effects) : Type 0 where
   pub missed : Bool
   pub served : Effects
@@ -77,32 +77,32 @@ pub record ServesWords (missed_status : ℕ) (words : List (List ℕ)) (status :
   pub told : TellsEach (codes "svc: ") (service_words words)
       (telling served.calls served.faults) (telling new.calls new.faults)
 
--- Words are refused for their first unknown letter, and else only for want of memory.
+-- Words are refused for their first unknown letter, and otherwise only for a lack of memory.
 abbrev pub RefusesUnknown : {T : Type 0} → (words : List (List ℕ)) (order : Result T SvcFault) → Type 0
 RefusesUnknown words order = MatchOption (unknown_in words) (IsOkUnless order cause.OutOfMemory)
     (λ letter. IsErrOf order (cause.UnknownLetter letter))
 
--- There is no memory for the names of the services: nothing is sent, and it is reported.
+-- There is no memory for the names of the services: nothing is sent, and the lack is reported.
 pub record LacksMemory (words : List (List ℕ)) (status : ℕ) (old new : Effects) : Type 0 where
   pub some : 0 < length (service_words words)
   pub status_is : status ≡ 111
   pub unsent : new.calls ≡ old.calls
   pub reported : Reports old.faults new.faults memory_report
 
--- A letter is unknown: nothing is sent to anybody, and it is reported.
+-- A letter is unknown: nothing is sent to anybody, and the letter is reported.
 pub record RefusesLetter (letter : ℕ) (status : ℕ) (old new : Effects) : Type 0 where
   pub status_is : status ≡ 100
   pub unsent : new.calls ≡ old.calls
   pub reported : Reports old.faults new.faults (letter_report letter)
 
--- `svc`, by its words, with this status where a service could not be reached: the first letter that it does not know is
--- refused.
+-- How `svc` ends, by its words, with this status if a service could not be reached. The first letter that it does not
+-- know is refused.
 abbrev pub OrderEnds : (missed_status : ℕ) (words : List (List ℕ)) (status : ℕ) (old new : Effects) → Type 0
 OrderEnds missed_status words status old new = MatchOption (unknown_in words)
     (ServesWords missed_status words status old new ⊎ LacksMemory words status old new)
     (λ letter. RefusesLetter letter status old new)
 
--- Behind a first word `-W` that a service could not be reached is a fault, and else it is not.
+-- After a first word `-W`, it is a fault if a service could not be reached. Otherwise it is not.
 
 abbrev pub is_strict : List ℕ → Bool
 is_strict word = bytes_eq word (codes "-W")
@@ -111,7 +111,7 @@ abbrev pub missed_status : List (List ℕ) → ℕ
 missed_status [] = 0
 missed_status (word ∷ words) = if is_strict word then 111 else 0
 
--- the words without a `-W` in their first place
+-- the words without a `-W` in the first place
 abbrev pub order_words : List (List ℕ) → List (List ℕ)
 order_words [] = []
 order_words (word ∷ words) = if is_strict word then words else word ∷ words

@@ -4,12 +4,12 @@ use Rattle.cmd_svc.specs.Calls.{Call, Reached}
 use Rattle.tai_status.specs.Extended.{Extended}
 use Rattle.cmd_svc.specs.declared.services.Unreached.{Unreached}
 
--- the status that says what came of asking
+-- the status for the answer
 abbrev pub whether : (fault : Option Unreached) → ℕ
 whether None = 0
 whether (Some why) = 100
 
--- It was asked once whether the service is supervised, and the status says it: 0 where it is, else 100.
+-- It was asked once whether the service is supervised. The status is 0 if it is, and otherwise 100.
 pub record SaysWhether (folder : List ℕ) (status : ℕ) (past now : Option (List Call)) : Type 0 where
   pub fault : Option Unreached
   pub asked : Extended past now (Reached folder fault ∷ [])
@@ -20,7 +20,7 @@ pub record AsksNothing (status : ℕ) (past now : Option (List Call)) : Type 0 w
   pub status_is : status ≡ 100
   pub unasked : now ≡ past
 
--- `svok`, by its words: one folder
+-- How `svok` ends, by its words, which must be one folder.
 abbrev pub SvokEnds : (words : List (List ℕ)) (status : ℕ) (past now : Option (List Call)) → Type 0
 SvokEnds [] status past now = AsksNothing status past now
 SvokEnds (folder ∷ []) status past now = SaysWhether folder status past now

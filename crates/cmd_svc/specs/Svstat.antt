@@ -21,7 +21,7 @@ use Rattle.cmd_svc.specs.declared.look.Look.TheVariants as look
 use Rattle.cmd_svc.specs.declared.svstat.SvstatFault.{SvstatFault}
 use Rattle.cmd_svc.specs.declared.svstat.SvstatFault.TheVariants as why
 
--- What `svstat` works with: what its looks do, and what it writes to.
+-- What `svstat` works with: what its looks do, and the device to which it writes.
 pub record Scene : Type 0 where
   pub sight : Sight
   pub writer : Device
@@ -31,7 +31,7 @@ scene sight writer = record { sight = sight; writer = writer }
 
 -- A look at a service
 
--- A service that was not reached, for this reason, is asked nothing more.
+-- A service was not reached, for this reason, and is asked nothing more.
 pub record FindsNone (folder : List ℕ) (why : Unreached) (old new : Sight) : Type 0 where
   pub asked : Extended old.calls new.calls (Reached folder (Some why) ∷ [])
   pub unread : new.readings ≡ old.readings
@@ -41,15 +41,15 @@ pub record FindsUnread (folder : List ℕ) (old new : Sight) : Type 0 where
   pub asked : Extended old.calls new.calls (Reached folder None ∷ ReadStatus folder None ∷ [])
   pub unread : new.readings ≡ old.readings
 
--- The bytes that were read are no record, for this fault.
+-- The bytes that were read are not a record, for this reason.
 pub record FindsBad (folder : List ℕ) (cause : RecordFault) (old new : Sight) : Type 0 where
   pub bytes : List ℕ
   pub refused : loaded_from bytes ≡ Err cause
   pub asked : Extended old.calls new.calls (Reached folder None ∷ ReadStatus folder (Some bytes) ∷ [])
   pub unread : new.readings ≡ old.readings
 
--- The bytes that were read are a record of this. The service is normally up where no file `down` was found,
--- and the clock was read once.
+-- The bytes that were read are this record. The service is normally up if no file `down` was found, and the clock was
+-- read once.
 pub record FindsStatus (folder : List ℕ) (loaded : Loaded) (normally_up : Bool) (now : Tai64n) (old new : Sight)
     : Type 0 where
   pub bytes : List ℕ
@@ -67,7 +67,7 @@ Finds folder (look.Standing loaded normally_up now) old new = FindsStatus folder
 
 -- Lines
 
--- what is said of a service that was not reached, behind its folder
+-- what is said about a service that was not reached, after its folder; and the names of faults of a record
 abbrev pub unreached_note : Unreached → List ℕ
 unreached_note unreached.NotRunning = codes ": supervise not running"
 unreached_note unreached.Denied = codes ": unable to open supervise/ok: Permission denied"
@@ -83,22 +83,22 @@ fault_name fault.ExitingFlag = codes "ExitingFlag"
 fault_name fault.PhaseNumber = codes "PhaseNumber"
 fault_name fault.NoSuchState = codes "NoSuchState"
 
--- the line of a look at the service in a folder, without a newline
+-- the line about a look at the service in a folder, without a newline
 abbrev pub look_line : (folder : List ℕ) → Look → List ℕ
 look_line folder (look.Unreached why) = folder ++ unreached_note why
 look_line folder look.Unread = folder ++ codes ": unable to read status"
 look_line folder (look.Bad cause) = folder ++ codes ": bad status record: " ++ fault_name cause
 look_line folder (look.Standing loaded normally_up now) = status_line folder loaded normally_up now
 
--- the same as svstat prints it: control characters of the folder's name are escaped, and the line has no others
+-- the same as svstat prints it: control characters in the folder's name are escaped, and the line has no others
 abbrev pub shown_line : (folder : List ℕ) → Look → List ℕ
 shown_line folder look = shown (look_line folder look)
 
--- How the line of a look at the service in a folder reads, without a newline
+-- How the line about a look at the service in a folder reads, without a newline
 abbrev pub Form : Type 0
 Form = (folder : List ℕ) → Look → List ℕ
 
--- The service in a folder was looked at, and then the line of that was written, in a form.
+-- The service in a folder was looked at, and then the line about that was written, in a form.
 pub record Shows (line_of : Form) (folder : List ℕ) (old new : Scene) : Type 0 where
   pub look : Look
   pub finds : Finds folder look old.sight new.sight
@@ -112,13 +112,13 @@ abbrev pub WritesNot : SvstatFault → (line : List ℕ) → (old new : Device) 
 WritesNot why.OutOfMemory line old new = new ≡ old
 WritesNot why.Write line old new = WroteFront old new line × Fails old new
 
--- The service in a folder was looked at, and the line of that was not written.
+-- The service in a folder was looked at, and the line about that was not written.
 pub record ShowsNot (line_of : Form) (folder : List ℕ) (cause : SvstatFault) (old new : Scene) : Type 0 where
   pub look : Look
   pub finds : Finds folder look old.sight new.sight
   pub unwritten : WritesNot cause (line_of folder look ++ 10 ∷ []) old.writer new.writer
 
--- The words before one have their lines, and that one has not. The words after it are not looked at.
+-- The words before one have their lines, and that one has none. The words after it are not looked at.
 pub record ShowsUpTo (line_of : Form) (words : List (List ℕ)) (old new : Scene) (cause : SvstatFault) : Type 0 where
   pub before : List (List ℕ)
   pub folder : List ℕ
@@ -128,14 +128,14 @@ pub record ShowsUpTo (line_of : Form) (words : List (List ℕ)) (old new : Scene
   pub shown : InTurn (Shows line_of) before old middle
   pub fails : ShowsNot line_of folder cause middle new
 
--- what is reported of a fault: if the writer failed, the cause of its last fault too
+-- what is reported about a fault; if the writer failed, this includes the cause of its last fault
 abbrev pub svstat_report : SvstatFault → (writer : Device) → List ℕ
 svstat_report why.OutOfMemory writer = codes "svstat: OutOfMemory" ++ 10 ∷ []
 svstat_report why.Write writer = device_report (codes "svstat: ") (codes "write fault") writer
 
 -- Ends
 
--- Each word has its line, and then it is reported of each folder that is not there, and nothing else.
+-- Each word has its line. Then it is reported for each folder that does not exist why, and nothing else is reported.
 pub record ShowsAll (line_of : Form) (words : List (List ℕ)) (status : ℕ) (old new : Scene) (faults reports : Device)
     : Type 0 where
   pub asked : Option (List Call)
@@ -151,7 +151,7 @@ pub record Stops (line_of : Form) (words : List (List ℕ)) (status : ℕ) (old 
   pub status_is : status ≡ 111
   pub reported : Reports faults reports (svstat_report cause new.writer)
 
--- `svstat`, by its words, with lines of a form
+-- How `svstat` ends, by its words, with lines in a form
 abbrev pub SvstatEnds : (line_of : Form) (words : List (List ℕ)) (status : ℕ) (sight sees : Sight)
     (writer writes faults reports : Device) → Type 0
 SvstatEnds line_of words status sight sees writer writes faults reports =

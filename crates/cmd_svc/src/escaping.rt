@@ -4,14 +4,14 @@ ghost use Rattle.cmd_svc.specs.Shown.{is_control, shown, shown_byte};
 
 use std::alloc::{AllocError, Allocator};
 
-/// Whether a byte is a control character of ASCII: it may end a line, or change what a terminal shows.
+/// Returns whether a byte is an ASCII control character: it may end a line, or change what a terminal shows.
 fn is_control(byte: u8) -> bool
     ensures { result ≡ is_control byte }
 {
     byte < 32 || byte == 127
 }
 
-/// Writes a byte at the end of a text; in place of a control character `\x` and its two hexadecimal digits.
+/// Writes a byte at the end of a text. In place of a control character, writes `\x` and its two hexadecimal digits.
 #[tactic(auto, unfolding(crate::specs::Shown::shown_byte))]
 fn push_shown<A: Allocator>(out: &mut Vec<u8, A>, byte: u8) -> Result<(), AllocError>
     ensures { OnOk result (out.new.items ≡ out.old.items ++ shown_byte byte) }
@@ -25,8 +25,9 @@ fn push_shown<A: Allocator>(out: &mut Vec<u8, A>, byte: u8) -> Result<(), AllocE
     out.extend_from_slice(&digits)
 }
 
-/// A text in which each control character of ASCII is written as `\x` and its two hexadecimal digits. All else stays, a
-/// backslash too. `AllocError` comes only where the allocator refuses the memory for it.
+/// Returns a text in which each ASCII control character is written as `\x` and its two hexadecimal digits. Everything
+/// else is unchanged, including backslashes. Returns `AllocError` only if the allocator refuses the memory for the
+/// result.
 pub fn shown<A: Allocator>(alloc: A, text: &[u8]) -> Result<Vec<u8, A>, AllocError>
     ensures { IfOk result (λ line. line.items ≡ shown text.now) }
 {

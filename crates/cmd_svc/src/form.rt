@@ -1,19 +1,19 @@
-//! Forms of the line of a look.
+//! Forms of the line about a look.
 ghost use Rattle.cmd_svc.specs.Svstat.{shown_line};
 
 use crate::escaping::shown;
 use crate::look::{Look, look_line};
 use std::alloc::{AllocError, Allocator};
 
-/// A form in which `svstat` writes what a look found. Contracts see the line as a function of the folder and of that.
+/// A form in which `svstat` writes what a look found. Contracts see the line as a function of the folder and the look.
 pub trait LineForm {
     ghost use Rattle.std.specs.Prelude.{◌≡◌, ℕ, List, IfOk};
     ghost use Rattle.cmd_svc.specs.declared.look.Look.{Look};
 
-    // the line of a look at the service in a folder, without a newline
+    // the line about a look at the service in a folder, without a newline
     ghost line_of: { Self → List ℕ → Look → List ℕ };
 
-    /// The line of a look at the service in a folder, without a newline.
+    /// Returns the line about a look at the service in a folder, without a newline.
     fn line<A: Allocator + Clone>(
         &self,
         alloc: A,
@@ -23,7 +23,7 @@ pub trait LineForm {
         ensures { IfOk result (λ line. line.items ≡ line_of self.now folder.now look.now) };
 }
 
-/// The form of svstat itself. Control characters of the folder's name are escaped.
+/// The form of svstat itself. Control characters in the folder's name are escaped.
 pub(crate) struct PlainLine;
 
 impl LineForm for PlainLine {

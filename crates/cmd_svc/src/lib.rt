@@ -1,8 +1,8 @@
-//! The commands `svc`, `svstat` and `svok`: what a client asks of supervised services, and reports of them.
+//! The commands `svc`, `svstat` and `svok`: what a client asks of supervised services, and what it reports about them.
 //!
-//! [`assemble`] parts the words of a svc command (<https://cr.yp.to/daemontools/svc.html>): the letters of the option
-//! words in front become control bytes, and the other words are services. [`stat_line`] says how a service stands, as
-//! svstat prints it (<https://cr.yp.to/daemontools/svstat.html>).
+//! [`assemble`] splits the words of a svc command (<https://cr.yp.to/daemontools/svc.html>): the letters of the option
+//! words at the front become control bytes, and the other words are services. [`stat_line`] says in which state a
+//! service is, as svstat prints it (<https://cr.yp.to/daemontools/svstat.html>).
 #![tactic(auto)]
 
 mod escaping;

@@ -6,20 +6,19 @@ use itoa::Buffer;
 use std::alloc::{AllocError, Allocator};
 use tai_status::{Label, Loaded, Phase, View, Want};
 
-/// How the service in a folder stands: `DIR: up (pid N) S seconds` or `DIR: down S seconds`, S being whole seconds
-/// since its last change of process (0 where that is still to come), and then what is not as it should be:
+/// Returns the line about the state of the service in a folder: `DIR: up (pid N) S seconds` or `DIR: down S seconds`. S
+/// is the number of whole seconds since its last change of process, or 0 if that is still to come. After it come notes
+/// on what is not as it should be:
 ///
-/// | note | where |
-/// |---|---|
-/// | `, normally down` | it runs, and is not normally up |
-/// | `, normally up` | it does not run, and is normally up |
-/// | `, paused` | it is paused |
-/// | `, want up` | it does not run, and is to be up |
-/// | `, want down` | it runs, and is to be down |
-/// | `, starting`, `, settling`, `, resting`, `, gone` | a record of 20 bytes says that supervise stands so |
-/// | `, exiting` | a record of 20 bytes says that supervise is to end |
+/// - `, normally down` if it runs, and is not normally up;
+/// - `, normally up` if it does not run, and is normally up;
+/// - `, paused` if it is paused;
+/// - `, want up` if it does not run, and is to be up;
+/// - `, want down` if it runs, and is to be down;
+/// - `, starting`, `, settling`, `, resting` or `, gone` if a record of 20 bytes says that supervise is in this phase;
+/// - `, exiting` if a record of 20 bytes says that supervise is to end.
 ///
-/// It runs where its process number is at least 1. The line has no newline. `AllocError` comes only where the allocator
+/// It runs if its process number is at least 1. The line has no newline. Returns `AllocError` only if the allocator
 /// refuses the memory for the line.
 pub fn stat_line<A: Allocator>(
     alloc: A,
@@ -46,7 +45,7 @@ pub fn stat_line<A: Allocator>(
     Ok(line)
 }
 
-/// Whether a service runs.
+/// Returns whether a service runs.
 fn is_running(view: &View) -> bool
     ensures { result ≡ is_running view.now }
 {
@@ -73,7 +72,7 @@ fn push_state<A: Allocator>(out: &mut String<A>, view: &View) -> Result<(), Allo
     out.push_str(")")
 }
 
-/// What is to be said where a service is not as it normally is.
+/// Returns the note for a service that is not as it normally is.
 fn normal_note(view: &View, normally_up: bool) -> &'static str
     ensures { result.now ≡ normal_notes view.now normally_up }
 {
@@ -84,14 +83,14 @@ fn normal_note(view: &View, normally_up: bool) -> &'static str
     }
 }
 
-/// What is to be said where a service is paused.
+/// Returns the note for a service that is paused.
 fn paused_note(view: &View) -> &'static str
     ensures { result.now ≡ note view.now.paused (codes ", paused") }
 {
     if view.paused { ", paused" } else { "" }
 }
 
-/// What is to be said where a service is not as it is wanted.
+/// Returns the note for a service that is not as it is wanted.
 fn want_note(view: &View) -> &'static str
     ensures { result.now ≡ want_notes view.now }
 {
@@ -102,7 +101,7 @@ fn want_note(view: &View) -> &'static str
     }
 }
 
-/// What is to be said where supervise stands so that the process does not report it.
+/// Returns the note for a phase that does not show from the process.
 fn phase_note(loaded: &Loaded) -> &'static str
     ensures { result.now ≡ phase_notes loaded.now }
 {
@@ -118,7 +117,7 @@ fn phase_note(loaded: &Loaded) -> &'static str
     }
 }
 
-/// What is to be said where supervise is to end.
+/// Returns the note for a supervise that is to end.
 fn exiting_note(loaded: &Loaded) -> &'static str
     ensures { result.now ≡ note (is_exiting loaded.now) (codes ", exiting") }
 {

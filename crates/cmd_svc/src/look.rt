@@ -11,11 +11,11 @@ use tai_status::{Label, Loaded, RecordFault, TimeSource, decode_front};
 /// What a look at a service found.
 #[derive(Clone, Copy, Debug, PartialEq, Eq)]
 pub enum Look {
-    /// It is not to be reached, so that nothing is known of it.
+    /// It can't be reached, so that nothing is known about it.
     Unreached(Unreached),
     /// Its status can't be read.
     Unread,
-    /// Its status is no record.
+    /// Its status is not a record.
     Bad(RecordFault),
     /// Its status; whether it is normally up; and when it was looked at.
     Standing {
@@ -26,7 +26,7 @@ pub enum Look {
 }
 
 /// Looks at the service in a folder: whether it is supervised, then its status, then its file `down` and the clock. The
-/// first that fails ends the look.
+/// first of these that fails ends the look.
 pub fn look_at<S: Services, C: TimeSource>(services: &mut S, clock: &mut C, folder: &str) -> Look
     ensures { Finds folder.now result (sight (S.calls services.old) (C.readings clock.old))
         (sight (S.calls services.new) (C.readings clock.new)) }
@@ -47,7 +47,7 @@ pub fn look_at<S: Services, C: TimeSource>(services: &mut S, clock: &mut C, fold
     }
 }
 
-/// What is said of a service that was not reached, behind its folder.
+/// Returns what is said about a service that was not reached, after its folder.
 fn unreached_note(why: Unreached) -> &'static str
     ensures { result.now ≡ unreached_note why }
 {
@@ -58,7 +58,7 @@ fn unreached_note(why: Unreached) -> &'static str
     }
 }
 
-/// The name of what is wrong with a status, as `svstat` reports it.
+/// Returns the name of what is wrong with a status, as `svstat` reports it.
 pub fn fault_name(fault: RecordFault) -> &'static str
     ensures { result.now ≡ fault_name fault }
 {
@@ -74,7 +74,7 @@ pub fn fault_name(fault: RecordFault) -> &'static str
     }
 }
 
-/// A folder's name and a note behind it.
+/// Returns a folder's name followed by a note.
 fn noted<A: Allocator>(
     alloc: A,
     folder: &str,
@@ -89,7 +89,7 @@ fn noted<A: Allocator>(
     Ok(line)
 }
 
-/// The line of a look at the service in a folder, without a newline.
+/// Returns the line about a look at the service in a folder, without a newline.
 pub(crate) fn look_line<A: Allocator>(
     alloc: A,
     folder: &str,

@@ -1,4 +1,4 @@
-//! What is reported of services whose folders are not there.
+//! What is reported about services whose folders don't exist.
 ghost use Rattle.cmd_svc.specs.Missing.{TellsEach, TellsMissing, telling};
 ghost use Rattle.cmd_svc.specs.Words.{texts};
 
@@ -7,7 +7,7 @@ use cmd_base::{DONE, cause_note, report_parts};
 use std::io::Write;
 use tai_status::Output;
 
-/// Says why there is no folder at a path, if there is none. The name of the command comes with its `: `.
+/// Reports why there is no folder at a path, if there is none. The name of the command includes its `: `.
 fn tell_one<S: Services, E: Write>(
     services: &mut S,
     command: &[u8],
@@ -23,8 +23,8 @@ fn tell_one<S: Services, E: Write>(
     }
 }
 
-/// Says of each service whose folder is not there, in order, why: `COMMAND: DIR: CAUSE`. The name of the command comes
-/// with its `: `.
+/// Reports for each service whose folder does not exist, in order, why: `COMMAND: DIR: CAUSE`. The name of the command
+/// includes its `: `.
 pub fn tell_missing<S: Services, E: Write>(
     services: &mut S,
     command: &[u8],

@@ -3,8 +3,8 @@ use crate::services::Services;
 use std::marker::Model;
 use tai_status::TimeSource;
 
-/// Services, and the clock by which they are looked at. Contracts see what was asked of the one, and what the other
-/// gave.
+/// Services, and the clock that is read when they are looked at. Contracts see what was asked of the services, and what
+/// the clock returned.
 #[derive(Drop)]
 pub struct Observer<S: Services, C: TimeSource> {
     pub services: S,

@@ -27,7 +27,7 @@ impl Model for OrderBytes {
     ghost invariant = { λ order. AreKnownOnce order.bytes.items };
 }
 
-/// What the words of a svc command ask: each byte to each service, in order.
+/// What the words of a svc command ask for: each byte is sent to each service, in order.
 #[derive(Drop)]
 pub struct Order<A: Allocator + Clone = Global> {
     /// The letters of the option words as control bytes, each once.
@@ -36,7 +36,7 @@ pub struct Order<A: Allocator + Clone = Global> {
     pub services: Names<A>,
 }
 
-/// Why words are no order.
+/// Why words are not an order.
 #[derive(Clone, Copy, Debug, PartialEq, Eq, Error)]
 pub enum SvcFault {
     /// The first letter of the option words that svc does not know.
@@ -49,7 +49,7 @@ pub enum SvcFault {
 }
 
 impl OrderBytes {
-    /// No bytes.
+    /// Returns no bytes.
     pub(crate) fn new() -> OrderBytes
         ensures { result ≡ [] }
     {
@@ -58,7 +58,7 @@ impl OrderBytes {
         }
     }
 
-    /// The bytes, in order.
+    /// Returns the bytes, in order.
     pub fn as_slice(&self) -> &[u8]
         ensures bytes { result.now ≡ self.now }
         ensures each_once { AreKnownOnce result.now }
@@ -66,7 +66,7 @@ impl OrderBytes {
         self.bytes.as_slice()
     }
 
-    /// Puts a letter at the end, unless it is there.
+    /// Adds a letter at the end, unless it is already there.
     fn add(&mut self, letter: u8)
         requires { is_letter letter ≡ true }
         ensures { self.new ≡ (if is_among self.old letter then self.old else self.old ++ letter ∷ []) }
@@ -76,7 +76,7 @@ impl OrderBytes {
         }
     }
 
-    /// Puts letters at the end, each unless it is there, up to the first that is unknown.
+    /// Adds letters at the end, each unless it is already there, up to the first unknown one.
     pub(crate) fn add_all(&mut self, letters: &[u8]) -> Result<(), SvcFault>
         ensures fault { MatchOption (first_unknown letters.now) (IsOk result)
             (λ letter. result ≡ Err (SvcFault.UnknownLetter letter)) }

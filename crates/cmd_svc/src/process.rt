@@ -1,11 +1,11 @@
-//! For how long a process has lived, by the kernel's lines of processes.
+//! How long a process has lived, from the kernel's lines about processes.
 ghost use Rattle.std.specs.Prelude.{◌≡◌, ◌<◌, ◌^◌, ℕ, Some, IfSome, option_copied, slice_get};
 ghost use Rattle.sup_core.specs.Reading.{fields};
 ghost use Rattle.cmd_svc.specs.Process.{LivesSince, age_at, behind_name, is_dead};
 
 use sup_core::{read_number, split_field};
 
-/// What comes after the last parenthesis of a process's line, which ends the program's name.
+/// Returns what comes after the last parenthesis of a process's line, which ends the program's name.
 fn behind_name(line: &[u8]) -> &[u8]
     ensures { result.now ≡ behind_name line.now }
 {
@@ -16,7 +16,7 @@ fn behind_name(line: &[u8]) -> &[u8]
     &line[from..]
 }
 
-/// The field at a place after the name. The state of the process is the first.
+/// Returns the field at a place after the name. The process's state is the first one.
 fn field_at(behind: &[u8], place: usize) -> Option<&[u8]>
     ensures { option_copied result ≡ slice_get (fields behind.now) place }
 {
@@ -27,7 +27,7 @@ fn field_at(behind: &[u8], place: usize) -> Option<&[u8]>
     Some(split_field(rest).0)
 }
 
-/// Whether the state of a process says that it is a zombie or dead.
+/// Returns whether a process in this state is a zombie or dead.
 fn is_dead(state: &[u8]) -> bool
     ensures { result ≡ is_dead state.now }
 {
@@ -37,7 +37,7 @@ fn is_dead(state: &[u8]) -> bool
     }
 }
 
-/// The tick of the kernel's clock at which the process of a line began, if it lives (proc(5), `stat`).
+/// Returns the tick of the kernel's clock at which the process of a line began, if it lives (proc(5), `stat`).
 pub(crate) fn living_tick(line: &[u8]) -> Option<u64>
     ensures reported { IfSome result (λ tick. LivesSince line.now tick) }
     ensures only { (tick : ℕ) → tick < 2 ^ 64 → LivesSince line.now tick → result ≡ Some tick }
@@ -49,9 +49,9 @@ pub(crate) fn living_tick(line: &[u8]) -> Option<u64>
     read_number(field_at(behind, 20)?)
 }
 
-/// For how many ticks, at least, a process has lived that began at a tick: `now` is the clock that stands still while
-/// the computer sleeps, `first` an earlier reading of it, and at the tick `own` this process began, before that
-/// reading.
+/// Returns how many ticks, at least, a process has lived that began at a tick. `now` is the present reading of the
+/// clock that stops while the computer sleeps, and `first` an earlier one. This process began at the tick `own`, before
+/// that earlier reading.
 pub(crate) fn age_at(began: u64, own: u64, first: u64, now: u64) -> u128
     ensures { result ≡ age_at began own first now }
 {

@@ -1,4 +1,4 @@
-//! The client's side of the folders of services.
+//! The folders of services, as a client sees them.
 use cmd_base::StatusFront;
 use std::io;
 use tai_status::Cause;
@@ -6,16 +6,16 @@ use tai_status::Cause;
 /// Why a service was not reached.
 #[derive(Clone, Copy, Debug, PartialEq, Eq)]
 pub enum Unreached {
-    /// Nothing accepts connections there: it is not supervised.
+    /// Nothing accepts connections there: the service is not supervised.
     NotRunning,
     /// This user may not connect to it.
     Denied,
-    /// It is there, and does not take what is sent: it waits for too many others already, or it has just ended.
+    /// It exists, and does not take what is sent: too many others already wait for it, or it has just ended.
     Unanswered,
 }
 
-/// The folders of services, as a client reaches them. Contracts see which calls were made and what came of them, where
-/// it keeps that.
+/// The folders of services, as a client reaches them. Contracts see which calls were made and their results, while
+/// these are recorded.
 pub trait Services {
     ghost use Rattle.std.specs.Prelude.{◌∷◌, [], Option, Some, None, List, IfOk, IfErr, OnOk, OnErr};
     ghost use Rattle.cmd_svc.specs.Calls.{Call, Sent, Reached, ReadStatus, SoughtAge, SoughtChange, SoughtDown};
@@ -24,39 +24,41 @@ pub trait Services {
 
     ghost calls: { Self → Option (List Call) } = { λ _. None };
 
-    /// Sends bytes to the control socket of the service in a folder. A fault is that they did not all arrive.
+    /// Sends bytes to the control socket of the service in a folder. A fault means that they did not all arrive.
     fn send(&mut self, folder: &str, bytes: &[u8]) -> Result<(), Unreached>
         ensures ok { OnOk result (Extended (calls self.old) (calls self.new) (Sent folder.now bytes.now None ∷ [])) }
         ensures err { IfErr result (λ why.
             Extended (calls self.old) (calls self.new) (Sent folder.now bytes.now (Some why) ∷ [])) };
 
-    /// Asks whether the service in a folder is supervised: its socket `ok` accepts. A fault is that it does not.
+    /// Asks whether the service in a folder is supervised: its socket `ok` accepts a connection. A fault means that it
+    /// does not.
     fn reach(&mut self, folder: &str) -> Result<(), Unreached>
         ensures ok { OnOk result (Extended (calls self.old) (calls self.new) (Reached folder.now None ∷ [])) }
         ensures err { IfErr result (λ why.
             Extended (calls self.old) (calls self.new) (Reached folder.now (Some why) ∷ [])) };
 
-    /// The bytes of the status file of the service in a folder, up to one more than the longer record has.
+    /// Returns the bytes of the status file of the service in a folder, up to one more than the longer record has.
     fn read_status(&mut self, folder: &str) -> io::Result<StatusFront>
         ensures ok { IfOk result (λ bytes.
             Extended (calls self.old) (calls self.new) (ReadStatus folder.now (Some bytes.items) ∷ [])) }
         ensures err { OnErr result (Extended (calls self.old) (calls self.new) (ReadStatus folder.now None ∷ [])) };
 
-    /// Whether the folder of a service has a file `down`.
+    /// Returns whether the folder of a service has a file `down`.
     fn has_down(&mut self, folder: &str) -> bool
         ensures sought { Extended (calls self.old) (calls self.new) (SoughtDown folder.now result ∷ []) };
 
-    /// When something in the folder `supervise` of the service was made, replaced or removed last, in nanoseconds since
-    /// 1970. None where that can't be reported.
+    /// Returns when something in the folder `supervise` of the service was last made, replaced or removed, in
+    /// nanoseconds since
+    /// 1970. Returns None if that can't be found.
     fn changed_at(&mut self, folder: &str) -> Option<u64>
         ensures sought { Extended (calls self.old) (calls self.new) (SoughtChange folder.now result ∷ []) };
 
-    /// Why there is no folder at a path, where there is none.
+    /// Returns why there is no folder at a path, if there is none.
     fn folder_fault(&mut self, folder: &str) -> Option<Cause>
         ensures sought { Extended (calls self.old) (calls self.new) (SoughtFolder folder.now result ∷ []) };
 
-    /// For how many hundredths of a second, at least, the process of a number has lived. None where there is none,
-    /// where it has ended, whether its parent has waited for it or not, and where that can't be found.
+    /// Returns how many hundredths of a second, at least, the process with a number has lived. Returns None if there is
+    /// none, if it has ended, even if its parent has not waited for it, and if that can't be found.
     fn age(&mut self, process: u32) -> Option<u128>
         ensures sought { Extended (calls self.old) (calls self.new) (SoughtAge process result ∷ []) };
 }

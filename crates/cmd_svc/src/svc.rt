@@ -15,7 +15,7 @@ use std::alloc::Allocator;
 use std::io::Write;
 use tai_status::{Name, Output};
 
-/// Says that a letter is unknown, and answers the status of that.
+/// Reports that a letter is unknown, and returns the exit status for that.
 fn report_letter<E: Write>(letter: u8, faults: &mut Output<E>) -> u8
     ensures status { result ≡ 100 }
     ensures reported { Reports faults.old faults.new (letter_report letter) }
@@ -25,7 +25,7 @@ fn report_letter<E: Write>(letter: u8, faults: &mut Output<E>) -> u8
     report_parts(faults, b"svc: unknown letter ", &digits, b"\n", REFUSED)
 }
 
-/// Why a service was not reached, as it is reported behind its folder.
+/// Returns why a service was not reached, as it is reported after its folder.
 fn reason(why: Unreached) -> &'static [u8]
     ensures { result.now ≡ reason why }
 {
@@ -36,8 +36,8 @@ fn reason(why: Unreached) -> &'static [u8]
     }
 }
 
-/// Sends bytes to a service, and says that it can't be reached, and why. Answers whether some service was not reached,
-/// this one or one before it.
+/// Sends bytes to a service. If it can't be reached, reports that, and why. Returns whether some service was not
+/// reached, this one or one before it.
 fn serve<S: Services, E: Write>(
     services: &mut S,
     folder: &str,
@@ -63,8 +63,8 @@ fn serve<S: Services, E: Write>(
     }
 }
 
-/// Sends bytes to services, one after the other; where there are none, only whether each takes a connection is seen.
-/// Answers whether some service was not reached.
+/// Sends bytes to services, one after the other. If there are no bytes, only checks whether each service accepts a
+/// connection. Returns whether some service was not reached.
 fn serve_each<S: Services, A: Allocator, E: Write>(
     services: &mut S,
     names: &[Name<A>],
@@ -81,15 +81,15 @@ fn serve_each<S: Services, A: Allocator, E: Write>(
     missed
 }
 
-/// The status behind services that were served.
+/// Returns the exit status after services were served.
 fn served_status(missed: bool, missed_status: u8) -> u8
     ensures { result ≡ (if missed then missed_status else 0) }
 {
     if missed { missed_status } else { DONE }
 }
 
-/// Serves the order that words are, or says that they are none. Answers the status, which is this one where a service
-/// was not reached.
+/// Carries out the order in the words, or reports why they are not an order. Returns the exit status, which is
+/// `missed_status` if a service was not reached.
 fn run_order<S: Services, A: Allocator + Clone, E: Write>(
     alloc: A,
     services: &mut S,
@@ -112,7 +112,7 @@ fn run_order<S: Services, A: Allocator + Clone, E: Write>(
     }
 }
 
-/// The status where a service was not reached: a first word `-W` makes it a fault.
+/// Returns the exit status if a service is not reached: a first word `-W` makes that a fault.
 fn missed_status(words: &[&str]) -> u8
     ensures { result ≡ missed_status (texts words.now) }
 {
@@ -122,7 +122,7 @@ fn missed_status(words: &[&str]) -> u8
     }
 }
 
-/// The words without a `-W` in their first place.
+/// Returns the words without a `-W` in the first place.
 fn order_words<'a, 'b>(words: &'a [&'b str]) -> &'a [&'b str]
     ensures { texts result.now ≡ order_words (texts words.entry.now) }
 {
@@ -134,10 +134,13 @@ fn order_words<'a, 'b>(words: &'a [&'b str]) -> &'a [&'b str]
 
 /// The command `svc`: sends the letters of its option words, as control bytes, to each service that its other words
 /// name, in order (<https://cr.yp.to/daemontools/svc.html>). Each letter is sent once. A service that can't be reached
-/// is reported as `svc: warning: unable to control DIR: WHY`, and the others are served; at the end of each folder that
-/// is not there why. Without letters nothing is sent, and services that can't be reached are reported. Answers the
-/// status: 0, also after such warnings, but 111 after one where the first word is `-W`, which is no option word then;
-/// 100 for an unknown letter, and 111 for want of memory: then nothing is sent to anybody.
+/// is reported as `svc: warning: unable to control DIR: WHY`, and the others are served. At the end, it is reported for
+/// each folder that does not exist why. Without letters nothing is sent, and services that can't be reached are
+/// reported.
+///
+/// Returns the exit status. It is 0 even after such warnings, but 111 if the first word is `-W`, which is then not an
+/// option word. It is 100 for an unknown letter, and 111 for a lack of memory. In these two cases nothing is sent to
+/// anybody.
 pub fn run_svc<S: Services, A: Allocator + Clone, E: Write>(
     alloc: A,
     services: &mut S,

@@ -25,7 +25,7 @@ pub enum SvstatFault {
     Write,
 }
 
-/// The line of a look at the service in a folder, with its newline.
+/// Returns the line about a look at the service in a folder, with its newline.
 fn whole_line<F: LineForm, A: Allocator + Clone>(
     form: &F,
     alloc: &A,
@@ -39,7 +39,7 @@ fn whole_line<F: LineForm, A: Allocator + Clone>(
     Ok(line)
 }
 
-/// Writes the line of a look at the service in a folder.
+/// Writes the line about a look at the service in a folder.
 fn write_line<F: LineForm, A: Allocator + Clone, W: Write>(
     form: &F,
     alloc: &A,
@@ -62,7 +62,7 @@ fn write_line<F: LineForm, A: Allocator + Clone, W: Write>(
     }
 }
 
-/// Looks at the service in a folder, and writes the line of that.
+/// Looks at the service in a folder, and writes the line about that.
 fn show<F: LineForm, S: Services, A: Allocator + Clone, W: Write, C: TimeSource>(
     form: &F,
     alloc: &A,
@@ -79,7 +79,7 @@ fn show<F: LineForm, S: Services, A: Allocator + Clone, W: Write, C: TimeSource>
     write_line(form, alloc, folder, &look, writer)
 }
 
-/// Shows the services in folders, one after the other, up to the first whose line can't be written.
+/// Shows the services in folders, one after the other, up to the first one whose line can't be written.
 fn show_all<F: LineForm, S: Services, A: Allocator + Clone, W: Write, C: TimeSource>(
     form: &F,
     alloc: &A,
@@ -98,8 +98,8 @@ fn show_all<F: LineForm, S: Services, A: Allocator + Clone, W: Write, C: TimeSou
     Ok(())
 }
 
-/// Reports why the line of a service is not written, and returns the status of that. If the writer failed, the line
-/// names the cause of its last fault.
+/// Reports why the line of a service is not written, and returns the exit status for that. If the writer failed, the
+/// line names the cause of its last fault.
 pub fn report_svstat<W: Write, E: Write>(
     fault: SvstatFault,
     writer: &Output<W>,
@@ -114,7 +114,7 @@ pub fn report_svstat<W: Write, E: Write>(
     }
 }
 
-/// The command `svstat` with lines of a form: as [`run_svstat`], whose form is that of svstat itself.
+/// The command `svstat` with lines in a form: as [`run_svstat`], which uses the form of svstat itself.
 pub fn run_svstat_as<F, S, A, W, E, C>(
     form: &F,
     alloc: A,
@@ -142,13 +142,14 @@ where
     }
 }
 
-/// The command `svstat`: writes a line for the service in each folder that its words name, in order
-/// (<https://cr.yp.to/daemontools/svstat.html>): how it stands, or that it is not supervised, that its status can't be
-/// read, or that this is no status record. It is looked at when its line comes, and the clock is read once for it.
-/// Control characters of its name are escaped, as by [`shown`](crate::shown). After the lines it says of each folder
-/// that is not there why.
-/// Answers the status: 0, whatever the lines say; 111 for a fault of the writer and for want of memory, and then the
-/// services after that one are not looked at.
+/// The command `svstat`: writes one line for the service in each folder that its words name, in order
+/// (<https://cr.yp.to/daemontools/svstat.html>). The line gives its state, or says that it is not supervised, that its
+/// status can't be read, or that the status is not a record. The service is looked at just before its line is written,
+/// and the clock is read once for it. Control characters in its name are escaped, as by [`shown`](crate::shown). After
+/// the lines, it reports for each folder that does not exist why.
+///
+/// Returns the exit status: 0, whatever the lines say; 111 for a fault of the writer and for a lack of memory, and then
+/// the services after that one are not looked at.
 pub fn run_svstat<S: Services, A: Allocator + Clone, W: Write, E: Write, C: TimeSource>(
     alloc: A,
     observer: &mut Observer<S, C>,

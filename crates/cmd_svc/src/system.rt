@@ -18,25 +18,26 @@ use std::time::Clock;
 use std::{fs, io};
 use tai_status::Cause;
 
-/// How long a path is at most on this system, with the zero behind it.
+/// The longest path on this system, in bytes, with the zero at its end.
 const PATH_BYTES: usize = 4096;
 
-/// How long the path of a socket is at most: its address has one byte more, for the zero behind it.
+/// The longest path of a socket, in bytes: its address has one more byte, for the zero at the end.
 const SOCKET_BYTES: usize = 107;
 
-/// How much of a process's line is read: up to the tick at which it began, whatever the program's name.
+/// The number of bytes read of a process's line: enough to reach the tick at which it began, whatever the program's
+/// name.
 const STAT_BYTES: usize = 512;
 
-/// The services of this system. It says nothing to contracts, and takes no memory.
+/// The services of this system. It says nothing to contracts, and needs no memory.
 #[derive(Drop)]
 pub struct SystemServices<R: Files<File = File> + Net + Clock + Drop> {
     runtime: R,
-    /// The clock when an age was asked for first, in ticks.
+    /// The first reading of the clock for an age, in ticks.
     first: Option<u64>,
 }
 
 impl<R: Files<File = File> + Net + Clock + Drop> SystemServices<R> {
-    /// The services of this runtime.
+    /// Returns the services of this runtime.
     pub fn new(runtime: R) -> SystemServices<R> {
         SystemServices {
             runtime,
@@ -44,7 +45,7 @@ impl<R: Files<File = File> + Net + Clock + Drop> SystemServices<R> {
         }
     }
 
-    /// For how many ticks, at least, the process has lived whose line is at a path.
+    /// Returns how many ticks, at least, the process has lived whose line is at a path.
     fn age_of(&mut self, path: &str) -> Option<u128> {
         let now = ticks(&self.runtime)?;
         let first = *self.first.get_or_insert(now);
@@ -54,13 +55,13 @@ impl<R: Files<File = File> + Net + Clock + Drop> SystemServices<R> {
     }
 }
 
-/// The clock that nobody sets, in hundredths of a second, which are the kernel's ticks.
+/// Returns the time of the clock that nobody sets, in hundredths of a second, which are the kernel's ticks.
 fn ticks<R: Clock>(runtime: &R) -> Option<u64> {
     let now = runtime.monotonic().ok()?;
     u64::try_from(now.as_millis() / 10).ok()
 }
 
-/// The tick at which the process began whose line is at a path, where it lives.
+/// Returns the tick at which the process began whose line is at a path, if it lives.
 fn living_tick_at<R: Files<File = File>>(runtime: &R, path: &str) -> Option<u64> {
     let mut line = [0; STAT_BYTES];
     let mut file = fs::open(runtime, path).ok()?;
@@ -68,7 +69,7 @@ fn living_tick_at<R: Files<File = File>>(runtime: &R, path: &str) -> Option<u64>
     living_tick(&line[..count.min(STAT_BYTES)])
 }
 
-/// The path of something in a folder. One that is longer than any path of this system is a fault.
+/// Returns the path of something in a folder. A path that is longer than any on this system is a fault.
 fn path_in(folder: &str, rest: &str) -> io::Result<ArrayString<PATH_BYTES>>
     ensures ok { IfOk result (λ path. path.bytes ≡ folder.now ++ rest.now) }
     ensures err { OnErr result (4096 < length folder.now + length rest.now) }
@@ -80,22 +81,22 @@ fn path_in(folder: &str, rest: &str) -> io::Result<ArrayString<PATH_BYTES>>
     Ok(path)
 }
 
-/// Whether the path of a name in a folder fits into the address of a socket.
+/// Returns whether the path of a name in a folder fits into the address of a socket.
 fn is_short(folder: &str, name: &str) -> bool
     ensures { IsTrue result ↔ FitsAddress (folder.now ++ name.now) }
 {
     folder.len() + name.len() <= SOCKET_BYTES
 }
 
-/// Connects to the socket at a path, without waiting. A socket that has no room for one more connection refuses.
+/// Connects to the socket at a path, without waiting. A socket that has no room for one more connection refuses it.
 fn connect_to<R: Files<File = File> + Net>(runtime: &R, path: &str) -> io::Result<UnixStream>
     requires { FitsAddress path.now }
 {
     UnixStream::connect(runtime, path)
 }
 
-/// Connects to a socket of the service in a folder, without waiting. One whose path is too long for a socket is reached
-/// by way of the open folder.
+/// Connects to a socket of the service in a folder, without waiting. If the path is too long for a socket, connects
+/// through the open folder.
 fn connect<R: Files<File = File> + Net>(
     runtime: &R,
     folder: &str,
@@ -113,7 +114,7 @@ fn connect<R: Files<File = File> + Net>(
     connect_to(runtime, short.as_str())
 }
 
-/// What a fault of a connection says of the service.
+/// Returns what a fault of a connection says about the service.
 fn unreached(fault: &Error) -> Unreached
     ensures { result ≡ unreached_by (error_kind fault.now) }
 {
@@ -135,14 +136,15 @@ fn send_bytes<R: Files<File = File> + Net>(
     connect(runtime, folder, "control")?.write_all(bytes)
 }
 
-/// So many seconds and nanoseconds, in nanoseconds, where these fit into 64 bits.
+/// Returns this many seconds and nanoseconds in nanoseconds, if they fit into 64 bits.
 fn nanoseconds(seconds: u64, rest: u64) -> Option<u64>
     ensures { SomeIff result (seconds * 1000000000 + rest < 2 ^ 64) (seconds * 1000000000 + rest) }
 {
     seconds.checked_mul(1_000_000_000)?.checked_add(rest)
 }
 
-/// When a folder was changed last, in nanoseconds since 1970. None before that, and beyond the year 2554.
+/// Returns when a folder was last changed, in nanoseconds since 1970. Returns None for earlier times, and after the
+/// year 2554.
 fn changed_at(folder: &Metadata) -> Option<u64> {
     let seconds = u64::try_from(folder.mtime()).ok()?;
     let rest = u64::try_from(folder.mtime_nsec()).ok()?;

@@ -6,14 +6,15 @@ use crate::order::{Order, OrderBytes, SvcFault};
 use std::alloc::{AllocError, Allocator};
 use tai_status::{Name, Names};
 
-/// Parts the words of a svc command.
+/// Splits the words of a svc command.
 ///
-/// The option words are those in front that have two bytes or more, begin with `-` and are not `--`; a `--` right
-/// after them is dropped, and the other words are services. Of the further bytes of the option words, the letters,
-/// each is reported once, in the order of its first place.
+/// The option words are those at the front that have two bytes or more, begin with `-` and are not `--`. A `--` right
+/// after them is dropped, and the other words are services. The letters are the further bytes of the option words. Each
+/// letter is taken once, in the order of its first place.
 ///
-/// The first unknown letter is `UnknownLetter`, also where there is no memory. Else `OutOfMemory` comes only where the
-/// allocator refuses the memory for the names of the services. No service takes none.
+/// Returns `UnknownLetter` for the first unknown letter, even if there is no memory. Otherwise returns `OutOfMemory`
+/// only if the allocator refuses the memory for the names of the services. If there are no services, no memory is
+/// needed.
 pub fn assemble<A: Allocator + Clone>(alloc: A, words: &[&str]) -> Result<Order<A>, SvcFault>
     ensures bytes { IfOk result (λ order. order.bytes ≡ order_bytes (texts words.now)) }
     ensures services { IfOk result (λ order. order.services ≡ service_words (texts words.now)) }
@@ -25,14 +26,14 @@ pub fn assemble<A: Allocator + Clone>(alloc: A, words: &[&str]) -> Result<Order<
     Ok(Order { bytes, services })
 }
 
-/// Whether a word is an option word.
+/// Returns whether a word is an option word.
 pub fn is_option(word: &str) -> bool
     ensures { result ≡ is_option word.now }
 {
     word.len() >= 2 && word.as_bytes()[0] == b'-' && word != "--"
 }
 
-/// The letters of an option word: its bytes without the `-` in front.
+/// Returns the letters of an option word: its bytes without the `-` at the front.
 fn letters_of(word: &str) -> &[u8]
     requires { is_option word.now ≡ true }
     ensures { result.now ≡ drop 1 word.now }
@@ -40,7 +41,7 @@ fn letters_of(word: &str) -> &[u8]
     &word.as_bytes()[1..]
 }
 
-/// The bytes of the option words in front.
+/// Reads the bytes of the option words at the front.
 fn read_letters(words: &[&str]) -> Result<OrderBytes, SvcFault>
     ensures fault { MatchOption (unknown_in (texts words.now)) (IsOk result)
         (λ letter. IsErrOf result (SvcFault.UnknownLetter letter)) }
@@ -56,7 +57,7 @@ fn read_letters(words: &[&str]) -> Result<OrderBytes, SvcFault>
     Ok(bytes)
 }
 
-/// The services among the words.
+/// Returns the services among the words.
 pub(crate) fn services_of<'a, 'b>(words: &'a [&'b str]) -> &'a [&'b str]
     ensures { texts result.now ≡ service_words (texts words.entry.now) }
 {
@@ -67,7 +68,7 @@ pub(crate) fn services_of<'a, 'b>(words: &'a [&'b str]) -> &'a [&'b str]
     }
 }
 
-/// The words from the first on that is no option word.
+/// Returns the words from the first one on that is not an option word.
 fn after_options<'a, 'b>(words: &'a [&'b str]) -> &'a [&'b str]
     ensures { texts result.now ≡ after_options (texts words.entry.now) }
 {
@@ -81,7 +82,7 @@ fn after_options<'a, 'b>(words: &'a [&'b str]) -> &'a [&'b str]
     rest
 }
 
-/// Copies of the words.
+/// Returns copies of the words.
 fn copy_names<A: Allocator + Clone>(alloc: A, words: &[&str]) -> Result<Names<A>, AllocError>
     ensures names { IfOk result (λ names. names ≡ texts words.now) }
     ensures memory { IsErr result → 0 < length words.now }

@@ -12,7 +12,7 @@ use Rattle.cmd_base.specs.Usage.{usage_text}
 use Rattle.cmd_base.specs.declared.command.Command.TheVariants as command
 use Rattle.cmd_trace.specs.Traced.{AskFor, DoesAsked, TraceEnds}
 
--- where the command line takes no words, they ask for no file
+-- if the command line takes no words, they ask for no file
 pub asks_nothing : (words : List (List ℕ)) → asked_of words ≡ None → (file : List ℕ) (at : Option Break) (local : Bool)
     → AskFor words file at local → ⊥
 asks_nothing words none file at local asked = let never = sym none ∙ asked.1.0 in cc never
@@ -39,7 +39,7 @@ pub ends_asked : {W : Type 0} (text : W → List ℕ) (words : List W) (ahead : 
 ends_asked text [] ahead files status writer writes faults reports some does = absurd (omega (arith, some))
 ends_asked text (word ∷ words) ahead files status writer writes faults reports some does = inl does
 
--- What holds of the kind of an error holds of the kind that is known.
+-- What holds for the kind of an error holds for the kind that is known.
 pub if_known : (known : Option ErrorKind) (kind : ErrorKind) (P : ErrorKind → Type 0) → IsKnown known kind → P kind
     → IfSome known P
 if_known None kind P is holds = tt

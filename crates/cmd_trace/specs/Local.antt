@@ -1,4 +1,5 @@
--- What `trace --local` prints of a trace: local times in place of labels, and words in place of the digits of records.
+-- What `trace --local` prints about a trace: local times in place of labels, and words in place of the digits of
+-- records.
 use Rattle.std.specs.Prelude.{ℕ, ℤ, ◌+◌, ◌==◌, Bool, if◌then◌else◌, List, [], ◌∷◌, ◌++◌, map, flat_map, codes, decimal}
 use Rattle.std.specs.Prelude.{◌≡◌, Option, Some, None, Result, OnOk}
 use Rattle.std.specs.List.{enumerate_from}
@@ -22,22 +23,22 @@ use Rattle.cmd_base.specs.Printed.{printed}
 use Rattle.cmd_local.specs.Digits.{nine_digits}
 use Rattle.cmd_local.specs.Local.{local_text}
 
--- Here `ahead` is by how many seconds clocks are ahead of UTC, at each second of Unix time.
+-- In this file, `ahead` is the number of seconds by which clocks are ahead of UTC, at each second of Unix time.
 
 -- Times
 
--- a second's local time and its nanoseconds; of a second that has no local time the label
+-- a second's local time and its nanoseconds, or the label if the second has no local time
 abbrev pub time_or_label : Option (List ℕ) → Tai64n → List ℕ
 time_or_label (Some second) label = second ++ 46 ∷ nine_digits label.nano
 time_or_label None label = label_text label
 
--- The local time of a label, as `2026-11-25 01:33:02.123456789`. Outside of the years 1900 to 9999 it is the label.
+-- The local time of a label, as `2026-11-25 01:33:02.123456789`. Outside of the years 1900 to 9999, the label itself.
 unfoldable pub time_words : (ahead : ℤ → ℤ) → Tai64n → List ℕ
 time_words ahead label = time_or_label (local_text ahead label.sec) label
 
 -- Records
 
--- whether there is a process, and which
+-- whether there is a process, and which one
 unfoldable pub process_words : (pid : ℕ) → List ℕ
 process_words pid = if pid == 0 then codes "down" else codes "up " ++ decimal pid
 
@@ -52,9 +53,8 @@ want_words want.Once = codes ", wanted once"
 abbrev pub exiting_words : (exiting : Bool) → List ℕ
 exiting_words exiting = if exiting then codes ", exiting" else []
 
--- What the record of a machine reports, as `up 4711, paused, wanted down, exiting, since 2026-11-25
--- 01:33:02.123456789`: its process; whether that is paused; what is wanted; whether supervise is to end; and the last
--- change of process.
+-- What the record of a machine says, as `up 4711, paused, wanted down, exiting, since 2026-11-25 01:33:02.123456789`:
+-- its process; whether that is paused; what is wanted; whether supervise is to end; and the last change of process.
 unfoldable pub record_words : (ahead : ℤ → ℤ) → State → List ℕ
 record_words ahead state =
     process_words state.status.pid ++ paused_words state.status.paused ++ want_words state.status.want
@@ -62,7 +62,7 @@ record_words ahead state =
 
 -- Events and answers
 
--- an event, as the text of a trace has it, but for its label
+-- an event as in the text of a trace, except for its label
 abbrev pub event_words : (ahead : ℤ → ℤ) → Event → List ℕ
 event_words ahead (Byte byte) = codes "byte " ++ byte_text byte
 event_words ahead (Started pid label) = codes "started " ++ decimal pid ++ codes " " ++ time_words ahead label
@@ -70,7 +70,7 @@ event_words ahead (StartFailed label) = codes "failed " ++ time_words ahead labe
 event_words ahead (Death label) = codes "death " ++ time_words ahead label
 event_words ahead (Clock label) = codes "clock " ++ time_words ahead label
 
--- An ask, after which the machine stands so. A record is that of this machine.
+-- An ask of the event that leads to this machine. A record is that of this machine.
 abbrev pub ask_words : (ahead : ℤ → ℤ) → (after : State) → Ask → List ℕ
 ask_words ahead after (Signal sig pid) = signal_name sig ++ codes ":" ++ decimal pid
 ask_words ahead after Start = codes "start"
@@ -90,34 +90,34 @@ answer_words ahead after reply = reply_words ahead after reply ++ codes " -> " +
 
 -- The lines
 
--- the line of an entry of this number, after which the machine stands so, and of what is answered to it
+-- the line of an entry with this number: its event, the answer to it, and the machine after it
 unfoldable pub line_words : (ahead : ℤ → ℤ) → (number : ℕ) → Event → (after : State) → Reply → List ℕ
 line_words ahead number event after reply =
     decimal number ++ codes " " ++ event_words ahead event ++ codes ": " ++ answer_words ahead after reply
 
--- the line of an entry of this number behind that history
+-- the line of an entry with this number after that history
 abbrev pub local_line : (ahead : ℤ → ℤ) → (number : ℕ) → History → Event → List ℕ
 local_line ahead number past event =
     line_words ahead number event (state_of (next past event)) (reply_to past event)
 
--- The line of an entry of this number was added, whatever history led to this machine; if no error came.
+-- The line of an entry with this number was added, whatever history led to this machine, unless there was an error.
 abbrev pub AddsEntry : {A E : Type 0} → Result A E → (ahead : ℤ → ℤ) (number : ℕ) (machine : State) → Event
     → (old new : List ℕ) → Type 0
 AddsEntry result ahead number machine event old new =
     (past : History) → state_of past ≡ machine
     → OnOk result (new ≡ old ++ local_line ahead number past event ++ 10 ∷ [])
 
--- a line for each entry, numbered from 1
+-- one line for each entry, numbered from 1
 abbrev pub local_lines : (ahead : ℤ → ℤ) → Content → List (List ℕ)
 local_lines ahead content =
     map (λ placed. local_line ahead (placed.0 + 1) (before content placed.0) placed.1)
     (enumerate_from 0 content.entries)
 
--- the line on the machine after the entries: its phase, and what its record says
+-- the line about the machine after the entries: its phase, and what its record says
 abbrev pub local_state : (ahead : ℤ → ℤ) → State → List ℕ
 local_state ahead state =
     codes "state " ++ phase_name state.phase ++ codes " (" ++ record_words ahead state ++ codes ")" ++ 10 ∷ []
 
--- a line for each entry, and one on the machine after them
+-- one line for each entry, and one about the machine after them
 abbrev pub local_explanation : (ahead : ℤ → ℤ) → Content → List ℕ
 local_explanation ahead content = printed (local_lines ahead content) ++ local_state ahead (replay_of content)

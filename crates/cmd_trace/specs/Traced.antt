@@ -1,4 +1,5 @@
--- What `trace` prints of the text of a trace, what its word after `--break` means, and what it says of its faults.
+-- What `trace` prints about the text of a trace, what its word after `--break` means, and what it says about its
+-- faults.
 use Rattle.std.specs.Prelude.{◌≡◌, ◌≢◌, ◌<◌, ◌^◌, ⊤, ℕ, ℤ, ◌⊎◌, Bool, true, false, List, [], ◌∷◌, ◌++◌, codes, decimal}
 use Rattle.std.specs.Prelude.{Option, Some, None, IfSome, Err, option_map}
 use Rattle.std.specs.Borrow.{Bor}
@@ -40,14 +41,14 @@ break_text (break.Byte byte) = codes "byte:" ++ byte_text byte
 break_text (break.Phase phase) = codes "phase:" ++ phase_name phase
 break_text (break.Signal sig) = codes "signal:" ++ signal_name sig
 
--- A word that may be there names this break, where there is one. A byte is less than 256.
+-- If there is a word, it names this break. If there is none, there is no break. A byte is less than 256.
 abbrev pub NamesBreak : Option (List ℕ) → Option Break → Type 0
 NamesBreak None None = ⊤
 NamesBreak (Some word) (Some (break.Byte byte)) = (byte < 2 ^ 8) × (word ≡ break_text (break.Byte byte))
 NamesBreak (Some word) (Some at) = word ≡ break_text at
 NamesBreak _ _ = ⊥
 
--- Words ask for this file, for this break where they have one, and for local times or for labels.
+-- The words ask for this file, for this break if they have one, and for local times or for labels.
 abbrev pub AskFor : (words : List (List ℕ)) (file : List ℕ) (at : Option Break) (local : Bool) → Type 0
 AskFor words file at local =
     (word : Option (List ℕ))
@@ -55,12 +56,12 @@ AskFor words file at local =
 
 -- What is printed
 
--- the line on the machine after the entries: its phase, and the digits of its status record
+-- the line about the machine after the entries: its phase, and the digits of its status record
 abbrev pub state_text : State → List ℕ
 state_text state =
     codes "state " ++ phase_name state.phase ++ codes " " ++ record_digits state.status ++ 10 ∷ []
 
--- a line for each entry, and one on the machine after them
+-- one line for each entry, and one about the machine after them
 abbrev pub explanation : Content → List ℕ
 explanation content = printed (explained content) ++ state_text (replay_of content)
 
@@ -70,44 +71,44 @@ IsBreakLine content at line =
     ((number : ℕ) × (IsFirstBreak content at number × (line ≡ codes "break " ++ decimal number ++ 10 ∷ [])))
     ⊎ (HasNoBreak content at × (line ≡ codes "no break" ++ 10 ∷ []))
 
--- How times are reported: as labels where there is nothing, else as local times, where clocks are ahead of UTC by so
--- many seconds at each second of Unix time.
+-- How times are printed. None is for labels, and Some is for local times, with the number of seconds by which clocks
+-- are ahead of UTC at each second of Unix time.
 abbrev pub Times : Type 0
 Times = Option (ℤ → ℤ)
 
--- the times of a zone, where there is one
+-- the times of a zone, if there is one
 abbrev pub times_in : {Z : Type 0} (ahead_at : Z → ℤ → ℤ) → Option (Bor Z) → Times
 times_in ahead_at zone = option_map (λ zone. ahead_at zone.now) zone
 
--- local times where they are asked for
+-- local times, if they are asked for
 abbrev pub times_asked : (ahead : ℤ → ℤ) → (local : Bool) → Times
 times_asked ahead true = Some ahead
 times_asked ahead false = None
 
--- the explanation of a trace, with times reported so
+-- the explanation of a trace, with times printed this way
 abbrev pub explanation_with : Times → Content → List ℕ
 explanation_with None content = explanation content
 explanation_with (Some ahead) content = local_explanation ahead content
 
--- This is printed of a trace: the explanation, or the line on a break.
+-- This is printed about a trace: the explanation, or the line about a break.
 abbrev pub IsShown : Times → Content → Option Break → List ℕ → Type 0
 IsShown times content None text = text ≡ explanation_with times content
 IsShown times content (Some at) text = IsBreakLine content at text
 
--- The text is that of a trace, and this is printed of that trace.
+-- The text is that of a trace, and this is printed about that trace.
 pub record IsShownOf (times : Times) (text : List ℕ) (at : Option Break) (shown : List ℕ) : Type 0 where
   pub trace : Content
   pub is : IsContent trace
   pub text_is : text ≡ trace_text trace
   pub shown_is : IsShown times trace at shown
 
--- The text is that of a trace, and what is printed of that trace was written.
+-- The text is that of a trace, and what is printed about that trace was written.
 pub record Shows (times : Times) (text : List ℕ) (at : Option Break) (writer writes : Device) : Type 0 where
   pub shown : List ℕ
   pub shown_is : IsShownOf times text at shown
   pub written : Wrote writer writes shown
 
--- The text is that of a trace, and a front of what is printed of that trace was written.
+-- The text is that of a trace, and a front of what is printed about that trace was written.
 pub record ShowsFront (times : Times) (text : List ℕ) (at : Option Break) (writer writes : Device) : Type 0 where
   pub shown : List ℕ
   pub shown_is : IsShownOf times text at shown
@@ -115,22 +116,22 @@ pub record ShowsFront (times : Times) (text : List ℕ) (at : Option Break) (wri
 
 -- Faults
 
--- what is reported of a text that is refused
+-- what is reported about a text that is refused
 abbrev pub refused_text : TraceFault → List ℕ
 refused_text fault =
     codes "trace: line " ++ decimal fault.line ++ codes ": " ++ kind_name fault.kind ++ 10 ∷ []
 
--- what is reported of trouble
+-- what is reported about trouble
 abbrev pub trouble_text : TraceTrouble → List ℕ
 trouble_text (trouble.Refused fault) = refused_text fault
 trouble_text trouble.OutOfMemory = codes "trace: OutOfMemory" ++ 10 ∷ []
 trouble_text (trouble.Write cause) = codes "trace: " ++ (codes "write fault" ++ device_note cause)
 
--- what is reported of a file that can't be read
+-- what is reported about a file that can't be read
 abbrev pub unread_text : (file : List ℕ) → Cause → List ℕ
 unread_text file cause = codes "trace: unable to read " ++ (file ++ cause_note cause)
 
--- Why a text is refused: for its first fault; or there was no memory for an entry that it has at that line.
+-- Why a text is refused. This is its first fault, or there was no memory for the entry that it has at that line.
 abbrev pub IsRefusedFor : List ℕ → TraceFault → Type 0
 IsRefusedFor text fault =
     (fault.kind ≢ kind.OutOfMemory → content_from text ≡ Err fault)
@@ -140,8 +141,8 @@ IsRefusedFor text fault =
 abbrev pub IsTraceText : List ℕ → Type 0
 IsTraceText text = (trace : Content) × (IsContent trace × (text ≡ trace_text trace))
 
--- What trouble comes from. The text is refused; it is that of a trace, and there was no memory for what is printed; or
--- the writer failed, after a front of that, for the cause that it keeps. Only the writer's fault comes after a write.
+-- What trouble comes from. The text is refused; or it is that of a trace, and there was no memory for what is printed;
+-- or the writer failed after a front of that, for the cause that it keeps. Only the writer's fault comes after a write.
 abbrev pub TraceCause : Times → TraceTrouble → List ℕ → Option Break → (writer writes : Device) → Type 0
 TraceCause times (trouble.Refused fault) text at writer writes = (writes ≡ writer) × IsRefusedFor text fault
 TraceCause times trouble.OutOfMemory text at writer writes = (writes ≡ writer) × IsTraceText text
@@ -150,36 +151,36 @@ TraceCause times (trouble.Write cause) text at writer writes =
 
 -- How `trace` ends
 
--- What is printed of the trace was written, the writer did not fail, and nothing is reported.
+-- What is printed about the trace was written, the writer did not fail, and nothing is reported.
 pub record ShowsText (times : Times) (text : List ℕ) (at : Option Break) (writer writes faults reports : Device)
     : Type 0 where
   pub shows : Shows times text at writer writes
   pub works : Works writer writes
   pub unreported : reports ≡ faults
 
--- There is trouble with a text, and it is reported what it comes from.
+-- There is trouble with a text, and what it comes from is reported.
 pub record ReportsTrouble (times : Times) (text : List ℕ) (at : Option Break) (writer writes faults reports : Device)
     : Type 0 where
   pub why : TraceTrouble
   pub cause : TraceCause times why text at writer writes
   pub reported : Reports faults reports (trouble_text why)
 
--- A text and this break, by the status.
+-- How `trace` ends for a text and this break, by the status.
 abbrev pub TextEnds : (times : Times) (text : List ℕ) (at : Option Break) (status : ℕ)
     (writer writes faults reports : Device) → Type 0
 TextEnds times text at status writer writes faults reports =
     ((status ≡ 0) × ShowsText times text at writer writes faults reports)
     ⊎ ((status ≡ 111) × ReportsTrouble times text at writer writes faults reports)
 
--- The file is read, and its text shown.
+-- The file is read, and its text is shown.
 pub record EndsWithText (times : Times) (file : Option (List ℕ)) (at : Option Break) (status : ℕ)
     (writer writes faults reports : Device) : Type 0 where
   pub text : List ℕ
   pub text_is : IsKnown file text
   pub ends : TextEnds times text at status writer writes faults reports
 
--- It is reported of a file that is not known to be there that it can't be read, and why, and nothing is written. The
--- cause is that of the read's fault, which is not want of memory, by its number and kind.
+-- A file is not known to be there. It is reported that it can't be read, and why, and nothing is written. The cause is
+-- that of the read's fault, by its number and kind. It is not a lack of memory.
 pub record ReportsUnread (files : KnownFiles) (file : List ℕ) (status : ℕ) (writer writes faults reports : Device)
     : Type 0 where
   pub number : Option ℤ
@@ -191,31 +192,31 @@ pub record ReportsUnread (files : KnownFiles) (file : List ℕ) (status : ℕ) (
   pub reported : Reports faults reports (unread_text file (cause_of number kind))
   pub status_is : status ≡ 111
 
--- It is reported why a file is not read: there was no memory, where the error says so; else that it can't be read.
+-- It is reported why a file is not read: there was no memory, if the error says so; otherwise that it can't be read.
 abbrev pub ReportsMissed : Error → (file : List ℕ) → (faults reports : Device) → Type 0
 ReportsMissed error file faults reports =
     ((error_kind error ≡ OutOfMemory) × Reports faults reports (trouble_text trouble.OutOfMemory))
     ⊎ ((error_kind error ≢ OutOfMemory)
     × Reports faults reports (unread_text file (cause_of (raw_os_error error) (error_kind error))))
 
--- There was no memory for the words or the file; nothing is written, and that is reported.
+-- There was no memory for the words or the file. Nothing is written, and the lack is reported.
 pub record ReportsStarved (status : ℕ) (writer writes faults reports : Device) : Type 0 where
   pub unwritten : writes ≡ writer
   pub reported : Reports faults reports (trouble_text trouble.OutOfMemory)
   pub status_is : status ≡ 111
 
--- There was no memory for the file, of which no read is known to fail for another cause.
+-- There was no memory for the file. No read of it is known to fail for another cause.
 pub record ReportsNoRoom (files : KnownFiles) (file : List ℕ) (status : ℕ) (writer writes faults reports : Device)
     : Type 0 where
   pub fault : IfSome (files.fault file) (λ kind. kind ≡ OutOfMemory)
   pub starved : ReportsStarved status writer writes faults reports
 
--- what is known of the files that these are
+-- what is known of these files
 abbrev pub known_in : {F : Type 0} → (file_at : F → List ℕ → Option (List ℕ))
     (fault_at : F → List ℕ → Option ErrorKind) (files : F) → KnownFiles
 known_in file_at fault_at files = known_files (file_at files) (fault_at files)
 
--- `trace` over the file at this path and this break.
+-- How `trace` ends for the file at this path and this break.
 abbrev pub PathEnds : (times : Times) (files : KnownFiles) (path : List ℕ) (at : Option Break) (status : ℕ)
     (writer writes faults reports : Device) → Type 0
 PathEnds times files path at status writer writes faults reports =
@@ -223,26 +224,26 @@ PathEnds times files path at status writer writes faults reports =
     ⊎ (ReportsUnread files path status writer writes faults reports
     ⊎ ReportsNoRoom files path status writer writes faults reports)
 
--- `trace` over the trace of the service in this folder.
+-- How `trace` ends for the trace of the service in this folder.
 abbrev pub FolderEnds : (times : Times) (files : KnownFiles) (folder : List ℕ) (at : Option Break) (status : ℕ)
     (writer writes faults reports : Device) → Type 0
 FolderEnds times files folder at status writer writes faults reports =
     PathEnds times files (folder ++ codes "/supervise/trace") at status writer writes faults reports
     ⊎ ReportsStarved status writer writes faults reports
 
--- A folder is there, and no file.
+-- There is a folder at this path, not a file.
 pub record EndsWithFolder (times : Times) (files : KnownFiles) (folder : List ℕ) (at : Option Break) (status : ℕ)
     (writer writes faults reports : Device) : Type 0 where
   pub fault : IsKnown (files.fault folder) IsADirectory
   pub ends : FolderEnds times files folder at status writer writes faults reports
 
--- A file can't be read, and it is no folder.
+-- A file can't be read, and it is not a folder.
 pub record ReportsNoFile (files : KnownFiles) (file : List ℕ) (status : ℕ) (writer writes faults reports : Device)
     : Type 0 where
   pub unread : ReportsUnread files file status writer writes faults reports
   pub no_folder : unread.kind ≢ IsADirectory
 
--- `trace` over this file and this break; or over the service in this folder.
+-- How `trace` ends for this file and this break, or for the service in this folder.
 abbrev pub FileEnds : (times : Times) (files : KnownFiles) (file : List ℕ) (at : Option Break) (status : ℕ)
     (writer writes faults reports : Device) → Type 0
 FileEnds times files file at status writer writes faults reports =
@@ -251,14 +252,14 @@ FileEnds times files file at status writer writes faults reports =
     ⊎ (ReportsNoRoom files file status writer writes faults reports
     ⊎ EndsWithFolder times files file at status writer writes faults reports))
 
--- Words ask for nothing; nothing is written, and the usage is reported.
+-- The words ask for nothing: nothing is written, and the usage is reported.
 pub record ReportsUsage (words : List (List ℕ)) (status : ℕ) (writer writes faults reports : Device) : Type 0 where
   pub wrong : (file : List ℕ) (at : Option Break) (local : Bool) → AskFor words file at local → ⊥
   pub unwritten : writes ≡ writer
   pub reported : Reports faults reports (usage_text command.Trace)
   pub status_is : status ≡ 100
 
--- What words ask for was done, or there was trouble with it.
+-- What the words ask for was done, or there was trouble with it.
 pub record DoesAsked (ahead : ℤ → ℤ) (files : KnownFiles) (words : List (List ℕ)) (status : ℕ)
     (writer writes faults reports : Device) : Type 0 where
   pub file : List ℕ
@@ -267,17 +268,18 @@ pub record DoesAsked (ahead : ℤ → ℤ) (files : KnownFiles) (words : List (L
   pub asked : AskFor words file at local
   pub ends : FileEnds (times_asked ahead local) files file at status writer writes faults reports
 
--- What is reported of words that were not read: the usage of wrong ones, else want of memory.
+-- what is reported about words that were not read: the usage if they are wrong, and otherwise the lack of memory
 abbrev pub words_text : WordsFault → List ℕ
 words_text words.Wrong = usage_text command.Trace
 words_text words.OutOfMemory = trouble_text trouble.OutOfMemory
 
--- the status of that
+-- the exit status for that
 abbrev pub words_status : WordsFault → ℕ
 words_status words.Wrong = 100
 words_status words.OutOfMemory = 111
 
--- `trace`, by what its words ask for, where clocks are ahead of UTC by so much. No words ask for nothing.
+-- How `trace` ends, by what its words ask for, if clocks are ahead of UTC by this much. No words at all ask for
+-- nothing.
 abbrev pub TraceEnds : (ahead : ℤ → ℤ) (files : KnownFiles) (words : List (List ℕ)) (status : ℕ)
     (writer writes faults reports : Device) → Type 0
 TraceEnds ahead files [] status writer writes faults reports = ReportsUsage [] status writer writes faults reports

@@ -7,7 +7,8 @@ ghost use Rattle.cmd_trace.specs.Traced.{NamesBreak, break_text};
 use sup_core::{read_byte, read_phase, read_sig};
 use sup_trace::Break;
 
-/// The break that a word names: `byte:C`, where C is a byte as an event's line has it; `phase:PHASE`; or `signal:NAME`.
+/// Returns the break that a word names: `byte:C`, with the byte C as in the line of an event; `phase:PHASE`; or
+/// `signal:NAME`.
 pub fn read_break(word: &[u8]) -> Option<Break>
     ensures found { IfSome result (λ at. word.now ≡ break_text at) }
     ensures byte { (byte : ℕ) → byte < 2 ^ 8
@@ -27,11 +28,11 @@ pub fn read_break(word: &[u8]) -> Option<Break>
     None
 }
 
-/// Why the word after `--break` names no break.
+/// Says that the word after `--break` names no break.
 #[derive(Clone, Copy, Debug, PartialEq, Eq)]
 pub struct NoSuchBreak;
 
-/// The break that the word after `--break` names, where there is such a word.
+/// Returns the break that the word after `--break` names, if there is such a word.
 pub fn read_spec(spec: Option<&str>) -> Result<Option<Break>, NoSuchBreak>
     ensures named { IfOk result (λ at. NamesBreak (option_map (λ word. word.now) spec.entry) at) }
     ensures wrong { OnErr result ((at : Option Break) → NamesBreak (option_map (λ word. word.now) spec.entry) at → ⊥) }

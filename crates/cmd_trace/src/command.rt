@@ -23,7 +23,7 @@ use sup_trace::{Break, TraceFault, kind_name, read_text};
 use tai_status::{Cause, Output};
 use trace_words::{WordsFault, parse_words};
 
-/// Writes what is printed of the trace whose text this is, with the local times of a zone where there is one.
+/// Writes what is printed about the trace whose text this is, with the local times of a zone if there is one.
 fn show_text<A: Allocator + Clone + Copy, W: Write, Z: Zone>(
     alloc: A,
     zone: Option<&Z>,
@@ -50,7 +50,7 @@ fn show_text<A: Allocator + Clone + Copy, W: Write, Z: Zone>(
     }
 }
 
-/// What is reported of a text that is refused.
+/// Returns what is reported about a text that is refused.
 fn refused_text(fault: TraceFault) -> ArrayString<64>
     ensures { result.bytes ≡ refused_text fault }
 {
@@ -63,7 +63,7 @@ fn refused_text(fault: TraceFault) -> ArrayString<64>
     out
 }
 
-/// Reports trouble, and returns its status.
+/// Reports trouble, and returns its exit status.
 fn report_trouble<E: Write>(trouble: TraceTrouble, faults: &mut Output<E>) -> u8
     ensures status { result ≡ 111 }
     ensures reported { Reports faults.old faults.new (trouble_text trouble) }
@@ -75,9 +75,10 @@ fn report_trouble<E: Write>(trouble: TraceTrouble, faults: &mut Output<E>) -> u8
     }
 }
 
-/// Prints what this text says, with the local times of a zone if there is one, and returns the status: 0; or 111 for a
-/// text that is refused, for want of memory and for a fault of the writer. A text that is refused is reported as such,
-/// however little memory there is. The allocator is one of which a copy takes none, as the program's own.
+/// Prints what this text says, with the local times of a zone if there is one. Returns the exit status: 0; or 111 for a
+/// text that is refused, for a lack of memory and for a fault of the writer. A text that is refused is reported as
+/// refused, however little memory there is. The allocator must be one whose copies need no memory, as the program's
+/// own.
 fn show_bytes<A: Allocator + Clone + Copy, W: Write, E: Write, Z: Zone>(
     alloc: A,
     zone: Option<&Z>,
@@ -95,8 +96,8 @@ fn show_bytes<A: Allocator + Clone + Copy, W: Write, E: Write, Z: Zone>(
     }
 }
 
-/// Prints what the text in a file says, with the local times of a zone if there is one, and returns the status: that of
-/// `show_bytes`, and 111 for a file that can't be read.
+/// Prints what the text in a file says, with the local times of a zone if there is one. Returns the exit status: that
+/// of `show_bytes`, and 111 for a file that can't be read.
 fn trace_path<R: FileSource, W: Write, E: Write, Z: Zone>(
     files: &R,
     alloc: Global,
@@ -115,7 +116,7 @@ fn trace_path<R: FileSource, W: Write, E: Write, Z: Zone>(
     }
 }
 
-/// The same of the trace of the service in a folder.
+/// Does the same for the trace of the service in a folder.
 fn trace_folder<R: FileSource, W: Write, E: Write, Z: Zone>(
     files: &R,
     alloc: Global,
@@ -134,7 +135,7 @@ fn trace_folder<R: FileSource, W: Write, E: Write, Z: Zone>(
     }
 }
 
-/// The path of the trace of the service in a folder.
+/// Returns the path of the trace of the service in a folder.
 fn trace_in<A: Allocator>(alloc: A, folder: &str) -> Result<String<A>, AllocError>
     ensures { IfOk result (λ path. string_bytes path ≡ folder.now ++ codes "/supervise/trace") }
 {
@@ -143,8 +144,8 @@ fn trace_in<A: Allocator>(alloc: A, folder: &str) -> Result<String<A>, AllocErro
     Ok(path)
 }
 
-/// Prints what the text in a file says, or where that is a folder what that of the service in it says, with the local
-/// times of a zone where there is one, and answers the status.
+/// Prints what the text in a file says, or for a folder what the trace of the service in it says. Uses the local times
+/// of a zone if there is one. Returns the exit status.
 fn trace_file<R: FileSource, W: Write, E: Write, Z: Zone>(
     files: &R,
     alloc: Global,
@@ -166,7 +167,8 @@ fn trace_file<R: FileSource, W: Write, E: Write, Z: Zone>(
     }
 }
 
-/// Says why a file is not read, and returns the status of that. Only an error that says so is out of memory.
+/// Reports why a file is not read, and returns the exit status for that. Only an error that says so counts as a lack of
+/// memory.
 fn report_missed<E: Write>(error: &Error, file: &str, faults: &mut Output<E>) -> u8
     ensures status { result ≡ 111 }
     ensures reported { ReportsMissed error.now file.now faults.old faults.new }
@@ -177,7 +179,7 @@ fn report_missed<E: Write>(error: &Error, file: &str, faults: &mut Output<E>) ->
     report_unread(file, Cause::of(error), faults)
 }
 
-/// Says that a file can't be read, and why, and returns the status of that.
+/// Reports that a file can't be read, and why, and returns the exit status for that.
 fn report_unread<E: Write>(file: &str, cause: Cause, faults: &mut Output<E>) -> u8
     ensures status { result ≡ 111 }
     ensures reported { Reports faults.old faults.new (unread_text file.now cause) }
@@ -192,7 +194,7 @@ fn report_unread<E: Write>(file: &str, cause: Cause, faults: &mut Output<E>) -> 
     )
 }
 
-/// Says why words are not read, and answers the status of that.
+/// Reports why words are not read, and returns the exit status for that.
 fn report_words<E: Write>(fault: WordsFault, faults: &mut Output<E>) -> u8
     ensures status { result ≡ words_status fault }
     ensures reported { Reports faults.old faults.new (words_text fault) }
@@ -203,7 +205,7 @@ fn report_words<E: Write>(fault: WordsFault, faults: &mut Output<E>) -> u8
     }
 }
 
-/// The zone, where local times are asked for.
+/// Returns the zone, if local times are asked for.
 fn zone_asked<Z: Zone>(zone: &Z, local: bool) -> Option<&Z>
     ensures { times_in Z.ahead_at result ≡ times_asked (Z.ahead_at zone.now) local }
 {
@@ -211,11 +213,14 @@ fn zone_asked<Z: Zone>(zone: &Z, local: bool) -> Option<&Z>
 }
 
 /// The command `trace FILE [--break SPEC] [--local]`: prints what each entry of the trace in the file did, and the
-/// machine after them; with `--local` with the local times of a zone in place of labels, and words in place of the
-/// digits of records; or with `--break` the number of the first entry that is what SPEC names, as `read_break` reads
-/// it, with `--local` or without. Where FILE is a folder, it is that of a service, whose trace is meant. Answers the
-/// status: 0; 100 for wrong words; 111 for a file that can't be read, a text that is refused, want of memory, and a
-/// fault of the writer. Words are looked at before SPEC, SPEC before the file, and the file before its text.
+/// machine after them. With `--local`, it prints the local times of a zone in place of labels, and words in place of
+/// the digits of records. With `--break`, it only prints the number of the first entry that SPEC names, as `read_break`
+/// reads it, with or without `--local`. If FILE is a folder, it is that of a service, and the trace of that service is
+/// used.
+///
+/// Returns the exit status: 0; 100 for wrong words; 111 for a file that can't be read, a text that is refused, a lack
+/// of memory, and a fault of the writer. Words are checked before SPEC, SPEC before the file, and the file before its
+/// text.
 pub fn run_trace<R: FileSource, W: Write, E: Write, Z: Zone>(
     files: &R,
     alloc: Global,

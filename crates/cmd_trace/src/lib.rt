@@ -1,4 +1,5 @@
-//! The command `trace`: what each entry of a trace did; with `--local` at which local time, and in words.
+//! The command `trace`: what each entry of a trace did. With `--local` it also says when, in local time, and uses
+//! words.
 #![tactic(auto)]
 
 mod break_word;

@@ -1,4 +1,5 @@
-//! What `trace --local` prints of a trace: local times in place of labels, and words in place of the digits of records.
+//! What `trace --local` prints about a trace: local times in place of labels, and words in place of the digits of
+//! records.
 ghost use Rattle.std.specs.Prelude.{◌≡◌, ◌<◌, ◌++◌, ◌∷◌, [], decimal, IfOk, OnOk};
 ghost use Rattle.cmd_base.specs.Printed.{printed};
 ghost use Rattle.sup_core.specs.History.{History, state_of};
@@ -14,13 +15,13 @@ use sup_core::{Ask, Event, Machine, Reply, event_text, phase_name, sig_name};
 use sup_trace::{TraceText, replay};
 use tai_status::{Label, Want, text};
 
-/// A line for each entry, and one on the machine after them, with local times: as `1 byte d: took TERM:4711 CONT:4711
-/// record (up 4711, wanted down, since 2026-11-25 01:33:02.123456789) -> up` and `state up (up 4711, wanted down, since
-/// 2026-11-25 01:33:02.123456789)`.
+/// Returns one line for each entry, and one about the machine after them, with local times: as `1 byte d: took
+/// TERM:4711 CONT:4711 record (up 4711, wanted down, since 2026-11-25 01:33:02.123456789) -> up` and `state up (up
+/// 4711, wanted down, since 2026-11-25 01:33:02.123456789)`.
 ///
-/// A record is reported by the words `up PID` or `down`; `paused`, where its process is; `wanted up`, `wanted down` or
-/// `wanted once`; `exiting`, where supervise is to end; and `since` the last change of process. A label outside of the
-/// years 1900 to 9999 is reported as its own text.
+/// A record is printed as the words `up PID` or `down`; `paused`, if its process is paused; `wanted up`, `wanted down`
+/// or `wanted once`; `exiting`, if supervise is to end; and `since` with the last change of process. A label outside of
+/// the years 1900 to 9999 is printed as its own text.
 pub fn local_explanation<A: Allocator, B: Allocator, Z: Zone>(
     alloc: A,
     zone: &Z,
@@ -34,7 +35,7 @@ pub fn local_explanation<A: Allocator, B: Allocator, Z: Zone>(
     Ok(out)
 }
 
-/// Writes a line for each entry at the end of a text.
+/// Writes one line for each entry at the end of a text.
 fn push_entries<A: Allocator, B: Allocator, Z: Zone>(
     out: &mut Vec<u8, A>,
     zone: &Z,
@@ -50,7 +51,7 @@ fn push_entries<A: Allocator, B: Allocator, Z: Zone>(
     Ok(())
 }
 
-/// Writes the line of an entry, whose event the machine takes.
+/// Writes the line of an entry, and lets the machine take its event.
 fn push_entry<A: Allocator, Z: Zone>(
     out: &mut Vec<u8, A>,
     zone: &Z,
@@ -179,7 +180,7 @@ fn push_asks<A: Allocator, Z: Zone>(
     Ok(())
 }
 
-/// Writes an ask. A record is that of the machine after it.
+/// Writes an ask. A record is that of the machine after the event.
 fn push_ask<A: Allocator, Z: Zone>(
     out: &mut Vec<u8, A>,
     zone: &Z,
@@ -204,7 +205,7 @@ fn push_ask<A: Allocator, Z: Zone>(
     }
 }
 
-/// Writes what the record of a machine reports.
+/// Writes what the record of a machine says.
 #[tactic(auto, unfolding(crate::specs::Local::record_words))]
 fn push_record<A: Allocator, Z: Zone>(
     out: &mut Vec<u8, A>,
@@ -223,7 +224,7 @@ fn push_record<A: Allocator, Z: Zone>(
     push_time(out, zone, &view.label)
 }
 
-/// Writes whether there is a process, and which.
+/// Writes whether there is a process, and which one.
 #[tactic(auto, unfolding(crate::specs::Local::process_words))]
 fn push_process<A: Allocator>(out: &mut Vec<u8, A>, pid: u32) -> Result<(), AllocError>
     ensures { OnOk result (out.new.items ≡ out.old.items ++ process_words pid) }
@@ -235,14 +236,14 @@ fn push_process<A: Allocator>(out: &mut Vec<u8, A>, pid: u32) -> Result<(), Allo
     push_number(out, u64::from(pid))
 }
 
-/// That a process is paused.
+/// Returns the words that say whether a process is paused.
 fn paused_words(paused: bool) -> &'static str
     ensures { result.now ≡ paused_words paused }
 {
     if paused { ", paused" } else { "" }
 }
 
-/// What is wanted.
+/// Returns the words that say what is wanted.
 fn want_words(want: Want) -> &'static str
     ensures { result.now ≡ want_words want }
 {
@@ -253,14 +254,14 @@ fn want_words(want: Want) -> &'static str
     }
 }
 
-/// That supervise is to end.
+/// Returns the words that say whether supervise is to end.
 fn exiting_words(exiting: bool) -> &'static str
     ensures { result.now ≡ exiting_words exiting }
 {
     if exiting { ", exiting" } else { "" }
 }
 
-/// Writes the local time of a label, or the label where there is none.
+/// Writes the local time of a label, or the label if it has none.
 #[tactic(auto, unfolding(crate::specs::Local::time_words))]
 fn push_time<A: Allocator, Z: Zone>(
     out: &mut Vec<u8, A>,
@@ -279,7 +280,7 @@ fn push_time<A: Allocator, Z: Zone>(
     }
 }
 
-/// Writes the line on a machine.
+/// Writes the line about a machine.
 fn push_state<A: Allocator, Z: Zone>(
     out: &mut Vec<u8, A>,
     zone: &Z,

@@ -1,4 +1,4 @@
-//! What `trace` prints of a trace.
+//! What `trace` prints about a trace.
 ghost use Rattle.std.specs.Prelude.{◌≡◌, ◌++◌, OnOk, IfOk};
 ghost use Rattle.cmd_base.specs.Printed.{printed};
 ghost use Rattle.cmd_trace.specs.Traced.{explanation, state_text, times_in, IsBreakLine, IsShown};
@@ -11,8 +11,8 @@ use sup_core::{Machine, phase_name};
 use sup_trace::{Break, TraceText, explain, first_break, record_digits, replay};
 use tai_status::Lines;
 
-/// What is printed of a trace: the line on a break, or where none is asked for the explanation, with the local times of
-/// a zone where there is one.
+/// Returns what is printed about a trace: the line about a break, or if no break is asked for, the explanation, with
+/// the local times of a zone if there is one.
 pub fn shown<A: Allocator + Clone, B: Allocator, Z: Zone>(
     alloc: A,
     zone: Option<&Z>,
@@ -29,7 +29,7 @@ pub fn shown<A: Allocator + Clone, B: Allocator, Z: Zone>(
     }
 }
 
-/// A line for each entry, and one on the machine after them.
+/// Returns one line for each entry, and one about the machine after them.
 fn explanation<A: Allocator + Clone, B: Allocator>(
     alloc: A,
     content: &TraceText<B>,
@@ -57,7 +57,7 @@ fn push_lines<A: Allocator, B: Allocator>(
     Ok(())
 }
 
-/// Writes the line on a machine at the end of a text.
+/// Writes the line about a machine at the end of a text.
 fn push_state<A: Allocator>(out: &mut Vec<u8, A>, machine: &Machine) -> Result<(), AllocError>
     ensures { OnOk result (out.new.items ≡ out.old.items ++ state_text machine.now) }
 {
@@ -69,7 +69,7 @@ fn push_state<A: Allocator>(out: &mut Vec<u8, A>, machine: &Machine) -> Result<(
     Ok(())
 }
 
-/// The line on a break.
+/// Returns the line about a break.
 fn break_line<A: Allocator, B: Allocator>(
     alloc: A,
     content: &TraceText<B>,

@@ -23,7 +23,7 @@ extended-none : (a : Option (List Call)) → Extended a a []
 extended-none None = tt
 extended-none (Some a) = sym (append-nil a)
 
--- one more look, at a service that can be waited for
+-- one more look, at a service that did not fail
 pub looks-on : (goal : Goal) (services left : List (List ℕ)) (folder : List ℕ) (after : List (List ℕ))
     (finding : Finding)
     (a b c : Option (List Call)) → LooksAt goal services left (folder ∷ after) a b → Finds goal folder finding b c
@@ -81,7 +81,7 @@ dropped-without items i within =
     ap (λ (n : ℕ). drop n (take i items ++ drop (i + 1) items)) (sym long)
     ∙ drop-append_seam (take i items) (drop (i + 1) items)
 
--- Over the words behind references, from a place on
+-- Over the words that references lead to, from a place on
 
 pub looks-none : (goal : Goal) (items : List (Bor (List ℕ))) (a : Option (List Call))
     → LooksAt goal (texts items) (texts (take 0 items)) (texts (drop 0 items)) a a
@@ -102,7 +102,7 @@ looks-here goal services items i d a b within is h =
     subst (λ (after : List (List ℕ)). LooksAt goal services (texts (take i items)) after a b)
     (texts-at items i d within is) h
 
--- It is reached, and taken out.
+-- It is as it should be, and is taken out.
 pub looks-reached : (goal : Goal) (services : List (List ℕ)) (items new : List (Bor (List ℕ))) (i : ℕ)
     (d : Bor (List ℕ)) (a b c : Option (List Call))
     → i < length items → d ≡ get_or items i d → new ≡ take i items ++ drop (i + 1) items
@@ -119,7 +119,7 @@ looks-reached goal services items new i d a b c within is without h f =
     subst (λ (l : List (List ℕ)). LooksAt goal services l (texts (drop i new)) a c) left
     (subst (λ (l : List (List ℕ)). LooksAt goal services (texts (take i items) ++ []) l a c) after one)
 
--- It is not yet reached, and left.
+-- It is not yet as it should be, and is left.
 pub looks-waiting : (goal : Goal) (services : List (List ℕ)) (items : List (Bor (List ℕ))) (i : ℕ) (d : Bor (List ℕ))
     (a b c : Option (List Call))
     → i < length items → d ≡ get_or items i d

@@ -10,7 +10,7 @@ use Rattle.cmd_wait.specs.Watching.{Watched, watched, first_watch, Pauses}
 use Rattle.cmd_wait.specs.Rounds.{LooksAt, Waits, none, more, looks_of}
 use Rattle.cmd_wait.specs.Ends.{Scene, scene, EndsBy, WaitsFor}
 
--- The clock was read, and then came rounds that are not the last.
+-- The clock was read, and then rounds followed that are not the last.
 pub record IsUnderWay (order : Order) (begin : ℕ) (old : Sight) (left : List (List ℕ)) (now : Watched) : Type 0 where
   pub begun : Sight
   pub read : Extended old.steps begun.steps (Read begin ∷ [])

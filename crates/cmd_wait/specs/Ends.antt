@@ -21,7 +21,7 @@ use Rattle.cmd_wait.specs.declared.finding.WaitFault.{WaitFault}
 use Rattle.cmd_wait.specs.declared.options.Options.{Options}
 use Rattle.cmd_wait.specs.declared.finding.WaitFault.TheVariants as fault
 
--- What `wait` works with: that, and where it reports faults.
+-- What `wait` works with: the calls and steps so far, and the device on which it reports faults.
 pub record Scene : Type 0 where
   pub sight : Sight
   pub faults : Device
@@ -29,37 +29,37 @@ pub record Scene : Type 0 where
 abbrev pub scene : (sight : Sight) (faults : Device) → Scene
 scene sight faults = record { sight = sight; faults = faults }
 
--- Sayings
+-- Messages
 
--- why a status is no record, as it is reported behind the folder
+-- why a status is not a record, as it is reported after the folder
 abbrev pub bad_note : RecordFault → List ℕ
 bad_note cause = codes ": bad status record: " ++ fault_name cause ++ 10 ∷ []
 
--- why a service can't be waited for, as it is reported behind its folder
+-- why a service can't be waited for, as it is reported after its folder
 abbrev pub fault_note : WaitFault → List ℕ
 fault_note fault.NotSupervised = codes ": supervise not running" ++ 10 ∷ []
 fault_note fault.Denied = codes ": unable to open supervise/ok: Permission denied" ++ 10 ∷ []
 fault_note fault.Unread = codes ": unable to read status" ++ 10 ∷ []
 fault_note (fault.Bad cause) = bad_note cause
 
--- that the time is over, as it is reported behind a service's folder
+-- that the time is over, as it is reported after a service's folder
 abbrev pub over_note : Goal → List ℕ
 over_note goal.Up = codes ": not up in time" ++ 10 ∷ []
 over_note goal.Down = codes ": not down in time" ++ 10 ∷ []
 over_note goal.Unsupervised = codes ": still supervised" ++ 10 ∷ []
 
--- what is reported of a service
+-- what is reported about a service; and about a lack of memory
 abbrev pub report_of : (folder note : List ℕ) → List ℕ
 report_of folder note = codes "wait: " ++ (folder ++ note)
 
 abbrev pub memory_report : List ℕ
 memory_report = codes "wait: OutOfMemory" ++ 10 ∷ []
 
--- That the time is over was reported of a service.
+-- It was reported about a service that the time is over.
 abbrev pub ReportsOver : Goal → (folder : List ℕ) (old new : Device) → Type 0
 ReportsOver goal folder old new = Reports old new (report_of folder (over_note goal))
 
--- the status of a service that can't be waited for
+-- the exit status for a service that can't be waited for
 abbrev pub fault_status : WaitFault → ℕ
 fault_status fault.NotSupervised = 102
 fault_status fault.Denied = 111
@@ -68,8 +68,8 @@ fault_status (fault.Bad cause) = 111
 
 -- The last round
 
--- It left no service: 0, and nothing is reported. Each service of the order was found as it is waited for, by a look of
--- this round or of one before it.
+-- It left no service: the status is 0, and nothing is reported. Each service of the order was found as it should be, by
+-- a look of this round or of an earlier one.
 pub record Reaches (order : Order) (before : List Look) (services : List (List ℕ)) (status : ℕ) (old new : Scene)
     : Type 0 where
   pub now : ℕ
@@ -79,7 +79,7 @@ pub record Reaches (order : Order) (before : List Look) (services : List (List �
   pub found : (folder : List ℕ) → IsAmong folder order.services
       → IsFound order.goal folder (before ++ takes.looked.looks)
 
--- It left services, and the time was over when it began: 99, and each of these is reported.
+-- It left services, and the time was over when it began: the status is 99, and each of these services is reported.
 pub record RunsOut (order : Order) (begin : ℕ) (services : List (List ℕ)) (status : ℕ) (old new : Scene) : Type 0 where
   pub now : ℕ
   pub left : List (List ℕ)
@@ -89,8 +89,8 @@ pub record RunsOut (order : Order) (begin : ℕ) (services : List (List ℕ)) (s
   pub status_is : status ≡ 99
   pub reported : InTurn (ReportsOver order.goal) left old.faults new.faults
 
--- A look found a service that can't be waited for: it is reported why, with the status of that, and none after it is
--- looked at.
+-- A look found a service that can't be waited for. It is reported why, with the status for that, and no service after
+-- it is looked at.
 pub record Fails (order : Order) (services : List (List ℕ)) (status : ℕ) (old new : Scene) : Type 0 where
   pub now : ℕ
   pub folder : List ℕ
@@ -100,14 +100,14 @@ pub record Fails (order : Order) (services : List (List ℕ)) (status : ℕ) (ol
   pub status_is : status ≡ fault_status fault
   pub reported : Reports old.faults new.faults (report_of folder (fault_note fault))
 
--- By the looks before it, and the services that these left.
+-- How the last round ends, after these looks and with the services that they left.
 abbrev pub EndsBy : (order : Order) (begin : ℕ) (before : List Look) (services : List (List ℕ)) (status : ℕ)
     (old new : Scene) → Type 0
 EndsBy order begin before services status old new =
     Reaches order before services status old new
     ⊎ (RunsOut order begin services status old new ⊎ Fails order services status old new)
 
--- The clock is read, then come rounds, and the last one ends it.
+-- The clock is read. Then rounds follow, and the last one ends the wait.
 pub record WaitsFor (order : Order) (status : ℕ) (old new : Scene) : Type 0 where
   pub begin : ℕ
   pub begun : Sight
@@ -118,7 +118,7 @@ pub record WaitsFor (order : Order) (status : ℕ) (old new : Scene) : Type 0 wh
   pub waits : Waits order begin order.services (watched first_watch begun) left middle
   pub ends : EndsBy order begin (looks_of waits) left status (scene middle.sight old.faults) new
 
--- It waits, and then it is reported of each folder that is not there.
+-- It waits, and then it is reported for each folder that does not exist why.
 pub record WaitsThenTells (order : Order) (status : ℕ) (old new : Scene) : Type 0 where
   pub waited : Scene
   pub waits : WaitsFor order status old waited
@@ -126,14 +126,14 @@ pub record WaitsThenTells (order : Order) (status : ℕ) (old new : Scene) : Typ
   pub told : TellsEach (codes "wait: ") order.services (telling waited.sight.calls waited.faults)
       (telling new.sight.calls new.faults)
 
--- It waits as options say.
+-- It waits as the options say.
 abbrev pub WaitsAsked : Options → (status : ℕ) → (calls asked : Option (List Call)) → (steps taken : Option (List Step))
     → (faults reports : Device) → Type 0
 WaitsAsked options status calls asked steps taken faults reports =
     WaitsFor (order options.goal options.limit (texts options.services.now)) status
     (scene (sight calls steps) faults) (scene (sight asked taken) reports)
 
--- The same, and then it is reported of each folder that is not there.
+-- The same, and then it is reported for each folder that does not exist why.
 abbrev pub WaitsAndTells : Options → (status : ℕ) → (calls asked : Option (List Call))
     → (steps taken : Option (List Step)) → (faults reports : Device) → Type 0
 WaitsAndTells options status calls asked steps taken faults reports =
@@ -142,14 +142,14 @@ WaitsAndTells options status calls asked steps taken faults reports =
 
 -- Ends
 
--- Words that ask for nothing: the usage is reported, and nothing is asked.
+-- These words ask for nothing: the usage is reported, and nothing is asked.
 pub record RefusesWords (words : List (List ℕ)) (status : ℕ) (old new : Scene) : Type 0 where
   pub wrong : AskNothing words
   pub status_is : status ≡ 100
   pub unasked : new.sight ≡ old.sight
   pub reported : Reports old.faults new.faults (usage_text command.Wait)
 
--- There is no memory to keep which services are left: nothing is asked, and it is reported.
+-- There is no memory for the list of services that are left: nothing is asked, and the lack is reported.
 pub record LacksMemory (status : ℕ) (old new : Scene) : Type 0 where
   pub status_is : status ≡ 111
   pub unasked : new.sight ≡ old.sight
@@ -161,11 +161,11 @@ pub record WaitsWords (words : List (List ℕ)) (status : ℕ) (old new : Scene)
   pub asks : Asks words order
   pub waits : LacksMemory status old new ⊎ WaitsThenTells order status old new
 
--- `wait`, by its words
+-- How `wait` ends, by its words
 abbrev pub EndsByWords : (words : List (List ℕ)) (status : ℕ) (old new : Scene) → Type 0
 EndsByWords words status old new = RefusesWords words status old new ⊎ WaitsWords words status old new
 
--- The same, of each as it was and is.
+-- The same, for each value before and after.
 abbrev pub WaitEnds : (words : List (Bor (List ℕ))) (status : ℕ) (calls asked : Option (List Call))
     (steps taken : Option (List Step)) (faults reports : Device) → Type 0
 WaitEnds words status calls asked steps taken faults reports =

@@ -1,4 +1,4 @@
--- What a look at a service finds, by what came of its calls.
+-- What a look at a service finds, from the results of its calls.
 use Rattle.std.specs.Prelude.{◌≡◌, ◌≤◌, ℕ, nat_le, Bool, true, false, not, ◌&&◌, if◌then◌else◌, List, [], ◌∷◌, ◌++◌}
 use Rattle.std.specs.Prelude.{Option, Some, None}
 use Rattle.std.specs.Prelude.{Result, Ok}
@@ -29,36 +29,35 @@ is_down_phase phase.Down = true
 is_down_phase phase.Gone = true
 is_down_phase other = false
 
--- whether a record says that a service is up and settled: its phase says it, or, in a record that has none, that there
--- is a process
+-- whether a record says that a service is up and settled: its phase says so, or if it has no phase, it has a process
 abbrev pub is_up : Loaded → Bool
 is_up (Old status) = is_running status
 is_up (New full) = is_up_phase full.phase
 
--- whether it is down: its phase says it, or, in a record that has none, that there is no process
+-- whether a record says that it is down: its phase says so, or if it has no phase, it has no process
 abbrev pub is_down : Loaded → Bool
 is_down (Old status) = not (is_running status)
 is_down (New full) = is_down_phase full.phase
 
--- Whether a process has lived for two seconds, by its age in hundredths of a second, where it lives. So the service is
--- up for a second since it was settled.
+-- Whether a process lives and has lived for two seconds, from its age in hundredths of a second. The service has then
+-- been up for a second since it settled.
 abbrev pub has_lasted : Option ℕ → Bool
 has_lasted None = false
 has_lasted (Some age) = nat_le 200 age
 
--- the process whose age is asked for: that of a service that is waited for as up, where its record says that it is
+-- the process whose age is asked for, if the service should be up and its record says that it is
 abbrev pub process_asked : Goal → Result Loaded RecordFault → Option ℕ
 process_asked goal.Up (Ok loaded) = if is_up loaded then Some (status_in loaded).pid else None
 process_asked other read = None
 
--- What came of the calls of a look: the service did not answer, for this reason; its status could not be read; or these
--- are the first bytes of it, and this is the age of its process, where it was asked for and the process lives.
+-- The results of the calls of a look. The service did not respond, for this reason; or its status could not be read. Or
+-- these are its first bytes, and this is the age of its process, if that was asked for and the process lives.
 pub data Sighting : Type 0 where
   Absent : (why : Unreached) → Sighting
   Unread : Sighting
   Shown : (bytes : List ℕ) → (age : Option ℕ) → Sighting
 
--- the call that asks for the age of a process, where there is one to ask for
+-- the call that asks for the age of a process, if there is one to ask about
 abbrev pub calls_of_age : (process age : Option ℕ) → List Call
 calls_of_age None age = []
 calls_of_age (Some process) age = SoughtAge process age ∷ []
@@ -74,8 +73,8 @@ calls_of_look goal folder (Shown bytes age) =
 abbrev pub reached_if : Bool → Finding
 reached_if reached = if reached then Reached else Waiting
 
--- A service that is not supervised is what `-x` waits for, and else can't be waited for. One that is there, and takes
--- no more connections, is looked at again.
+-- A service that is not supervised is what `-x` waits for, and otherwise can't be waited for. One that is there and
+-- takes no more connections is looked at again.
 abbrev pub absent_finding : Goal → Unreached → Finding
 absent_finding goal.Unsupervised NotRunning = Reached
 absent_finding goal.Up NotRunning = Failed fault.NotSupervised
@@ -83,14 +82,14 @@ absent_finding goal.Down NotRunning = Failed fault.NotSupervised
 absent_finding other Denied = Failed fault.Denied
 absent_finding other Unanswered = Waiting
 
--- For whether it is supervised its status does not matter.
+-- The status does not matter for whether it is supervised.
 abbrev pub unread_finding : Goal → Finding
 unread_finding goal.Unsupervised = Waiting
 unread_finding goal.Up = Failed fault.Unread
 unread_finding goal.Down = Failed fault.Unread
 
--- A service is up where its record says so and its process has lived for two seconds: one that ends sooner, and is
--- started again and again, never is.
+-- A service is up if its record says so and its process has lived for two seconds. A service whose process ends sooner,
+-- and is restarted each time, is therefore never up.
 abbrev pub record_finding : Goal → Result Loaded RecordFault → (age : Option ℕ) → Finding
 record_finding goal.Unsupervised read age = Waiting
 record_finding goal.Up (Ok loaded) age = reached_if (is_up loaded && has_lasted age)
@@ -121,6 +120,6 @@ pub record SeesUp (sighting : Sighting) : Type 0 where
   pub lasted : 200 ≤ age
   pub asked : process_asked goal.Up (loaded_from bytes) ≡ Some (status_in loaded).pid
 
--- No look that finds a service up saw less.
+-- Every look that finds a service up saw that.
 abbrev pub UpLasts : Type 0
 UpLasts = (sighting : Sighting) → finding_of goal.Up sighting ≡ Reached → SeesUp sighting

@@ -26,24 +26,24 @@ folders looks = map (λ look. look.folder) looks
 abbrev pub calls_of : Goal → List Look → List Call
 calls_of goal looks = flat_map (λ look. calls_of_look goal look.folder look.sighting) looks
 
--- A service can be waited for.
+-- This finding is not a failure.
 abbrev pub GoesOn : Finding → Type 0
 GoesOn Reached = ⊤
 GoesOn Waiting = ⊤
 GoesOn (Failed fault) = ⊥
 
--- the service, where it was not reached
+-- the service, if it was not found as it should be
 abbrev pub left_at : (folder : List ℕ) → Finding → List (List ℕ)
 left_at folder Reached = []
 left_at folder Waiting = folder ∷ []
 left_at folder (Failed fault) = folder ∷ []
 
--- the services that were not reached, in their order
+-- the services that were not found as they should be, in their order
 abbrev pub left_by : Goal → List Look → List (List ℕ)
 left_by goal looks = flat_map (λ look. left_at look.folder (finding_of goal look.sighting)) looks
 
--- The first of these services were looked at, each once; they can all be waited for, and these of them are left. The
--- services `after` were not looked at.
+-- The first of these services were looked at, each once. None of them failed, and these are left. The services `after`
+-- were not looked at.
 pub record LooksAt (goal : Goal) (services left after : List (List ℕ)) (old new : Option (List Call)) : Type 0 where
   pub looks : List Look
   pub split : services ≡ folders looks ++ after
@@ -51,7 +51,7 @@ pub record LooksAt (goal : Goal) (services left after : List (List ℕ)) (old ne
   pub left_is : left ≡ left_by goal looks
   pub calls : Extended old new (calls_of goal looks)
 
--- The look at the service in a folder, after looks at those before it, found that it can't be waited for.
+-- After looks at the services before it, the look at the service in a folder found that it can't be waited for.
 pub record FailsAt (goal : Goal) (services : List (List ℕ)) (folder : List ℕ) (fault : WaitFault)
     (old new : Option (List Call)) : Type 0 where
   pub left : List (List ℕ)
@@ -60,19 +60,19 @@ pub record FailsAt (goal : Goal) (services : List (List ℕ)) (folder : List ℕ
   pub looked : LooksAt goal services left (folder ∷ after) old middle
   pub fails : Finds goal folder (Failed fault) middle new
 
--- A look failed so.
+-- A look failed this way.
 abbrev pub FailsWith : (failure : Failure) (goal : Goal) (services : List (List ℕ)) (old new : Option (List Call))
     → Type 0
 FailsWith failure goal services old new = FailsAt goal services failure.folder.now failure.fault old new
 
 -- Rounds, one after the other
 
--- A round: the clock is read, and then each of these services is looked at, once; these are left.
+-- A round: the clock is read, and then each of these services is looked at, once. These are left.
 pub record TakesRound (order : Order) (now : ℕ) (services left : List (List ℕ)) (old new : Sight) : Type 0 where
   pub read : Extended old.steps new.steps (Read now ∷ [])
   pub looked : LooksAt order.goal services left [] old.calls new.calls
 
--- A round that is not the last: services are left, the time was not over when it began, and behind it is a pause.
+-- A round that is not the last: services are left, the time was not over when it began, and a pause follows.
 pub record Repeats (order : Order) (begin : ℕ) (services left : List (List ℕ)) (old new : Watched) : Type 0 where
   pub now : ℕ
   pub middle : Sight
@@ -81,7 +81,8 @@ pub record Repeats (order : Order) (begin : ℕ) (services left : List (List ℕ
   pub in_time : IsOver order.limit begin now → ⊥
   pub pauses : Pauses order.limit begin left (watched old.watch middle) new
 
--- Rounds that are not the last were taken from these services on, each over those that the one before it left.
+-- Rounds that are not the last were made, beginning with these services. Each went over those that the one before it
+-- left.
 pub data Waits (order : Order) (begin : ℕ) (services : List (List ℕ)) (old : Watched)
     : (left : List (List ℕ)) → (now : Watched) → Type 0 where
   none : Waits order begin services old services old
@@ -101,7 +102,7 @@ abbrev pub IsAmong : (folder : List ℕ) (services : List (List ℕ)) → Type 0
 IsAmong folder [] = ⊥
 IsAmong folder (service ∷ services) = (service ≡ folder) ⊎ IsAmong folder services
 
--- One of these looks found it as it is waited for.
+-- One of these looks found it as it should be.
 abbrev pub IsFound : (goal : Goal) (folder : List ℕ) (looks : List Look) → Type 0
 IsFound goal folder [] = ⊥
 IsFound goal folder (look ∷ looks) =

@@ -1,5 +1,5 @@
--- What the words of `wait` ask: `wait [-u|-d|-x] [-t SECONDS] SERVICE..`, the options in either order, and perhaps a
--- `--` behind them. Words are lists of bytes.
+-- What the words of `wait` ask for: `wait [-u|-d|-x] [-t SECONDS] SERVICE..`, with the options in either order, and
+-- with or without a `--` after them. Words are lists of bytes.
 use Rattle.std.specs.Prelude.{◌≡◌, ◌≢◌, ℕ, ◌<◌, ◌^◌, if◌then◌else◌, List, [], ◌∷◌, codes, bytes_eq, decimal, Option}
 use Rattle.std.specs.Prelude.{Some}
 use Rattle.std.specs.Prelude.{None, is_some, unwrap_or, true, false}
@@ -7,7 +7,7 @@ use Rattle.cmd_svc.specs.Words.{is_end, is_option}
 use Rattle.cmd_wait.specs.declared.finding.Goal.{Goal}
 use Rattle.cmd_wait.specs.declared.finding.Goal.TheVariants.{Up, Down, Unsupervised}
 
--- What is to be waited for, for how many seconds at most, and of which services.
+-- What to wait for, for how many seconds at most, and for which services.
 pub record Order : Type 0 where
   pub goal : Goal
   pub limit : Option ℕ
@@ -24,7 +24,7 @@ goal_of word =
     else if bytes_eq word (codes "-x") then Some Unsupervised
     else None
 
--- the goal that words begin with, and the words behind it
+-- the goal that words begin with, and the words after it
 abbrev pub first_goal : List (List ℕ) → Option Goal
 first_goal [] = None
 first_goal (word ∷ words) = goal_of word
@@ -45,18 +45,18 @@ FirstLimit (word ∷ []) limit = limit ≡ None
 FirstLimit (word ∷ next ∷ words) None = bytes_eq word (codes "-t") ≡ false
 FirstLimit (word ∷ next ∷ words) (Some seconds) = (bytes_eq word (codes "-t") ≡ true) × AreSeconds next seconds
 
--- the words behind that
+-- the words after that
 abbrev pub behind_limit : List (List ℕ) → List (List ℕ)
 behind_limit [] = []
 behind_limit (word ∷ []) = word ∷ []
 behind_limit (word ∷ next ∷ words) = if bytes_eq word (codes "-t") then words else word ∷ next ∷ words
 
--- the services that words behind the options name: all, behind a `--`; none, where another option stands there
+-- the services that the words after the options name: all words after a `--`; none, if another option comes next
 abbrev pub services_of : List (List ℕ) → List (List ℕ)
 services_of [] = []
 services_of (word ∷ words) = if is_end word then words else if is_option word then [] else word ∷ words
 
--- the goal behind the time, where there was none before it
+-- the goal after the time, if there was none before it
 abbrev pub goal_in : List (List ℕ) → Option Goal
 goal_in words = if is_some (first_goal words) then first_goal words else first_goal (behind_limit words)
 
@@ -64,13 +64,13 @@ abbrev pub behind_options : List (List ℕ) → List (List ℕ)
 behind_options words =
     if is_some (first_goal words) then behind_limit (behind_goal words) else behind_goal (behind_limit words)
 
--- The words ask for this. Where they name no goal, it is that services are up; and they name a service.
+-- The words ask for this. If they name no goal, the goal is that services are up. They name at least one service.
 pub record Asks (words : List (List ℕ)) (order : Order) : Type 0 where
   pub goal_is : order.goal ≡ unwrap_or (goal_in words) Up
   pub limit_is : FirstLimit (behind_goal words) order.limit
   pub services_are : order.services ≡ services_of (behind_options words)
   pub some : order.services ≢ []
 
--- They ask for nothing.
+-- The words ask for nothing.
 abbrev pub AskNothing : (words : List (List ℕ)) → Type 0
 AskNothing words = (order : Order) → Asks words order → ⊥

@@ -7,18 +7,18 @@ ghost use Rattle.cmd_wait.specs.Finding.{reached_if, record_finding, unread_find
 use cmd_svc::{Services, Unreached};
 use tai_status::{Loaded, Phase, RecordFault, decode_front};
 
-/// How long the process of a service has lived that counts as up, in hundredths of a second.
+/// The age, in hundredths of a second, from which the process of a service counts as up.
 const LASTING: u128 = 200;
 
 /// What is waited for.
 #[derive(Clone, Copy, Debug, PartialEq, Eq)]
 pub enum Goal {
-    /// That it is up and settled: a record of 20 bytes is in the phase `up`, one of 18 bytes has a process; and that
-    /// this process lives, and has lived for two seconds.
+    /// It is up and settled: a record of 20 bytes is in the phase `up`, or one of 18 bytes has a process. Also, this
+    /// process lives, and has lived for two seconds.
     Up,
-    /// That it is down: a record of 20 bytes is in the phase `down` or `gone`, one of 18 bytes has no process.
+    /// It is down: a record of 20 bytes is in the phase `down` or `gone`, or one of 18 bytes has no process.
     Down,
-    /// That it is no longer supervised.
+    /// It is no longer supervised.
     Unsupervised,
 }
 
@@ -31,14 +31,14 @@ pub enum WaitFault {
     Denied,
     /// Its status can't be read.
     Unread,
-    /// Its status is no record.
+    /// Its status is not a record.
     Bad(RecordFault),
 }
 
 /// What a look at a service found.
 #[derive(Clone, Copy, Debug, PartialEq, Eq)]
 pub enum Finding {
-    /// It is as it is waited for.
+    /// It is as it should be.
     Reached,
     /// It is not yet so.
     Waiting,
@@ -46,8 +46,8 @@ pub enum Finding {
     Failed(WaitFault),
 }
 
-/// What is found of a service that does not answer. One that is there, and takes no more connections, is looked at
-/// again.
+/// Returns what is found about a service that was not reached. A service that is there and takes no more connections is
+/// looked at again.
 fn absent_finding(goal: Goal, why: Unreached) -> Finding
     ensures { result ≡ absent_finding goal why }
 {
@@ -59,7 +59,7 @@ fn absent_finding(goal: Goal, why: Unreached) -> Finding
     }
 }
 
-/// What is found of a service whose status can't be read.
+/// Returns what is found about a service whose status can't be read.
 fn unread_finding(goal: Goal) -> Finding
     ensures { result ≡ unread_finding goal }
 {
@@ -69,7 +69,7 @@ fn unread_finding(goal: Goal) -> Finding
     }
 }
 
-/// Whether a record says that a service is up and settled.
+/// Returns whether a record says that a service is up and settled.
 fn is_up(loaded: &Loaded) -> bool
     ensures { result ≡ is_up loaded.now }
 {
@@ -82,7 +82,7 @@ fn is_up(loaded: &Loaded) -> bool
     }
 }
 
-/// Whether a service is down.
+/// Returns whether a record says that a service is down.
 fn is_down(loaded: &Loaded) -> bool
     ensures { result ≡ is_down loaded.now }
 {
@@ -95,7 +95,7 @@ fn is_down(loaded: &Loaded) -> bool
     }
 }
 
-/// What is found of a service that is waited for, by whether it is reached.
+/// Returns what is found about a service, by whether it is as it should be.
 fn reached_if(reached: bool) -> Finding
     ensures { result ≡ reached_if reached }
 {
@@ -106,7 +106,7 @@ fn reached_if(reached: bool) -> Finding
     }
 }
 
-/// Whether a process lives, and has lived for two seconds, by its age.
+/// Returns whether a process lives, and has lived for two seconds, from its age.
 fn has_lasted(age: Option<u128>) -> bool
     ensures { result ≡ has_lasted age }
 {
@@ -116,7 +116,7 @@ fn has_lasted(age: Option<u128>) -> bool
     }
 }
 
-/// The process whose age is asked for: that of a service that is waited for as up, where its record says that it is.
+/// Returns the process whose age is asked for. There is one if the service should be up and its record says that it is.
 fn process_asked(goal: Goal, read: &Result<Loaded, RecordFault>) -> Option<u32>
     ensures { result ≡ process_asked goal read.now }
 {
@@ -126,7 +126,7 @@ fn process_asked(goal: Goal, read: &Result<Loaded, RecordFault>) -> Option<u32>
     }
 }
 
-/// The age of that process, where there is one to ask for, and it lives.
+/// Returns the age of that process, if there is one to ask about and it lives.
 fn age_asked<S: Services>(
     services: &mut S,
     goal: Goal,
@@ -138,7 +138,8 @@ fn age_asked<S: Services>(
     services.age(process_asked(goal, read)?)
 }
 
-/// What is found of a service, by what its status file says, and by the age of its process, where that was asked for.
+/// Returns what is found about a service, from what its status file says, and from the age of its process if that was
+/// asked for.
 fn record_finding(goal: Goal, read: &Result<Loaded, RecordFault>, age: Option<u128>) -> Finding
     ensures { result ≡ record_finding goal read.now age }
 {
@@ -150,8 +151,8 @@ fn record_finding(goal: Goal, read: &Result<Loaded, RecordFault>, age: Option<u1
     }
 }
 
-/// Looks at the service in a folder: whether it is supervised, then its status, and then, where it is waited for as up
-/// and its record says that it is, for how long its process has lived.
+/// Looks at the service in a folder: whether it is supervised, and then its status. If the service should be up and its
+/// record says that it is, also looks how long its process has lived.
 pub(crate) fn look<S: Services>(services: &mut S, goal: Goal, folder: &str) -> Finding
     ensures { Finds goal folder.now result (S.calls services.old) (S.calls services.new) }
 {

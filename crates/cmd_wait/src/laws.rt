@@ -1,8 +1,9 @@
-//! What is true of the definitions alone, for readers. The function does nothing: its contract is the law.
+//! What is true for the definitions alone, for readers. The function does nothing: its contract is the law.
 ghost use Rattle.cmd_wait.specs.Finding.{UpLasts};
 
-/// A look that finds a service up saw a record that says so, and that the process of this record lived, and had lived
-/// for two seconds. So no service whose processes end sooner counts as up, however often it is looked at.
+/// States that a look which finds a service up saw a record that says so, and that the process of this record lived,
+/// and had lived for two seconds. A service whose processes end sooner therefore never counts as up, however often it
+/// is looked at.
 pub fn no_crash_loop_is_up()
     ensures { UpLasts }
 {}

@@ -1,7 +1,7 @@
 //! The command `wait`: it returns once services are up, down, or no longer supervised.
 //!
-//! [`read_options`] reads its words, [`Finding`] is what a look finds of a service, and [`run_wait`] is the
-//! command, over a [`Pace`]: the clock that it reads, and how it rests.
+//! [`read_options`] reads its words, and [`Finding`] is what a look finds about a service. [`run_wait`] is the command,
+//! over a [`Pace`]: the clock that it reads, and how it rests.
 #![tactic(auto)]
 
 mod finding;

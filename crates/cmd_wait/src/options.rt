@@ -13,12 +13,12 @@ use sup_core::read_number;
 #[derive(Clone, Copy)]
 pub struct Options<'a> {
     pub goal: Goal,
-    /// For how many seconds at most. None: without an end.
+    /// The most seconds to wait. None means without limit.
     pub limit: Option<u32>,
     pub services: &'a [&'a str],
 }
 
-/// The goal that an option names.
+/// Returns the goal that an option names.
 fn goal_of(word: &str) -> Option<Goal>
     ensures { result ≡ goal_of word.now }
 {
@@ -30,7 +30,7 @@ fn goal_of(word: &str) -> Option<Goal>
     }
 }
 
-/// The goal that words begin with.
+/// Returns the goal that words begin with.
 fn first_goal(words: &[&str]) -> Option<Goal>
     ensures { result ≡ first_goal (texts words.now) }
 {
@@ -40,7 +40,7 @@ fn first_goal(words: &[&str]) -> Option<Goal>
     }
 }
 
-/// The words behind the goal that they begin with.
+/// Returns the words after the goal that they begin with.
 fn behind_goal<'a>(words: &'a [&'a str]) -> &'a [&'a str]
     ensures { texts result.now ≡ behind_goal (texts words.entry.now) }
 {
@@ -50,7 +50,7 @@ fn behind_goal<'a>(words: &'a [&'a str]) -> &'a [&'a str]
     }
 }
 
-/// The number of seconds that a word says.
+/// Returns the number of seconds that a word says.
 fn read_seconds(word: &str) -> Option<u32>
     ensures { MatchOption result
         ((seconds : ℕ) → AreSeconds word.now seconds → ⊥)
@@ -59,7 +59,8 @@ fn read_seconds(word: &str) -> Option<u32>
     u32::try_from(read_number(word.as_bytes())?).ok()
 }
 
-/// The time that words begin with, where there is one. None: what stands behind its `-t` is no number of seconds.
+/// Returns the time that words begin with, if there is one. Returns None if what comes after its `-t` is not a number
+/// of seconds.
 fn first_limit(words: &[&str]) -> Option<Option<u32>>
     ensures { MatchOption result
         ((limit : Option ℕ) → FirstLimit (texts words.now) limit → ⊥)
@@ -74,7 +75,7 @@ fn first_limit(words: &[&str]) -> Option<Option<u32>>
     }
 }
 
-/// The words behind the time that they begin with.
+/// Returns the words after the time that they begin with.
 fn behind_limit<'a>(words: &'a [&'a str]) -> &'a [&'a str]
     ensures { texts result.now ≡ behind_limit (texts words.entry.now) }
 {
@@ -84,7 +85,7 @@ fn behind_limit<'a>(words: &'a [&'a str]) -> &'a [&'a str]
     }
 }
 
-/// The services that words behind the options name.
+/// Returns the services that the words after the options name.
 fn services_of<'a>(words: &'a [&'a str]) -> &'a [&'a str]
     ensures { texts result.now ≡ services_of (texts words.entry.now) }
 {
@@ -95,8 +96,8 @@ fn services_of<'a>(words: &'a [&'a str]) -> &'a [&'a str]
     }
 }
 
-/// What words ask for: `[-u|-d|-x] [-t SECONDS] SERVICE..`, the options in either order, and perhaps a `--` behind
-/// them. None where they ask for nothing.
+/// Returns what words ask for: `[-u|-d|-x] [-t SECONDS] SERVICE..`, with the options in either order, and with or
+/// without a `--` after them. Returns None if they ask for nothing.
 pub fn read_options<'a>(words: &'a [&'a str]) -> Option<Options<'a>>
     ensures wrong { MatchOption result (AskNothing (texts words.entry.now)) (λ _. ⊤) }
     ensures asks { IfSome result (λ options.
@@ -115,7 +116,7 @@ pub fn read_options<'a>(words: &'a [&'a str]) -> Option<Options<'a>>
     })
 }
 
-/// The goal that words name: that services are up, where they name none.
+/// Returns the goal that words name. If they name none, the goal is that services are up.
 fn goal_in(words: &[&str]) -> Goal
     ensures { result ≡ unwrap_or (goal_in (texts words.now)) Goal.Up }
 {
@@ -125,7 +126,7 @@ fn goal_in(words: &[&str]) -> Goal
     }
 }
 
-/// The words behind the options.
+/// Returns the words after the options.
 fn behind_options<'a>(words: &'a [&'a str]) -> &'a [&'a str]
     ensures { texts result.now ≡ behind_options (texts words.entry.now) }
 {

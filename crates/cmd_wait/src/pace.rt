@@ -1,11 +1,11 @@
-//! How a wait goes on: the clock that it reads, and how it rests.
+//! How a wait proceeds: the clock that it reads, and how it rests.
 use std::thread;
 use std::time::{Clock, Duration};
 
-/// How long it rests, in milliseconds: a change is seen within 50.
+/// The milliseconds of a rest: a change is seen within 50.
 const REST_MILLISECONDS: u64 = 45;
 
-/// A clock, and rests. Contracts see what it gave, where it keeps that.
+/// A clock, and rests. Contracts see what the clock returned and the rests, while these are recorded.
 pub trait Pace {
     ghost use Rattle.std.specs.Prelude.{◌∷◌, [], Option, None, List};
     ghost use Rattle.tai_status.specs.Extended.{Extended};
@@ -13,7 +13,7 @@ pub trait Pace {
 
     ghost steps: { Self → Option (List Step) } = { λ _. None };
 
-    /// Milliseconds since a moment that stays the same. A clock that is set does not change them.
+    /// Returns the milliseconds since a fixed moment. Setting a clock does not change them.
     fn now(&mut self) -> u64
         ensures read { Extended (steps self.old) (steps self.new) (Read result ∷ []) };
 
@@ -22,8 +22,8 @@ pub trait Pace {
         ensures rested { Extended (steps self.old) (steps self.new) (Rested ∷ []) };
 }
 
-/// The pace by the system's own clock. It says nothing to contracts. Where the clock can't be read it repeats its last
-/// reading, at first 0.
+/// The pace by the system's own clock. It says nothing to contracts. If the clock can't be read, it repeats its last
+/// reading, which is 0 at first.
 #[derive(Drop)]
 pub struct SystemPace<R: Clock + Drop> {
     runtime: R,
@@ -31,13 +31,13 @@ pub struct SystemPace<R: Clock + Drop> {
 }
 
 impl<R: Clock + Drop> SystemPace<R> {
-    /// The pace by the clock of this runtime.
+    /// Returns the pace by the clock of this runtime.
     pub fn new(runtime: R) -> SystemPace<R> {
         SystemPace { runtime, last: 0 }
     }
 }
 
-/// The milliseconds that the clock shows, where it can be read.
+/// Returns the milliseconds that the clock shows, if it can be read.
 fn read_milliseconds(clock: &impl Clock) -> Option<u64> {
     let now = clock.monotonic().ok()?;
     u64::try_from(now.as_millis()).ok()

@@ -1,4 +1,4 @@
-//! A round over the services that are left.
+//! One round over the services that are left.
 ghost use Rattle.std.specs.Prelude.{◌≡◌, ◌↔◌, [], IsTrue, OnOk, IfErr};
 ghost use Rattle.cmd_svc.specs.Words.{texts};
 ghost use Rattle.cmd_wait.specs.Rounds.{FailsWith, LooksAt};
@@ -15,8 +15,8 @@ pub(crate) struct Failure<'a> {
     pub fault: WaitFault,
 }
 
-/// Looks at each service that is left, once, and leaves those that were not reached. The first that can't be waited for
-/// ends that.
+/// Looks at each service that is left, once, and keeps those that were not as they should be. The first one that can't
+/// be waited for ends that, and is the fault.
 pub(crate) fn look_at_each<'a, S: Services, A: Allocator>(
     services: &mut S,
     goal: Goal,
@@ -41,7 +41,7 @@ pub(crate) fn look_at_each<'a, S: Services, A: Allocator>(
     Ok(())
 }
 
-/// Whether the time is over, where there is one, between two readings of the clock.
+/// Returns whether the time, if there is a limit, is over between two readings of the clock.
 pub(crate) fn is_over(limit: Option<u32>, begin: u64, now: u64) -> bool
     ensures { IsTrue result ↔ IsOver limit begin now }
 {

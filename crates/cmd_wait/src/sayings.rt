@@ -1,4 +1,4 @@
-//! What is reported of services.
+//! What is reported about services.
 ghost use Rattle.std.specs.Prelude.{◌≡◌};
 ghost use Rattle.cmd_svc.specs.Turns.{InTurn};
 ghost use Rattle.cmd_svc.specs.Words.{texts};
@@ -11,10 +11,10 @@ use cmd_base::{DONE, TROUBLE, report_parts};
 use std::io::Write;
 use tai_status::{Output, RecordFault};
 
-/// The status of a service that is not supervised.
+/// The exit status for a service that is not supervised.
 const NOT_SUPERVISED: u8 = 102;
 
-/// Why a status is no record, as it is reported behind a service's folder.
+/// Returns why a status is not a record, as it is reported after a service's folder.
 fn bad_note(fault: RecordFault) -> &'static [u8]
     ensures { result.now ≡ bad_note fault }
 {
@@ -30,7 +30,7 @@ fn bad_note(fault: RecordFault) -> &'static [u8]
     }
 }
 
-/// Why a service can't be waited for, as it is reported behind its folder.
+/// Returns why a service can't be waited for, as it is reported after its folder.
 fn fault_note(fault: WaitFault) -> &'static [u8]
     ensures { result.now ≡ fault_note fault }
 {
@@ -42,7 +42,7 @@ fn fault_note(fault: WaitFault) -> &'static [u8]
     }
 }
 
-/// The status of a service that can't be waited for.
+/// Returns the exit status for a service that can't be waited for.
 fn fault_status(fault: WaitFault) -> u8
     ensures { result ≡ fault_status fault }
 {
@@ -52,7 +52,7 @@ fn fault_status(fault: WaitFault) -> u8
     }
 }
 
-/// Reports that a service can't be waited for, and answers the status of that.
+/// Reports that a service can't be waited for, and returns the exit status for that.
 pub(crate) fn report_failure<E: Write>(failure: &Failure<'_>, faults: &mut Output<E>) -> u8
     ensures status { result ≡ fault_status failure.now.fault }
     ensures reported { Reports faults.old faults.new (report_of failure.now.folder.now (fault_note failure.now.fault)) }
@@ -66,7 +66,7 @@ pub(crate) fn report_failure<E: Write>(failure: &Failure<'_>, faults: &mut Outpu
     )
 }
 
-/// That the time is over, as it is reported behind a service's folder.
+/// Returns that the time is over, as it is reported after a service's folder.
 fn over_note(goal: Goal) -> &'static [u8]
     ensures { result.now ≡ over_note goal }
 {
@@ -77,7 +77,7 @@ fn over_note(goal: Goal) -> &'static [u8]
     }
 }
 
-/// Reports that the time is over, a line for each of these services.
+/// Reports that the time is over, one line for each of these services.
 pub(crate) fn report_over<E: Write>(goal: Goal, left: &[&str], faults: &mut Output<E>)
     ensures { InTurn (ReportsOver goal) (texts left.now) faults.old faults.new }
 {

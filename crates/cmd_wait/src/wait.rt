@@ -14,10 +14,10 @@ use std::io::Write;
 use std::sync::Wait;
 use tai_status::Output;
 
-/// The status of a wait whose time is over.
+/// The exit status of a wait whose time is over.
 const OVER: u8 = 99;
 
-/// Waits for services: looks at those that are left, in rounds, and pauses between each two.
+/// Waits for services: looks at those that are left, in rounds, with a pause between each two.
 fn wait_for<R: Wait, S: Services, P: Pace, A: Allocator, E: Write>(
     rt: &R,
     services: &mut S,
@@ -50,7 +50,7 @@ fn wait_for<R: Wait, S: Services, P: Pace, A: Allocator, E: Write>(
     unreachable!()
 }
 
-/// Waits for services, and then says of each folder that is not there why.
+/// Waits for services, and then reports for each folder that does not exist why.
 fn wait_and_tell<R: Wait, S: Services, P: Pace, A: Allocator, E: Write>(
     rt: &R,
     services: &mut S,
@@ -68,17 +68,26 @@ fn wait_and_tell<R: Wait, S: Services, P: Pace, A: Allocator, E: Write>(
     status
 }
 
-/// The command `wait [-u|-d|-x] [-t SECONDS] SERVICE..`: returns once each service is up and settled, its process being
-/// older than two seconds, down (`-d`), or no longer supervised (`-x`). It looks at them in rounds, and at each until it
-/// was found so once: what comes of it later is not seen. At last it says of each folder that is not there why. A round
-/// comes 45 milliseconds after the one before it for a second after something changed in a folder `supervise` of theirs,
-/// and so after such a change; else a second after it. With `-t` the last round is the first that begins when so many
-/// seconds are over, so that `-t 0` looks once; else it may not come back.
+/// The command `wait [-u|-d|-x] [-t SECONDS] SERVICE..`: returns once each service is up and settled, with a process
+/// older than two seconds; or down (`-d`); or no longer supervised (`-x`). It looks at them in rounds, and at each one
+/// until that was found so once: what happens to it later is not seen. At the end, it reports for each folder that does
+/// not exist why.
 ///
-/// Answers the status: 0; 99 where the time is over, with a line on `faults` for each service that is left; 102 where a
-/// service is not supervised, or no longer so; 111 where this user may not look at one, where a status can't be read or
-/// is no record, and for want of memory; these with a line that says which and why. The services after that one are not
-/// looked at. Wrong words are the usage, with 100: then nothing is asked.
+/// A round follows the one before it after 45 milliseconds, for a second after something changed in one of their
+/// folders `supervise`. It also follows soon after such a change, and otherwise after a second. With `-t`, the last
+/// round is the first one that begins when this many seconds are over, so that `-t 0` looks once. Without `-t`, it may
+/// never return.
+///
+/// Returns the exit status:
+///
+/// - 0;
+/// - 99 if the time is over, with a line on `faults` for each service that is left;
+/// - 102 if a service is not supervised, or no longer supervised;
+/// - 111 if this user may not look at a service, if a status can't be read or is not a record, and for a lack of
+///   memory;
+/// - 100 for wrong words: the usage is reported, and nothing is asked.
+///
+/// For 102 and 111, a line says which service it is and why. The services after that one are not looked at.
 pub fn run_wait<R: Wait, S: Services, P: Pace, A: Allocator, E: Write>(
     rt: &R,
     alloc: A,

@@ -7,23 +7,23 @@ use crate::pace::Pace;
 use crate::rounds::is_over;
 use cmd_svc::Services;
 
-/// How many rests a second has.
+/// The number of rests in a second.
 const MOST_RESTS: u32 = 22;
 
-/// What is noted of the services that are left.
+/// What is noted about the services that are left.
 #[derive(Clone, Copy, Debug)]
 pub struct Watch {
-    /// When something changed last in a folder of theirs, in nanoseconds since 1970. None where that is not known of
-    /// each.
+    /// When something last changed in one of their folders, in nanoseconds since 1970. None if that is not known for
+    /// each folder.
     newest: Option<u64>,
-    /// How many rests still have a round behind them, since something changed less than a second ago.
+    /// The number of rests that are still followed by a round, because something changed less than a second ago.
     lively: u32,
 }
 
 impl Watch {
     ghost use Rattle.cmd_wait.specs.Watching.{first_watch, is_due, next_watch};
 
-    /// Nothing is noted yet.
+    /// Returns a watch that has noted nothing yet.
     pub(crate) fn new() -> Watch
         ensures { result ≡ first_watch }
     {
@@ -33,8 +33,8 @@ impl Watch {
         }
     }
 
-    /// Notes when something changed last. Answers whether a round is due: something changed since that was noted, or
-    /// that was less than a second ago.
+    /// Notes when something last changed. Returns whether a round is due: something changed since the last note, or it
+    /// changed less than a second ago.
     fn is_due(&mut self, newest: Option<u64>) -> bool
         ensures due { result ≡ is_due self.old newest }
         ensures noted { self.new ≡ next_watch self.old newest }
@@ -50,7 +50,7 @@ impl Watch {
     }
 }
 
-/// Whether two times are known, and are the same.
+/// Returns whether two times are known, and are the same.
 fn is_same(one: Option<u64>, other: Option<u64>) -> bool
     ensures { result ≡ is_same one other }
 {
@@ -60,7 +60,7 @@ fn is_same(one: Option<u64>, other: Option<u64>) -> bool
     }
 }
 
-/// The newer of two times, where both are known.
+/// Returns the newer of two times, if both are known.
 fn newer(one: Option<u64>, other: Option<u64>) -> Option<u64>
     ensures { result ≡ newer one other }
 {
@@ -70,7 +70,7 @@ fn newer(one: Option<u64>, other: Option<u64>) -> Option<u64>
     }
 }
 
-/// When something changed last in a folder of these services, where that is known of each.
+/// Returns when something last changed in a folder of these services, if that is known for each.
 fn newest_change<S: Services>(services: &mut S, folders: &[&str]) -> Option<u64>
     ensures { LearnsNewest (texts folders.now) result (S.calls services.old) (S.calls services.new) }
 {
@@ -81,7 +81,7 @@ fn newest_change<S: Services>(services: &mut S, folders: &[&str]) -> Option<u64>
     newest
 }
 
-/// Rests once. Answers whether a round is due then: something changed, or the time is over.
+/// Rests once. Returns whether a round is due then: something changed, or the time is over.
 fn rest_once<S: Services, P: Pace>(
     services: &mut S,
     pace: &mut P,
@@ -99,7 +99,7 @@ fn rest_once<S: Services, P: Pace>(
     watch.is_due(newest) || over
 }
 
-/// Rests until a round is due, for a second at most.
+/// Rests until a round is due, for at most a second.
 pub(crate) fn pause<S: Services, P: Pace>(
     services: &mut S,
     pace: &mut P,

@@ -1,4 +1,4 @@
--- The begin and the end of the line of an exit.
+-- The beginning and the end of the line of an exit.
 use Rattle.std.proofs.Common.{◌≡◌, ◌≤◌, ◌<◌, ℕ, ◌+◌, ◌-◌, List, [], ◌∷◌, ◌++◌, length, take, drop, decimal, codes}
 use Rattle.std.proofs.Common.{refl, sym, ap, ◌∙◌, arith, append_assoc, length-append}
 use Rattle.std.specs.List.{slice_range}
@@ -13,7 +13,7 @@ use Rattle.svc_exit.specs.declared.ending.Ending.{Ending}
 use Rattle.svc_exit.specs.declared.ending.Ending.TheVariants.{Status, Signal, Unknown}
 use Rattle.svc_exit.specs.declared.exit.Exit.{Exit}
 
--- The words of how a process ended begin with a space.
+-- The words that say how a process ended begin with a space.
 record Spaced (words : List ℕ) : Type 0 where
   pub rest : List ℕ
   pub is : words ≡ 32 ∷ rest
@@ -44,7 +44,7 @@ first_field line exit is first more parts =
     ∙ split-first 32 pid (words.rest ++ tail) (avoids-solid 32 pid (omega arith) (decimal-solid exit.pid)) in
     cc (split, parts)
 
--- where the label is
+-- the place of the label
 pub record LabelAt (line : List ℕ) (label : Tai64n) : Type 0 where
   pub long : 26 ≤ length line
   pub at : slice_range line (length line - 26) (length line - 1) ≡ label_text label

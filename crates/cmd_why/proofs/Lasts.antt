@@ -1,4 +1,4 @@
--- One item more: the last that passes a test, those behind it and those before it.
+-- One more item: the last one that passes a test, those after it and those before it.
 use Rattle.std.proofs.Common.{◌≡◌, refl, ℕ, ◌+◌, ◌<◌, Bool, true, false, List, [], ◌∷◌, ◌++◌, length, get_or, take}
 use Rattle.std.proofs.Common.{Option, Some, None, arith, ◌∙◌, ap, sym, subst}
 use Rattle.std.specs.Prelude.{if◌then◌else◌}
@@ -73,7 +73,7 @@ is-byte (Some (StartFailed label)) byte e = absurd (cc)
 is-byte (Some (Death label)) byte e = absurd (cc)
 is-byte (Some (Clock label)) byte e = absurd (cc)
 
--- A byte that the last of some entries is came among them.
+-- If the last of some entries is a byte, that byte came among them.
 pub byte-came : (p : Event → Bool) (xs : List Event) (byte : ℕ) → byte_in (last_such p xs) ≡ Some byte
     → Contains xs (Byte byte)
 byte-came p xs byte e = contains-last p xs (Byte byte) (is-byte (last_such p xs) byte e)

@@ -1,4 +1,4 @@
--- One entry more.
+-- One more entry.
 use Rattle.std.proofs.Common.{◌≡◌, ℕ, Bool, List, ◌∷◌, ◌++◌, append_assoc, ap, sym, ◌∙◌}
 use Rattle.sup_core.specs.State.{State}
 use Rattle.sup_core.specs.declared.event.Event.{Event}

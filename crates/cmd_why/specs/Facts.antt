@@ -1,4 +1,5 @@
--- What a trace says of the processes of a service. Each fact is of the last entry of a kind, or a count of entries.
+-- What a trace says about the processes of a service. Each fact comes from the last entry of a kind, or is a count of
+-- entries.
 use Rattle.std.specs.Prelude.{ℕ, ◌+◌, ◌-◌, ◌*◌, ◌/◌, ◌^◌, nat_le, nat_lt, ◌==◌, ◌&&◌, ◌||◌, not, Bool, true, false}
 use Rattle.std.specs.Prelude.{if◌then◌else◌, List, [], ◌∷◌, Option, Some, None, count_by}
 use Rattle.tai_status.specs.Label.{Tai64n}
@@ -17,11 +18,11 @@ use Rattle.cmd_why.specs.Entries.{has, last_of, behind_last, before_last, byte_i
 abbrev pub nanos : Tai64n → ℕ
 nanos label = label.sec * 10 ^ 9 + label.nano
 
--- whole tenths of a second from one label to another, 0 where that is earlier
+-- whole tenths of a second from one label to another, or 0 if the other is earlier
 abbrev pub tenths_between : (from to : Tai64n) → ℕ
 tenths_between from to = (nanos to - nanos from) / 10 ^ 8
 
--- 60 seconds
+-- 60 seconds, in nanoseconds; and whether two labels are the same
 abbrev pub minute : ℕ
 minute = 60 * 10 ^ 9
 
@@ -30,7 +31,7 @@ same_label a b = (a.sec == b.sec) && (a.nano == b.nano)
 
 -- Starts
 
--- a start whose label lies within 60 seconds before the clock
+-- a start with a label in the 60 seconds before the clock reading
 abbrev pub is_recent_start : (now : Tai64n) → Event → Bool
 is_recent_start now (Started pid label) = nat_le (nanos label) (nanos now) && nat_le (nanos now) (nanos label + minute)
 is_recent_start now other = false
@@ -39,31 +40,32 @@ is_recent_start now other = false
 abbrev pub recent_starts : (now : Tai64n) → List Event → ℕ
 recent_starts now entries = count_by (is_recent_start now) entries
 
--- Whether an operator asked for the next start, behind one more event: a control byte came since the start before it.
+-- Whether an operator has asked for the next start, after one more event: a control byte came since the start before
+-- it.
 abbrev pub is_asked : (asked : Bool) → Event → Bool
 is_asked asked (Byte byte) = true
 is_asked asked (Started pid label) = false
 is_asked asked other = asked
 
--- a start of the last 60 seconds that nobody asked for
+-- a start in the last 60 seconds that nobody asked for
 abbrev pub is_unasked : (now : Tai64n) (asked : Bool) → Event → Bool
 is_unasked now asked event = is_recent_start now event && not asked
 
--- How many starts of the last 60 seconds nobody asked for, as far as these entries say, where it is known whether the
--- first one was asked for.
+-- How many starts in the last 60 seconds nobody asked for, as far as these entries say. `asked` says whether the first
+-- one was asked for.
 abbrev pub unasked_starts : (now : Tai64n) (asked : Bool) → List Event → ℕ
 unasked_starts now asked [] = 0
 unasked_starts now asked (event ∷ events) =
     (if is_unasked now asked event then 1 else 0) + unasked_starts now (is_asked asked event) events
 
--- Every start of the last 60 seconds is among the entries: nothing was folded, or the last change of process before the
+-- Every start in the last 60 seconds is among the entries: nothing was folded, or the last change of process before the
 -- entries is older.
 abbrev pub reaches_back : Content → (now : Tai64n) → Bool
 reaches_back content now = (content.folded == 0) || nat_lt (nanos content.base.status.label + minute) (nanos now)
 
 -- Processes
 
--- the number of a process that was started so, or that was there before
+-- the number of the process that this start made, or of the process before it if there is no start
 abbrev pub pid_of_start : Status → Option Event → ℕ
 pid_of_start before (Some (Started pid label)) = pid
 pid_of_start before other = before.pid
@@ -73,7 +75,7 @@ abbrev pub label_of_start : Status → Option Event → Tai64n
 label_of_start before (Some (Started pid label)) = label
 label_of_start before other = before.label
 
--- a process that ended at this label, by the status before some entries and by these entries, which led to its end
+-- a process that ended at this label, from the status before some entries and from these entries, which led to its end
 abbrev pub ended_at : Status → List Event → Tai64n → Ended
 ended_at before entries label = record {
   pid = pid_of_start before (last_of Start entries);
@@ -84,12 +86,12 @@ ended_at before entries label = record {
   unasked = has Start entries && not (has Control (behind_last Start entries));
 }
 
--- what the last death ended
+-- the process that the last death ended
 abbrev pub ended_by : Status → List Event → Option Event → Option Ended
 ended_by before entries (Some (Death label)) = Some (ended_at before (before_last OfDeath entries) label)
 ended_by before entries other = None
 
--- the process that ended last
+-- the last process that ended; and whether the last start failed
 abbrev pub last_ended : Content → Option Ended
 last_ended content = ended_by content.base.status content.entries (last_of OfDeath content.entries)
 
@@ -97,16 +99,16 @@ abbrev pub is_failure : Option Event → Bool
 is_failure (Some (StartFailed label)) = true
 is_failure other = false
 
--- The trace leads to the process that a record says of, or to the same end of one.
+-- The trace leads to the process that a record names, or to the same end of one.
 abbrev pub leads_to : Content → Status → Bool
 leads_to content status =
     same_label (replay_of content).status.label status.label && ((replay_of content).status.pid == status.pid)
 
--- no process is known of since supervise began
+-- no process is known since supervise began
 abbrev pub has_not_run : Content → Bool
 has_not_run content = (content.folded == 0) && (content.base.status.pid == 0) && not (has Start content.entries)
 
--- what a trace says beside the status record of a service, at a clock reading
+-- what a trace says in addition to the status record of a service, at a clock reading
 abbrev pub facts_of : Content → Status → (now : Tai64n) → Facts
 facts_of content status now = record {
   leads = leads_to content status;

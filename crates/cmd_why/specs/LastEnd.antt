@@ -1,4 +1,4 @@
--- The last end of a process of a service, by its trace and by its file `exit`: the later one of the two.
+-- The last end of a service's process, from its trace and from its file `exit`: the later of the two.
 use Rattle.std.specs.Prelude.{◌≡◌, ◌<◌, ◌^◌, ℕ, nat_lt, ◌==◌, ◌&&◌, Bool, if◌then◌else◌, List, Option, Some, None}
 use Rattle.std.specs.Prelude.{option_map}
 use Rattle.tai_status.specs.Label.{Tai64n, IsLabel}
@@ -19,18 +19,18 @@ pub record IsExit (exit : Exit) : Type 0 where
   pub ending : IsEnding exit.ending
   pub label : IsLabel exit.label
 
--- what the line of an exit says; none if it is the line of no exit
+-- what the line of an exit says; None if it is not the line of any exit
 abbrev pub Reads : (line : List ℕ) → Option Exit → Type 0
 Reads line (Some exit) = line ≡ exit_text exit
 Reads line None = (exit : Exit) → IsExit exit → line ≡ exit_text exit → ⊥
 
 -- The last end
 
--- whether an exit is of the process, and of the time, of an end in the trace
+-- whether an exit is about the process, and the time, of an end in the trace
 abbrev pub is_of_end : Exit → Ended → Bool
 is_of_end exit ended = (exit.pid == ended.pid) && same_label exit.label ended.label
 
--- how a process ended whose end is in the trace, if the exit is of it
+-- how a process ended whose end is in the trace, if the exit is about it
 abbrev pub how : Exit → Ended → Option Ending
 how exit ended = if is_of_end exit ended then Some exit.ending else None
 
@@ -38,7 +38,7 @@ how exit ended = if is_of_end exit ended then Some exit.ending else None
 abbrev pub is_later : Exit → Ended → Bool
 is_later exit ended = nat_lt (nanos ended.label) (nanos exit.label)
 
--- the later one of two ends; at the same time that in the trace
+-- the later of two ends, or the one in the trace if both are at the same time
 abbrev pub later : Exit → Option Ended → LastEnd
 later exit None = Recorded exit
 later exit (Some ended) = if is_later exit ended then Recorded exit else Traced ended (how exit ended)
@@ -53,8 +53,8 @@ abbrev pub traced_end : Option Facts → Option Ended
 traced_end (Some facts) = if facts.leads then facts.ended else None
 traced_end None = None
 
--- The last end is the later one of that in the trace and that in the file `exit`. If there is no line of `exit`, it is
--- that in the trace, if the trace leads to the record.
+-- The last end is the later of the one in the trace and the one in the file `exit`. If there is no line of `exit`, it
+-- is the one in the trace, if the trace leads to the record.
 abbrev pub last_end : Option Facts → Option Exit → Option LastEnd
 last_end facts (Some exit) = Some (later exit (ended_in facts))
 last_end facts None = option_map (λ ended. Traced ended None) (traced_end facts)

@@ -1,4 +1,4 @@
--- What is said of a service: sentences, each by a rule over its status record, its trace and the clock.
+-- What is said about a service: sentences, each by a rule over its status record, its trace and the clock.
 use Rattle.std.specs.Prelude.{ℕ, ◌/◌, ◌%◌, nat_le, ◌==◌, ◌&&◌, not, Bool, if◌then◌else◌, List, [], ◌∷◌, ◌++◌, codes}
 use Rattle.std.specs.Prelude.{decimal, Option, Some, None}
 use Rattle.tai_status.specs.Label.{Tai64n}
@@ -25,7 +25,7 @@ use Rattle.cmd_why.specs.Facts.{nanos}
 use Rattle.cmd_why.specs.LastEnd.{time_of_end}
 use Rattle.svc_exit.specs.declared.exit.Exit.{Exit}
 
--- How it stands: the record and the clock
+-- The state: the record and the clock
 
 -- since when, and for how many whole seconds
 unfoldable pub since_text : (time : List ℕ) → Status → (now : Tai64n) → List ℕ
@@ -37,14 +37,14 @@ process_text status = if is_running status then codes ", process " ++ decimal st
 unfoldable pub side_text : Status → List ℕ
 side_text status = if is_running status then codes "up" else codes "down"
 
--- where supervise stands with it
+-- the phase of supervise, in words
 abbrev pub phase_words : Phase → List ℕ
 phase_words phase.Starting = codes ", being started"
 phase_words phase.Settling = codes ", settling after its start"
 phase_words phase.Resting = codes ", resting after a failed start"
 phase_words other = []
 
--- that supervise ends
+-- the words that say that supervise ends
 abbrev pub end_words : Phase → List ℕ
 end_words phase.Gone = codes ", and supervise is gone"
 end_words other = codes ", and supervise is to end"
@@ -57,21 +57,21 @@ unfoldable pub end_text : Loaded → List ℕ
 end_text (Old status) = []
 end_text (New full) = note full.exiting (end_words full.phase)
 
--- what is wanted, where it is not what stands
+-- what is wanted, in words, if that is not the present state
 unfoldable pub want_words : (running : Bool) → Want → List ℕ
 want_words running want.Up = note (not running) (codes ", wanted up")
 want_words running want.Down = note running (codes ", wanted down")
 want_words running want.Once = note running (codes ", wanted once")
 
--- that it is paused
+-- the words that say whether it is paused
 unfoldable pub paused_text : Status → List ℕ
 paused_text status = note status.paused (codes ", paused")
 
--- that it does not stand as it normally does
+-- the words that say whether it is not in its normal state
 unfoldable pub normal_text : Status → (normally_up : Bool) → List ℕ
 normal_text status normally_up = normal_notes status normally_up
 
--- whether it is up, since when, and by which process
+-- whether it is up, since when, and with which process
 unfoldable pub standing_text : Status → (time : List ℕ) → (now : Tai64n) → List ℕ
 standing_text status time now =
     codes " is " ++ side_text status ++ since_text time status now ++ process_text status
@@ -81,7 +81,7 @@ unfoldable pub notes_text : Status → (normally_up : Bool) → List ℕ
 notes_text status normally_up =
     paused_text status ++ want_words (is_running status) status.want ++ normal_text status normally_up
 
--- the first sentence, behind the name of the folder
+-- the first sentence, after the name of the folder
 abbrev pub state_text : Loaded → (normally_up : Bool) → (time : List ℕ) → (now : Tai64n) → List ℕ
 state_text loaded normally_up time now =
     standing_text (status_in loaded) time now ++ phase_text loaded ++ notes_text (status_in loaded) normally_up
@@ -98,11 +98,11 @@ sent_by (Some sig) byte = signal_name sig ++ codes " (" ++ byte_text byte ++ cod
 unfoldable pub signal_words : (byte : ℕ) → List ℕ
 signal_words byte = sent_by (signal_of byte) byte
 
--- the same, as a sentence ends
+-- the same, at the end of a sentence
 unfoldable pub signal_end : (byte : ℕ) → List ℕ
 signal_end byte = signal_words byte ++ codes "."
 
--- how a process ended: after its last signal; or with no control byte behind its start, where that start is known
+-- how a process ended: after its last signal; or without a control byte after its start, if that start is known
 unfoldable pub how_words : Option ℕ → (unasked : Bool) → List ℕ
 how_words (Some byte) unasked = codes " after " ++ signal_words byte
 how_words None unasked = note unasked (codes " without a control byte")
@@ -111,7 +111,7 @@ how_words None unasked = note unasked (codes " without a control byte")
 unfoldable pub tenths_text : ℕ → List ℕ
 tenths_text tenths = decimal (tenths / 10) ++ codes "." ++ decimal (tenths % 10)
 
--- a signal: its name, or the number of one that has none
+-- a signal: its name, or its number if it has no name
 abbrev pub named : (name : List ℕ) (number : ℕ) → List ℕ
 named [] number = codes "signal " ++ decimal number
 named (byte ∷ name) number = codes "SIG" ++ byte ∷ name
@@ -119,7 +119,7 @@ named (byte ∷ name) number = codes "SIG" ++ byte ∷ name
 unfoldable pub signal_text : (number : ℕ) → List ℕ
 signal_text number = named (name_of_signal number) number
 
--- with which status or by which signal a process ended, where that is known
+-- the exit status of a process, or the signal by which it ended, if that is known
 unfoldable pub ending_words : Option Ending → List ℕ
 ending_words (Some (OfStatus code)) = codes " with status " ++ decimal code
 ending_words (Some (Signal number)) = codes " by " ++ signal_text number
@@ -131,12 +131,12 @@ ended_words ended ending =
     decimal ended.pid ++ codes " ran " ++ tenths_text ended.tenths ++ codes " s and ended"
     ++ ending_words ending ++ how_words ended.sent ended.unasked ++ codes "."
 
--- that the process was sent a signal since its start: the last one
+-- the sentence about the last signal that was sent to the process since its start
 abbrev pub sent_sentence : Option ℕ → List ℕ
 sent_sentence (Some byte) = codes " It was sent " ++ signal_end byte
 sent_sentence None = []
 
--- which process ended, and how, if only the file `exit` says it
+-- which process ended, and how, if only the file `exit` says so
 abbrev pub exit_words : Exit → List ℕ
 exit_words exit = decimal exit.pid ++ codes " ended" ++ ending_words (Some exit.ending) ++ codes "."
 
@@ -144,19 +144,19 @@ abbrev pub last_words : LastEnd → List ℕ
 last_words (Traced ended ending) = ended_words ended ending
 last_words (Recorded exit) = exit_words exit
 
--- whether an end was before the process that runs began
+-- whether an end was before the running process began
 abbrev pub is_before : Status → LastEnd → Bool
 is_before status end = is_running status && nat_le (nanos (time_of_end end)) (nanos status.label)
 
 abbrev pub end_opening : (before : Bool) → List ℕ
 end_opening before = if before then codes " Before it process " else codes " Process "
 
--- the last end
+-- the sentence about the last end
 abbrev pub end_sentence : Status → Option LastEnd → List ℕ
 end_sentence status (Some end) = end_opening (is_before status end) ++ last_words end
 end_sentence status None = []
 
--- why a service is down: by the last of u, d and o behind the start of the process that ended
+-- why a service is down: the last of u, d and o after the start of the process that ended
 abbrev pub wanted_sentence : Option ℕ → List ℕ
 wanted_sentence (Some byte) =
     if byte == 100 then codes " It was brought down (d)."
@@ -169,30 +169,31 @@ abbrev pub wanted_at : Option LastEnd → Option ℕ
 wanted_at (Some (Traced ended ending)) = ended.wanted
 wanted_at other = None
 
--- what led to the last end or came after it: the signal that the process that runs was sent; or why the service is down
+-- what led to the last end or came after it: the signal that was sent to the running process, or why the service is
+-- down
 abbrev pub cause_sentence : (running : Bool) → Facts → Option LastEnd → List ℕ
 cause_sentence running facts last = if running then sent_sentence facts.sent else wanted_sentence (wanted_at last)
 
--- what is said of starts that made no process
+-- what is said about starts that made no process
 abbrev pub unstarted_text : (running : Bool) → Facts → List ℕ
 unstarted_text running facts =
     note (not running && facts.failed) (codes " Its last start failed.")
     ++ note (not running && facts.unrun) (codes " It has not run since supervise began.")
 
--- the past, by a trace that leads to the record
+-- the past, from a trace that leads to the record
 abbrev pub led_sentences : Status → Facts → Option LastEnd → List ℕ
 led_sentences status facts last =
     cause_sentence (is_running status) facts last ++ end_sentence status last
     ++ unstarted_text (is_running status) facts
 
--- the past: the last end, and what a trace says that leads to the record
+-- the past: the last end, and what a trace that leads to the record says
 abbrev pub past_sentences : Status → Option Facts → Option LastEnd → List ℕ
 past_sentences status None last = end_sentence status last
 past_sentences status (Some facts) last =
     if facts.leads then led_sentences status facts last else end_sentence status last
 
--- Starts. Five or more within 60 seconds that nobody asked for are flapping. A trace that does not lead to the record,
--- or does not reach back 60 seconds, knows of so many at least.
+-- Starts. Five or more within 60 seconds that nobody asked for count as flapping. A trace that does not lead to the
+-- record, or does not reach back 60 seconds, only knows a least number.
 
 -- whether the trace has all starts of the last 60 seconds
 abbrev pub has_all : Facts → Bool
@@ -212,14 +213,14 @@ abbrev pub count_sentence : (starts unasked : ℕ) → (all : Bool) → List ℕ
 count_sentence starts unasked all =
     if starts == 0 then [] else starts_opening unasked all ++ count_words starts
 
--- what a trace says of starts, if there is one
+-- what a trace says about starts, if there is one
 abbrev pub starts_sentence : Option Facts → List ℕ
 starts_sentence None = []
 starts_sentence (Some facts) = count_sentence facts.starts facts.unasked (has_all facts)
 
 -- The line
 
--- the line of a service in this folder, without a newline
+-- the line about a service in this folder, without a newline
 abbrev pub why_line : (folder : List ℕ) → Loaded → (normally_up : Bool) → Option Facts → Option LastEnd
     → (time : List ℕ) → (now : Tai64n) → List ℕ
 why_line folder loaded normally_up facts last time now =

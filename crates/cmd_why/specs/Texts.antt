@@ -1,16 +1,16 @@
--- What is known of the files of services, and of local times.
+-- What is known about the files of services, and about local times.
 use Rattle.std.specs.Prelude.{ℕ, List, Option, None}
 use Rattle.std.specs.declared.io.ErrorKind.{ErrorKind}
 use Rattle.tai_status.specs.Label.{Tai64n}
 
--- Of the service in each folder, where it is known: the bytes of its trace; the line of how its last process ended; and
--- why the folder can't be looked at, where it can't.
+-- What is known for the service in each folder: the bytes of its trace, the line that says how its last process ended,
+-- and why the folder can't be looked at, if it can't.
 pub record ServiceTexts : Type 0 where
   pub traces : List ℕ → Option (List ℕ)
   pub exits : List ℕ → Option (List ℕ)
   pub looks : List ℕ → Option (Option ErrorKind)
 
--- Nothing of it is known.
+-- Nothing is known.
 abbrev pub unknown_texts : ServiceTexts
 unknown_texts = record { traces = λ folder. None; exits = λ folder. None; looks = λ folder. None }
 

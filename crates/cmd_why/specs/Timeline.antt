@@ -1,4 +1,5 @@
--- The picture of a trace: what stood over time, in 80 columns. Moments are nanoseconds since the beginning of labels.
+-- The picture of a trace: the states over time, in 80 columns. Moments are in nanoseconds since the beginning of
+-- labels.
 use Rattle.std.specs.Prelude.{ℕ, ◌+◌, ◌-◌, ◌*◌, ◌/◌, nat_lt, ◌&&◌, max, min, Bool, true, false, if◌then◌else◌, List}
 use Rattle.std.specs.Prelude.{[], ◌∷◌, ◌++◌, length, replicate, codes, Option, Some, None}
 use Rattle.std.specs.List.{flat_map, list_any, range_with_len}
@@ -25,8 +26,8 @@ use Rattle.cmd_why.specs.declared.timeline.Stretch.{Stretch}
 abbrev pub stretch : (from to : ℕ) → Shown → Stretch
 stretch from to what = record { from = from; to = to; shown = what }
 
--- how a machine is shown: paused; up; an attempt, where it settles after a start or rests after one that failed; else
--- down
+-- How a machine is shown: paused; up; an attempt, if it settles after a start or rests after a failed one; and
+-- otherwise down.
 abbrev pub shown_in : Phase → Shown
 shown_in phase.Up = shown.Up
 shown_in phase.Settling = shown.Attempt
@@ -36,8 +37,8 @@ shown_in other = shown.Down
 abbrev pub shown_of : State → Shown
 shown_of state = if state.status.paused then shown.Paused else shown_in state.phase
 
--- How the machine before the entries is shown, from its label to the first one of an entry: over all of that time there
--- was a process, or none, and no more is known.
+-- How the machine before the entries is shown, from its label to the first label of an entry. During all of that time
+-- there was a process, or none, and nothing more is known.
 abbrev pub shown_before : Status → Shown
 shown_before status =
     if status.paused then shown.Paused else if is_running status then shown.Up else shown.Down
@@ -46,7 +47,7 @@ shown_before status =
 abbrev pub stepped : State → Event → State
 stepped state event = state_of (next (Opened state) event)
 
--- the label of an entry: a control byte has none
+-- the label of an entry; a control byte has none
 abbrev pub label_in : Event → Option Tai64n
 label_in (Byte byte) = None
 label_in (Started pid label) = Some label
@@ -54,27 +55,28 @@ label_in (StartFailed label) = Some label
 label_in (Death label) = Some label
 label_in (Clock label) = Some label
 
--- When an entry of this label counts, behind the last stretch so far: not before that one, since a clock may be set
--- back, and not after the clock.
+-- When an entry with this label counts, after the last stretch so far: not before that stretch, because a clock may be
+-- set back, and not after the clock reading.
 abbrev pub moment : (now : ℕ) → Stretch → Tai64n → ℕ
 moment now last label = min now (max last.from (nanos label))
 
--- the stretch that ends with an entry, where that has a label
+-- the stretch that ends at an entry, if the entry has a label
 abbrev pub ended_with : (now : ℕ) → Stretch → Option Tai64n → List Stretch
 ended_with now last None = []
 ended_with now last (Some label) = stretch last.from (moment now last label) last.shown ∷ []
 
--- The stretch behind an entry, after which the machine stands so. A control byte came at some time in the stretch in
--- which it stands: where it pauses the process, all of that stretch is shown as paused.
+-- The stretch after an entry that leads to this machine. A control byte came at some time in the stretch that it is in.
+-- If it pauses the process, all of that stretch is shown as paused.
 abbrev pub behind : (now : ℕ) → Stretch → Option Tai64n → State → Stretch
 behind now last None state = stretch last.from last.to (if state.status.paused then shown.Paused else last.shown)
 behind now last (Some label) state = stretch (moment now last label) last.to (shown_of state)
 
--- The last stretch of all, up to now: what stands there is known only where the trace leads to the record.
+-- The last stretch of all, up to now. The state in it is known only if the trace leads to the record.
 abbrev pub tail : (leads : Bool) → Stretch → Stretch
 tail leads last = stretch last.from last.to (if leads then last.shown else shown.Unknown)
 
--- the last stretch so far, which is to end with the picture, and those of these entries behind it
+-- the stretches from the last one so far on, which would last to the end of the picture, with those that these entries
+-- add
 abbrev pub stretches : (now : ℕ) → (leads : Bool) → State → (last : Stretch) → List Event → List Stretch
 stretches now leads state last [] = tail leads last ∷ []
 stretches now leads state last (event ∷ events) =
@@ -86,15 +88,15 @@ stretches now leads state last (event ∷ events) =
 abbrev pub columns : ℕ
 columns = 80
 
--- how many moments the picture has: from its left end up to now, and with that; one a column at least
+-- how many moments wide the picture is, from its left end up to and including now; at least one for each column
 abbrev pub width : (from now : ℕ) → ℕ
 width from now = max columns (now + 1 - from)
 
--- where a column begins, and the one before it ends
+-- when a column begins, which is when the one before it ends
 abbrev pub edge : (from width column : ℕ) → ℕ
 edge from width column = from + column * width / columns
 
--- whether a stretch has a part in the time from one moment up to another
+-- whether a stretch overlaps the time from one moment to another
 abbrev pub has_part : (from to : ℕ) → Stretch → Bool
 has_part from to s = nat_lt s.from to && nat_lt from s.to
 
@@ -106,11 +108,11 @@ same shown.Down shown.Down = true
 same shown.Unknown shown.Unknown = true
 same other more = false
 
--- whether a stretch that is shown so has a part in that time
+-- whether a stretch that is shown this way overlaps that time
 abbrev pub stands : (from to : ℕ) → Shown → List Stretch → Bool
 stands from to what drawn = list_any (λ s. has_part from to s && same s.shown what) drawn
 
--- the one of these that holds, where it is one alone
+-- the one of these that holds, if exactly one does
 abbrev pub alone : (up paused attempt down unknown : Bool) → Option Shown
 alone true false false false false = Some shown.Up
 alone false true false false false = Some shown.Paused
@@ -119,7 +121,7 @@ alone false false false true false = Some shown.Down
 alone false false false false true = Some shown.Unknown
 alone up paused attempt down unknown = None
 
--- what stands throughout a time; none where more than one does
+-- what is shown throughout a time, or None if there is more than one
 abbrev pub throughout : (from to : ℕ) → List Stretch → Option Shown
 throughout from to drawn =
     alone (stands from to shown.Up drawn) (stands from to shown.Paused drawn) (stands from to shown.Attempt drawn)
@@ -133,7 +135,7 @@ sign (Some shown.Down) = codes "."
 sign (Some shown.Unknown) = codes "?"
 sign None = codes "+"
 
--- a column: the sign of what stands throughout its time
+-- a column: the sign for the state throughout its time
 abbrev pub column_sign : (from width : ℕ) → List Stretch → (column : ℕ) → List ℕ
 column_sign from width drawn column =
     sign (throughout (edge from width column) (edge from width (column + 1)) drawn)
@@ -144,7 +146,7 @@ bar from width drawn = flat_map (column_sign from width drawn) (range_with_len 0
 
 -- Traces
 
--- where the picture begins: at the label of the machine before the entries, or at the clock where that is earlier
+-- when the picture begins: at the label of the machine before the entries, or at the clock reading if that is earlier
 abbrev pub left_end : Content → (now : Tai64n) → Tai64n
 left_end content now = if nat_lt (nanos now) (nanos content.base.status.label) then now else content.base.status.label
 
@@ -167,7 +169,7 @@ bar_of content leads now =
 unfoldable pub scale : (from : List ℕ) → List ℕ
 scale from = from ++ replicate (columns - 3 - length from) 32 ++ codes "now"
 
--- the lines behind the one on how a service stands
+-- the lines after the one about the state of a service
 abbrev pub drawing_lines : Drawing → List ℕ
 drawing_lines drawing.Unasked = []
 drawing_lines drawing.Untraced = codes "No timeline: it has no trace that can be read." ++ 10 ∷ []

@@ -42,13 +42,13 @@ use Rattle.cmd_why.specs.declared.why.Reach.TheVariants as reach
 use Rattle.cmd_why.specs.declared.why.WhyFault.{WhyFault}
 use Rattle.cmd_why.specs.declared.why.WhyFault.TheVariants as fault
 
--- Why nobody answers: by why the service was not reached, and why its folder could not be looked at
+-- Why no supervisor responds, from why the service was not reached, and why its folder could not be looked at
 
 abbrev pub is_denied_socket : Unreached → Bool
 is_denied_socket unreached.Denied = true
 is_denied_socket other = false
 
--- Somebody is there, and does not answer.
+-- Somebody is there, and does not respond.
 abbrev pub is_unanswered : Unreached → Bool
 is_unanswered unreached.Unanswered = true
 is_unanswered other = false
@@ -57,7 +57,7 @@ abbrev pub is_denied : Option ErrorKind → Bool
 is_denied (Some io.PermissionDenied) = true
 is_denied other = false
 
--- There is no such folder, or something else of that name.
+-- There is no such folder, or something else has that name.
 abbrev pub is_missing : Option ErrorKind → Bool
 is_missing (Some io.NotFound) = true
 is_missing (Some io.NotADirectory) = true
@@ -78,7 +78,7 @@ absence_words absence.NoPermission = codes " can't be reached: no permission."
 absence_words absence.Unreachable = codes " can't be reached."
 absence_words absence.Nobody = codes " is not supervised: nothing accepts connections at its supervise/ok."
 
--- the line of what a look at the service in a folder found, without a newline
+-- the line about what a look at the service in a folder found, without a newline
 abbrev pub found_line : (folder : List ℕ) → Found → List ℕ
 found_line folder (found.Absent absence) = folder ++ absence_words absence
 found_line folder found.Unread = folder ++ codes " is supervised, but its status can't be read."
@@ -86,17 +86,16 @@ found_line folder (found.Bad cause) =
     folder ++ codes " is supervised, but its status is no record: " ++ fault_name cause ++ codes "."
 found_line folder (found.Standing s) = why_line folder s.loaded s.normally_up s.facts s.last s.time.bytes s.now
 
--- what is drawn of it
+-- what is drawn about it
 abbrev pub drawing_in : Found → Drawing
 drawing_in (found.Standing s) = s.drawing
 drawing_in other = drawing.Unasked
 
--- that line, in which control characters of the folder's name are escaped (it has no others), and what is drawn behind
--- it
+-- that line, with control characters of the folder's name escaped (it has no others), and after it what is drawn
 abbrev pub found_text : (folder : List ℕ) → Found → List ℕ
 found_text folder found = shown (found_line folder found) ++ (10 ∷ []) ++ drawing_lines (drawing_in found)
 
--- Whether a service could not be read. That nobody answers is an answer.
+-- Whether a service could not be read. It counts as read if nobody is there.
 abbrev pub is_unread : Found → Bool
 is_unread (found.Absent absence.Nobody) = false
 is_unread (found.Standing s) = false
@@ -104,7 +103,7 @@ is_unread other = true
 
 -- A look at a service
 
--- Bytes were read that are no trace, as the fault of a line says.
+-- Bytes were read that are not a trace, as the fault of a line says.
 pub record IsRefused (trace : Option (List ℕ)) : Type 0 where
   pub text : List ℕ
   pub text_is : IsKnown trace text
@@ -118,7 +117,7 @@ pub record IsTraceText (trace : Option (List ℕ)) (content : Content) : Type 0 
   pub so : IsContent content
   pub is : text ≡ trace_text content
 
--- what a trace says, or none where it is not known to be there or is refused
+-- what a trace says; None if it is not known to exist, or is refused
 abbrev pub IsTraceOf : (trace : Option (List ℕ)) → Option Content → Type 0
 IsTraceOf trace None = (trace ≡ None) ⊎ IsRefused trace
 IsTraceOf trace (Some content) = IsTraceText trace content
@@ -129,11 +128,11 @@ pub record ReadsLine (known : Option (List ℕ)) (exit : Option Exit) : Type 0 w
   pub line_is : IsKnown known line
   pub reads : Reads line exit
 
--- what the file `exit` says; none if it is not known to be there, or is the line of no exit
+-- what the file `exit` says; None if it is not known to exist, or is not the line of any exit
 abbrev pub IsExitOf : (known : Option (List ℕ)) → Option Exit → Type 0
 IsExitOf known exit = ((known ≡ None) × (exit ≡ None)) ⊎ ReadsLine known exit
 
--- This is the picture of a trace beside a record, at a clock reading, and the local time of its left end.
+-- This is the picture of a trace for a record, at a clock reading, and the local time of its left end.
 pub record IsPicture (times : Tai64n → Option (List ℕ)) (content : Content) (status : Status) (now : Tai64n)
     (picture : Picture) : Type 0 where
   pub bar : picture.bar.bytes ≡ bar_of content (leads_to content status) now
@@ -143,14 +142,14 @@ abbrev pub IsPictureIn : (times : Tai64n → Option (List ℕ)) → Content → 
 IsPictureIn times content status now (drawing.Of picture) = IsPicture times content status now picture
 IsPictureIn times content status now other = ⊥
 
--- what is drawn where a timeline is asked for: the picture of the trace, where there is one
+-- what is drawn if a timeline is asked for: the picture of the trace, if there is one
 abbrev pub IsDrawing : (times : Tai64n → Option (List ℕ)) → (asked : Bool) → Option Content → Status → (now : Tai64n)
     → Drawing → Type 0
 IsDrawing times false content status now drawn = drawn ≡ drawing.Unasked
 IsDrawing times true None status now drawn = drawn ≡ drawing.Untraced
 IsDrawing times true (Some content) status now drawn = IsPictureIn times content status now drawn
 
--- The bytes that were read are a record of this, and the service is normally up where no file `down` was found.
+-- The bytes that were read are this record, and the service is normally up if no file `down` was found.
 pub record ReachesStanding (folder : List ℕ) (loaded : Loaded) (normally_up : Bool) (past now : Option (List Call))
     : Type 0 where
   pub bytes : List ℕ
@@ -158,13 +157,13 @@ pub record ReachesStanding (folder : List ℕ) (loaded : Loaded) (normally_up : 
   pub asked : Extended past now
       (Reached folder None ∷ ReadStatus folder (Some bytes) ∷ SoughtDown folder (not normally_up) ∷ [])
 
--- The bytes that were read are no record, for this fault.
+-- The bytes that were read are not a record, for this reason.
 pub record ReachesBad (folder : List ℕ) (cause : RecordFault) (past now : Option (List Call)) : Type 0 where
   pub bytes : List ℕ
   pub refused : loaded_from bytes ≡ Err cause
   pub asked : Extended past now (Reached folder None ∷ ReadStatus folder (Some bytes) ∷ [])
 
--- The service was not reached, and its folder was looked at, which says why nobody answers.
+-- The service was not reached. Its folder was looked at, and that says why no supervisor responds.
 pub record ReachesNobody (k : Knowledge) (folder : List ℕ) (absence : Absence) (past now : Option (List Call))
     : Type 0 where
   pub why : Unreached
@@ -173,17 +172,16 @@ pub record ReachesNobody (k : Knowledge) (folder : List ℕ) (absence : Absence)
   pub absence_is : absence ≡ absence_of why looked
   pub asked : Extended past now (Reached folder (Some why) ∷ [])
 
--- What was asked of the service in a folder, and came of it: whether it is supervised; only then its status; and only
--- where that is a record, its file `down`.
+-- What was asked of the service in a folder, with the results: whether it is supervised; only then its status; and only
+-- if that is a record, its file `down`.
 abbrev pub Reaches : Knowledge → (folder : List ℕ) → Reach → (past now : Option (List Call)) → Type 0
 Reaches k folder (reach.Absent absence) past now = ReachesNobody k folder absence past now
 Reaches k folder reach.Unread past now = Extended past now (Reached folder None ∷ ReadStatus folder None ∷ [])
 Reaches k folder (reach.Bad cause) past now = ReachesBad folder cause past now
 Reaches k folder (reach.Standing loaded normally_up) past now = ReachesStanding folder loaded normally_up past now
 
--- The trace of a service was read and then the clock, once; how it stands is said by its record, that trace and
--- this reading; and the last end of a process, by that trace and the file `exit`. A timeline is drawn where it is
--- asked for.
+-- The trace of a service was read, and then the clock, once. Its state is said from its record, that trace and this
+-- reading, and the last end of a process from that trace and the file `exit`. A timeline is drawn if it is asked for.
 pub record FindsStanding (k : Knowledge) (timeline : Bool) (folder : List ℕ) (loaded : Loaded) (normally_up : Bool)
     (past now : Option (List Tai64n)) (s : Standing) : Type 0 where
   pub content : Option Content
@@ -198,7 +196,7 @@ pub record FindsStanding (k : Knowledge) (timeline : Bool) (folder : List ℕ) (
   pub time : IsKnown (k.times (status_in loaded).label) s.time.bytes
   pub drawing : IsDrawing k.times timeline content (status_in loaded) s.now s.drawing
 
--- What a look found, by what came of the calls.
+-- What a look found, from the result of the calls.
 abbrev pub Finds : Knowledge → (timeline : Bool) → (folder : List ℕ) → Reach → Found → (past now : Option (List Tai64n))
     → Type 0
 Finds k timeline folder (reach.Absent absence) (found.Absent content) past now = (content ≡ absence) × (now ≡ past)
@@ -210,7 +208,8 @@ Finds k timeline folder other found past now = ⊥
 
 -- Services in turn
 
--- What `why` works with: what its looks do, what it writes to, and whether some service could not be read so far.
+-- What `why` works with: what its looks do, the device to which it writes, and whether some service could not be read
+-- so far.
 pub record Scene : Type 0 where
   pub sight : Sight
   pub writer : Device
@@ -219,7 +218,7 @@ pub record Scene : Type 0 where
 abbrev pub scene : (sight : Sight) (writer : Device) → Bool → Scene
 scene sight writer unread = record { sight = sight; writer = writer; unread = unread }
 
--- The service in a folder was looked at, and then the text of that was written.
+-- The service in a folder was looked at, and then the text about that was written.
 pub record Shows (k : Knowledge) (timeline : Bool) (folder : List ℕ) (old new : Scene) : Type 0 where
   pub reach : Reach
   pub reaches : Reaches k folder reach old.sight.calls new.sight.calls
@@ -229,7 +228,8 @@ pub record Shows (k : Knowledge) (timeline : Bool) (folder : List ℕ) (old new 
   pub works : Works old.writer new.writer
   pub unread : new.unread ≡ (old.unread || is_unread found)
 
--- The same, of what each was and is; where some service before it could not be read, or now.
+-- The same, for each value before and after. It says whether some service before this one could not be read, and
+-- whether one could not be read so far.
 abbrev pub ShowsOne : Knowledge → (timeline : Bool) → (folder : List ℕ) → (sight sees : Sight)
     → (writer writes : Device) → (unread unread_now : Bool) → Type 0
 ShowsOne k timeline folder sight sees writer writes unread unread_now =
@@ -240,13 +240,13 @@ abbrev pub WritesNot : WhyFault → (text : List ℕ) → (old new : Device) →
 WritesNot fault.OutOfMemory text old new = new ≡ old
 WritesNot fault.Write text old new = WroteFront old new text × Fails old new
 
--- There was no memory for the trace of the service in a folder, or for its text; nothing was written.
+-- There was no memory for the trace of the service in a folder, or for its text. Nothing was written.
 pub record LacksMemory (k : Knowledge) (folder : List ℕ) (old new : Scene) : Type 0 where
   pub reach : Reach
   pub reaches : Reaches k folder reach old.sight.calls new.sight.calls
   pub unwritten : new.writer ≡ old.writer
 
--- The service in a folder was looked at, and the writer failed after a front of the text of that.
+-- The service in a folder was looked at, and the writer failed after a front of the text about that.
 pub record FailsToWrite (k : Knowledge) (timeline : Bool) (folder : List ℕ) (old new : Scene) : Type 0 where
   pub reach : Reach
   pub reaches : Reaches k folder reach old.sight.calls new.sight.calls
@@ -259,7 +259,7 @@ abbrev pub FailsToShow : Knowledge → (timeline : Bool) → (folder : List ℕ)
 FailsToShow k timeline folder fault.OutOfMemory old new = LacksMemory k folder old new
 FailsToShow k timeline folder fault.Write old new = FailsToWrite k timeline folder old new
 
--- The same, of what each was and is; where some service before it could not be read.
+-- The same, for each value before and after. It says whether some service before this one could not be read.
 abbrev pub ShowsNot : Knowledge → (timeline : Bool) → (folder : List ℕ) → (sight sees : Sight)
     → (writer writes : Device) → (unread : Bool) → WhyFault → Type 0
 ShowsNot k timeline folder sight sees writer writes unread cause =
@@ -271,7 +271,7 @@ abbrev pub ShowsEach : Knowledge → (timeline : Bool) → (words : List (List �
 ShowsEach k timeline words sight sees writer writes unread =
     InTurn (Shows k timeline) words (scene sight writer false) (scene sees writes unread)
 
--- The words before one have their lines, and that one has not. The words after it are not looked at.
+-- The words before one have their lines, and that one has none. The words after it are not looked at.
 pub record ShowsUpTo (k : Knowledge) (timeline : Bool) (words : List (List ℕ)) (sight sees : Sight)
     (writer writes : Device) (cause : WhyFault) : Type 0 where
   pub before : List (List ℕ)
@@ -282,15 +282,15 @@ pub record ShowsUpTo (k : Knowledge) (timeline : Bool) (words : List (List ℕ))
   pub shown : InTurn (Shows k timeline) before (scene sight writer false) middle
   pub fails : FailsToShow k timeline folder cause middle (scene sees writes false)
 
--- what is reported of a fault: if the writer failed, the cause of its last fault too
+-- what is reported about a fault; if the writer failed, this includes the cause of its last fault
 abbrev pub why_report : WhyFault → (writer : Device) → List ℕ
 why_report fault.OutOfMemory writer = codes "why: OutOfMemory" ++ 10 ∷ []
 why_report fault.Write writer = device_report (codes "why: ") (codes "write fault") writer
 
 -- Ends
 
--- Each word has its text; then it is reported of each folder that is not there, and nothing else. The status is 0 where
--- each service could be read.
+-- Each word has its text. Then it is reported for each folder that does not exist why, and nothing else is reported.
+-- The status is 0 if each service could be read.
 pub record ShowsAll (k : Knowledge) (timeline : Bool) (words : List (List ℕ)) (status : ℕ) (seen sees : Sight)
     (writer writes faults reports : Device) : Type 0 where
   pub unread : Bool
@@ -307,14 +307,14 @@ pub record Stops (k : Knowledge) (timeline : Bool) (words : List (List ℕ)) (st
   pub status_is : status ≡ 111
   pub reported : Reports faults reports (why_report cause writes)
 
--- `why` over services, with timelines or without
+-- How `why` ends over services, with or without timelines
 abbrev pub ShowEnds : Knowledge → (timeline : Bool) → (words : List (List ℕ)) → (status : ℕ) → (sight sees : Sight)
     → (writer writes faults reports : Device) → Type 0
 ShowEnds k timeline words status sight sees writer writes faults reports =
     ShowsAll k timeline words status sight sees writer writes faults reports
     ⊎ Stops k timeline words status sight sees writer writes faults reports
 
--- The first word asks for timelines of the services behind it; or it is a service.
+-- The first word asks for timelines of the services after it, or it is a service.
 pub record FormEnds (k : Knowledge) (word : List ℕ) (services : List (List ℕ)) (status : ℕ) (sight sees : Sight)
     (writer writes faults reports : Device) : Type 0 where
   pub timeline : word ≡ codes "--timeline"
@@ -322,7 +322,7 @@ pub record FormEnds (k : Knowledge) (word : List ℕ) (services : List (List ℕ
   pub plain : word ≢ codes "--timeline"
       → ShowEnds k false (word ∷ services) status sight sees writer writes faults reports
 
--- `why`, by its words
+-- How `why` ends, by its words
 abbrev pub WhyEnds : Knowledge → (words : List (List ℕ)) → (status : ℕ) → (sight sees : Sight)
     → (writer writes faults reports : Device) → Type 0
 WhyEnds k [] status sight sees writer writes faults reports =

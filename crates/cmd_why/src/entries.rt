@@ -15,20 +15,20 @@ pub enum Kind {
     Death,
     /// A control byte came.
     Control,
-    /// A control byte came that has a signal sent to a process that runs.
+    /// A control byte came that sends a signal to a running process.
     Signal,
     /// A control byte came that says what is wanted: `u`, `d` or `o`.
     Want,
 }
 
-/// Whether a control byte has a signal sent to a process that runs.
+/// Returns whether a control byte sends a signal to a running process.
 pub(crate) fn is_signal(byte: u8) -> bool
     ensures { result ≡ is_signal byte }
 {
     signal_of(byte).is_some()
 }
 
-/// Whether an entry is of a kind.
+/// Returns whether an entry is of a kind.
 fn is_of(kind: Kind, event: &Event) -> bool
     ensures { result ≡ is_of kind event.now }
 {
@@ -44,7 +44,7 @@ fn is_of(kind: Kind, event: &Event) -> bool
     }
 }
 
-/// The last entry of a kind.
+/// Returns the last entry of a kind.
 pub fn last_of(kind: Kind, entries: &[Event]) -> Option<Event>
     ensures { result ≡ last_of kind entries.now }
 {
@@ -57,7 +57,7 @@ pub fn last_of(kind: Kind, entries: &[Event]) -> Option<Event>
     last
 }
 
-/// The entries behind the last of a kind, and all where there is none.
+/// Returns the entries after the last one of a kind, or all entries if there is none of that kind.
 pub fn behind_last(kind: Kind, entries: &[Event]) -> &[Event]
     ensures { result.now ≡ behind_last kind entries.now }
 {
@@ -70,7 +70,7 @@ pub fn behind_last(kind: Kind, entries: &[Event]) -> &[Event]
     behind
 }
 
-/// The entries before the last of a kind, and none where there is none.
+/// Returns the entries before the last one of a kind, or no entries if there is none of that kind.
 pub fn before_last(kind: Kind, entries: &[Event]) -> &[Event]
     ensures { result.now ≡ before_last kind entries.now }
 {

@@ -1,4 +1,4 @@
-//! What a trace says of the processes of a service.
+//! What a trace says about the processes of a service.
 ghost use Rattle.std.specs.Prelude.{◌≡◌, ◌<◌, ◌^◌, false, IfSome};
 ghost use Rattle.std.specs.List.{Contains};
 ghost use Rattle.sup_core.specs.declared.event.Event.TheVariants as event;
@@ -18,10 +18,10 @@ use tai_status::{Label, View};
 /// The nanoseconds of 60 seconds.
 const MINUTE: u128 = 60_000_000_000;
 
-/// How many starts within 60 seconds that nobody asked for are flapping.
+/// The number of starts within 60 seconds, which nobody asked for, that count as flapping.
 pub const FLAPPING: u64 = 5;
 
-/// A process that ended, as a trace says it.
+/// A process that ended, as a trace shows it.
 #[derive(Clone, Copy, Debug, PartialEq, Eq)]
 pub struct Ended {
     pub pid: u32,
@@ -29,37 +29,37 @@ pub struct Ended {
     pub label: Label,
     /// How long it ran, in whole tenths of a second.
     pub tenths: u128,
-    /// The last control byte of `u`, `d` and `o` behind its start.
+    /// The last control byte of `u`, `d` and `o` after its start.
     pub wanted: Option<u8>,
-    /// The last control byte behind its start that had a signal sent to it.
+    /// The last control byte after its start that sent a signal to it.
     pub sent: Option<u8>,
-    /// Whether its start is among the entries, and no control byte behind it.
+    /// Whether its start is among the entries, with no control byte after it.
     pub unasked: bool,
 }
 
-/// What a trace says beside the status record of a service.
+/// What a trace says in addition to the status record of a service.
 #[derive(Clone, Copy, Debug, PartialEq, Eq)]
 pub struct Facts {
-    /// Whether it leads to the process that the record says of, or to the same end of one. Else the record is of a
-    /// later moment, or of an earlier one, and only the starts of the trace are counted.
+    /// Whether the trace leads to the process that the record names, or to the same end of one. If not, the record is
+    /// from a later moment, or from an earlier one, and only the starts of the trace are counted.
     pub leads: bool,
-    /// How many starts there were in the last 60 seconds, as far as its entries say.
+    /// The number of starts in the last 60 seconds, as far as its entries say.
     pub starts: u64,
-    /// How many of these nobody asked for: no control byte came since the start before.
+    /// The number of those starts that nobody asked for: no control byte came since the start before.
     pub unasked: u64,
     /// Whether its entries reach back 60 seconds.
     pub reaches: bool,
-    /// The last control byte behind the last start that had a signal sent.
+    /// The last control byte after the last start that sent a signal.
     pub sent: Option<u8>,
-    /// The process that ended last.
+    /// The last process that ended.
     pub ended: Option<Ended>,
     /// Whether the last start failed.
     pub failed: bool,
-    /// Whether no process ran since supervise began.
+    /// Whether no process has run since supervise began.
     pub unrun: bool,
 }
 
-/// Nanoseconds since the beginning of labels.
+/// Returns the nanoseconds since the beginning of labels.
 pub(crate) fn nanos(label: &Label) -> u128
     ensures value { result ≡ nanos label.now }
     ensures bound { result < 2 ^ 100 }
@@ -67,21 +67,21 @@ pub(crate) fn nanos(label: &Label) -> u128
     u128::from(label.sec) * 1_000_000_000 + u128::from(label.nano)
 }
 
-/// Whole tenths of a second from one label to another, 0 where that is earlier.
+/// Returns the whole tenths of a second from one label to another, or 0 if the other is earlier.
 fn tenths_between(from: &Label, to: &Label) -> u128
     ensures { result ≡ tenths_between from.now to.now }
 {
     nanos(to).saturating_sub(nanos(from)) / 100_000_000
 }
 
-/// Whether two labels are the same.
+/// Returns whether two labels are the same.
 pub(crate) fn same_label(a: &Label, b: &Label) -> bool
     ensures { result ≡ same_label a.now b.now }
 {
     a.sec == b.sec && a.nano == b.nano
 }
 
-/// Whether an entry is a start whose label lies within 60 seconds before the clock.
+/// Returns whether an entry is a start with a label in the 60 seconds before the clock reading.
 fn is_recent_start(now: &Label, event: &Event) -> bool
     ensures { result ≡ is_recent_start now.now event.now }
 {
@@ -95,7 +95,7 @@ fn is_recent_start(now: &Label, event: &Event) -> bool
     }
 }
 
-/// How many of these entries are starts whose label lies within 60 seconds before the clock.
+/// Returns how many of these entries are starts with labels in the 60 seconds before the clock reading.
 pub fn recent_starts(now: &Label, entries: &[Event]) -> u64
     ensures { result ≡ recent_starts now.now entries.now }
 {
@@ -108,7 +108,8 @@ pub fn recent_starts(now: &Label, entries: &[Event]) -> u64
     count
 }
 
-/// Whether an operator asked for the next start, behind one more event: a control byte came since the start before it.
+/// Returns whether an operator has asked for the next start, after one more event: a control byte came since the start
+/// before it.
 fn is_asked(asked: bool, event: &Event) -> bool
     ensures { result ≡ is_asked asked event.now }
 {
@@ -119,15 +120,15 @@ fn is_asked(asked: bool, event: &Event) -> bool
     }
 }
 
-/// Whether an event is a start of the last 60 seconds that nobody asked for.
+/// Returns whether an event is a start in the last 60 seconds that nobody asked for.
 fn is_unasked(now: &Label, asked: bool, event: &Event) -> bool
     ensures { result ≡ is_unasked now.now asked event.now }
 {
     is_recent_start(now, event) && !asked
 }
 
-/// How many of these entries are starts of the last 60 seconds that no control byte stands before, back to the start
-/// before them.
+/// Returns how many of these entries are starts in the last 60 seconds with no control byte between them and the start
+/// before.
 pub fn unasked_starts(now: &Label, entries: &[Event]) -> u64
     ensures { result ≡ unasked_starts now.now false entries.now }
 {
@@ -142,7 +143,7 @@ pub fn unasked_starts(now: &Label, entries: &[Event]) -> u64
     count
 }
 
-/// Whether every start of the last 60 seconds is among the entries.
+/// Returns whether every start in the last 60 seconds is among the entries.
 fn reaches_back<A: Allocator>(content: &TraceText<A>, now: &Label) -> bool
     ensures { result ≡ reaches_back content.now now.now }
 {
@@ -150,7 +151,7 @@ fn reaches_back<A: Allocator>(content: &TraceText<A>, now: &Label) -> bool
     content.folded() == 0 || nanos(&label) + MINUTE < nanos(now)
 }
 
-/// The control byte that an event is.
+/// Returns the control byte of an event, if it is one.
 fn byte_in(event: Option<Event>) -> Option<u8>
     ensures { result ≡ byte_in event }
 {
@@ -160,7 +161,7 @@ fn byte_in(event: Option<Event>) -> Option<u8>
     }
 }
 
-/// The last control byte behind the last start for which a process that runs is sent a signal: an entry behind that
+/// Returns the last control byte after the last start that sends a signal to a running process. An entry after that
 /// start is that byte.
 pub fn last_signal(entries: &[Event]) -> Option<u8>
     ensures last { result ≡ byte_in (last_of kind.Signal (behind_last kind.Start entries.now)) }
@@ -169,7 +170,7 @@ pub fn last_signal(entries: &[Event]) -> Option<u8>
     byte_in(last_of(Kind::Signal, behind_last(Kind::Start, entries)))
 }
 
-/// The last control byte of `u`, `d` and `o` behind the last start: an entry behind that start is that byte.
+/// Returns the last control byte of `u`, `d` and `o` after the last start. An entry after that start is that byte.
 pub fn last_want(entries: &[Event]) -> Option<u8>
     ensures last { result ≡ byte_in (last_of kind.Want (behind_last kind.Start entries.now)) }
     ensures came { IfSome result (λ byte. Contains (behind_last kind.Start entries.now) (event.Byte byte)) }
@@ -177,7 +178,7 @@ pub fn last_want(entries: &[Event]) -> Option<u8>
     byte_in(last_of(Kind::Want, behind_last(Kind::Start, entries)))
 }
 
-/// Whether one of these entries is of a kind.
+/// Returns whether one of these entries is of a kind.
 #[tactic(auto, using(crate::proofs::Lasts::some_last))]
 fn has(kind: Kind, entries: &[Event]) -> bool
     ensures { result ≡ has kind entries.now }
@@ -185,7 +186,7 @@ fn has(kind: Kind, entries: &[Event]) -> bool
     last_of(kind, entries).is_some()
 }
 
-/// The number of a process that was started so, or that was there before.
+/// Returns the number of the process that this start made, or of the process before it if there is no start.
 fn pid_of_start(before: &View, start: &Option<Event>) -> u32
     ensures { result ≡ pid_of_start before.now start.now }
 {
@@ -195,7 +196,7 @@ fn pid_of_start(before: &View, start: &Option<Event>) -> u32
     }
 }
 
-/// When a process was started.
+/// Returns when that process was started.
 fn label_of_start(before: &View, start: &Option<Event>) -> Label
     ensures { result ≡ label_of_start before.now start.now }
 {
@@ -205,7 +206,7 @@ fn label_of_start(before: &View, start: &Option<Event>) -> Label
     }
 }
 
-/// A process that ended at this label, after these entries.
+/// Returns the process that ended at this label, after these entries.
 fn ended_at(before: &View, entries: &[Event], label: &Label) -> Ended
     ensures { result ≡ ended_at before.now entries.now label.now }
 {
@@ -221,7 +222,7 @@ fn ended_at(before: &View, entries: &[Event], label: &Label) -> Ended
     }
 }
 
-/// What the last death ended.
+/// Returns the process that the last death ended.
 fn ended_by(before: &View, entries: &[Event], death: &Option<Event>) -> Option<Ended>
     ensures { result ≡ ended_by before.now entries.now death.now }
 {
@@ -233,7 +234,7 @@ fn ended_by(before: &View, entries: &[Event], death: &Option<Event>) -> Option<E
     }
 }
 
-/// The process that ended last.
+/// Returns the last process that ended.
 fn last_ended<A: Allocator>(content: &TraceText<A>) -> Option<Ended>
     ensures { result ≡ last_ended content.now }
 {
@@ -245,14 +246,14 @@ fn last_ended<A: Allocator>(content: &TraceText<A>) -> Option<Ended>
     )
 }
 
-/// Whether the last start failed.
+/// Returns whether the last start failed.
 fn is_failure(attempt: Option<Event>) -> bool
     ensures { result ≡ is_failure attempt }
 {
     matches!(attempt, Some(Event::StartFailed { .. }))
 }
 
-/// Whether a trace leads to the process that a record says of.
+/// Returns whether a trace leads to the process that a record names.
 pub(crate) fn leads_to<A: Allocator>(content: &TraceText<A>, status: &View) -> bool
     ensures { result ≡ leads_to content.now status.now }
 {
@@ -260,14 +261,14 @@ pub(crate) fn leads_to<A: Allocator>(content: &TraceText<A>, status: &View) -> b
     same_label(&view.label, &status.label) && view.pid == status.pid
 }
 
-/// Whether no process is known of since supervise began.
+/// Returns whether no process is known since supervise began.
 fn has_not_run<A: Allocator>(content: &TraceText<A>) -> bool
     ensures { result ≡ has_not_run content.now }
 {
     content.folded() == 0 && content.base().view().pid == 0 && !has(Kind::Start, content.entries())
 }
 
-/// What a trace says beside the status record of a service, at a clock reading.
+/// Returns what a trace says in addition to the status record of a service, at a clock reading.
 pub fn facts_of<A: Allocator>(content: &TraceText<A>, status: &View, now: &Label) -> Facts
     ensures { result ≡ facts_of content.now status.now now.now }
 {

@@ -1,4 +1,4 @@
-//! The last end of a process of a service, by its trace and its file `exit`.
+//! The last end of a service's process, from its trace and its file `exit`.
 ghost use Rattle.std.specs.Prelude.{◌≡◌};
 ghost use Rattle.std.specs.Option.{option_copied};
 ghost use Rattle.cmd_why.specs.LastEnd.{IsExit, Reads, ended_in, how, is_later, is_of_end, last_end, later};
@@ -11,10 +11,10 @@ use sup_core::{read_label, read_number, split_field};
 use svc_exit::{Ending, Exit, read_ending};
 use tai_status::Label;
 
-/// How many bytes the end of a line of `exit` has: its label and the newline.
+/// The number of bytes at the end of a line of `exit`: its label and the newline.
 const LINE_END: usize = 26;
 
-/// The last end of a process of a service.
+/// The last end of a service's process.
 #[derive(Clone, Copy, Debug, PartialEq, Eq)]
 pub enum LastEnd {
     /// The trace has it, and the file `exit` may say how that process ended.
@@ -23,7 +23,7 @@ pub enum LastEnd {
     Recorded(Exit),
 }
 
-/// The process number at the begin of a line.
+/// Returns the process number at the beginning of a line.
 fn pid_in(line: &[u8]) -> Option<u32>
     ensures { (exit : Exit) → IsExit exit → line.now ≡ exit_text exit → result ≡ Some exit.pid }
 {
@@ -31,7 +31,7 @@ fn pid_in(line: &[u8]) -> Option<u32>
     u32::try_from(number).ok()
 }
 
-/// The label at the end of a line.
+/// Returns the label at the end of a line.
 fn label_in(line: &[u8]) -> Option<Label>
     ensures { (exit : Exit) → IsExit exit → line.now ≡ exit_text exit → result ≡ Some exit.label }
 {
@@ -41,8 +41,8 @@ fn label_in(line: &[u8]) -> Option<Label>
     read_label(&line[line.len() - LINE_END..line.len() - 1])
 }
 
-/// What a line of `exit` says, with its newline: which process ended, how, and when. None if it is the line of no
-/// process.
+/// Returns what a line of `exit`, with its newline, says: which process ended, how, and when. Returns None if it is not
+/// the line of any exit.
 pub fn read_exit_line(line: &[u8]) -> Option<Exit>
     ensures { Reads line.now result }
 {
@@ -52,14 +52,14 @@ pub fn read_exit_line(line: &[u8]) -> Option<Exit>
     Some(Exit { pid, ending, label })
 }
 
-/// Whether a line of `exit` is of the same process, and of the same time, as an end in the trace.
+/// Returns whether a line of `exit` is about the same process, and the same time, as an end in the trace.
 fn is_of_end(exit: &Exit, ended: &Ended) -> bool
     ensures { result ≡ is_of_end exit.now ended.now }
 {
     exit.pid == ended.pid && same_label(&exit.label, &ended.label)
 }
 
-/// How a process ended whose end is in the trace, if the line of `exit` is of it.
+/// Returns how a process ended whose end is in the trace, if the line of `exit` is about it.
 fn how(exit: &Exit, ended: &Ended) -> Option<Ending>
     ensures { result ≡ how exit.now ended.now }
 {
@@ -70,14 +70,14 @@ fn how(exit: &Exit, ended: &Ended) -> Option<Ending>
     }
 }
 
-/// Whether the line of `exit` is later than an end in the trace.
+/// Returns whether the line of `exit` is later than an end in the trace.
 fn is_later(exit: &Exit, ended: &Ended) -> bool
     ensures { result ≡ is_later exit.now ended.now }
 {
     nanos(&ended.label) < nanos(&exit.label)
 }
 
-/// The later one of two ends; at the same time that in the trace.
+/// Returns the later of two ends, or the one in the trace if both are at the same time.
 fn later(exit: &Exit, ended: Option<Ended>) -> LastEnd
     ensures { result ≡ later exit.now ended }
 {
@@ -87,7 +87,7 @@ fn later(exit: &Exit, ended: Option<Ended>) -> LastEnd
     }
 }
 
-/// The last end in a trace.
+/// Returns the last end in a trace.
 fn ended_in(facts: Option<&Facts>) -> Option<Ended>
     ensures { result ≡ ended_in (option_copied facts.entry) }
 {
@@ -97,7 +97,7 @@ fn ended_in(facts: Option<&Facts>) -> Option<Ended>
     }
 }
 
-/// The last end in a trace, if the trace leads to the record.
+/// Returns the last end in a trace, if the trace leads to the record.
 fn traced_end(facts: Option<&Facts>) -> Option<Ended>
     ensures { result ≡ traced_end (option_copied facts.entry) }
 {
@@ -107,8 +107,8 @@ fn traced_end(facts: Option<&Facts>) -> Option<Ended>
     }
 }
 
-/// The last end of a process of a service: the later one of that in its trace and that in its file `exit`. If there is
-/// no line of `exit`, that in the trace, if the trace leads to the record.
+/// Returns the last end of a service's process: the later of the one in its trace and the one in its file `exit`. If
+/// there is no line of `exit`, returns the one in the trace, if the trace leads to the record.
 pub fn last_end(facts: Option<&Facts>, exit: Option<Exit>) -> Option<LastEnd>
     ensures { result ≡ last_end (option_copied facts.entry) exit }
 {
@@ -121,7 +121,7 @@ pub fn last_end(facts: Option<&Facts>, exit: Option<Exit>) -> Option<LastEnd>
     }
 }
 
-/// When a process ended.
+/// Returns when a process ended.
 pub(crate) fn time_of_end(end: &LastEnd) -> Label
     ensures { result ≡ time_of_end end.now }
 {

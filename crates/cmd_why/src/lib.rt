@@ -1,7 +1,8 @@
-//! The command `why`: in plain words what stands of a service, and why, by its status record, its trace and the clock.
+//! The command `why`: says in plain words in which state a service is, and why, from its status record, its trace and
+//! the clock.
 //!
-//! [`facts_of`] reads a trace: what it says of the processes of a service. [`why_line`] says it, beside the record.
-//! [`run_why`] is the command.
+//! [`facts_of`] reads from a trace what it says about the processes of a service. [`why_line`] puts that and the record
+//! into words. [`run_why`] is the command.
 #![tactic(auto)]
 
 mod entries;

@@ -1,4 +1,4 @@
-//! What a look at a service found, and the line of that.
+//! What a look at a service found, and the line about that.
 ghost use Rattle.std.specs.Prelude.{◌≡◌, ◌++◌, ◌∷◌, [], replicate, string_bytes, IfOk, OnOk};
 ghost use Rattle.cmd_why.specs.Timeline.{drawing_lines, scale};
 ghost use Rattle.cmd_why.specs.Why.{absence_of, absence_words, drawing_in, found_line, found_text, is_denied};
@@ -14,14 +14,15 @@ use std::alloc::{AllocError, Allocator};
 use std::io::ErrorKind;
 use tai_status::{Label, Loaded, RecordFault};
 
-/// Why nobody answers for a service.
+/// Why no supervisor responds for a service.
 #[derive(Clone, Copy, Debug, PartialEq, Eq)]
 pub enum Absence {
     /// There is no such folder.
     NoFolder,
-    /// There is no permission to reach the socket `supervise/ok` of the folder.
+    /// There is no permission to reach the socket `supervise/ok` in the folder.
     NoPermission,
-    /// The folder or that socket can't be reached for another cause, as a socket that has no room for one more.
+    /// The folder or that socket can't be reached for another reason, such as a socket that has no room for one more
+    /// connection.
     Unreachable,
     /// There is no such socket, or nobody listens at it.
     Nobody,
@@ -30,17 +31,17 @@ pub enum Absence {
 /// What a look at a service found.
 #[derive(Debug, Drop)]
 pub enum Found {
-    /// Nobody answers for it.
+    /// No supervisor responds for it.
     Absent(Absence),
     /// It is supervised, and its status can't be read.
     Unread,
-    /// It is supervised, and its status is no record.
+    /// It is supervised, and its status is not a record.
     Bad(RecordFault),
-    /// How it stands.
+    /// Its state.
     Standing(Standing),
 }
 
-/// A picture of what stood over time.
+/// A picture of the states of a service over time.
 #[derive(Debug, Drop)]
 pub struct Picture {
     /// The signs of its columns.
@@ -49,39 +50,39 @@ pub struct Picture {
     pub from: LocalTime,
 }
 
-/// What is drawn of a service.
+/// What is drawn about a service.
 #[derive(Debug, Drop)]
 pub enum Drawing {
     /// No timeline is asked for.
     Unasked,
-    /// It has no trace that can be read.
+    /// It has no readable trace.
     Untraced,
     /// This picture.
     Of(Picture),
 }
 
-/// How a service stands.
+/// The state of a service.
 #[derive(Debug, Drop)]
 pub struct Standing {
     /// Its status record.
     pub loaded: Loaded,
     /// Whether its folder has no file `down`.
     pub normally_up: bool,
-    /// What its trace says, where there is one that can be read.
+    /// What its trace says, if there is a readable one.
     pub facts: Option<Facts>,
-    /// The last end of a process of it, by its trace and its file `exit`.
+    /// The last end of one of its processes, from its trace and its file `exit`.
     pub last: Option<LastEnd>,
     /// The local time of the record's label.
     pub time: LocalTime,
     /// When it was looked at.
     pub now: Label,
-    /// What is drawn of it.
+    /// What is drawn about it.
     pub drawing: Drawing,
 }
 
-/// Why nobody answers, by why the service was not reached, and why its folder can't be looked at, where it can't. The
-/// first of these that holds is reported: permission lacks at either; there is no such folder; it can't be looked at,
-/// or somebody is there who does not answer; nobody is there.
+/// Returns why no supervisor responds, from why the service was not reached, and why its folder can't be looked at, if
+/// it can't. The first of these that applies is returned: either permission is missing; there is no such folder; the
+/// folder can't be looked at, or somebody is there and does not respond; nobody is there.
 pub fn absence_of(why: Unreached, fault: Option<ErrorKind>) -> Absence
     ensures { result ≡ absence_of why fault }
 {
@@ -97,21 +98,21 @@ pub fn absence_of(why: Unreached, fault: Option<ErrorKind>) -> Absence
     Absence::Nobody
 }
 
-/// Whether permission lacks.
+/// Returns whether permission is missing.
 fn is_denied(fault: Option<ErrorKind>) -> bool
     ensures { result ≡ is_denied fault }
 {
     matches!(fault, Some(ErrorKind::PermissionDenied))
 }
 
-/// Whether there is no such folder.
+/// Returns whether there is no such folder.
 fn is_missing(fault: Option<ErrorKind>) -> bool
     ensures { result ≡ is_missing fault }
 {
     matches!(fault, Some(ErrorKind::NotFound | ErrorKind::NotADirectory))
 }
 
-/// Why nobody answers, in words.
+/// Returns why no supervisor responds, in words.
 fn absence_words(absence: Absence) -> &'static str
     ensures { result.now ≡ absence_words absence }
 {
@@ -123,7 +124,7 @@ fn absence_words(absence: Absence) -> &'static str
     }
 }
 
-/// A folder's name and what is said of it.
+/// Returns a folder's name and what is said about it.
 fn said<A: Allocator>(
     alloc: A,
     folder: &str,
@@ -140,7 +141,7 @@ fn said<A: Allocator>(
     Ok(line)
 }
 
-/// The line of what a look at the service in a folder found, without a newline.
+/// Returns the line about what a look at the service in a folder found, without a newline.
 pub fn found_line<A: Allocator>(
     alloc: A,
     folder: &str,
@@ -213,7 +214,7 @@ fn push_drawing<A: Allocator>(out: &mut String<A>, drawing: &Drawing) -> Result<
     }
 }
 
-/// Writes what is drawn of what a look found.
+/// Writes what is drawn about what a look found.
 fn push_drawing_in<A: Allocator>(out: &mut String<A>, found: &Found) -> Result<(), AllocError>
     ensures { OnOk result (string_bytes out.new ≡ string_bytes out.old ++ drawing_lines (drawing_in found.now)) }
 {
@@ -223,7 +224,7 @@ fn push_drawing_in<A: Allocator>(out: &mut String<A>, found: &Found) -> Result<(
     }
 }
 
-/// What stands behind the line of what a look found: its newline, and what is drawn, each line with its newline.
+/// Returns what follows the line about a look: its newline, and what is drawn, each line with its newline.
 fn found_end<A: Allocator>(alloc: A, found: &Found) -> Result<String<A>, AllocError>
     ensures { IfOk result (λ end. string_bytes end ≡ (10 ∷ []) ++ drawing_lines (drawing_in found.now)) }
 {
@@ -232,8 +233,8 @@ fn found_end<A: Allocator>(alloc: A, found: &Found) -> Result<String<A>, AllocEr
     Ok(end)
 }
 
-/// The line of what a look at the service in a folder found, with control characters of the folder's name escaped, and
-/// what is drawn behind it, each line with its newline.
+/// Returns the line about what a look at the service in a folder found, and after it what is drawn. Control characters
+/// of the folder's name are escaped. Each line has its newline.
 pub fn found_text<A: Allocator + Clone>(
     alloc: A,
     folder: &str,

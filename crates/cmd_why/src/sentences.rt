@@ -1,4 +1,4 @@
-//! What is said of a service: sentences, each by a rule over its status record, its trace and the clock.
+//! What is said about a service: sentences, each by a rule over its status record, its trace and the clock.
 ghost use Rattle.std.specs.Prelude.{◌≡◌, ◌++◌, string_bytes, decimal, codes, IfOk, OnOk};
 ghost use Rattle.cmd_svc.specs.Line.{is_running, note};
 ghost use Rattle.cmd_why.specs.Sentences.{cause_sentence, count_sentence, count_words, end_text, ended_words};
@@ -20,56 +20,56 @@ use sup_core::{byte_text, sig_name, signal_of};
 use svc_exit::{Ending, Exit, signal_name};
 use tai_status::{Label, Loaded, Phase, View, Want};
 
-/// The line of a service: how it stands, by its record and the clock; and then, where there is a trace, what it says.
+/// Returns the line about a service: first its state, from its record and the clock, and then, if there is a trace,
+/// what that says.
 ///
-/// How it stands:
+/// The state:
 ///
-/// - `DIR is up since TIME (S s), process N` where the record has a process, else `DIR is down since TIME (S s)`: TIME
-///   is that of its label, and S whole seconds from there to the clock, 0 where it is still to come.
-/// - `, being started`, `, settling after its start`, `, resting after a failed start`: a record of 20 bytes says
-///   that.
-/// - `, paused`: it is paused.
-/// - `, wanted up`: it is down, and is to be up. `, wanted down`, `, wanted once`: it is up, and is to be down, or is
-///   not to be started again.
-/// - `, normally down`: it is up, and has a file `down`. `, normally up`: it is down, and has none.
-/// - `, and supervise is gone`, `, and supervise is to end`: a record of 20 bytes says that it is exiting, in the
-///   phase `gone` or in another.
+/// - `DIR is up since TIME (S s), process N` if the record has a process, and otherwise `DIR is down since TIME (S s)`.
+///   TIME is that of its label. S is the number of whole seconds from there to the clock, or 0 if it is still to come.
+/// - `, being started`, `, settling after its start`, `, resting after a failed start` if a record of 20 bytes says so.
+/// - `, paused` if it is paused.
+/// - `, wanted up` if it is down, and is to be up. `, wanted down` or `, wanted once` if it is up, and is to be down,
+///   or is not to be restarted.
+/// - `, normally down` if it is up, and has a file `down`. `, normally up` if it is down, and has none.
+/// - `, and supervise is gone`, `, and supervise is to end` if a record of 20 bytes says that it is exiting, in the
+///   phase `gone` or in another one.
 ///
 /// What was before. The trace leads to the record if the machine after its entries has the record's label and process
-/// number. Then, of a service that is up:
+/// number. If it does, this sentence is for a service that is up:
 ///
-/// - `It was sent SIGNAL (C).`: C is the last control byte with a signal after the last start.
+/// - `It was sent SIGNAL (C).` if C is the last control byte with a signal after the last start.
 ///
-/// And of one that is down:
+/// These are for a service that is down:
 ///
-/// - `It was brought down (d).`, `It was to run once (o).`: that is the last of `u`, `d` and `o` between the start of
-///   the process that ended last and its death, if the trace has that death.
+/// - `It was brought down (d).` or `It was to run once (o).` if that is the last of `u`, `d` and `o` between the start
+///   and the death of the last process that ended, and the trace has that death.
 ///
-/// The last end of a process is the later one of the last death in the trace and the end in the file `exit`
+/// The last end of a process is the later of the last death in the trace and the end in the file `exit`
 /// ([`last_end`](crate::last_end)):
 ///
-/// - `Process N ran S s and ended.`: the trace has it. `Process N ended.`: only the file `exit` has it.
-/// - `Before it process N ..`: the service is up, and the end is no later than the record.
+/// - `Process N ran S s and ended.` if the trace has it. `Process N ended.` if only the file `exit` has it.
+/// - `Before it process N ..` if the service is up, and the end is no later than the record.
 ///
-/// It ended ` with status S` or ` by SIGNAL` if the file `exit` says it of that process. It ended ` after SIGNAL (C)`
-/// if C is the last control byte with a signal between its start and its death, and ` without a control byte` if the
-/// trace has its start and no control byte between them.
+/// It ended ` with status S` or ` by SIGNAL` if the file `exit` says so about that process. It ended ` after SIGNAL
+/// (C)` if C is the last control byte with a signal between its start and its death, and ` without a control byte` if
+/// the trace has its start and no control byte between them.
 ///
-/// Of a service that is down, if the trace leads to the record:
+/// These are for a service that is down, if the trace leads to the record:
 ///
-/// - `Its last start failed.`: no start is known after the last one that failed.
-/// - `It has not run since supervise began.`: nothing was folded, there is no process before the entries, and no start
-///   among them.
+/// - `Its last start failed.` if no start is known after the last one that failed.
+/// - `It has not run since supervise began.` if nothing was folded, there is no process before the entries, and no
+///   start among them.
 ///
-/// Starts, last:
+/// Starts come last:
 ///
-/// - `N starts in the last 60 s.`: so many entries are starts whose label lies within 60 seconds before the clock, if
-///   any.
-/// - `It is flapping: N starts in the last 60 s.`: five or more of them came with no control byte since the start
+/// - `N starts in the last 60 s.` if that many entries, at least one, are starts with labels in the 60 seconds before
+///   the clock reading.
+/// - `It is flapping: N starts in the last 60 s.` if five or more of them came with no control byte since the start
 ///   before.
-/// - `at least N`: the trace does not lead to the record, or its entries do not reach back 60 seconds.
+/// - `at least N` if the trace does not lead to the record, or its entries do not reach back 60 seconds.
 ///
-/// `AllocError` comes only where the allocator refuses the memory for the line.
+/// Returns `AllocError` only if the allocator refuses the memory for the line.
 pub fn why_line<A: Allocator>(
     alloc: A,
     dir: &str,
@@ -91,7 +91,7 @@ pub fn why_line<A: Allocator>(
     Ok(line)
 }
 
-/// Whether a service runs.
+/// Returns whether a service runs.
 pub(crate) fn is_running(view: &View) -> bool
     ensures { result ≡ is_running view.now }
 {
@@ -106,7 +106,7 @@ fn push_number<A: Allocator>(out: &mut String<A>, number: u128) -> Result<(), Al
     out.push_str(buffer.format(number))
 }
 
-/// Writes how a service stands.
+/// Writes the state of a service.
 fn push_state<A: Allocator>(
     out: &mut String<A>,
     loaded: &Loaded,
@@ -125,7 +125,7 @@ fn push_state<A: Allocator>(
     out.push_str(".")
 }
 
-/// Writes whether a service is up, since when, and by which process.
+/// Writes whether a service is up, since when, and with which process.
 #[tactic(auto, unfolding(crate::specs::Sentences::standing_text))]
 fn push_side<A: Allocator>(
     out: &mut String<A>,
@@ -159,7 +159,7 @@ fn push_notes<A: Allocator>(
     )
 }
 
-/// Whether a service is up, in a word.
+/// Returns whether a service is up, in a word.
 #[tactic(auto, unfolding(crate::specs::Sentences::side_text))]
 fn side_text(view: &View) -> &'static str
     ensures { result.now ≡ side_text view.now }
@@ -167,7 +167,7 @@ fn side_text(view: &View) -> &'static str
     if is_running(view) { "up" } else { "down" }
 }
 
-/// Writes since when it stands so.
+/// Writes since when it has been in this state.
 #[tactic(auto, unfolding(crate::specs::Sentences::since_text))]
 fn push_since<A: Allocator>(
     out: &mut String<A>,
@@ -197,7 +197,7 @@ fn push_process<A: Allocator>(out: &mut String<A>, view: &View) -> Result<(), Al
     push_number(out, u128::from(view.pid))
 }
 
-/// Where supervise stands with it.
+/// Returns the phase of supervise, in words.
 fn phase_words(phase: Phase) -> &'static str
     ensures { result.now ≡ phase_words phase }
 {
@@ -209,7 +209,7 @@ fn phase_words(phase: Phase) -> &'static str
     }
 }
 
-/// Where supervise stands with it, where a record says that.
+/// Returns the phase of supervise, in words, if a record says it.
 #[tactic(auto, unfolding(crate::specs::Sentences::phase_text))]
 fn phase_text(loaded: &Loaded) -> &'static str
     ensures { result.now ≡ phase_text loaded.now }
@@ -220,7 +220,7 @@ fn phase_text(loaded: &Loaded) -> &'static str
     }
 }
 
-/// That it is paused.
+/// Returns the words that say whether it is paused.
 #[tactic(auto, unfolding(crate::specs::Sentences::paused_text))]
 fn paused_text(view: &View) -> &'static str
     ensures { result.now ≡ paused_text view.now }
@@ -228,7 +228,7 @@ fn paused_text(view: &View) -> &'static str
     if view.paused { ", paused" } else { "" }
 }
 
-/// What is wanted, where it is not what stands.
+/// Returns what is wanted, in words, if that is not the present state.
 #[tactic(auto, unfolding(crate::specs::Sentences::want_words))]
 fn want_words(running: bool, want: Want) -> &'static str
     ensures { result.now ≡ want_words running want }
@@ -241,7 +241,7 @@ fn want_words(running: bool, want: Want) -> &'static str
     }
 }
 
-/// That a service does not stand as it normally does.
+/// Returns the words that say whether a service is not in its normal state.
 #[tactic(auto, unfolding(crate::specs::Sentences::normal_text))]
 fn normal_text(view: &View, normally_up: bool) -> &'static str
     ensures { result.now ≡ normal_text view.now normally_up }
@@ -253,7 +253,7 @@ fn normal_text(view: &View, normally_up: bool) -> &'static str
     }
 }
 
-/// That supervise ends.
+/// Returns the words that say whether supervise ends.
 #[tactic(auto, unfolding(crate::specs::Sentences::end_text))]
 fn end_text(loaded: &Loaded) -> &'static str
     ensures { result.now ≡ end_text loaded.now }
@@ -264,7 +264,7 @@ fn end_text(loaded: &Loaded) -> &'static str
     }
 }
 
-/// That supervise ends, by its phase.
+/// Returns the words that say that supervise ends, by its phase.
 fn end_words(phase: Phase) -> &'static str
     ensures { result.now ≡ end_words phase }
 {
@@ -306,7 +306,7 @@ fn push_how<A: Allocator>(
     }
 }
 
-/// That a process ended with no control byte.
+/// Returns the words that say whether a process ended without a control byte.
 fn unasked_text(unasked: bool) -> &'static str
     ensures { result.now ≡ note unasked (codes " without a control byte") }
 {
@@ -317,7 +317,7 @@ fn unasked_text(unasked: bool) -> &'static str
     }
 }
 
-/// Writes a signal: its name, or the number of one that has none.
+/// Writes a signal: its name, or its number if it has no name.
 #[tactic(auto, unfolding(crate::specs::Sentences::signal_text))]
 fn push_signal_text<A: Allocator>(out: &mut String<A>, number: u8) -> Result<(), AllocError>
     ensures { OnOk result (string_bytes out.new ≡ string_bytes out.old ++ signal_text number) }
@@ -334,7 +334,7 @@ fn push_signal_text<A: Allocator>(out: &mut String<A>, number: u8) -> Result<(),
     }
 }
 
-/// Writes with which status a process exited.
+/// Writes the exit status of a process.
 fn push_status<A: Allocator>(out: &mut String<A>, code: u8) -> Result<(), AllocError>
     ensures { OnOk result (string_bytes out.new ≡ string_bytes out.old ++ codes " with status " ++ decimal code) }
 {
@@ -342,7 +342,7 @@ fn push_status<A: Allocator>(out: &mut String<A>, code: u8) -> Result<(), AllocE
     push_number(out, u128::from(code))
 }
 
-/// Writes with which status or by which signal a process ended, where that is known.
+/// Writes the exit status of a process, or the signal by which it ended, if that is known.
 #[tactic(auto, unfolding(crate::specs::Sentences::ending_words))]
 fn push_ending<A: Allocator>(out: &mut String<A>, ending: Option<Ending>) -> Result<(), AllocError>
     ensures { OnOk result (string_bytes out.new ≡ string_bytes out.old ++ ending_words ending) }
@@ -398,7 +398,7 @@ fn push_three<A: Allocator>(
     out.push_str(third)
 }
 
-/// Writes the first signal of a control byte, and the byte, as a sentence ends.
+/// Writes the first signal of a control byte, and the byte, at the end of a sentence.
 #[tactic(auto, unfolding(crate::specs::Sentences::signal_end))]
 fn push_signal<A: Allocator>(out: &mut String<A>, byte: u8) -> Result<(), AllocError>
     ensures { OnOk result (string_bytes out.new ≡ string_bytes out.old ++ signal_end byte) }
@@ -407,7 +407,7 @@ fn push_signal<A: Allocator>(out: &mut String<A>, byte: u8) -> Result<(), AllocE
     out.push_str(".")
 }
 
-/// Writes the last signal that a process was sent since its start.
+/// Writes the last signal that was sent to a process since its start.
 fn push_sent<A: Allocator>(out: &mut String<A>, sent: Option<u8>) -> Result<(), AllocError>
     ensures { OnOk result (string_bytes out.new ≡ string_bytes out.old ++ sent_sentence sent) }
 {
@@ -420,7 +420,7 @@ fn push_sent<A: Allocator>(out: &mut String<A>, sent: Option<u8>) -> Result<(), 
     }
 }
 
-/// Writes which process ended, and how, if only the file `exit` says it.
+/// Writes which process ended, and how, if only the file `exit` says so.
 fn push_exit<A: Allocator>(out: &mut String<A>, exit: &Exit) -> Result<(), AllocError>
     ensures { OnOk result (string_bytes out.new ≡ string_bytes out.old ++ exit_words exit.now) }
 {
@@ -430,7 +430,7 @@ fn push_exit<A: Allocator>(out: &mut String<A>, exit: &Exit) -> Result<(), Alloc
     out.push_str(".")
 }
 
-/// Writes which process ended last, and how.
+/// Writes which process was the last to end, and how.
 fn push_last_words<A: Allocator>(out: &mut String<A>, end: &LastEnd) -> Result<(), AllocError>
     ensures { OnOk result (string_bytes out.new ≡ string_bytes out.old ++ last_words end.now) }
 {
@@ -440,14 +440,14 @@ fn push_last_words<A: Allocator>(out: &mut String<A>, end: &LastEnd) -> Result<(
     }
 }
 
-/// Whether an end was before the process that runs began.
+/// Returns whether an end was before the running process began.
 fn is_before(status: &View, end: &LastEnd) -> bool
     ensures { result ≡ is_before status.now end.now }
 {
     is_running(status) && nanos(&time_of_end(end)) <= nanos(&status.label)
 }
 
-/// How the sentence on the last end begins.
+/// Returns how the sentence about the last end begins.
 fn end_opening(before: bool) -> &'static str
     ensures { result.now ≡ end_opening before }
 {
@@ -458,7 +458,7 @@ fn end_opening(before: bool) -> &'static str
     }
 }
 
-/// Writes of the last end of a process, if there is one.
+/// Writes about the last end of a process, if there is one.
 fn push_end<A: Allocator>(
     out: &mut String<A>,
     status: &View,
@@ -475,7 +475,7 @@ fn push_end<A: Allocator>(
     }
 }
 
-/// Why a service is down, where a control byte says it.
+/// Returns why a service is down, if a control byte says it.
 fn wanted_sentence(wanted: Option<u8>) -> &'static str
     ensures { result.now ≡ wanted_sentence wanted }
 {
@@ -486,7 +486,7 @@ fn wanted_sentence(wanted: Option<u8>) -> &'static str
     }
 }
 
-/// The control byte that says why a service is down, if the trace has the last end.
+/// Returns the control byte that says why a service is down, if the trace has the last end.
 fn wanted_at(last: Option<&LastEnd>) -> Option<u8>
     ensures { result ≡ wanted_at (option_copied last.entry) }
 {
@@ -496,7 +496,7 @@ fn wanted_at(last: Option<&LastEnd>) -> Option<u8>
     }
 }
 
-/// That the last start failed.
+/// Returns the words that say whether the last start failed.
 fn failed_text(failed: bool) -> &'static str
     ensures { result.now ≡ note failed (codes " Its last start failed.") }
 {
@@ -507,7 +507,7 @@ fn failed_text(failed: bool) -> &'static str
     }
 }
 
-/// That no process ran.
+/// Returns the words that say whether no process has run.
 fn unrun_text(unrun: bool) -> &'static str
     ensures { result.now ≡ note unrun (codes " It has not run since supervise began.") }
 {
@@ -518,7 +518,7 @@ fn unrun_text(unrun: bool) -> &'static str
     }
 }
 
-/// Writes the signal that the process that runs was sent, or why the service is down.
+/// Writes the signal that was sent to the running process, or why the service is down.
 fn push_cause<A: Allocator>(
     out: &mut String<A>,
     running: bool,
@@ -534,7 +534,7 @@ fn push_cause<A: Allocator>(
     out.push_str(wanted_sentence(wanted_at(last)))
 }
 
-/// Writes of starts that made no process.
+/// Writes about starts that made no process.
 fn push_unstarted<A: Allocator>(
     out: &mut String<A>,
     running: bool,
@@ -546,7 +546,7 @@ fn push_unstarted<A: Allocator>(
     out.push_str(unrun_text(!running && facts.unrun))
 }
 
-/// Writes of the past, by a trace that leads to the record.
+/// Writes about the past, from a trace that leads to the record.
 fn push_led<A: Allocator>(
     out: &mut String<A>,
     status: &View,
@@ -562,7 +562,7 @@ fn push_led<A: Allocator>(
     push_unstarted(out, running, facts)
 }
 
-/// Writes of the past.
+/// Writes about the past.
 fn push_past<A: Allocator>(
     out: &mut String<A>,
     status: &View,
@@ -587,7 +587,7 @@ fn push_count<A: Allocator>(out: &mut String<A>, starts: u64) -> Result<(), Allo
     out.push_str(" in the last 60 s.")
 }
 
-/// Writes what is said of starts.
+/// Writes what is said about starts.
 fn push_starts<A: Allocator>(
     out: &mut String<A>,
     starts: u64,
@@ -603,7 +603,7 @@ fn push_starts<A: Allocator>(
     push_count(out, starts)
 }
 
-/// How the sentence on starts begins.
+/// Returns how the sentence about starts begins.
 fn starts_opening(unasked: u64, all: bool) -> &'static str
     ensures { result.now ≡ starts_opening unasked all }
 {
@@ -615,7 +615,7 @@ fn starts_opening(unasked: u64, all: bool) -> &'static str
     }
 }
 
-/// Writes what the trace says of starts, if there is one.
+/// Writes what the trace says about starts, if there is one.
 fn push_traced_starts<A: Allocator>(
     out: &mut String<A>,
     facts: Option<&Facts>,

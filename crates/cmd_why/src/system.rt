@@ -8,16 +8,16 @@ use std::io::{Error, ErrorKind, Read};
 use std::{fs, io};
 use svc_exit::ExitText;
 
-/// How long a path is at most on this system, with the zero behind it.
+/// The longest path on this system, in bytes, with the zero at its end.
 const PATH_BYTES: usize = 4096;
 
-/// How many bytes a trace has at most: those of 65,536 entries are fewer. A longer file is none.
+/// The most bytes in a trace: the text of 65,536 entries is shorter. A longer file is not a trace.
 const TRACE_BYTES: u64 = 1 << 22;
 
-/// How many bytes of the line of an exit are read: it has fewer.
+/// The number of bytes read of the line of an exit, which is shorter.
 const EXIT_BYTES: u64 = 64;
 
-/// The path of something in a folder. One that is longer than any path of this system is a fault.
+/// Returns the path of something in a folder. A path that is longer than any on this system is a fault.
 fn path_in(folder: &str, rest: &str) -> io::Result<ArrayString<PATH_BYTES>>
     ensures { IfOk result (λ path. path.bytes ≡ folder.now ++ rest.now) }
 {

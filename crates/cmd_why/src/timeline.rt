@@ -1,4 +1,4 @@
-//! The picture of a trace: what stood over time.
+//! The picture of a trace: the states over time.
 ghost use Rattle.std.specs.Prelude.{◌≡◌, ◌≤◌, ◌<◌, ◌++◌, ◌^◌, length, IfOk, OnOk};
 ghost use Rattle.std.specs.List.{AllByRecursion};
 ghost use Rattle.sup_core.specs.Rules.{IsEvent};
@@ -15,10 +15,10 @@ use sup_core::{Event, Machine, Phase};
 use sup_trace::TraceText;
 use tai_status::{Label, View};
 
-/// How many columns a picture has.
+/// The number of columns of a picture.
 pub const COLUMNS: usize = 80;
 
-/// The signs of a picture, one a column.
+/// The signs of a picture, one for each column.
 pub type Bar = ArrayString<COLUMNS>;
 
 /// How a service is shown.
@@ -26,17 +26,17 @@ pub type Bar = ArrayString<COLUMNS>;
 pub enum Shown {
     /// There is a process.
     Up,
-    /// There is one, and it was paused for a part of that time: when, a trace does not say.
+    /// There is a process, and it was paused for some of that time; a trace does not say when.
     Paused,
-    /// It settles after a start, or rests after one that failed.
+    /// It settles after a start, or rests after a failed one.
     Attempt,
     /// There is no process.
     Down,
-    /// It is not known: the trace does not lead to the record.
+    /// It is not known, because the trace does not lead to the record.
     Unknown,
 }
 
-/// From when to when a service is shown so, in nanoseconds since the beginning of labels.
+/// A time for which a service is shown in one way. Both ends are in nanoseconds since the beginning of labels.
 #[derive(Clone, Copy, Debug, PartialEq, Eq)]
 pub struct Stretch {
     pub from: u128,
@@ -44,7 +44,7 @@ pub struct Stretch {
     pub shown: Shown,
 }
 
-/// How a phase is shown.
+/// Returns how a phase is shown.
 fn shown_in(phase: Phase) -> Shown
     ensures { result ≡ shown_in phase }
 {
@@ -55,7 +55,7 @@ fn shown_in(phase: Phase) -> Shown
     }
 }
 
-/// How a machine is shown.
+/// Returns how a machine is shown.
 fn shown_of(machine: &Machine) -> Shown
     ensures { result ≡ shown_of machine.now }
 {
@@ -65,7 +65,7 @@ fn shown_of(machine: &Machine) -> Shown
     shown_in(machine.phase())
 }
 
-/// How the machine before the entries is shown.
+/// Returns how the machine before the entries is shown.
 fn shown_before(view: &View) -> Shown
     ensures { result ≡ shown_before view.now }
 {
@@ -78,7 +78,7 @@ fn shown_before(view: &View) -> Shown
     }
 }
 
-/// The label of an entry: a control byte has none.
+/// Returns the label of an entry. A control byte has none.
 fn label_in(event: &Event) -> Option<Label>
     ensures { result ≡ label_in event.now }
 {
@@ -91,14 +91,14 @@ fn label_in(event: &Event) -> Option<Label>
     }
 }
 
-/// When an entry of this label happened, behind a stretch.
+/// Returns when an entry with this label counts, after a stretch.
 fn moment(now: u128, last: &Stretch, label: &Label) -> u128
     ensures { result ≡ moment now last.now label.now }
 {
     last.from.max(nanos(label)).min(now)
 }
 
-/// Adds the stretch that ends with an entry, where that has a label.
+/// Adds the stretch that ends at an entry, if the entry has a label.
 fn end_stretch<A: Allocator>(
     drawn: &mut Vec<Stretch, A>,
     now: u128,
@@ -118,7 +118,7 @@ fn end_stretch<A: Allocator>(
     Ok(())
 }
 
-/// The stretch behind an entry, after which the machine stands so.
+/// Returns the stretch after an entry that leads to this machine.
 fn behind(now: u128, last: &Stretch, label: &Option<Label>, machine: &Machine) -> Stretch
     ensures { result ≡ behind now last.now label.now machine.now }
 {
@@ -140,7 +140,7 @@ fn behind(now: u128, last: &Stretch, label: &Option<Label>, machine: &Machine) -
     }
 }
 
-/// The last stretch of all, up to now.
+/// Returns the last stretch of all, up to now.
 fn tail(leads: bool, last: &Stretch) -> Stretch
     ensures { result ≡ tail leads last.now }
 {
@@ -151,7 +151,7 @@ fn tail(leads: bool, last: &Stretch) -> Stretch
     }
 }
 
-/// The last stretch so far, and those of these entries behind it.
+/// Returns the stretches from the last one so far on, with those that these entries add.
 fn stretches<A: Allocator>(
     alloc: A,
     now: u128,
@@ -177,7 +177,7 @@ fn stretches<A: Allocator>(
     Ok(drawn)
 }
 
-/// How many nanoseconds a picture has.
+/// Returns how many nanoseconds wide a picture is.
 fn width(from: u128, now: u128) -> u128
     requires { now < 2 ^ 100 }
     ensures value { result ≡ width from now }
@@ -186,7 +186,7 @@ fn width(from: u128, now: u128) -> u128
     (now + 1).saturating_sub(from).max(COLUMNS as u128)
 }
 
-/// Where a column begins.
+/// Returns the time at which a column begins.
 fn edge(from: u128, width: u128, column: usize) -> u128
     requires from { from < 2 ^ 100 }
     requires width { width < 2 ^ 101 }
@@ -196,14 +196,14 @@ fn edge(from: u128, width: u128, column: usize) -> u128
     from + column as u128 * width / COLUMNS as u128
 }
 
-/// Whether a stretch has a part in the time from one moment up to another.
+/// Returns whether a stretch overlaps the time from one moment to another.
 fn has_part(from: u128, to: u128, stretch: &Stretch) -> bool
     ensures { result ≡ has_part from to stretch.now }
 {
     stretch.from < to && from < stretch.to
 }
 
-/// Whether both are shown alike.
+/// Returns whether both are shown the same way.
 fn same(one: Shown, other: Shown) -> bool
     ensures { result ≡ same one other }
 {
@@ -217,14 +217,14 @@ fn same(one: Shown, other: Shown) -> bool
     }
 }
 
-/// Whether a stretch that is shown so has a part in that time.
+/// Returns whether a stretch that is shown this way overlaps that time.
 fn stands(from: u128, to: u128, what: Shown, drawn: &[Stretch]) -> bool
     ensures { result ≡ stands from to what drawn.now }
 {
     drawn.iter().any(|stretch| has_part(from, to, stretch) && same(stretch.shown, what))
 }
 
-/// The one of these that holds, where it is one alone.
+/// Returns the one of these that holds, if exactly one does.
 fn alone(up: bool, paused: bool, attempt: bool, down: bool, unknown: bool) -> Option<Shown>
     ensures { result ≡ alone up paused attempt down unknown }
 {
@@ -238,7 +238,7 @@ fn alone(up: bool, paused: bool, attempt: bool, down: bool, unknown: bool) -> Op
     }
 }
 
-/// What stands throughout a time; none where more than one does.
+/// Returns what is shown throughout a time, or None if there is more than one.
 fn throughout(from: u128, to: u128, drawn: &[Stretch]) -> Option<Shown>
     ensures { result ≡ throughout from to drawn.now }
 {
@@ -251,7 +251,7 @@ fn throughout(from: u128, to: u128, drawn: &[Stretch]) -> Option<Shown>
     )
 }
 
-/// The sign of a column.
+/// Returns the sign of a column.
 fn sign(shown: Option<Shown>) -> &'static str
     ensures sign { result.now ≡ sign shown }
     ensures one { length result.now ≡ 1 }
@@ -266,7 +266,7 @@ fn sign(shown: Option<Shown>) -> &'static str
     }
 }
 
-/// The signs of the columns.
+/// Returns the signs of all columns.
 fn bar(from: u128, width: u128, drawn: &[Stretch]) -> Bar
     requires from { from < 2 ^ 100 }
     requires width { width < 2 ^ 101 }
@@ -281,7 +281,7 @@ fn bar(from: u128, width: u128, drawn: &[Stretch]) -> Bar
     bar
 }
 
-/// Where the picture of a trace begins.
+/// Returns the time at which the picture of a trace begins.
 pub(crate) fn left_end<A: Allocator>(content: &TraceText<A>, now: &Label) -> Label
     ensures { result ≡ left_end content.now now.now }
 {
@@ -293,19 +293,19 @@ pub(crate) fn left_end<A: Allocator>(content: &TraceText<A>, now: &Label) -> Lab
     }
 }
 
-/// The picture of a trace at a clock reading: of the time from the label of the machine before its entries to that
-/// reading, in columns of equal width, each the sign of what stands throughout its time.
+/// Returns the picture of a trace at a clock reading. It covers the time from the label of the machine before its
+/// entries to that reading, in columns of equal width. Each column has the sign for the state throughout its time:
 ///
-/// - `#`: there is a process. `.`: there is none.
-/// - `*`: it settles after a start, or rests after one that failed; each lasts a second.
-/// - `=`: the process was paused for a part of the time from one label to the next: a control byte has no label, and so
-///   when it came, a trace does not say.
-/// - `?`: what stands is not known: the trace does not lead to the record, and this is behind its last label.
-/// - `+`: more than one of these.
+/// - `#` if there is a process, and `.` if there is none.
+/// - `*` if it settles after a start, or rests after a failed one; each lasts a second.
+/// - `=` if the process was paused for some of the time from one label to the next. A control byte has no label, so a
+///   trace does not say when it came.
+/// - `?` if the state is not known: the trace does not lead to the record, and this is after its last label.
+/// - `+` if more than one of these applies.
 ///
-/// An entry counts as of its label; as of the one in front of it where that is later, since a clock may be set back;
-/// and as of the reading where both are later than that. `AllocError` comes only where the allocator refuses the
-/// memory.
+/// An entry counts at the time of its label. If the entry before it is later, it counts at that time, because a clock
+/// may be set back. If both are later than the reading, it counts at the reading. Returns `AllocError` only if the
+/// allocator refuses the memory.
 pub fn bar_of<A: Allocator, B: Allocator>(
     alloc: A,
     content: &TraceText<B>,

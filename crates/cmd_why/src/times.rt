@@ -3,7 +3,7 @@ use crate::sources::{LocalTime, LocalTimes};
 use cmd_local::{LocalZone, local_time};
 use tai_status::{Label, text};
 
-/// A label outside of the years 1900 to 9999 is reported as its own text. It says nothing to contracts.
+/// A label outside of the years 1900 to 9999 is shown as its own text. It says nothing to contracts.
 impl LocalTimes for LocalZone {
     fn local_time(&self, label: &Label) -> LocalTime {
         match local_time(self, label) {
@@ -13,7 +13,7 @@ impl LocalTimes for LocalZone {
     }
 }
 
-/// The text of bytes.
+/// Returns bytes as text.
 fn text_of(bytes: &[u8]) -> LocalTime {
     let mut out = LocalTime::new();
     if let Ok(text) = str::from_utf8(bytes) {

@@ -31,21 +31,21 @@ pub enum WhyFault {
     Write,
 }
 
-/// What came of the calls of a service.
+/// The result of the calls for a service.
 #[derive(Clone, Copy, Debug, PartialEq, Eq)]
 pub(crate) enum Reach {
-    /// Nobody answers for it.
+    /// No supervisor responds for it.
     Absent(Absence),
     /// Its status can't be read.
     Unread,
-    /// Its status is no record.
+    /// Its status is not a record.
     Bad(RecordFault),
     /// Its status, and whether it is normally up.
     Standing(Loaded, bool),
 }
 
-/// Asks the service in a folder whether it is supervised, then for its status, then for its file `down`. The first that
-/// fails ends that.
+/// Asks the service in a folder whether it is supervised, then for its status, then for its file `down`. The first of
+/// these that fails ends that.
 fn reach_service<S: Services, K: Evidence>(services: &mut S, sources: &K, folder: &str) -> Reach
     ensures { Reaches (K.known sources.now) folder.now result (S.calls services.old) (S.calls services.new) }
 {
@@ -61,7 +61,7 @@ fn reach_service<S: Services, K: Evidence>(services: &mut S, sources: &K, folder
     }
 }
 
-/// What the trace of the service in a folder says, where there is one that can be read.
+/// Returns the trace of the service in a folder, if there is a readable one.
 fn read_content<A: Allocator + Clone, K: Evidence>(
     alloc: &A,
     sources: &K,
@@ -80,7 +80,7 @@ fn read_content<A: Allocator + Clone, K: Evidence>(
     }
 }
 
-/// What a trace says, where there is one.
+/// Returns what a trace says, if there is one.
 fn facts_in<A: Allocator>(
     content: Option<&TraceText<A>>,
     status: &View,
@@ -94,7 +94,7 @@ fn facts_in<A: Allocator>(
     }
 }
 
-/// What the file `exit` of the service in a folder says, if it can be read.
+/// Returns what the file `exit` of the service in a folder says, if it can be read.
 fn read_exit<K: Evidence>(sources: &K, folder: &str) -> Option<Exit>
     ensures { IsExitOf ((K.known sources.now).exits folder.now) result }
 {
@@ -104,7 +104,7 @@ fn read_exit<K: Evidence>(sources: &K, folder: &str) -> Option<Exit>
     }
 }
 
-/// The picture of a trace beside a record, and the local time of its left end.
+/// Returns the picture of a trace for a record, and the local time of its left end.
 fn picture<A: Allocator + Clone, K: Evidence>(
     alloc: &A,
     sources: &K,
@@ -121,7 +121,7 @@ fn picture<A: Allocator + Clone, K: Evidence>(
     })
 }
 
-/// What is drawn of a trace, where a timeline is asked for.
+/// Returns what is drawn about a trace, if a timeline is asked for.
 fn draw<A: Allocator + Clone, K: Evidence>(
     alloc: &A,
     sources: &K,
@@ -142,7 +142,7 @@ fn draw<A: Allocator + Clone, K: Evidence>(
     Ok(Drawing::Of(picture(alloc, sources, content, status, now)?))
 }
 
-/// How the service in a folder stands, whose record says this.
+/// Returns the state of the service in a folder whose record says this.
 fn stand<A: Allocator + Clone, K: Evidence, C: TimeSource>(
     alloc: &A,
     timeline: bool,
@@ -172,7 +172,7 @@ fn stand<A: Allocator + Clone, K: Evidence, C: TimeSource>(
     })
 }
 
-/// What a look at the service in a folder found, by what came of its calls.
+/// Returns what a look at the service in a folder found, from the result of its calls.
 fn find<A: Allocator + Clone, K: Evidence, C: TimeSource>(
     alloc: &A,
     timeline: bool,
@@ -200,7 +200,7 @@ fn find<A: Allocator + Clone, K: Evidence, C: TimeSource>(
     }
 }
 
-/// Whether a service could not be read.
+/// Returns whether a service could not be read.
 fn is_unread(found: &Found) -> bool
     ensures { result ≡ is_unread found.now }
 {
@@ -211,7 +211,7 @@ fn is_unread(found: &Found) -> bool
     }
 }
 
-/// Writes the text of what a look at the service in a folder found.
+/// Writes the text about what a look at the service in a folder found.
 fn write_text<A: Allocator + Clone, W: Write>(
     alloc: &A,
     folder: &str,
@@ -235,8 +235,8 @@ fn write_text<A: Allocator + Clone, W: Write>(
     }
 }
 
-/// Looks at the service in a folder, and writes the text of that. Whether some service could not be read, this one or
-/// one before it.
+/// Looks at the service in a folder, and writes the text about that. Returns whether some service could not be read,
+/// this one or one before it.
 fn show<S, K, A, W, C>(
     alloc: &A,
     timeline: bool,
@@ -266,8 +266,8 @@ where
     Ok(unread || is_unread(&found))
 }
 
-/// Shows the services in folders, one after the other, up to the first whose text can't be written. Whether some
-/// service could not be read.
+/// Shows the services in folders, one after the other, up to the first one whose text can't be written. Returns whether
+/// some service could not be read.
 fn show_all<S, K, A, W, C>(
     alloc: &A,
     timeline: bool,
@@ -294,8 +294,8 @@ where
     Ok(unread)
 }
 
-/// Reports why the text of a service is not written, and returns the status of that. If the writer failed, the line
-/// names the cause of its last fault.
+/// Reports why the text of a service is not written, and returns the exit status for that. If the writer failed, the
+/// line names the cause of its last fault.
 fn report_fault<W: Write, E: Write>(
     fault: WhyFault,
     writer: &Output<W>,
@@ -310,14 +310,14 @@ fn report_fault<W: Write, E: Write>(
     }
 }
 
-/// The status behind services that were shown.
+/// Returns the exit status after services were shown.
 fn shown_status(unread: bool) -> u8
     ensures { result ≡ (if unread then 111 else 0) }
 {
     if unread { TROUBLE } else { DONE }
 }
 
-/// `why` over services, with timelines or without.
+/// Runs `why` over services, with or without timelines.
 fn report_services<S, K, A, W, E, C>(
     alloc: A,
     timeline: bool,
@@ -346,19 +346,20 @@ where
     }
 }
 
-/// The command `why`: writes a line for the service in each folder that its words name, in order: in plain words how it
-/// stands and why, as [`why_line`](crate::why_line) says it; or that nobody answers for it, or that it can't be read.
-/// It is looked at when its line comes: first its status is read, then its trace, then the clock, once, and then how
-/// its last process ended.
+/// The command `why`: writes one line for the service in each folder that its words name, in order. The line says in
+/// plain words in which state the service is and why, as [`why_line`](crate::why_line) does. If no supervisor responds,
+/// or the service can't be read, it says that. The service is looked at just before its line is written. First its
+/// status is read, then its trace, then the clock, once, and then how its last process ended.
 ///
-/// Where the first word is `--timeline`, two lines more stand behind the line of each service behind it that could be
-/// read: the picture of its trace, as [`bar_of`] draws it, and the local time at which that begins, with `now` at its
-/// end; or one line that there is no trace that can be read.
+/// If the first word is `--timeline`, two more lines follow the line of each service that could be read. These are the
+/// picture of its trace, as [`bar_of`] draws it, and a line with the local time at which that begins, with `now` at its
+/// end. If it has no readable trace, one line says so instead.
 ///
-/// Control characters of a folder's name are escaped. After the lines it says of each folder that is not there why.
+/// Control characters of a folder's name are escaped. After the lines, it reports for each folder that does not exist
+/// why.
 ///
-/// Answers the status: 0; 111 where a service could not be read, which its line says; and 111 for a fault of the
-/// writer and for want of memory, and then the services after that one are not looked at.
+/// Returns the exit status, usually 0. It is 111 if a service could not be read, which its line says. It is also 111
+/// for a fault of the writer and for a lack of memory, and then the services after that one are not looked at.
 pub fn run_why<S, K, A, W, E, C>(
     alloc: A,
     observer: &mut Observer<S, C>,

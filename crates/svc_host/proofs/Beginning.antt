@@ -1,4 +1,4 @@
--- Parts that are begun, one after the other.
+-- Parts that begin, one after the other.
 use Rattle.std.proofs.Common.{◌≡◌, ℕ, zero, suc, ◌+◌, ◌<◌, Bool, true, false, inl, inr, List, [], ◌∷◌, ◌++◌, length}
 use Rattle.std.proofs.Common.{map, refl, sym, ap, ◌∙◌, subst, arith, slice_index_or, length-append, append_assoc}
 use Rattle.std.proofs.Common.{Option}
@@ -69,7 +69,7 @@ module _ {A : Type 0} (all ones others : List A) (x : A) (parted : IsParted all 
 abbrev id_of : HostPart → PartId
 id_of part = part.id
 
--- parts for which resources were handed out: these have them, of the others they were given back
+-- parts for which resources were handed out: these have them, and those of the others were given back
 record GivenBack (old new : Option (List Call)) (ids : List PartId) : Type 0 where
   pub given : List PartId
   pub returned : List PartId
@@ -186,7 +186,7 @@ module _ (slots : List SlotState) (rows : List Row) (label : Tai64n) (done : Lis
       failed_more parts failed
       (back_one old.calls mid.calls new.calls (map id_of before.begun) back_before id one)
 
--- the same, said of what is equal, and of what failed before nothing
+-- the same for equal lists, if nothing failed before
 pub begun_as : (slots slots' : List SlotState) (rows : List Row) (label : Tai64n) (ids ids' : List PartId)
     (olds : List HostPart) (old new : Beginnings)
     → AreBegun slots rows label ids old new → slots ≡ slots' → ids ≡ ids' → old.parts ≡ olds

@@ -69,7 +69,7 @@ pub hands-none : (calls : Option (List Call)) → HandsOutNone calls calls
 hands-none None = tt
 hands-none (Some calls) = (sym (append-nil (given_in calls)), sym (append-nil (returned_in calls)))
 
--- and one after the other
+-- calls one after the other
 pub hands-then : (a b c : Option (List Call)) (given returned given' returned' : List PartId)
     → HandsOut a b given returned
     → HandsOut b c given' returned' → HandsOut a c (given ++ given') (returned ++ returned')
@@ -91,7 +91,7 @@ hands-one id name (Err fault) old new (inr (inl refused)) =
 hands-one id name (Err fault) old new (inr (inr back)) =
     inr (hands-by old new (MadePart id name (Ok back.0) ∷ EndedPart id ∷ []) back.1)
 
--- the same behind calls that hand out nothing
+-- the same after calls that hand out nothing
 pub one-behind : (id : PartId) (fault : Option PartFault) (old mid new : Option (List Call)) → HandsOutNone old mid
     → HandsOutOne id fault mid new → HandsOutOne id fault old new
 one-behind id None old mid new none one = hands-then old mid new [] [] (id ∷ []) [] none one
@@ -107,7 +107,7 @@ pair-none slot name fault old new (inl none) = hands-by old new [] none
 pair-none slot name fault old new (inr (inl refused)) = hands-by old new (MadePair slot name (Some fault) ∷ []) refused
 pair-none slot name fault old new (inr (inr made)) = hands-by old new (MadePair slot name None ∷ []) made
 
--- nor does a pair that runs
+-- nor does a pair whose threads run
 pub start-none : (slot : _) (name : List ℕ) (fault : Option PartFault) (olds news : List Pair)
     (old new : Option (List Call)) → StartsPair slot name fault olds news old new → HandsOutNone old new
 start-none slot name None olds news old new (inl runs) = hands-by old new [] runs.2
@@ -141,7 +141,7 @@ trace-handed kept part false id text old new is says handed =
     inr (subst (λ i. ExtendedWhileKept old new (KeptTrace i (text_of part) false ∷ [])) is
     (subst (λ t. ExtendedWhileKept old new (KeptTrace id t false ∷ [])) says handed))
 
--- the same of a part of which it is noted that its trace is kept
+-- the same for a part after a note that its trace is kept
 pub trace-noted : (kept : Option ℕ) (part new_part : HostPart) (is_kept : Bool) (count : ℕ) (id : PartId)
     (text : List ℕ)
     (old new : Option (List Call)) → id ≡ part.id → text ≡ text_of part

@@ -23,7 +23,7 @@ not_same old new is same =
     let ran : new.has_ended ≡ false = ap (λ (part : HostPart). part.has_ended) same ∙ is.ran in
     absurd (cc (ended, ran))
 
--- Where all are as they were none was joined.
+-- If all are as they were, none was joined.
 none_joined : (joined : List PartId) (olds news : List HostPart) → AreReaped joined olds news
     → ((k : ℕ) (d : HostPart) → slice_index_or news k d ≡ slice_index_or olds k d) → joined ≡ []
 none_joined joined [] [] is same = is
@@ -32,7 +32,7 @@ none_joined joined (old ∷ olds) [] is same = absurd is
 none_joined joined (old ∷ olds) (new ∷ news) (inl one) same = none_joined joined olds news one.1 (λ k d. same (suc k) d)
 none_joined joined (old ∷ olds) (new ∷ news) (inr one) same = absurd (not_same old new one.2 (same 0 old))
 
--- One more was joined, behind those before it.
+-- One more was joined, after those before it.
 reaped_next : (joined : List PartId) (olds mids : List HostPart) (place : ℕ) (d new : HostPart) → place < length olds
     → AreReaped joined olds mids
     → ((k : ℕ) (d : HostPart) → place ≤ k → slice_index_or mids k d ≡ slice_index_or olds k d)

@@ -3,7 +3,7 @@ use Rattle.std.proofs.Common.{◌≡◌, ℕ, zero, suc, ◌<◌, ◌≤◌, Lis
 use Rattle.std.proofs.Common.{slice_index_or, slice_set}
 use Rattle.svc_host.specs.Parts.{HostPart, without_loss}
 
--- the parts, of which the first so many have forgotten
+-- the parts, after the first of them, this many, have forgotten their losses
 abbrev pub forgot_first : ℕ → List HostPart → List HostPart
 forgot_first zero parts = parts
 forgot_first (suc count) [] = []

@@ -1,4 +1,4 @@
--- Parts whose events go on.
+-- Parts whose events continue.
 use Rattle.std.proofs.Common.{◌≡◌, true, ℕ, zero, suc, ◌<◌, List, [], ◌∷◌, ◌++◌, length, refl, sym, ap, ◌∙◌, subst}
 use Rattle.std.proofs.Common.{append_assoc, append-nil, arith, slice_index_or, slice_set}
 use mathlib.Core.List.{IsPrefix}
@@ -35,12 +35,12 @@ use Rattle.svc_host.specs.Parts.{history_of}
 pub tells_none : (past : History) (known : List Event) → Tells past known known
 tells_none past known = record { more = []; known = sym (append-nil known); taken = tt }
 
--- What a history takes behind a first part of it is taken after that.
+-- What a history takes after a first list of events is taken after that list.
 taken_right : (past : History) (xs ys : List Event) → AreTaken past (xs ++ ys) → AreTaken (followed_by past xs) ys
 taken_right past [] ys taken = taken
 taken_right past (x ∷ xs) ys taken = taken_right (Then past x) xs ys taken.2
 
--- What is known further of a history that is taken was taken when it came.
+-- More known events of a history that is taken were each taken when they came.
 pub tells_of : (machine : State) (old new : List Event) → IsPrefix old new → are_taken (Opened machine) new ≡ true
     → Tells (followed_by (Opened machine) old) old new
 tells_of machine old new prefix taken = record {
@@ -50,7 +50,7 @@ tells_of machine old new prefix taken = record {
       (AreTaken-are_taken (Opened machine) (old ++ prefix.0) (ap (are_taken (Opened machine)) prefix.1 ∙ taken));
 }
 
--- what a reader knows further
+-- the further events that a reader knows
 pub reads_on : (old new : Reader) → reader_station new ≡ reader_station old → IsPrefix (known_to old) (known_to new)
     → Tells (history_at old) (known_to old) (known_to new)
 reads_on old new same prefix =
@@ -58,7 +58,7 @@ reads_on old new same prefix =
     (subst (λ machine. are_taken (Opened machine) (known_to new) ≡ true) (ap (λ origin. origin.opening) same)
     new.known.taken)
 
--- what is known later, and later still
+-- what is known later, and still later
 pub tells_then : (machine : State) (xs ys zs : List Event) → Tells (followed_by (Opened machine) xs) xs ys
     → Tells (followed_by (Opened machine) ys) ys zs → Tells (followed_by (Opened machine) xs) xs zs
 tells_then machine xs ys zs p q = record {
@@ -69,7 +69,7 @@ tells_then machine xs ys zs p q = record {
       (ap (followed_by (Opened machine)) p.known ∙ followed_by-append (Opened machine) xs p.more) q.taken);
 }
 
--- the same of a reader that reads twice
+-- the same for a reader that reads twice
 pub reads_then : (a b c : Reader)
     → (reader_station b ≡ reader_station a) × Tells (history_at a) (known_to a) (known_to b)
     → (reader_station c ≡ reader_station b) × Tells (history_at b) (known_to b) (known_to c)
@@ -179,7 +179,7 @@ others_stay (part ∷ parts) zero new (suc k) d less = refl
 others_stay (part ∷ parts) (suc place) new zero d less = refl
 others_stay (part ∷ parts) (suc place) new (suc k) d less = others_stay parts place new k d (omega arith)
 
--- what stands at the place then
+-- what is at the place then
 pub here_then : (parts : List HostPart) (place : ℕ) (new d : HostPart) → place < length parts
     → slice_index_or (slice_set parts place new) place d ≡ new
 here_then [] place new d within = absurd (omega arith)
@@ -192,7 +192,7 @@ set_length [] place new = refl
 set_length (part ∷ parts) zero new = refl
 set_length (part ∷ parts) (suc place) new = ap suc (set_length parts place new)
 
--- a part that stands at a place is somewhere
+-- a part that is at a place is somewhere
 pub not_nowhere : (id : PartId) (parts : List HostPart) (place : ℕ) → IsPlace id parts place → IsNowhere id parts → ⊥
 not_nowhere id [] place at nowhere = absurd (omega (arith, at.within))
 not_nowhere id (part ∷ parts) place at nowhere = nowhere place part at.within (at.here part)
@@ -232,7 +232,7 @@ pub posts : (id : PartId) (parts : List HostPart) (place : ℕ) (byte : ℕ) (ne
 posts id parts place byte new at has =
     record { place = place; part = new; here = has; is = (has new).id ∙ at.here new; parts = refl }
 
--- what stands at a place, whatever the default
+-- what is at a place, whatever the default
 pub same_default : (parts : List HostPart) (place : ℕ) (d e : HostPart) → place < length parts
     → slice_index_or parts place d ≡ slice_index_or parts place e
 same_default [] place d e within = absurd (omega (arith, within))

@@ -51,7 +51,7 @@ put_back (part ∷ parts) zero here within is = ap (λ (p : HostPart). p ∷ par
 put_back (part ∷ parts) (suc place) here within is =
     ap (λ l. part ∷ l) (put_back parts place here (omega (arith, within)) is)
 
--- One part has gone on.
+-- The events of one part continue.
 pub one_step : (parts : List HostPart) (place : ℕ) (part new : HostPart) → place < length parts
     → part ≡ slice_index_or parts place part → PartGoesOn part new → IsStep parts place (slice_set parts place new)
 one_step parts place part new within is goes_on = record {

@@ -33,7 +33,7 @@ runs_then a b c one two = record {
   run = run_append one.moves two.moves a b c one.run two.run;
 }
 
--- the same of a state that is reached under another name
+-- the same for a state that is reached under another name
 pub runs_through : (old mid same new : HostState) → Runs old mid → same ≡ mid → Runs same new → Runs old new
 runs_through old mid same new one is two =
     runs_then old mid new one (subst (λ (host : HostState). Runs host new) is two)
@@ -59,7 +59,7 @@ all_as_known (part ∷ parts) = (as_known part, all_as_known parts)
 pub stays : (old new : HostState) → new.table ≡ old.table → AreAsKnown old.parts new.parts → Runs old new
 stays old new table parts = one_move Stays old new (new, (table, parts), refl)
 
--- the maker alone was asked
+-- only the maker was asked
 pub asks : (old new : HostState) → new.table ≡ old.table → new.parts ≡ old.parts → Runs old new
 asks old new table parts =
     stays old new table (subst (AreAsKnown old.parts) (sym parts) (all_as_known old.parts))
@@ -92,9 +92,9 @@ pub forgets_run : (old new : HostState) → new.table ≡ old.table → new.part
 forgets_run old new table parts =
     stays old new table (subst (AreAsKnown old.parts) (sym parts) (forgets_as_known old.parts))
 
--- Events that are heard of
+-- Events that are read
 
--- More of its events may be known. It runs, or was joined, as before.
+-- More of its events may be known. It still runs, or is still joined.
 pub record KnowsMore (old new : HostPart) : Type 0 where
   pub id : new.id ≡ old.id
   pub station : new.station ≡ old.station

@@ -20,7 +20,7 @@ all_one s rs none a empty pushed at first n =
     number zero lt = (0, a, refl, first)
     number (suc k) lt = absurd (omega arith)
 
--- the one that was opened, taken off the back, and what is left
+-- the one that was opened, taken off the end of the list, and what is left
 pub opened_one : (s : Origin) (rs l : List Reader) (a : Reader) → length rs ≡ 1 → AreNewReaders s rs → rs ≡ l ++ a ∷ []
     → (l ≡ []) × IsNewReader s 0 a
 opened_one s rs [] a n h e = let h' = subst (AreNewReaders s) e h in (refl, h' 0 a refl)

@@ -1,4 +1,4 @@
--- The senders of a mailbox that was just opened, taken off the back.
+-- The senders of a newly opened mailbox, taken off the end of the list.
 use Rattle.std.proofs.Common.{◌≡◌, ℕ, zero, suc, List, [], ◌∷◌, ◌++◌, length, refl, sym, subst, Some}
 use Rattle.std.specs.Prelude.{slice_get}
 use Rattle.svc_mail.specs.declared.sender.Sender.{Sender}

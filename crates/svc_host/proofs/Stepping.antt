@@ -12,7 +12,7 @@ use Rattle.svc_host.specs.Parts.{HostPart, AreHeard, HasPosted, IsRefused}
 use Rattle.svc_host.specs.Ending.{IsSight}
 use Rattle.svc_host.proofs.Going.{none_heard, one_heard}
 
--- a sender that posted, saw and heard no more knows what it knew
+-- a sender that posted, saw and heard nothing more knows what it knew
 pub mail_same : {A : Type 0} (old new : Sender ℕ A) → IsSameSender old new → posted new ≡ posted old
     → seen_by new ≡ seen_by old
     → heard_by new ≡ heard_by old → mail_of new ≡ mail_of old

@@ -1,4 +1,4 @@
--- A table after ends, one after the other.
+-- A table after several ends, one after the other.
 use Rattle.std.proofs.Common.{◌≡◌, ℕ, ◌<◌, List, [], ◌∷◌, ◌++◌, length, drop, suc, refl, sym, ap, ◌∙◌, get_or}
 use Rattle.std.proofs.Math.Seq.{drop-cons}
 use Rattle.scan_table.specs.declared.part.PartId.{PartId}
@@ -6,7 +6,7 @@ use Rattle.scan_table.specs.declared.part.Role.TheVariants.{Main}
 use Rattle.scan_table.specs.Table.{TableState, after_end}
 use Rattle.svc_host.specs.Rounds.{after_ends}
 
--- what is read past the end of the parts
+-- the default for what is read past the end of the parts
 abbrev pub past : PartId
 past = record { slot = 0; role = Main; life = 0 }
 

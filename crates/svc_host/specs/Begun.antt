@@ -1,4 +1,4 @@
--- How a part that a round begins stands at first.
+-- The state in which a part begins in a round.
 use Rattle.std.specs.Prelude.{◌≡◌, ℕ, Bool, false, List, [], Option, Some, None}
 use Rattle.sup_core.specs.State.{is_gone}
 use Rattle.sup_core.specs.History.{History, state_of}
@@ -12,7 +12,7 @@ use Rattle.scan_table.specs.Order.{row_of}
 use Rattle.scan_table.specs.Table.{slot_at}
 use Rattle.svc_host.specs.Parts.{HostPart, no_end_bytes, no_loss}
 
--- whether the row has the `down` file of a part of this role
+-- whether the row has the `down` file of the part with this role
 abbrev pub is_down : Role → Row → Bool
 is_down Main row = row.down
 is_down Log row = row.log_down
@@ -22,7 +22,7 @@ abbrev pub row_at : List Row → Option SlotState → Option Row
 row_at rows None = None
 row_at rows (Some slot) = row_of rows slot.name
 
--- A part that was just begun: its station was opened with the machine of this beginning, which is not gone, and whose
+-- A part that has just begun: its station was opened with the machine of this beginning, which is not gone. Its
 -- process, if it has one, was adopted. Nothing was posted to it.
 pub record IsBegun (id : PartId) (begin : History) (part : HostPart) : Type 0 where
   pub is : part.id ≡ id
@@ -35,13 +35,13 @@ pub record IsBegun (id : PartId) (begin : History) (part : HostPart) : Type 0 wh
   pub has_ended : part.has_ended ≡ false
   pub loss : part.loss ≡ no_loss
 
--- Its mailbox and its trace have the rooms that were asked for.
+-- Its mailbox and its trace have the room that was asked for.
 pub record HasRooms (mail trace : ℕ) (part : HostPart) : Type 0 where
   pub mailbox : part.mail.room ≡ mail
   pub entries : part.station.room ≡ trace
 
--- It begins as its maker says of it: by its row, which is with or without its `down` file, as the row of its slot says,
--- at the label of the round; or otherwise, since an earlier svscan left something of it.
+-- It begins as its maker says. That is by the row of its slot, with or without its `down` file, at the label of the
+-- round, or otherwise as an earlier svscan left it.
 pub record Begins (slots : List SlotState) (rows : List Row) (label : Tai64n) (part : HostPart) : Type 0 where
   pub row : Row
   pub found : row_at rows (slot_at slots part.id.slot) ≡ Some row

@@ -1,4 +1,4 @@
--- What the maker of parts was asked, and what came of it.
+-- What was asked of the maker of parts, and the results.
 use Rattle.std.specs.Prelude.{◌≡◌, ◌⊎◌, ⊤, ℕ, ◌==◌, Bool, true, false, List, [], ◌∷◌, ◌++◌, not, length}
 use Rattle.std.specs.Prelude.{Option, Some, None, Vec}
 use Rattle.std.specs.List.{AllByRecursion, filter, list_any}
@@ -15,15 +15,28 @@ use Rattle.svc_host.specs.declared.pair.Pair.{Pair}
 use Rattle.svc_host.specs.Growth.{trace_of}
 use Rattle.svc_host.specs.Parts.{HostPart, PartGoesOn}
 
--- One call, with its answer: the resources of a part were asked for, by the name of its service, and were handed out, or
--- this came of it; how the part begins, if they were; those of the pair of a slot, likewise; the trace of a part was to be kept, and was or not; a part has ended, so that what was
--- handed out for it is given back; a slot is dropped; all outputs are to be watched; the output of a slot is to end, at
--- once or once it is empty; whether the logger of a slot has read all was asked, and how many bytes of its output were
--- lost, where it has a logger or none.
--- Of a maker over a folder: the parts are sought in this folder from now on, or there was no memory for that; so many
--- descriptors are allowed; what the outputs of these rows lack was made; all parts that wait were to be admitted to the
--- door; whether any waits was asked, or which were refused; svscan itself was to be served in the folder at a path, and is
--- or not; and is served no more.
+-- One call, with its result. The calls, in the order of the constructors:
+--
+-- - The resources of a part were asked for, by the name of its service. They were handed out, with how the part begins,
+--   or this is the fault.
+-- - The resources of the pair of a slot were asked for in the same way.
+-- - The trace of a part was to be kept, and was or was not.
+-- - A part has ended: what was handed out for it is given back.
+-- - A slot is dropped.
+-- - All outputs are to be watched.
+-- - The output of a slot is to end, at once or when it is empty.
+-- - It was asked whether the logger of a slot has read everything.
+-- - It was asked how many bytes of a slot's output were lost, with a logger or without one.
+--
+-- The other calls are for a maker over a folder:
+--
+-- - The parts are sought in this folder from now on, or there was no memory for that.
+-- - This many descriptors are allowed.
+-- - What the outputs of these rows lack was made.
+-- - All parts that wait were to be admitted to the door.
+-- - It was asked whether any part waits, or which parts were refused.
+-- - svscan itself was to be served in the folder at a path, and is or is not.
+-- - svscan itself is no longer served.
 pub data Call : Type 0 where
   MadePart : (id : PartId) → (name : List ℕ) → (made : Result Opening PartFault) → Call
   MadePair : (slot : ℕ) → (name : List ℕ) → (fault : Option PartFault) → Call
@@ -45,7 +58,7 @@ pub data Call : Type 0 where
 
 -- Parts
 
--- the parts for which resources were handed out in these calls, and those whose were given back
+-- the parts for which resources were handed out in these calls, and those whose resources were given back
 abbrev pub given_in : List Call → List PartId
 given_in [] = []
 given_in (MadePart id name (Ok opening) ∷ calls) = id ∷ given_in calls
@@ -56,20 +69,20 @@ returned_in [] = []
 returned_in (EndedPart id ∷ calls) = id ∷ returned_in calls
 returned_in (call ∷ calls) = returned_in calls
 
--- Since then resources were handed out for these parts, in this order, and those of these were given back, where calls
--- are kept.
+-- From old to new calls, resources were handed out for the first parts, in this order, and those of the second parts
+-- were given back. This holds while calls are recorded.
 abbrev pub HandsOut : (old new : Option (List Call)) → (given returned : List PartId) → Type 0
 HandsOut old None given returned = ⊤
 HandsOut None (Some new) given returned = ⊥
 HandsOut (Some old) (Some new) given returned =
     (given_in new ≡ given_in old ++ given) × (returned_in new ≡ returned_in old ++ returned)
 
--- Since then no resources were handed out or given back.
+-- From old to new calls, no resources were handed out or given back.
 abbrev pub HandsOutNone : (old new : Option (List Call)) → Type 0
 HandsOutNone old new = HandsOut old new [] []
 
--- A part was asked for, once at most. Where it begins it has its resources. Where they were handed out and it could not
--- begin they were given back; else this is why they were not handed out, or there was no memory to ask.
+-- A part was asked for, at most once. If it begins, it has its resources. If they were handed out and it could not
+-- begin, they were given back. Otherwise this is why they were not handed out, or there was no memory to ask.
 abbrev pub AsksPart : PartId → (name : List ℕ) → Result Opening PartFault → (old new : Option (List Call)) → Type 0
 AsksPart id name (Ok opening) old new = ExtendedWhileKept old new (MadePart id name (Ok opening) ∷ [])
 AsksPart id name (Err fault) old new =
@@ -82,34 +95,34 @@ abbrev pub opening_in : Result HostPart PartFault → Result Opening PartFault
 opening_in (Ok part) = Ok part.opening
 opening_in (Err fault) = Err fault
 
--- the part whose resources are given back, where its thread was joined
+-- the part whose resources are given back, if its thread was joined
 abbrev pub returned_by : (joined : Bool) → PartId → List PartId
 returned_by true id = id ∷ []
 returned_by false id = []
 
--- What became of one part that was to begin: it has its resources, or none are left with it
+-- What became of one part that was to begin: it has its resources, or none are left with it.
 abbrev pub HandsOutOne : PartId → (fault : Option PartFault) → (old new : Option (List Call)) → Type 0
 HandsOutOne id None old new = HandsOut old new (id ∷ []) []
 HandsOutOne id (Some fault) old new = HandsOutNone old new ⊎ HandsOut old new (id ∷ []) (id ∷ [])
 
 -- Pairs
 
--- whether the threads of the pair of this slot run
+-- whether the threads of the pair in this slot run; and the pairs without the one in this slot
 abbrev pub has_pair : (slot : ℕ) → List Pair → Bool
 has_pair slot pairs = list_any (λ (pair : Pair). pair.slot == slot) pairs
 
 abbrev pub pairs_without : (slot : ℕ) → List Pair → List Pair
 pairs_without slot pairs = filter (λ (pair : Pair). not (pair.slot == slot)) pairs
 
--- A pair was asked for, once at most, and this is why it was not handed out, where that is so.
+-- A pair was asked for, at most once. If it was not handed out, this is the reason.
 abbrev pub AsksPair : (slot : ℕ) → (name : List ℕ) → PartFault → (old new : Option (List Call)) → Type 0
 AsksPair slot name fault old new =
     ExtendedWhileKept old new []
     ⊎ ExtendedWhileKept old new (MadePair slot name (Some fault) ∷ [])
     ⊎ ExtendedWhileKept old new (MadePair slot name None ∷ [])
 
--- The threads of a pair are to run. Where they run nothing is asked. Else the pair is asked for, once, and runs then,
--- or none more runs than before.
+-- The threads of a pair must run. If they run, nothing is asked. Otherwise the pair is asked for, once, and runs then,
+-- or no more pairs run than before.
 abbrev pub StartsPair : (slot : ℕ) → (name : List ℕ) → (fault : Option PartFault) → (olds news : List Pair)
     → (old new : Option (List Call)) → Type 0
 StartsPair slot name None olds news old new =
@@ -119,13 +132,13 @@ StartsPair slot name None olds news old new =
 StartsPair slot name (Some fault) olds news old new =
     (has_pair slot olds ≡ false) × (news ≡ olds) × AsksPair slot name fault old new
 
--- The threads of a slot are to run where it is a pair. Of another slot nothing is asked.
+-- The threads of a slot must run if it is a pair. Nothing is asked for any other slot.
 abbrev pub StartsWhere : (is_pair : Bool) → (slot : ℕ) → (name : List ℕ) → (fault : Option PartFault)
     → (olds news : List Pair) → (old new : Option (List Call)) → Type 0
 StartsWhere true slot name fault olds news old new = StartsPair slot name fault olds news old new
 StartsWhere false slot name fault olds news old new = (fault ≡ None) × (news ≡ olds) × (new ≡ old)
 
--- the same of a slot of this table
+-- the same for a slot of this table
 abbrev pub StartsIfPair : {A : Type 0} → TableState → (slot : ℕ) → (name : List ℕ) → (fault : Option PartFault)
     → (olds news : Vec Pair A) → (old new : Option (List Call)) → Type 0
 StartsIfPair table slot name fault olds news old new =
@@ -143,7 +156,8 @@ IsByName slots (MadePart id name made) = name_at slots id.slot ≡ Some name
 IsByName slots (MadePair slot name fault) = name_at slots slot ≡ Some name
 IsByName slots call = ⊤
 
--- Since then each part and each pair was asked for by the name of its slot, where calls are kept.
+-- From old to new calls, each part and each pair was asked for by the name of its slot. This holds while calls are
+-- recorded.
 pub record AsksByName (slots : List SlotState) (old new : Option (List Call)) : Type 0 where
   pub calls : List Call
   pub asked : ExtendedWhileKept old new calls
@@ -151,12 +165,12 @@ pub record AsksByName (slots : List SlotState) (old new : Option (List Call)) : 
 
 -- Traces
 
--- the text of the trace of a part after its events, as far as the host has read of them
+-- the text of the trace of a part after its events, as far as the host has read them
 abbrev pub text_of : HostPart → List ℕ
 text_of part = trace_text (trace_of part.station part.known)
 
--- The trace of a part was handed to the maker, once, where it has grown since it was kept last, and there was memory
--- for its text. Whether its newest trace is kept.
+-- The trace of a part was handed to the maker, once, if it has grown since it was last kept and there was memory for
+-- its text. `is_kept` says whether its newest trace is kept.
 abbrev pub HandsTrace : (kept : Option ℕ) → HostPart → (is_kept : Bool) → (old new : Option (List Call)) → Type 0
 HandsTrace kept part true old new =
     ((kept ≡ Some (length part.known)) × ExtendedWhileKept old new [])
@@ -164,7 +178,7 @@ HandsTrace kept part true old new =
 HandsTrace kept part false old new =
     ExtendedWhileKept old new [] ⊎ ExtendedWhileKept old new (KeptTrace part.id (text_of part) false ∷ [])
 
--- A part was joined: its last trace was handed to the maker, and where it is not kept that is noted as lost; then what
+-- A part was joined: its last trace was handed to the maker, and if it is not kept, that is noted as a loss. Then what
 -- the part had was given back, once.
 pub record GivesBack (old_part new_part : HostPart) (old new : Option (List Call)) : Type 0 where
   pub read : HostPart

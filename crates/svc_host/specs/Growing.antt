@@ -7,6 +7,6 @@ use Rattle.svc_host.specs.declared.growing_reader.ReadBlock.{ReadBlock}
 abbrev pub held_in : ReadBlock → List ℕ
 held_in block = slice_range block.bytes.items block.begin block.end
 
--- those, and the bytes that the reader of the block has left, where these are known
+-- those, followed by the bytes that the inner reader has left, if these are known
 abbrev pub left_of : ReadBlock → (rest : Option (List ℕ)) → Option (List ℕ)
 left_of block rest = prepend_known (held_in block) rest

@@ -1,4 +1,4 @@
--- What became of a trace since its text was kept last.
+-- How a trace has grown since its text was last kept.
 use Rattle.std.specs.Prelude.{◌≡◌, ℕ, List, Option, Some, length, ⊤}
 use Rattle.sup_core.specs.declared.event.Event.{Event}
 use Rattle.sup_trace.specs.Content.{Content}
@@ -12,14 +12,14 @@ use Rattle.svc_host.specs.declared.growth.Growth.TheVariants as growth
 abbrev pub trace_of : Origin → List Event → Content
 trace_of station known = content_of_trace (trace_after station.opening station.room known)
 
--- It is the text of a trace that counts so many events, if there is memory for it.
+-- This is the text of a trace that counts this many events, if there is memory for it.
 abbrev pub IsText : Content → ℕ → Growth → Type 0
 IsText trace count growth.None = ⊥
 IsText trace count (growth.By number text) = (number ≡ count) × (text.items ≡ trace_text trace)
 IsText trace count growth.Refused = ⊤
 
--- Of these events, so many were counted when the text was kept last: there are no more, or this is the text now, and so
--- many they are.
+-- How the trace after these events differs from the one last kept, which counted this many events. There are no more,
+-- or these are its text and its count now, or there is no memory.
 abbrev pub Shows : Origin → List Event → Option ℕ → Growth → Type 0
 Shows station known last growth.None = last ≡ Some (length known)
 Shows station known last (growth.By count text) =

@@ -1,4 +1,4 @@
--- What a whole run of a host is: scans, events that it hears of, ends of threads, and what changes nothing of these.
+-- A whole run of a host: scans, events that it reads, threads that it joins, and what changes none of these.
 use Rattle.std.specs.Prelude.{◌≡◌, ⊤, true, false, List, [], ◌∷◌, ◌++◌, Option}
 use Rattle.tai_status.specs.Label.{Tai64n}
 use Rattle.tai_status.specs.declared.phase.Phase.TheVariants as phase
@@ -13,7 +13,7 @@ use Rattle.svc_host.specs.Calls.{Call}
 use Rattle.svc_host.specs.Parts.{AreEach, HostPart, history_of}
 use Rattle.svc_host.specs.Rounds.{HostState, IsScanned}
 
--- One of these parts has changed so, and the others are as they were.
+-- One of these parts has changed this way, and the others are as they were.
 pub record OneHas (Changed : HostPart → HostPart → Type 0) (olds news : List HostPart) : Type 0 where
   pub before : List HostPart
   pub old : HostPart
@@ -23,7 +23,7 @@ pub record OneHas (Changed : HostPart → HostPart → Type 0) (olds news : List
   pub news_are : news ≡ before ++ new ∷ after
   pub changed : Changed old new
 
--- The host has heard of one more event of a part, which the part took when it came.
+-- The host has read one more event of a part. The part took the event when it came.
 pub record HasHeard (event : Event) (old new : HostPart) : Type 0 where
   pub id : new.id ≡ old.id
   pub station : new.station ≡ old.station
@@ -32,7 +32,7 @@ pub record HasHeard (event : Event) (old new : HostPart) : Type 0 where
   pub known : new.known ≡ old.known ++ event ∷ []
   pub has_ended : new.has_ended ≡ old.has_ended
 
--- The thread of this part was joined, which is gone, as the host has heard.
+-- The thread of this part was joined. The part is gone, as the host has read.
 pub record HasEnded (id : PartId) (old new : HostPart) : Type 0 where
   pub was : old.id ≡ id
   pub is : new.id ≡ id
@@ -42,7 +42,7 @@ pub record HasEnded (id : PartId) (old new : HostPart) : Type 0 where
   pub ran : old.has_ended ≡ false
   pub ended : new.has_ended ≡ true
 
--- What the host knows of the part's events and of its thread is as it was.
+-- What the host knows of the part's events and of its thread is unchanged.
 pub record IsAsKnown (old new : HostPart) : Type 0 where
   pub id : new.id ≡ old.id
   pub station : new.station ≡ old.station
@@ -52,8 +52,8 @@ pub record IsAsKnown (old new : HostPart) : Type 0 where
 abbrev pub AreAsKnown : (olds news : List HostPart) → Type 0
 AreAsKnown = AreEach IsAsKnown
 
--- What a host does: it scans these rows; it hears of this event of one part; it joins the thread of this part; or it
--- posts bytes, keeps traces, counts losses or forgets them.
+-- What a host does: it scans these rows; it reads this event of one part; it joins the thread of this part; or it posts
+-- bytes, keeps traces, counts losses or forgets them.
 pub data Move : Type 0 where
   Scans : (rows : List Row) → (label : Tai64n) → (out : HostOut) → Move
   Hears : (event : Event) → Move
@@ -66,7 +66,7 @@ IsMove (Hears event) old new = (new.table ≡ old.table) × OneHas (HasHeard eve
 IsMove (Ends id) old new = (new.table ≡ after_end old.table id) × OneHas (HasEnded id) old.parts new.parts
 IsMove Stays old new = (new.table ≡ old.table) × AreAsKnown old.parts new.parts
 
--- One move after the other.
+-- One move is made after the other.
 abbrev pub HostRun : List Move → (old new : HostState) → Type 0
 HostRun [] old new = new ≡ old
 HostRun (move ∷ moves) old new = (next : HostState) × IsMove move old next × HostRun moves next new
@@ -76,7 +76,7 @@ pub record Runs (old new : HostState) : Type 0 where
   pub moves : List Move
   pub run : HostRun moves old new
 
--- The host came to be by a run of a host that had no part.
+-- The host results from a run of a host that had no part.
 pub record CameToBe (host : HostState) : Type 0 where
   pub calls : Option (List Call)
   pub runs : Runs (record { table = new_table 0; parts = []; calls = calls }) host

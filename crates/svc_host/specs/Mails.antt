@@ -1,11 +1,12 @@
--- What a host knows of the mailbox of a part by its sender.
+-- What a host knows of the mailbox of a part through its sender.
 use Rattle.std.specs.Prelude.{◌≡◌, ℕ, List, ◌++◌, length, All}
 use Rattle.svc_mail.specs.declared.letter.Letter.{Letter}
 use Rattle.svc_mail.specs.declared.sender.Sender.{Sender}
 use Rattle.svc_mail.specs.Ends.{heard_by, number_of, posted, room_of, seen_by, senders_of}
 use Rattle.svc_mail.specs.History.{row_of, IsHistory, StartsWith, IsAmong}
 
--- Which of so many senders it is, for how many letters there is room, what it posted, and what it saw and heard of.
+-- The number of this sender among so many senders, the number of letters for which there is room, what this sender
+-- posted, and what it saw and heard of.
 pub record Mail : Type 0 where
   pub number : ℕ
   pub senders : ℕ
@@ -24,8 +25,9 @@ mail_of sender = record {
   heard = heard_by sender;
 }
 
--- At one moment the mailbox held as many letters as it has room for: what had been taken, with all that this sender had
--- heard of, and those are a history that has this sender's row and goes on from what it had seen.
+-- At one moment the mailbox held as many letters as it has room for. The letters taken before, which include all that
+-- this sender had heard of, and the held letters form a history. The history has this sender's row and continues what
+-- it had seen.
 abbrev pub WasFull : Mail → Type 0
 WasFull mail =
     (taken held : List (Letter ℕ)) × (length held ≡ mail.room)

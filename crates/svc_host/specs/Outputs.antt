@@ -1,4 +1,4 @@
--- What the maker is asked at the end of outputs.
+-- What is asked of the maker when outputs end.
 use Rattle.std.specs.Prelude.{◌≡◌, ℕ, Bool, true, false, ◌&&◌, if◌then◌else◌, List, [], ◌∷◌, Option}
 use Rattle.scan_table.specs.declared.part.Role.TheVariants.{Main, Log}
 use Rattle.svc_house.specs.Calls.{ExtendedWhileKept}
@@ -8,14 +8,14 @@ use Rattle.svc_host.specs.Parts.{HostPart}
 use Rattle.svc_host.specs.Rounds.{HostState}
 use Rattle.svc_host.specs.declared.ending.ProcessSight.{ProcessSight}
 
--- A logger that was asked to end with its process gets no more input, once all that its service wrote is put. Of any
--- other part no output is to end.
+-- A logger that was asked to exit with its process gets no more input, once all that its service wrote is put. No other
+-- part's output is to end.
 abbrev pub EndsInput : HostPart → (old new : Option (List Call)) → Type 0
 EndsInput part old new = ExtendedWhileKept old new
     (if part.end_bytes.exit && is_log part.id.role then EndedOutput part.id.slot false ∷ [] else [])
 
--- The output of a slot's service is to end, at once where that has a process. Whether svscan may leave it follows from
--- what was put, what the maker answers and what is seen of the logger.
+-- The output of a slot's service is to end, at once if the service has a process. Whether svscan may leave the pair
+-- follows from what was put, what the maker answers and what is seen of the logger.
 pub record EndsOutput (slot : ℕ) (is_put leaves : Bool) (olds news : List HostPart) (old new : Option (List Call))
     : Type 0 where
   pub service : ProcessSight
@@ -27,8 +27,8 @@ pub record EndsOutput (slot : ℕ) (is_put leaves : Bool) (olds news : List Host
   pub asked : ExtendedWhileKept old new (EndedOutput slot (lives service) ∷ AskedIsRead slot is_read ∷ [])
   pub leaves_so : leaves ≡ may_leave is_put is_read logger
 
--- How many bytes of a slot's output were lost was asked once, after that was to end at once: what a logger with a
--- process has in its input it reads.
+-- It was asked once how many bytes of a slot's output were lost, after the output was asked to end at once. A logger
+-- with a process still reads what is in its input.
 pub record CountsLost (slot count : ℕ) (old new : HostState) : Type 0 where
   pub logger : ProcessSight
   pub logger_seen : IsSight slot Log old.parts new.parts logger

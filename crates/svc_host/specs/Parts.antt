@@ -1,4 +1,4 @@
--- What a host knows of the parts that are there.
+-- What a host knows of its parts.
 use Rattle.std.specs.Prelude.{◌≡◌, ◌≢◌, ◌<◌, ⊤, Bool, true, false, not, ◌&&◌, ◌||◌, ◌==◌, nat_lt, ℕ, List, [], ◌∷◌}
 use Rattle.std.specs.Prelude.{◌++◌, length}
 use Rattle.std.specs.Prelude.{map, slice_index_or, slice_set, Option, None}
@@ -28,29 +28,30 @@ pub record EndBytes : Type 0 where
 abbrev pub no_end_bytes : EndBytes
 no_end_bytes = record { down = false; exit = false }
 
--- A part that is there: how it began, the station to which its thread publishes, which of its events the host has read
--- of, the host's end of its mailbox, and whether its thread was joined.
+-- A part that the host has. The record says how it began, the station to which its thread publishes, and which of its
+-- events the host has read. It has the host's end of its mailbox, and says whether its thread was joined.
 pub record HostPart : Type 0 where
   pub id : PartId
   pub opening : Opening
-  -- the number of the process that an earlier svscan had started for it; 0: none
+  -- the number of the process that an earlier svscan started for it; 0 means none
   pub adopted : ℕ
   pub station : Origin
   pub known : List Event
   pub mail : Mail
   pub end_bytes : EndBytes
-  -- how many events the trace counted that was kept last
+  -- the number of events in the trace that was last kept
   pub kept : Option ℕ
   pub has_ended : Bool
-  -- how many letters its service left in its mailbox, as far as they were taken since
+  -- the number of letters that its service left in its mailbox, as far as they were taken since
   pub untaken : ℕ
-  -- what was lost at its end, and is not forgotten
+  -- what was lost when it ended, and is not forgotten
   pub loss : Loss
 
 abbrev pub no_loss : Loss
 no_loss = record { untaken = 0; lacks_trace = false }
 
--- a part that runs and began so, with this process, this reader of its station and this sender of its mailbox
+-- a part that runs and began this way, with this adopted process, this reader of its station and this sender of its
+-- mailbox
 abbrev pub new_part : {A : Type 0} → PartId → Opening → (adopted : ℕ) → Reader → Sender ℕ A → HostPart
 new_part id opening adopted reader sender = record {
   id = id;
@@ -66,21 +67,21 @@ new_part id opening adopted reader sender = record {
   loss = no_loss;
 }
 
--- the machine with which the part's station was opened, and the events of it that the host has read of
+-- the machine with which the part's station was opened, and those of its events that the host has read
 abbrev pub history_of : HostPart → History
 history_of part = followed_by (Opened part.station.opening) part.known
 
--- More events of a history are known, each of which was taken when it came.
+-- More events of a history are known. Each of them was taken when it came.
 pub record Tells (past : History) (old new : List Event) : Type 0 where
   pub more : List Event
   pub known : new ≡ old ++ more
   pub taken : AreTaken past more
 
--- Of a part that has ended all events were read: it is gone.
+-- If a part has ended, all its events were read: it is gone.
 abbrev pub IsGoneIfEnded : HostPart → Type 0
 IsGoneIfEnded part = part.has_ended ≡ true → phase_of (history_of part) ≡ phase.Gone
 
--- It is the same part, whose events go on from those that the host had read of. The host posted nothing to it.
+-- It is the same part, and its events continue those that the host had read. The host posted nothing to it.
 pub record PartGoesOn (old new : HostPart) : Type 0 where
   pub id : new.id ≡ old.id
   pub opening : new.opening ≡ old.opening
@@ -90,14 +91,14 @@ pub record PartGoesOn (old new : HostPart) : Type 0 where
   pub mail : new.mail ≡ old.mail
   pub end_bytes : new.end_bytes ≡ old.end_bytes
 
--- The host has read of its events, and its trace may have been kept. Nothing else of it changed.
+-- The host has read some of its events, and its trace may have been kept. Nothing else of it changed.
 pub record IsHeard (old new : HostPart) : Type 0 where
   pub goes_on : PartGoesOn old new
   pub has_ended : new.has_ended ≡ old.has_ended
   pub untaken : new.untaken ≡ old.untaken
   pub loss : new.loss ≡ old.loss
 
--- The host has read of its events, and nothing else of it changed.
+-- The host has read some of its events, and nothing else of it changed.
 pub record IsRead (old new : HostPart) : Type 0 where
   pub is_heard : IsHeard old new
   pub kept : new.kept ≡ old.kept
@@ -116,52 +117,52 @@ pub record HasPosted (old : HostPart) (byte : ℕ) (new : HostPart) : Type 0 whe
   pub untaken : new.untaken ≡ old.untaken
   pub loss : new.loss ≡ old.loss
 
--- Nothing was posted, since the mailbox was full, and nothing of the part changed.
+-- Nothing was posted, because the mailbox was full, and nothing of the part changed.
 abbrev pub IsRefused : HostPart → HostPart → Type 0
 IsRefused old new = (new ≡ old) × WasFull old.mail
 
--- No such part is there.
+-- The host has no such part.
 abbrev pub IsNowhere : PartId → List HostPart → Type 0
 IsNowhere id parts = All (λ (part : HostPart). part.id ≢ id) parts
 
--- At this place stands the part.
+-- The part is at this place.
 pub record IsPlace (id : PartId) (parts : List HostPart) (place : ℕ) : Type 0 where
   pub within : place < length parts
   pub here : (d : HostPart) → (slice_index_or parts place d).id ≡ id
 
--- A part of this name is there, and this is what is known of it.
+-- The host has this part, and this is what it knows of it.
 pub record IsPart (id : PartId) (parts : List HostPart) (part : HostPart) : Type 0 where
   pub place : ℕ
   pub within : place < length parts
   pub here : (d : HostPart) → slice_index_or parts place d ≡ part
   pub is : part.id ≡ id
 
--- The same parts are there, in the same order, and each one changed so.
+-- The parts are the same, in the same order, and each one changed this way.
 abbrev pub AreEach : (HostPart → HostPart → Type 0) → (olds news : List HostPart) → Type 0
 AreEach Changed [] [] = ⊤
 AreEach Changed (old ∷ olds) (new ∷ news) = Changed old new × AreEach Changed olds news
 AreEach Changed olds news = ⊥
 
--- Each one's events go on.
+-- The events of each part continue.
 abbrev pub GoOn : (olds news : List HostPart) → Type 0
 GoOn = AreEach PartGoesOn
 
--- Of each one the host may have read more.
+-- The host may have read more events of each part.
 abbrev pub AreHeard : (olds news : List HostPart) → Type 0
 AreHeard = AreEach IsHeard
 
--- One of them changed so, and the others are as they were.
+-- One of them changed this way, and the others are as they were.
 pub record IsStepOf (Changed : HostPart → HostPart → Type 0) (old : List HostPart) (place : ℕ) (new : List HostPart)
     : Type 0 where
   pub part : HostPart
   pub changed : (d : HostPart) → Changed (slice_index_or old place d) part
   pub parts : new ≡ slice_set old place part
 
--- One of them goes on.
+-- The events of one of them continue.
 abbrev pub IsStep : (old : List HostPart) → (place : ℕ) → (new : List HostPart) → Type 0
 IsStep = IsStepOf PartGoesOn
 
--- Of one of them the host may have read more.
+-- The host may have read more events of one of them.
 abbrev pub IsHearing : (old : List HostPart) → (place : ℕ) → (new : List HostPart) → Type 0
 IsHearing = IsStepOf IsHeard
 
@@ -182,24 +183,24 @@ pub record IsFullAt (id : PartId) (parts : List HostPart) : Type 0 where
 abbrev pub has_loss : Loss → Bool
 has_loss loss = loss.lacks_trace || nat_lt 0 loss.untaken
 
--- what the parts lost at their ends that is not forgotten, in their order
+-- what the parts lost when they ended and is not forgotten, in the order of the parts
 abbrev pub losses_in : List HostPart → List (PartId × Loss)
 losses_in parts =
     map (λ (part : HostPart). (part.id, part.loss)) (filter (λ (part : HostPart). has_loss part.loss) parts)
 
--- the part, whose loss is forgotten
+-- the part, with its loss forgotten
 abbrev pub without_loss : HostPart → HostPart
 without_loss part = record part { loss = no_loss }
 
--- The status of the part, after the events of it that the host has read of.
+-- The status of the part, after those of its events that the host has read.
 pub record IsReading (id : PartId) (parts : List HostPart) (status : Status) : Type 0 where
   pub part : HostPart
   pub is : IsPart id parts part
   pub reading : status ≡ status_of (history_of part)
-  -- Of a part that has ended all was read.
+  -- If the part has ended, all its events were read.
   pub gone : IsGoneIfEnded part
 
--- Its thread was joined, and what it left in its mailbox is noted as lost.
+-- Its thread was joined, and the letters left in its mailbox are noted as lost.
 pub record IsJoined (part : HostPart) : Type 0 where
   pub ended : part.has_ended ≡ true
   pub untaken : part.loss.untaken ≡ part.untaken
@@ -210,11 +211,11 @@ stays drops restarts id =
     not (list_any (λ slot. slot == id.slot) drops)
     && not (list_any (λ other. is_at other id.slot id.role) restarts)
 
--- whether it is the part of this role in a slot, and runs
+-- whether it is the part with this role in a slot, and runs
 abbrev pub runs_at : (slot : ℕ) → Role → HostPart → Bool
 runs_at slot role part = is_at part.id slot role && not part.has_ended
 
--- At this place stands the part of this role in a slot, and runs.
+-- The part with this role in a slot is at this place, and runs.
 pub record RunsHere (slot : ℕ) (role : Role) (parts : List HostPart) (place : ℕ) : Type 0 where
   pub within : place < length parts
   pub runs : (d : HostPart) → runs_at slot role (slice_index_or parts place d) ≡ true

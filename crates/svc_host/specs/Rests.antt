@@ -6,11 +6,11 @@ use Rattle.tai_status.specs.Label.{Tai64n}
 abbrev pub nanoseconds : Tai64n → ℕ
 nanoseconds label = label.sec * 10 ^ 9 + label.nano
 
--- the nanoseconds from one label to a later one, but at most a second
+-- the nanoseconds from one label to a later one, at most a second
 abbrev pub rest_before : Tai64n → Tai64n → ℕ
 rest_before now until = min (nanoseconds until - nanoseconds now) (10 ^ 9)
 
--- the shorter of two rests, of which None has no end
+-- the shorter of two rests; None is without limit
 abbrev pub shorter : (one other : Option ℕ) → Option ℕ
 shorter None None = None
 shorter None (Some rest) = Some rest

@@ -1,4 +1,4 @@
--- What a round of a host does to its table and to the parts that are there.
+-- What a round of a host does to its table and to its parts.
 use Rattle.std.specs.Prelude.{◌≡◌, ◌⊎◌, ℕ, Bool, true, false, not, List, [], ◌∷◌, ◌++◌, map, length, Option, Some, None}
 use Rattle.std.specs.List.{filter, All}
 use Rattle.tai_status.specs.Label.{Tai64n}
@@ -20,7 +20,7 @@ use Rattle.tai_status.specs.declared.phase.Phase.TheVariants as phase
 use Rattle.svc_host.specs.Begun.{Begins}
 use Rattle.svc_host.specs.Calls.{AsksByName, Call, ForgotSlot, HandsOut, HandsOutNone}
 
--- the table of slots, the parts that are there, and what their maker was asked, where that is kept
+-- the table of slots, the parts that the host has, and what was asked of their maker, while that is recorded
 pub record HostState : Type 0 where
   pub table : TableState
   pub parts : List HostPart
@@ -35,18 +35,18 @@ after_ends (id ∷ ids) table = after_ends ids (after_end table id)
 abbrev pub unmade_ids : List Unmade → List PartId
 unmade_ids failed = map (λ (unmade : Unmade). unmade.part) failed
 
--- a part that was there and ran
+-- a part that the host had and that ran
 abbrev pub Ran : List HostPart → PartId → Type 0
 Ran parts id = (part : HostPart) × IsPart id parts part × (part.has_ended ≡ false)
 
--- Its thread was joined: it ran, and is gone with its whole history, and what it left in its mailbox is noted.
+-- Its thread was joined: it ran, it is gone with its whole history, and the letters left in its mailbox are noted.
 pub record IsReaped (old new : HostPart) : Type 0 where
   pub goes_on : PartGoesOn old new
   pub ran : old.has_ended ≡ false
   pub joined : IsJoined new
   pub gone : phase_of (history_of new) ≡ phase.Gone
 
--- Each of these parts is as it was, or its thread was joined, and these are those, in order.
+-- Each of these parts is as it was, or its thread was joined. The joined ones are these, in order.
 abbrev pub AreReaped : (joined : List PartId) → (olds news : List HostPart) → Type 0
 AreReaped joined [] [] = joined ≡ []
 AreReaped joined (old ∷ olds) (new ∷ news) =
@@ -54,7 +54,7 @@ AreReaped joined (old ∷ olds) (new ∷ news) =
     ⊎ ((rest : List PartId) × (joined ≡ old.id ∷ rest) × IsReaped old new × AreReaped rest olds news)
 AreReaped joined olds news = ⊥
 
--- Threads were joined, of parts that ran: the table notes that these have ended, and what each had is given back, once.
+-- Threads of parts that ran were joined: the table notes that these have ended, and what each had is given back, once.
 pub record AreCollected (old new : HostState) : Type 0 where
   pub joined : List PartId
   pub ran : All (Ran old.parts) joined
@@ -63,7 +63,7 @@ pub record AreCollected (old new : HostState) : Type 0 where
   pub each : AreReaped joined old.parts new.parts
   pub returned : HandsOut old.calls new.calls [] joined
 
--- what a scan of a table answers
+-- what a scan of a table returns
 pub record IsScan {A : Type 0} (table : TableState) (rows : List Row) (out : ScanOut A) : Type 0 where
   pub starts : out.starts ≡ starts table.slots table.next rows
   pub restarts : out.restarts ≡ restarts table.slots table.next rows
@@ -80,14 +80,15 @@ chosen (true ∷ flags) (x ∷ xs) = x ∷ chosen flags xs
 chosen (false ∷ flags) (x ∷ xs) = chosen flags xs
 chosen flags xs = []
 
--- Each of these stands in one of the two lists, in order.
+-- Each item is in one of the two lists, in order.
 pub record IsParted {A : Type 0} (all ones others : List A) : Type 0 where
   pub flags : List Bool
   pub each : length flags ≡ length all
   pub set : ones ≡ chosen flags all
   pub not_set : others ≡ chosen (map not flags) all
 
--- what a beginning of parts has come to: the parts that are there, those that failed, and what the maker was asked
+-- what a beginning of parts has come to so far: the parts that the host has, those that failed, and what was asked of
+-- the maker
 pub record Beginnings : Type 0 where
   pub parts : List HostPart
   pub failed : List PartId
@@ -97,8 +98,8 @@ abbrev pub beginnings : {R : Type 0} → Begun R → Option (List Call) → Begi
 beginnings begun calls =
     record { parts = begun.parts.items; failed = unmade_ids begun.failed.items; calls = calls }
 
--- Of the parts that a scan began each is there now, or failed. Of those for which resources were handed out each is
--- there, or its resources were given back, once. Each was asked for by the name of its slot.
+-- The host now has each part that a scan began, or the part failed. The host has each part for which resources were
+-- handed out, or the resources were given back, once. Each was asked for by the name of its slot.
 pub record AreBegun (slots : List SlotState) (rows : List Row) (label : Tai64n) (ids : List PartId)
     (old new : Beginnings) : Type 0 where
   pub begun : List HostPart
@@ -111,7 +112,7 @@ pub record AreBegun (slots : List SlotState) (rows : List Row) (label : Tai64n) 
   pub given_back : IsParted given (map (λ (part : HostPart). part.id) begun) returned
   pub named : AsksByName slots old.calls new.calls
 
--- One part is there now, with its resources, or it failed, and has none.
+-- The host now has one more part, with its resources, or the part failed and has none.
 abbrev pub IsBegunOne : List SlotState → List Row → Tai64n → PartId → (old new : Beginnings) → Type 0
 IsBegunOne slots rows label id old new =
     ((part : HostPart) × (part.id ≡ id) × Begins slots rows label part
@@ -120,7 +121,7 @@ IsBegunOne slots rows label id old new =
     ⊎ ((new.parts ≡ old.parts) × (new.failed ≡ old.failed ++ id ∷ [])
     × (HandsOutNone old.calls new.calls ⊎ HandsOut old.calls new.calls (id ∷ []) (id ∷ [])))
 
--- the same of what a scan has begun so far, and of what its maker was asked
+-- the same for what a scan has begun so far, and for what was asked of its maker
 abbrev pub BeginsAll : {R : Type 0} → List SlotState → List Row → Tai64n → List PartId → (old new : Begun R)
     → (asked now_asked : Option (List Call)) → Type 0
 BeginsAll slots rows label ids old new asked now_asked =
@@ -132,13 +133,13 @@ BeginsOne slots rows label id old new asked now_asked =
     IsBegunOne slots rows label id (beginnings old asked) (beginnings new now_asked)
     × AsksByName slots asked now_asked
 
--- what the maker was asked once it knows of each slot that was dropped
+-- what was asked of the maker, so that it forgets each slot that was dropped
 abbrev pub Forgets : (dropped : List ℕ) → (old new : Option (List Call)) → Type 0
 Forgets dropped old new = ExtendedWhileKept old new (map ForgotSlot dropped)
 
--- A scan: the table accepts the rows, they are scanned, and each part that starts or restarts is there now, begun by its row or as it was left,
--- or failed, and then it has ended. Of the other parts those are there that stay. The maker is to forget each slot that
--- is dropped, once, before it is asked for what begins.
+-- A scan: the table accepts the rows, and they are scanned. The host now has each part that starts or restarts, begun
+-- by its row or as it was left; if such a part failed, it has ended. The host keeps the other parts that stay. The
+-- maker is to forget each slot that is dropped, once, before it is asked for what begins.
 pub record IsScanned (old : HostState) (rows : List Row) (label : Tai64n) (out : HostOut) (new : HostState)
     : Type 0 where
   pub accepted : scan_refusal old.table rows ≡ None
@@ -150,7 +151,7 @@ pub record IsScanned (old : HostState) (rows : List Row) (label : Tai64n) (out :
       (record { parts = staying out.scan old.parts; failed = []; calls = calls })
       (record { parts = new.parts; failed = unmade_ids out.failed.items; calls = new.calls })
 
--- Why a scan is refused: what the table says, and memory only where nothing else is wrong.
+-- Why a scan is refused: what the table says, or out of memory, but only if nothing else is wrong.
 abbrev pub IsCause : TableState → List Row → ScanFault → Type 0
 IsCause table rows fault.OutOfMemory = scan_refusal table rows ≡ None
 IsCause table rows why = scan_refusal table rows ≡ Some why

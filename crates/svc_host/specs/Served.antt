@@ -13,7 +13,7 @@ use Rattle.svc_host.specs.declared.running.Place.{Place}
 use Rattle.svc_host.specs.declared.running.Place.TheVariants.{Thread, Here}
 use Rattle.svc_host.specs.declared.service.Served.{Served}
 
--- The service is gone, and the control bytes of its whole history are the letters that were taken of its mailbox.
+-- The service is gone, and the control bytes of its whole history are the letters taken from its mailbox.
 pub record IsServed {A : Type 0} (writer : Writer) (receiver : Receiver ℕ A) : Type 0 where
   pub gone : phase_of (history_of writer) ≡ phase.Gone
   pub bytes : bytes_in (published writer) ≡ items_of (taken_by receiver)
@@ -23,7 +23,7 @@ abbrev pub ServesOut : {R : Type 0} → Writer → Served R → Type 0
 ServesOut went served =
     GoesOn went (writer_in served.parked) × IfSome served.receiver (IsServed (writer_in served.parked))
 
--- the writer of a service, as it went to its thread or is here
+-- the writer of a service, as it was when it went to its thread, or as it is here
 abbrev pub writer_at : {R : Type 0} → Place R → Writer
 writer_at (Thread handle) = writer_in handle.promise.went.value
 writer_at (Here parked) = writer_in parked

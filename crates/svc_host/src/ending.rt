@@ -1,4 +1,4 @@
-//! The end of all services, in order, and when svscan may leave them.
+//! How all services end, in order, and when svscan may leave them.
 ghost use Rattle.std.specs.Prelude.{◌≡◌};
 ghost use Rattle.svc_host.specs.Ending.{end_step, is_log, lives, may_leave, sight_of};
 
@@ -6,15 +6,15 @@ use scan_table::Role;
 use sup_core::Machine;
 use tai_status::Phase;
 
-/// How many milliseconds a logger has for what its service wrote, once that is gone.
+/// The milliseconds that a logger has for what its service wrote, after the service is gone.
 const LOGGER_MILLIS: u64 = 5000;
 
-/// What is done next with a part.
+/// The next step for a part.
 #[derive(Clone, Copy, Debug, PartialEq, Eq)]
 pub(crate) enum EndStep {
-    /// It is to stop at once: `d` and `x`.
+    /// It must stop at once: `d` and `x`.
     Stop,
-    /// It is to end with its process: `x`.
+    /// It must exit when its process ends: `x`.
     Exit,
     /// It is left alone.
     Wait,
@@ -31,7 +31,7 @@ pub(crate) enum ProcessSight {
     Absent,
 }
 
-/// Whether it is the role of a logger.
+/// Returns whether this is the role of a logger.
 pub(crate) fn is_log(role: Role) -> bool
     ensures { result ≡ is_log role }
 {
@@ -41,8 +41,8 @@ pub(crate) fn is_log(role: Role) -> bool
     }
 }
 
-/// What is seen of the process of a part with this machine. That of an earlier svscan's logger, which reads another
-/// input, is not the one that counts: the next one comes.
+/// Returns what is seen of the process of a part with this machine. A logger that an earlier svscan started reads
+/// another input and does not count: the next logger is still to come.
 pub(crate) fn sight_of(machine: &Machine, reads_another: bool) -> ProcessSight
     ensures { result ≡ sight_of machine.now reads_another }
 {
@@ -59,8 +59,8 @@ pub(crate) fn sight_of(machine: &Machine, reads_another: bool) -> ProcessSight
     }
 }
 
-/// What is done next with a part of this role, whose service runs or not. Of a logger counts whether an earlier svscan
-/// started its process, and how many milliseconds ago its service was found gone.
+/// Returns the next step for a part of this role. For a logger it depends on whether its service runs, whether an
+/// earlier svscan started the logger's process, and how many milliseconds ago the service was found gone.
 pub(crate) fn end_step(role: Role, service_runs: bool, is_adopted: bool, waited: u64) -> EndStep
     ensures { result ≡ end_step role service_runs is_adopted waited }
 {
@@ -73,15 +73,15 @@ pub(crate) fn end_step(role: Role, service_runs: bool, is_adopted: bool, waited:
     }
 }
 
-/// Whether a process is seen.
+/// Returns whether a process is seen.
 pub(crate) fn lives(sight: ProcessSight) -> bool
     ensures { result ≡ lives sight }
 {
     matches!(sight, ProcessSight::Lives)
 }
 
-/// Whether svscan may leave a pair, of whose output all is put into the logger's input or not, and all of that was read
-/// or not.
+/// Returns whether svscan may leave a pair. `is_put` says whether all output is in the logger's input, and `is_read`
+/// whether all of that was read.
 pub(crate) fn may_leave(is_put: bool, is_read: bool, logger: ProcessSight) -> bool
     ensures { result ≡ may_leave is_put is_read logger }
 {

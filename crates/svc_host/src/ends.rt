@@ -1,4 +1,4 @@
-//! The ends of mailboxes and stations that were just opened.
+//! The ends of newly opened mailboxes and stations.
 ghost use Rattle.std.specs.Prelude.{◌≡◌, ◌≤◌, ◌<◌, [], IfSome};
 ghost use Rattle.svc_house.specs.Mail.{sender_in};
 ghost use Rattle.svc_mail.specs.Ends.{home, posted, receiver_home, room_of, taken_by};
@@ -16,7 +16,7 @@ use svc_mail::sender::Sender;
 use svc_station::station::Station;
 use svc_station::writer::Writer;
 
-/// The ends of a mailbox of one sender.
+/// Opens a mailbox for one sender, and returns its ends.
 pub(crate) fn open_box<T: Copy + Drop>(
     alloc: Global,
     capacity: usize,
@@ -35,7 +35,7 @@ pub(crate) fn open_box<T: Copy + Drop>(
     Some((sender, receiver))
 }
 
-/// The ends of the mailbox of a service: the host's sender, one for outside, and the receiver.
+/// Opens the mailbox of a service. Returns the host's sender, one for outside, and the receiver.
 pub(crate) fn open_mailbox(
     alloc: Global,
     capacity: usize,
@@ -59,8 +59,8 @@ pub(crate) fn open_mailbox(
     Some((inside, outside, receiver))
 }
 
-/// What a part has before its maker is asked: what its thread shares with the host, in the hands of both, what that
-/// thread waits for, and the ends of one mailbox, of which nothing was taken and to which the host posted nothing.
+/// What a part has before its maker is asked. Its thread and the host each have one of the two shared values. Its
+/// thread waits for the notifier. From the one mailbox nothing was taken, and the host posted nothing to it.
 #[derive(Drop)]
 pub(crate) struct PartEnds {
     pub(crate) shared: Arc<PartShared, Global>,
@@ -80,7 +80,7 @@ impl PartEnds {
     ghost use Rattle.svc_house.specs.Mail.{sender_in};
     ghost use Rattle.svc_mail.specs.Ends.{room_of};
 
-    /// The ends of a part whose mailbox has room for so many control bytes.
+    /// Opens the ends of a part whose mailbox has room for this many control bytes.
     pub(crate) fn open(
         alloc: Global,
         host: &Arc<Notifier, Global>,
@@ -107,7 +107,7 @@ impl PartEnds {
     }
 }
 
-/// The writer and the reader of a station over a machine, with a trace of so many entries.
+/// Opens a station over a machine, with a trace of this many entries. Returns its writer and its reader.
 pub(crate) fn open_station<R: Wait>(
     rt: &R,
     alloc: Global,

@@ -1,4 +1,4 @@
-//! The factory of parts.
+//! What makes and starts parts and pairs.
 ghost use Rattle.std.specs.Prelude.{◌≡◌, ◌≤◌, ◌<◌, [], ◌∷◌, IfOk, MatchBool, Some, length};
 ghost use Rattle.std.specs.Result.{result_err};
 ghost use Rattle.svc_house.specs.Calls.{ExtendedWhileKept};
@@ -30,16 +30,16 @@ use tai_status::{Cause, Label};
 /// How much room each part gets.
 #[derive(Clone, Copy)]
 pub(crate) struct Rooms {
-    /// How many control bytes a mailbox holds, and how many pieces the box of a pair.
+    /// The control bytes that a mailbox holds, which is also the number of pieces in a pair's box.
     pub(crate) mail: usize,
-    /// How many entries a trace has.
+    /// The entries of a trace.
     pub(crate) trace: usize,
     ghost some_mail: { 0 < mail },
     ghost some_trace: { 0 < trace },
     ghost within_trace: { trace ≤ 65536 },
 }
 
-/// Whether a row has the `down` file of the part of a role.
+/// Returns whether a row has the `down` file for the part of this role.
 fn is_down(row: &DirRow, role: Role) -> bool
     ensures { result ≡ is_down role row.now }
 {
@@ -49,7 +49,7 @@ fn is_down(row: &DirRow, role: Role) -> bool
     }
 }
 
-/// Whether the threads of the pair of a slot run.
+/// Returns whether the threads of the pair in a slot run.
 fn has_pair(pairs: &[Pair], slot: u64) -> bool
     ensures { result ≡ has_pair slot pairs.now }
 {
@@ -69,21 +69,21 @@ fn start_reaper<A: Reaper + Drop + Send + 'static, R: Runtime>(rt: R, reaper: A)
     Ok(())
 }
 
-/// What makes parts and pairs, and the pairs whose threads run.
+/// Makes parts and pairs, and has the pairs whose threads run.
 #[derive(Drop)]
 pub(crate) struct PartFactory<M: Maker + Drop, R: Runtime> {
     pub(crate) rt: R,
     pub(crate) alloc: Global,
     pub(crate) maker: M,
     pub(crate) pairs: Vec<Pair>,
-    /// What the host waits for: notified by each part that has ended.
+    /// The notifier of the host. Each part that has ended notifies it.
     pub(crate) notifier: Arc<Notifier, Global>,
     pub(crate) activity: Arc<Activity, Global>,
     pub(crate) rooms: Rooms,
 }
 
 impl<M: Maker + Drop, R: Runtime> PartFactory<M, R> {
-    /// Makes a part of the service of this name and starts its thread, or makes nothing.
+    /// Makes a part of the service with this name and starts its thread, or makes nothing.
     fn make(
         &mut self,
         name: &str,
@@ -145,8 +145,8 @@ impl<M: Maker + Drop, R: Runtime> PartFactory<M, R> {
         Ok(Part::new(id, opening, adopted, inside, running))
     }
 
-    /// Makes a part of the table, which begins by the row of its slot or as it was left, and starts its thread, or
-    /// makes nothing.
+    /// Makes a part of the table and starts its thread, or makes nothing. The part begins by the row of its slot, or as
+    /// it was left.
     pub(crate) fn begin(
         &mut self,
         table: &ScanTable,
@@ -174,7 +174,7 @@ impl<M: Maker + Drop, R: Runtime> PartFactory<M, R> {
         self.make(name.as_str(), id, down, label)
     }
 
-    // The threads of the pair in a slot run now, where it is one, or can't be made.
+    // Starts the threads of the pair in a slot if it is a pair and they don't run. A fault says why they can't be made.
     fn start_if_pair(&mut self, table: &ScanTable, name: &str, slot: u64) -> Result<(), PartFault>
         ensures starts { StartsIfPair table.now slot name.now (result_err result) self.old.pairs self.new.pairs
             (M.calls self.old.maker) (M.calls self.new.maker) }
@@ -187,7 +187,7 @@ impl<M: Maker + Drop, R: Runtime> PartFactory<M, R> {
         Ok(())
     }
 
-    // The threads of a pair run now, or can't be made.
+    // Starts the threads of a pair if they don't run. A fault says why they can't be made.
     fn start_pair(&mut self, name: &str, slot: u64) -> Result<(), PartFault>
         ensures rooms { self.new.rooms ≡ self.old.rooms }
         ensures starts { StartsPair slot name.now (result_err result) self.old.pairs.items self.new.pairs.items
@@ -209,7 +209,7 @@ impl<M: Maker + Drop, R: Runtime> PartFactory<M, R> {
         }
     }
 
-    /// Forgets a slot: the threads of its pair are to end.
+    /// Forgets a slot, and lets the threads of its pair end.
     pub(crate) fn forget(&mut self, slot: u64)
         ensures calls { ExtendedWhileKept (M.calls self.old.maker) (M.calls self.new.maker) (ForgotSlot slot ∷ []) }
         ensures pairs { self.new.pairs.items ≡ pairs_without slot self.old.pairs.items }
@@ -218,7 +218,8 @@ impl<M: Maker + Drop, R: Runtime> PartFactory<M, R> {
         self.maker.forget(slot);
     }
 
-    /// How many milliseconds ago this was asked first of the pair in a slot; where there is none, too many to wait for.
+    /// Returns how many milliseconds ago this was first asked about the pair in a slot. If there is no pair, returns
+    /// more than anybody waits for.
     pub(crate) fn wait_on(&mut self, slot: u64) -> u64
         ensures { M.calls self.new.maker ≡ M.calls self.old.maker }
     {
@@ -230,7 +231,7 @@ impl<M: Maker + Drop, R: Runtime> PartFactory<M, R> {
         u64::MAX
     }
 
-    /// Hands the trace of a part to the maker, where it has grown. Whether its newest trace is kept.
+    /// Hands the trace of a part to the maker if it has grown. Returns whether its newest trace is kept.
     pub(crate) fn keep_trace(&mut self, part: &mut Part<R>) -> bool
         ensures heard { IsHeard part.old part.new }
         ensures kept { MatchBool result (part.new.kept ≡ Some (length part.new.known))
@@ -244,7 +245,7 @@ impl<M: Maker + Drop, R: Runtime> PartFactory<M, R> {
         }
     }
 
-    // Hands a trace of a part to the maker, which counts so many events. Whether it is kept.
+    // Hands a trace of a part, with this count of events, to the maker. Returns whether it is kept.
     fn hand_trace(&mut self, part: &mut Part<R>, count: u64, text: &[u8]) -> bool
         ensures handed { ExtendedWhileKept (M.calls self.old.maker) (M.calls self.new.maker)
             (KeptTrace part.old.id text.now result ∷ []) }

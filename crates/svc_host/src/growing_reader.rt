@@ -1,4 +1,4 @@
-//! A reader that takes much memory only where much comes at once.
+//! A reader that uses much memory only if much arrives at once.
 ghost use Rattle.std.specs.Prelude.{◌≡◌, ◌≤◌, ◌<◌, IfOk, OnErr, take, vec_len};
 ghost use Rattle.std.specs.Io.KnownBytes.{Consumes, IsAtEnd, Keeps};
 
@@ -6,13 +6,13 @@ use std::alloc::{AllocError, Global};
 use std::io;
 use std::io::Read;
 
-/// How many bytes are read at once at first.
+/// The number of bytes read at once at first.
 const FEW: usize = 512;
 
-/// How many are read at once after a read that gave as many as it could.
+/// The number of bytes read at once after a read that filled its block.
 const MANY: usize = 32_768;
 
-/// A block of bytes that were read, of which some were not given yet: those from `begin` to `end`.
+/// A block of bytes that were read. Those from `begin` to `end` were not given yet.
 #[derive(Drop)]
 pub(crate) struct ReadBlock {
     bytes: Vec<u8>,
@@ -23,7 +23,8 @@ pub(crate) struct ReadBlock {
     ghost some: { 0 < vec_len bytes },
 }
 
-/// A reader in blocks, which are small until one of them is full. It gives the bytes of its own reader, in order.
+/// A reader in blocks. A block is small until one has been full. The reader gives the bytes of its inner reader, in
+/// order.
 #[derive(Drop)]
 pub(crate) struct GrowingReader<D: Read + Drop> {
     inner: D,
@@ -47,7 +48,7 @@ impl ReadBlock {
     ghost use Rattle.std.specs.Prelude.{◌≡◌, ◌≤◌, ◌<◌, ◌++◌, length, take};
     ghost use Rattle.svc_host.specs.Growing.{held_in};
 
-    // Takes a larger block, where the last one was full. Where there is no memory for it the small one stays.
+    // Takes a larger block if the last one was full. If there is no memory for it, the small one stays.
     fn grow(&mut self, alloc: Global)
         ensures { (self.new.begin ≡ 0) × (self.new.end ≡ 0) }
     {
@@ -79,7 +80,7 @@ impl<D: Read + Drop> GrowingReader<D> {
     ghost use Rattle.std.specs.Io.KnownBytes.{IsAtEnd, Keeps};
     ghost use Rattle.svc_host.specs.Growing.{left_of};
 
-    /// Over a reader of which nothing was read.
+    /// Makes a reader over one from which nothing was read.
     pub(crate) fn new(alloc: Global, inner: D) -> Result<GrowingReader<D>, AllocError> {
         let block = ReadBlock {
             bytes: vec![in alloc; 0; FEW]?,
@@ -93,7 +94,7 @@ impl<D: Read + Drop> GrowingReader<D> {
         })
     }
 
-    /// Whether there are bytes to be given, for which it may wait. There are none at the end alone.
+    /// Returns whether there are bytes to give. Waits for them if there are none yet. Only at the end there are none.
     pub(crate) fn fill(&mut self) -> io::Result<bool>
         ensures kept { Keeps (left_of self.old.block (D.remaining self.old.inner))
             (left_of self.new.block (D.remaining self.new.inner)) }

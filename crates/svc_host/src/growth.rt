@@ -1,4 +1,4 @@
-//! What became of a trace since its text was kept last.
+//! How a trace has grown since its text was last kept.
 ghost use Rattle.std.specs.Prelude.{◌≡◌};
 ghost use Rattle.sup_trace.specs.Text.{trace_text};
 ghost use Rattle.svc_host.specs.Growth.{IsText};
@@ -6,18 +6,18 @@ ghost use Rattle.svc_host.specs.Growth.{IsText};
 use std::alloc::{AllocError, Global};
 use sup_trace::TraceText;
 
-/// What became of a trace since its text was kept last.
+/// How a trace has grown since its text was last kept.
 #[derive(Drop)]
 pub(crate) enum Growth {
-    /// It counts as many events.
+    /// It counts the same number of events.
     None,
-    /// It counts so many events now, and this is its text.
+    /// It now counts this many events, and this is its text.
     By { count: u64, text: Vec<u8> },
     /// There is no memory for its text.
     Refused,
 }
 
-/// The text of a trace that counts so many events.
+/// Returns the text of a trace that counts this many events.
 pub(crate) fn text_of(trace: &TraceText, alloc: Global, count: u64) -> Growth
     ensures { IsText trace.now count result }
 {

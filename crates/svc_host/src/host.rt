@@ -31,12 +31,13 @@ use svc_house::{ControlSender, MailInbox, Notifier};
 use tai_status::{Label, Name, View};
 use thiserror::Error;
 
-/// What a round did.
+/// What a scan of the host did.
 #[derive(Drop)]
 pub struct HostOut {
-    /// What the scan started, restarted, dropped and refused.
+    /// What the scan of the table started, restarted, dropped and refused.
     pub scan: ScanOut,
-    /// The parts that it started or restarted and that could not be made. They have ended, and are not there.
+    /// The parts that it started or restarted and that could not be made. They have ended, and the host does not have
+    /// them.
     pub failed: Vec<Unmade>,
 }
 
@@ -50,7 +51,7 @@ pub struct Unmade {
 /// Why a control byte was not posted.
 #[derive(Clone, Copy, Debug, PartialEq, Eq, Error)]
 pub enum PostFault {
-    /// There is no such part now.
+    /// The host has no such part now.
     #[error("NoSuchPart")]
     NoSuchPart,
     /// Its mailbox is full.
@@ -58,14 +59,14 @@ pub enum PostFault {
     Full,
 }
 
-/// The host of all services of one svscan. Contracts see it as `HostState`: the table of slots, and the parts that are
-/// there. What it did so far is a run from a host without parts (`CameToBe`), whatever was called.
+/// The host of all services of one svscan. Contracts see it as `HostState`: the table of slots, and the parts that the
+/// host has. Whatever was called, what the host did so far is a run from a host without parts (`CameToBe`).
 #[derive(Drop)]
 pub struct Host<M: Maker + Drop, R: Runtime> {
     factory: PartFactory<M, R>,
     table: ScanTable,
     parts: Vec<Part<R>>,
-    // The activity at which all traces were kept last.
+    // The count of activity when all traces were last kept.
     kept_at: Option<u64>,
 }
 
@@ -88,19 +89,19 @@ impl<M: Maker + Drop, R: Runtime> Model for Host<M, R> {
     }) };
 }
 
-/// What a scan found, with the room that the rest of its round needs.
+/// What a scan found, and the room that the rest of its round needs.
 #[derive(Drop)]
 struct Scanned {
     table: ScanTable,
     scan: ScanOut,
     // The parts that start, and then those that restart.
     ids: Vec<PartId>,
-    // Room for as many that can't be made.
+    // Room for as many parts that can't be made.
     failed: Vec<Unmade>,
 }
 
-/// Scans a copy of the table, and takes the room that the rest of the round needs: `OutOfMemory`, where the scan itself
-/// would be refused for nothing else.
+/// Scans a copy of the table, and takes the room that the rest of the round needs. Fails if there is no memory, for a
+/// scan that would be refused for no other reason.
 fn scan<T: Drop>(
     alloc: Global,
     table: &ScanTable,
@@ -134,7 +135,7 @@ fn scan<T: Drop>(
     })
 }
 
-/// Takes away the parts that go at a scan, and forgets the slots that it drops.
+/// Removes the parts that a scan drops or restarts, and forgets the slots that it drops.
 fn take_away<M: Maker + Drop, R: Runtime>(
     factory: &mut PartFactory<M, R>,
     parts: &mut Vec<Part<R>>,
@@ -152,7 +153,7 @@ fn take_away<M: Maker + Drop, R: Runtime>(
     }
 }
 
-/// The parts that are there, and those of a scan that could not be made.
+/// The parts that the host has, and those of a scan that could not be made.
 #[derive(Drop)]
 struct Begun<R: Wait + Drop> {
     parts: Vec<Part<R>>,
@@ -184,7 +185,7 @@ fn begin_one<M: Maker + Drop, R: Runtime>(
     }
 }
 
-/// Begins parts, each after the other, and notes those that can't be made.
+/// Begins parts one after the other, and notes those that can't be made.
 fn begin_all<M: Maker + Drop, R: Runtime>(
     factory: &mut PartFactory<M, R>,
     table: &ScanTable,
@@ -205,7 +206,7 @@ fn begin_all<M: Maker + Drop, R: Runtime>(
     }
 }
 
-/// Reports the table that the parts have ended which could not be made.
+/// Records in the table that the parts which could not be made have ended.
 fn end_all(table: &mut ScanTable, failed: &[Unmade])
     ensures { table.new ≡ after_ends (unmade_ids failed.now) table.old }
 {
@@ -214,8 +215,8 @@ fn end_all(table: &mut ScanTable, failed: &[Unmade])
     }
 }
 
-/// Joins the thread of a part, and keeps its last trace. Nothing comes to its mailbox then, and what was lost is noted.
-/// Whether it is joined: a part whose service has not begun stays as it was.
+/// Joins the thread of a part, keeps its last trace, closes its mailbox to the outside, and notes what was lost.
+/// Returns whether the thread is joined. If its service has not begun, the part stays as it was.
 fn join_part<M: Maker + Drop, R: Runtime>(
     factory: &mut PartFactory<M, R>,
     part: &mut Part<R>,
@@ -237,7 +238,7 @@ fn join_part<M: Maker + Drop, R: Runtime>(
     true
 }
 
-/// Keeps the trace of the part at a place, where that has grown. Whether its newest one is kept.
+/// Keeps the trace of the part at a place if it has grown. Returns whether its newest trace is kept.
 fn keep_trace<M: Maker + Drop, R: Runtime>(
     factory: &mut PartFactory<M, R>,
     parts: &mut Vec<Part<R>>,
@@ -251,7 +252,7 @@ fn keep_trace<M: Maker + Drop, R: Runtime>(
     factory.keep_trace(part)
 }
 
-/// Keeps the traces that have grown. Whether all newest ones are kept.
+/// Keeps the traces that have grown. Returns whether all newest traces are kept.
 fn keep_traces<M: Maker + Drop, R: Runtime>(
     factory: &mut PartFactory<M, R>,
     parts: &mut Vec<Part<R>>,
@@ -266,7 +267,7 @@ fn keep_traces<M: Maker + Drop, R: Runtime>(
     all
 }
 
-/// How many milliseconds a part waits already for its end: 0 while the service itself runs.
+/// Returns how many milliseconds ago a pair began to wait for its end. Returns 0 while the service itself runs.
 fn waited_for<M: Maker + Drop, R: Runtime>(
     factory: &mut PartFactory<M, R>,
     slot: u64,
@@ -281,8 +282,8 @@ fn waited_for<M: Maker + Drop, R: Runtime>(
     }
 }
 
-/// Ends the input of a logger that was asked to end with its process, after all that its service wrote. Of any other part
-/// no input ends.
+/// Ends the input of a logger that was asked to exit with its process, after all that its service wrote. Ends no other
+/// part's input.
 fn end_input<M: Maker + Drop, R: Runtime>(factory: &mut PartFactory<M, R>, part: &Part<R>)
     ensures { EndsInput part.now (M.calls factory.old.maker) (M.calls factory.new.maker) }
 {
@@ -292,7 +293,7 @@ fn end_input<M: Maker + Drop, R: Runtime>(factory: &mut PartFactory<M, R>, part:
     }
 }
 
-/// Posts to the part at a place what is next for it in the end of all services.
+/// Posts the next step in the end of all services to the part at a place.
 fn end_part<M: Maker + Drop, R: Runtime>(
     factory: &mut PartFactory<M, R>,
     parts: &mut Vec<Part<R>>,
@@ -310,7 +311,7 @@ fn end_part<M: Maker + Drop, R: Runtime>(
     parts[place].end_next(&factory.rt, service_runs, waited);
 }
 
-/// Posts to each part what is next for it in the end of all services.
+/// Posts the next step in the end of all services to each part.
 fn end_parts<M: Maker + Drop, R: Runtime>(factory: &mut PartFactory<M, R>, parts: &mut Vec<Part<R>>)
     ensures { EndSteps (length parts.old.items) parts.old.items parts.new.items }
 {
@@ -319,8 +320,8 @@ fn end_parts<M: Maker + Drop, R: Runtime>(factory: &mut PartFactory<M, R>, parts
     }
 }
 
-/// Has the output of a slot's service end, of which all is put into the input of its logger or not. Whether svscan may
-/// leave it.
+/// Lets the output of a slot's service end. `is_put` says whether all of it is in the input of its logger. Returns
+/// whether svscan may leave the pair.
 fn end_output<M: Maker + Drop, R: Runtime>(
     maker: &mut M,
     parts: &mut Vec<Part<R>>,
@@ -335,7 +336,7 @@ fn end_output<M: Maker + Drop, R: Runtime>(
     may_leave(is_put, is_read, sight_at(parts, slot, Role::Log))
 }
 
-/// Has the output of the pair at a place end. Whether svscan may leave it.
+/// Lets the output of the pair at a place end. Returns whether svscan may leave the pair.
 fn end_pair<M: Maker + Drop, R: Runtime>(
     factory: &mut PartFactory<M, R>,
     parts: &mut Vec<Part<R>>,
@@ -368,8 +369,8 @@ impl<M: Maker + Drop, R: Runtime> Host<M, R> {
     ghost use Rattle.svc_house.specs.Mail.{receiver_in, sender_in};
     ghost use Rattle.svc_mail.specs.Ends.{home, posted, receiver_home, taken_by};
 
-    /// A host without parts, over a maker. Each part gets a mailbox with room for so many control bytes and a trace of
-    /// so many entries, and each pair a box of as many pieces as a mailbox has room for bytes.
+    /// Makes a host without parts, over a maker. Each part gets a mailbox with room for `mail_capacity` control bytes
+    /// and a trace of `trace_capacity` entries. Each pair gets a box for `mail_capacity` pieces.
     pub fn new(
         rt: R,
         alloc: Global,
@@ -400,7 +401,8 @@ impl<M: Maker + Drop, R: Runtime> Host<M, R> {
         })
     }
 
-    /// Posts a control byte to a part. `NoSuchPart` exactly where it is not there; `Full` where its mailbox is.
+    /// Posts a control byte to a part. Returns `NoSuchPart` exactly if the host does not have the part, and `Full` if
+    /// its mailbox is full.
     pub fn post(&mut self, id: PartId, byte: u8) -> Result<(), PostFault>
         ensures there { (result ≡ Err PostFault.NoSuchPart) ↔ IsNowhere id self.old.parts }
         ensures posted { IfOk result (λ _. IsPost self.old.parts id byte self.new.parts) }
@@ -412,8 +414,8 @@ impl<M: Maker + Drop, R: Runtime> Host<M, R> {
         post_to(&self.factory.rt, &mut self.parts, id, byte)
     }
 
-    /// What the status record of a part reports: none exactly where the part is not there, else after what was read of
-    /// its events, which begin with all that was read of them before.
+    /// Returns what the status record of a part reports, after the events that were read of it. These begin with all
+    /// that were read before. Returns None exactly if the host does not have the part.
     pub fn status(&mut self, id: PartId) -> Option<View>
         ensures table { self.new.table ≡ self.old.table }
         ensures parts { AreHeard self.old.parts self.new.parts }
@@ -424,7 +426,7 @@ impl<M: Maker + Drop, R: Runtime> Host<M, R> {
         status_of(&mut self.parts, id)
     }
 
-    /// Asks the maker for something, once. The parts are as they were.
+    /// Asks the maker for something, once. The parts stay as they were.
     pub fn ask_maker<T, F: FnOnce(&mut M) -> T>(&mut self, ask: F) -> T
         requires { F.IsAlwaysCallable ask }
         ensures asked { (before after : M) × (M.calls before ≡ self.old.calls) × (M.calls after ≡ self.new.calls)
@@ -436,24 +438,25 @@ impl<M: Maker + Drop, R: Runtime> Host<M, R> {
         ask(&mut self.factory.maker)
     }
 
-    /// Rests until a part has ended, and no longer than so long. It may come back early.
+    /// Rests until a part has ended, and at most this long. It may return early.
     pub fn rest(&self, longest: Duration) {
         self.factory.notifier.wait(&self.factory.rt, Some(longest));
     }
 
-    /// How much has happened to its services: another number where anything has since. What ends from now on, too.
+    /// Returns a count of what has happened to the services. The count differs if anything has happened since,
+    /// including ends.
     pub fn activity(&self) -> u64 {
         self.factory.activity.count()
     }
 
-    /// Keeps the traces that have grown, of the services that run.
+    /// Keeps the traces of running services that have grown.
     pub fn keep_traces(&mut self)
         ensures table { self.new.table ≡ self.old.table }
         ensures parts { AreHeard self.old.parts self.new.parts }
         ensures hands { HandsOutNone self.old.calls self.new.calls }
         ensures runs { Runs self.old self.new }
     {
-        // Before the traces are read, so that what happens meanwhile is seen the next time.
+        // This comes before the traces are read, so that whatever happens meanwhile is seen the next time.
         let now = Some(self.activity());
         if self.kept_at == now {
             return;
@@ -463,7 +466,7 @@ impl<M: Maker + Drop, R: Runtime> Host<M, R> {
         }
     }
 
-    // Joins the thread of the part at a place, if it has ended. Whether it was joined.
+    // Joins the thread of the part at a place, if the part has ended. Returns whether it was joined.
     fn reap(&mut self, place: usize) -> bool
         requires { place < length self.old.parts }
         ensures parts { IsStep self.old.parts place self.new.parts }
@@ -489,8 +492,8 @@ impl<M: Maker + Drop, R: Runtime> Host<M, R> {
         true
     }
 
-    /// Joins the threads of the parts that have ended since the last time, keeps their last traces, and gives back what
-    /// they had.
+    /// Joins the threads of the parts that have ended since the last call, keeps their last traces, and gives back
+    /// their resources.
     pub fn collect(&mut self)
         ensures collected { AreCollected self.old self.new }
         ensures runs { Runs self.old self.new }
@@ -500,25 +503,25 @@ impl<M: Maker + Drop, R: Runtime> Host<M, R> {
         }
     }
 
-    /// What the host did so far is a run from a host without parts.
+    /// States that what the host did so far is a run from a host without parts.
     pub fn has_run(&self)
         ensures { CameToBe self.now }
     {
         let _ = &self.factory;
     }
 
-    /// Whether there is a service of this name, and no part of it has ended, as far as threads were joined. Then a scan
-    /// needs no row of it (`ScanTable::whole_need_no_row`).
+    /// Returns whether there is a service with this name and none of its parts has ended, as far as threads were
+    /// joined. If so, a scan needs no row for it (`ScanTable::whole_need_no_row`).
     pub fn is_whole(&self, name: &str) -> bool
         ensures { result ≡ is_whole self.now.table.slots name.now }
     {
         self.table.is_whole(name)
     }
 
-    /// Scans the rows of the folder: what goes is forgotten, and what starts or restarts is made and gets its thread. A
-    /// part that can't be made has ended.
+    /// Scans the rows of the folder. Forgets what is dropped, and makes what starts or restarts and starts its thread.
+    /// A part that can't be made has ended.
     ///
-    /// At a fault nothing was started, restarted or dropped. `OutOfMemory` only where nothing else is wrong.
+    /// After a fault, nothing was started, restarted or dropped. Returns `OutOfMemory` only if nothing else is wrong.
     pub fn scan(&mut self, rows: &[DirRow], label: Label) -> Result<HostOut, ScanFault>
         ensures scanned { IfOk result (λ out. IsScanned self.old rows.now label out self.new) }
         ensures refused { OnErr result (self.new ≡ self.old) }
@@ -556,14 +559,14 @@ impl<M: Maker + Drop, R: Runtime> Host<M, R> {
         Ok(HostOut { scan, failed })
     }
 
-    /// What parts lost at their ends since that was forgotten last, in their order.
+    /// Returns what parts lost when they ended, in the order of the parts, as far as it was not forgotten.
     pub fn losses(&self) -> Result<Vec<(PartId, Loss)>, AllocError>
         ensures { IfOk result (λ losses. losses.items ≡ losses_in self.now.parts) }
     {
         losses(self.factory.alloc, &self.parts)
     }
 
-    /// Forgets what parts lost at their ends, and nothing else.
+    /// Forgets what parts lost when they ended, and nothing else.
     pub fn forget_losses(&mut self)
         ensures forgets { self.new ≡ record self.old { parts = map without_loss self.old.parts } }
         ensures runs { Runs self.old self.new }
@@ -571,14 +574,14 @@ impl<M: Maker + Drop, R: Runtime> Host<M, R> {
         forget_losses(&mut self.parts);
     }
 
-    /// The name of the service in a slot.
+    /// Returns the name of the service in a slot.
     pub fn name(&self, slot: u64) -> Option<&Name>
         ensures { option_copied result ≡ option_map name_of (slot_at self.now.table.slots slot) }
     {
         self.table.name(slot)
     }
 
-    /// A mailbox for so many control bytes, each of which ends a rest.
+    /// Opens a mailbox for this many control bytes. Each byte posted there ends a rest of the host.
     pub fn own_mailbox(&self, capacity: usize) -> Option<(ControlSender, MailInbox)>
         requires { 0 < capacity }
         ensures same { IfSome result (λ ends. home (sender_in ends.0) ≡ receiver_home (receiver_in ends.1)) }
@@ -593,24 +596,24 @@ impl<M: Maker + Drop, R: Runtime> Host<M, R> {
         ))
     }
 
-    /// The parts that run, as far as threads were joined.
+    /// Returns the parts that run, as far as threads were joined.
     pub fn running_parts(&self) -> Result<Vec<PartId>, AllocError>
         ensures { IfOk result (λ ids. ids.items ≡ running_ids self.now.parts) }
     {
         running_ids(self.factory.alloc, &self.parts)
     }
 
-    /// Whether any part runs and owes what it could not write.
+    /// Returns whether any part runs and owes what it could not write.
     pub fn any_owes(&self) -> bool {
         any_owes(&self.parts)
     }
 
-    /// The parts that run and owe what they could not write.
+    /// Returns the parts that run and owe what they could not write.
     pub fn owing_parts(&self) -> Result<Vec<PartId>, AllocError> {
         owing_ids(self.factory.alloc, &self.parts)
     }
 
-    /// Goes on with the end of all services, in order, by what is next for each part. Answers how many parts still run.
+    /// Continues the end of all services, in order, with the next step for each part. Returns how many parts still run.
     pub fn end_services(&mut self) -> usize
         ensures each { EndsAll self.old.parts self.new.parts }
         ensures left { result ≡ count_running self.new.parts }
@@ -622,8 +625,8 @@ impl<M: Maker + Drop, R: Runtime> Host<M, R> {
         running(&self.parts)
     }
 
-    /// The output of each pair ends: at once, where its service has a process, and else when it has nothing for now.
-    /// Whether svscan may leave all pairs.
+    /// Ends the output of each pair: at once if its service has a process, and otherwise when there is nothing to read
+    /// for now. Returns whether svscan may leave all pairs.
     pub fn end_outputs(&mut self) -> bool
         ensures runs { Runs self.old self.new }
     {
@@ -636,8 +639,8 @@ impl<M: Maker + Drop, R: Runtime> Host<M, R> {
         may_leave
     }
 
-    /// Of one pair its slot, and how many bytes of its output were read and don't reach its logger. Its threads are to
-    /// end. None: all pairs are reported.
+    /// Ends one pair. Returns its slot, and how many bytes of its output were read and don't reach its logger. Returns
+    /// None if no pair is left.
     pub fn take_lost(&mut self) -> Option<(u64, u64)>
         ensures counts { MatchOption result (self.new ≡ self.old) (λ lost. CountsLost lost.0 lost.1 self.old self.new) }
         ensures table { self.new.table ≡ self.old.table }

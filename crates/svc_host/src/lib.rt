@@ -1,12 +1,13 @@
 //! The host of all services of one svscan: which parts there are, and the threads in which they run.
 //!
 //! A `Host` joins the table of slots (`scan_table`), the loop of each service (`svc_house`) in a thread of its own, the
-//! two threads that carry a pair's output to its logger (`svc_relay`), and a `Maker`, which makes the resources of each
-//! part: processes, files and sockets in the program, set answers in tests. Contracts see a host as `HostState`
-//! and what a scan does as `IsScanned` (specs/Rounds).
+//! two threads that carry a pair's output to its logger (`svc_relay`), and a `Maker`. The maker makes the resources of
+//! each part: processes, files and sockets in the program, and prepared results in tests. Contracts see a host as
+//! `HostState` and what a scan does as `IsScanned` (specs/Rounds).
 //!
-//! What no contract here says, and is only tested: that the threads run side by side, that a part's mailbox, station
-//! and world are joined to it and to no other, and how long anything takes. A call that may wait owes no return.
+//! Some things are in no contract here, and are only tested: that the threads run side by side, and how long anything
+//! takes. The same is true of the joints: that a part has its own mailbox, station and world, and those of no other
+//! part. No contract says that a call which may wait ever returns.
 #![tactic(auto)]
 
 mod ending;

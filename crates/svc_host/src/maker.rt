@@ -14,7 +14,7 @@ use tai_status::Cause;
 pub enum PartFault {
     /// Another svscan has its folder.
     Locked,
-    /// The system refused something that it stands on.
+    /// The system refused something that the part needs.
     Refused(Cause),
 }
 
@@ -24,14 +24,14 @@ impl From<AllocError> for PartFault {
     }
 }
 
-/// What waits beside a part for the deaths of its processes.
+/// What waits for the deaths of a part's processes.
 pub trait Reaper {
-    /// Waits for them, in a thread of its own. It returns by itself once the part's world was let go.
+    /// Waits for them, in a thread of its own. Returns by itself once the part's world is dropped.
     fn run<R: Wait + Clock + Copy + Drop>(self, rt: R);
 }
 
-/// The resources of one part: its processes, status file and clock; when a start may be looked at; what waits beside
-/// it; and how it begins.
+/// The resources of one part: its processes, status file and clock; when it may look for the answer to a start; the
+/// reaper of its processes; and how it begins.
 #[derive(Drop)]
 pub struct PartResources<W: World + Drop, G: Gate + Drop, A: Reaper + Drop> {
     pub world: W,
@@ -44,15 +44,15 @@ pub struct PartResources<W: World + Drop, G: Gate + Drop, A: Reaper + Drop> {
 pub trait Outlets<O: Outlet + Drop> {
     ghost use Rattle.std.specs.Prelude.{◌≡◌, [], IfSome};
 
-    /// The input of the logger's newest life, into which nothing was put: once a life, else none. Where there is none
-    /// yet, the pair's notifier is notified once there is.
+    /// Returns the input of the logger's newest life, into which nothing was put. Returns it once a life, and None
+    /// otherwise. If there is no input yet, the pair's notifier is notified once there is.
     fn next(&mut self) -> Option<O>
         ensures fresh { IfSome result (λ outlet. IfSome (O.bytes outlet) (λ bytes. bytes ≡ [])) };
 }
 
-/// What makes the resources of each part. The parts of a slot that is a pair are made after `pair` was asked for
-/// it. Contracts see the calls with their answers, in order (`calls`), where they are kept. They may stop to be kept,
-/// as where there is no memory for more, and are not kept again.
+/// Makes the resources of each part. `pair` is called for a slot that is a pair before its parts are made. Contracts
+/// see the calls and their results, in order (`calls`), while they are recorded. Recording may stop, for example out of
+/// memory, and then does not resume.
 pub trait Maker {
     ghost use Rattle.std.specs.Prelude.{◌≡◌, Option, None, List, [], ◌∷◌, IfOk};
     ghost use Rattle.std.specs.Result.{result_err};
@@ -77,8 +77,9 @@ pub trait Maker {
 
     type Outlets: Outlets<Self::Outlet> + Drop + Send + 'static;
 
-    /// The resources of a part of the service of this name, or why they can't be made. By `sender` control bytes
-    /// come to it from outside. The part's thread waits for `notifier`: the world notifies it once it has an answer.
+    /// Makes the resources of a part of the service with this name. A fault says why they can't be made. `sender`
+    /// brings control bytes to the part from outside. The part's thread waits for `notifier`, and the world notifies it
+    /// when it has an answer.
     fn part(
         &mut self,
         name: &str,
@@ -91,9 +92,9 @@ pub trait Maker {
         ensures alive { IfOk result (λ resources. BeginsAlive resources.opening) }
         ensures fresh { IfOk result (λ resources. answered (Self.World.calls resources.world) ≡ []) };
 
-    /// The output of a pair's service of this name, which runs on from life to life, and where it goes, or why they
-    /// can't be made. It may be asked again for a slot, where no thread could be made. What carries the output
-    /// waits for `notifier`.
+    /// Makes the output of the service of a pair with this name, which continues from life to life, and the outlets for
+    /// it. A fault says why they can't be made. It may be called again for a slot, if no thread could be made. What
+    /// carries the output waits for `notifier`.
     fn pair(
         &mut self,
         name: &str,
@@ -103,32 +104,34 @@ pub trait Maker {
         ensures calls { ExtendedWhileKept (calls self.old) (calls self.new)
             (MadePair slot name.now (result_err result) ∷ []) };
 
-    /// Keeps the trace of a part, and says whether it could.
+    /// Keeps the trace of a part, and returns whether it could.
     fn keep_trace(&mut self, id: PartId, text: &[u8]) -> bool
         ensures calls { ExtendedWhileKept (calls self.old) (calls self.new) (KeptTrace id text.now result ∷ []) };
 
-    /// A part has ended, or could not be started after it was made: nothing comes to it from outside any more.
+    /// Called when a part has ended, or could not be started after it was made: nothing may come to it from outside any
+    /// more.
     fn ended(&mut self, id: PartId)
         ensures calls { ExtendedWhileKept (calls self.old) (calls self.new) (EndedPart id ∷ []) };
 
-    /// A slot is dropped: the output of its pair ends, where it is one.
+    /// Called when a slot is dropped: the output of its pair, if it is a pair, must end.
     fn forget(&mut self, slot: u64)
         ensures calls { ExtendedWhileKept (calls self.old) (calls self.new) (ForgotSlot slot ∷ []) };
 
-    /// All outputs of pairs can be asked to end from now on (`end_output`).
+    /// Lets all outputs of pairs be asked to end from now on (`end_output`).
     fn watch_outputs(&mut self)
         ensures calls { ExtendedWhileKept (calls self.old) (calls self.new) (WatchedOutputs ∷ []) };
 
-    /// The output of a slot's pair is to end: at once, or when it has nothing for now.
+    /// Asks the output of a slot's pair to end: at once, or when there is nothing to read for now.
     fn end_output(&mut self, slot: u64, at_once: bool)
         ensures calls { ExtendedWhileKept (calls self.old) (calls self.new) (EndedOutput slot at_once ∷ []) };
 
-    /// Whether there is nothing that the logger of a slot's pair could read for now.
+    /// Returns whether the logger of a slot's pair has nothing to read for now.
     fn is_read(&mut self, slot: u64) -> bool
         ensures calls { ExtendedWhileKept (calls self.old) (calls self.new) (AskedIsRead slot result ∷ []) };
 
-    /// How many bytes of the output of a slot's pair were read and don't reach its logger, once that output has ended:
-    /// those that were not put into its input, and where there is no logger those in it too.
+    /// Returns how many bytes of the output of a slot's pair were read and don't reach its logger, after that output
+    /// has ended. These are the bytes that were not put into its input. If there is no logger, the bytes in its input
+    /// count too.
     fn lost(&mut self, slot: u64, has_logger: bool) -> u64
         ensures calls { ExtendedWhileKept (calls self.old) (calls self.new) (CountedLost slot has_logger result ∷ []) };
 }

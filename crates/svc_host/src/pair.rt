@@ -1,5 +1,5 @@
-//! The two threads that carry a pair's output to its logger: one reads it, and begins the other, which puts it, at the
-//! first bytes. Until then there is no box, and no block.
+//! The two threads that carry a pair's output to its logger. One reads the output. At the first bytes it starts the
+//! other one, which puts the output into the logger. Until then there is no box, and no block.
 ghost use Rattle.std.specs.Prelude.{◌≡◌, ◌<◌, [], true, false, IfSome, IfErr, IfOk, None, ◌∷◌, OnOk};
 ghost use mathlib.Core.List.{IsPrefix};
 ghost use Rattle.tai_status.specs.Counted.{IsRead};
@@ -29,44 +29,44 @@ use svc_relay::relay::Relay;
 use svc_relay::turn::{IntakeTurn, RelayTurn};
 use tai_status::{Cause, Input};
 
-/// The room of a stack: a relay gathers 32 KiB in it.
+/// The size of a stack: a relay gathers 32 KiB in it.
 const STACK: usize = 256 * 1024;
 
-/// How long a thread rests before it tries a call again that failed.
+/// The milliseconds that a thread rests before it repeats a failed call.
 const AGAIN_MILLIS: u64 = 100;
 
-/// What the thread of an intake is given.
+/// What the thread of an intake gets.
 #[derive(Drop)]
 struct Taking<D: Read + Drop, S: Drop> {
     alloc: Global,
     output: GrowingReader<D>,
-    // How many pieces wait at most.
+    // The most pieces that wait.
     capacity: usize,
     putting: Putting<S>,
     ghost some: { 0 < capacity },
 }
 
-/// What the thread of a relay is given, beside the receiver.
+/// What the thread of a relay gets, besides the receiver.
 #[derive(Drop)]
 struct Putting<S: Drop> {
     outlets: S,
     shared: Arc<PairShared, Global>,
 }
 
-/// The receiver of a pair's box, which took nothing.
+/// The receiver of a pair's box, which has taken nothing.
 #[derive(Drop)]
 struct NewReceiver {
     receiver: Receiver<Piece>,
     ghost untaken: { taken_by receiver ≡ [] },
 }
 
-/// Rests before a call is tried again that failed.
+/// Rests before a failed call is repeated.
 fn rest_before_again<R: Wait>(rt: &R, notifier: &Notifier) {
     notifier.wait(rt, Some(Duration::from_millis(AGAIN_MILLIS)));
 }
 
-/// Waits for the first bytes of a pair's output. Whether there are any; else it has ended, or the pair leaves. A read
-/// that fails is tried again.
+/// Waits for the first bytes of a pair's output. Returns whether there are any; if not, the output has ended, or the
+/// pair leaves. A failed read is repeated.
 fn has_begun<D: Read + Drop, R: Wait>(
     rt: &R,
     output: &mut GrowingReader<D>,
@@ -82,7 +82,7 @@ fn has_begun<D: Read + Drop, R: Wait>(
     unreachable!()
 }
 
-/// A box of so many pieces, once there is memory for it, or none where the pair leaves before.
+/// Opens a box for this many pieces, once there is memory for it. Returns None if the pair leaves first.
 fn open_in_time<R: Wait>(
     rt: &R,
     alloc: Global,
@@ -106,8 +106,8 @@ fn open_in_time<R: Wait>(
     unreachable!()
 }
 
-/// Reads a pair's output and posts it, until it ends or the pair leaves. A read that fails is tried again. Whether it has
-/// ended: then all of it is posted.
+/// Reads a pair's output and posts it, until it ends or the pair leaves. A failed read is repeated. Returns whether the
+/// output has ended: then all of it is posted.
 fn post_all<D: Read + Drop, R: Wait>(rt: &R, intake: &mut Intake<D>, shared: &PairShared) -> bool
     ensures same { IsSameSender intake.old.sender intake.new.sender }
     ensures opening { intake.new.opening ≡ intake.old.opening }
@@ -136,7 +136,7 @@ fn post_all<D: Read + Drop, R: Wait>(rt: &R, intake: &mut Intake<D>, shared: &Pa
 
 /// Reads a pair's output until it ends, or the pair leaves.
 ///
-/// It has an intake's pieces on its stack, which so are no part of that before it is called.
+/// Its stack holds an intake's pieces. They are not part of the caller's stack before this is called.
 #[inline(never)]
 fn read_all<D: Read + Drop, R: Wait>(
     rt: &R,
@@ -152,7 +152,7 @@ fn read_all<D: Read + Drop, R: Wait>(
     }
 }
 
-/// The logger's next input, once there is one, or none where the pair leaves.
+/// Returns the logger's next input, once there is one. Returns None if the pair leaves first.
 fn next_outlet<O: Outlet + Drop, S: Outlets<O>, R: Wait>(
     rt: &R,
     outlets: &mut S,
@@ -172,7 +172,7 @@ fn next_outlet<O: Outlet + Drop, S: Outlets<O>, R: Wait>(
     unreachable!()
 }
 
-/// Begins the logger's next life, if there is one. What was put is not put again. Whether there is one.
+/// Begins the logger's next life, if there is one, and returns whether there is. What was put is not put again.
 fn begin_life<O: Outlet + Drop, S: Outlets<O>>(relay: &mut Relay<O>, outlets: &mut S) -> bool
     ensures same { IsSameReceiver relay.old.receiver relay.new.receiver }
     ensures bytes { bytes_put relay.new ≡ bytes_put relay.old }
@@ -188,9 +188,9 @@ fn begin_life<O: Outlet + Drop, S: Outlets<O>>(relay: &mut Relay<O>, outlets: &m
     }
 }
 
-/// Puts a pair's output into its logger, from life to life, until the pair leaves or the output has ended and all of it
-/// is put. A write that fails is tried again, if the logger has no next input yet. What is put only grows: no byte is put
-/// twice, and none that was put is taken back.
+/// Puts a pair's output into its logger, from life to life, until the pair leaves, or the output has ended and all of
+/// it is put. A failed write is repeated, if the logger has no next input yet. What is put only grows: no byte is put
+/// twice, and no byte that was put is taken back.
 fn put_on<O: Outlet + Drop, S: Outlets<O>, R: Wait>(
     rt: &R,
     relay: &mut Relay<O>,
@@ -201,7 +201,7 @@ fn put_on<O: Outlet + Drop, S: Outlets<O>, R: Wait>(
     ensures bytes { IsPrefix (bytes_put relay.old) (bytes_put relay.new) }
 {
     for _ in rt.forever() {
-        // Before the turn, so that one that finds nothing then has taken all.
+        // This comes before the turn, so that a turn that finds nothing after it has taken everything.
         let is_last = shared.has_ended();
         match relay.turn(rt) {
             RelayTurn::Moved(count) => shared.emptied.notify(News::moved(count)),
@@ -223,7 +223,7 @@ fn put_on<O: Outlet + Drop, S: Outlets<O>, R: Wait>(
     }
 }
 
-/// Puts a pair's output into its logger, once that has an input. That input ends with it.
+/// Puts a pair's output into its logger, once the logger has an input. That input ends when this returns.
 fn put_all<O: Outlet + Drop, S: Outlets<O> + Drop, R: Wait>(
     rt: &R,
     receiver: Receiver<Piece>,
@@ -251,7 +251,7 @@ fn put_out<O: Outlet + Drop, S: Outlets<O> + Drop, R: Wait>(
     shared.put();
 }
 
-/// Starts the thread of a relay, once there can be one. Whether it runs; else the pair leaves before.
+/// Starts the thread of a relay, once there can be one. Returns whether it runs; if not, the pair left first.
 fn start_in_time<
     O: Outlet + Drop + Send + 'static,
     S: Outlets<O> + Drop + Send + 'static,
@@ -274,8 +274,8 @@ fn start_in_time<
     unreachable!()
 }
 
-/// Reads a pair's output, and begins its relay at the first bytes. Whether a relay was begun; else there were no bytes,
-/// or the pair leaves, and the logger's input ends here.
+/// Reads a pair's output, and starts its relay at the first bytes. Returns whether a relay was started. If not, there
+/// were no bytes, or the pair leaves, and the logger's input ends here.
 fn carry<
     D: Read + Drop,
     O: Outlet + Drop + Send + 'static,
@@ -302,7 +302,7 @@ fn carry<
     is_begun
 }
 
-/// What the thread of an intake does. Where it begins no relay, nothing is left to put behind it.
+/// What the thread of an intake does. If it starts no relay, nothing is left to put.
 fn take_in<
     D: Read + Drop,
     O: Outlet + Drop + Send + 'static,
@@ -318,7 +318,7 @@ fn take_in<
 pub(crate) struct Pair {
     pub(crate) slot: u64,
     shared: Arc<PairShared, Global>,
-    // Since when is waited for its end, by the running clock.
+    // When the wait for its end began, by the running clock.
     waits_since: Option<Duration>,
 }
 
@@ -334,7 +334,7 @@ impl Drop for Pair {
 }
 
 impl Pair {
-    /// Starts the thread that reads a pair's output, or none.
+    /// Starts the thread that reads a pair's output. A fault says why it can't be started.
     pub(crate) fn start<M: Maker, R: Threads + Wait + Copy + Drop + Send + 'static>(
         rt: R,
         alloc: Global,
@@ -377,12 +377,12 @@ impl Pair {
         })
     }
 
-    /// Whether all of its output, which has ended, is put into the input of its logger.
+    /// Returns whether its output has ended, and all of it is in the input of its logger.
     pub(crate) fn is_put(&self) -> bool {
         self.shared.is_put()
     }
 
-    /// Its end is waited for from now on, or was before. How many milliseconds ago that began.
+    /// Begins to wait for its end, if that wait has not begun. Returns how many milliseconds ago it began.
     pub(crate) fn wait_on(&mut self, clock: &impl Clock) -> u64 {
         let Ok(now) = clock.monotonic() else {
             return u64::MAX;

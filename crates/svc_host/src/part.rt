@@ -1,4 +1,4 @@
-//! A part that is there.
+//! A part that the host has.
 ghost use Rattle.std.specs.Prelude.{◌≡◌};
 ghost use Rattle.svc_host.specs.Ending.{is_adopted};
 
@@ -20,9 +20,9 @@ use svc_mail::letter::Full;
 /// What was lost as a part ended.
 #[derive(Clone, Copy, Debug, PartialEq, Eq)]
 pub struct Loss {
-    /// How many control bytes were posted to it that its service did not take.
+    /// The number of control bytes posted to it that its service did not take.
     pub untaken: u64,
-    /// Whether its last trace was not kept: for want of memory, or since the maker could not.
+    /// Whether its last trace was not kept: there was no memory for it, or the maker could not keep it.
     pub lacks_trace: bool,
 }
 
@@ -36,7 +36,7 @@ impl Loss {
         lacks_trace: false,
     };
 
-    /// Whether anything was lost.
+    /// Returns whether anything was lost.
     pub(crate) fn is_some(self) -> bool
         ensures { result ≡ has_loss self }
     {
@@ -44,27 +44,27 @@ impl Loss {
     }
 }
 
-/// Whether the process of this number, of which 0 is none, is the one that was adopted.
+/// Returns whether the process with this number is the adopted one. The number 0 means no process.
 fn is_adopted(pid: u32, adopted: u32) -> bool
     ensures { result ≡ is_adopted pid adopted }
 {
     pid > 0 && pid == adopted
 }
 
-/// A part that is there. Contracts see it as `HostPart`.
+/// A part that the host has. Contracts see it as `HostPart`.
 #[derive(Drop)]
 pub(crate) struct Part<R: Wait + Drop> {
     id: PartId,
     opening: Opening,
     sender: ControlSender,
     thread: PartThread<R>,
-    // The number of the process that an earlier svscan had started for it; 0: none.
+    // The number of the process that an earlier svscan started for it; 0 means none.
     adopted: u32,
-    // How many events the trace counted that was kept last.
+    // The number of events in the trace that was last kept.
     kept: Option<u64>,
-    // What was lost at its end, and is not forgotten.
+    // What was lost when it ended, and is not forgotten.
     loss: Loss,
-    // Whether the bytes that end a service were posted, `d` and then `x`.
+    // Whether the bytes that end a service, `d` and then `x`, were posted.
     posted_down: bool,
     posted_exit: bool,
 }
@@ -103,7 +103,8 @@ impl<R: Runtime> Part<R> {
     ghost use Rattle.svc_host.specs.Parts.{HasPosted, IsRead, IsRefused, PartGoesOn, history_of, new_part};
     ghost use Rattle.svc_host.specs.Parts.{without_loss};
 
-    /// A part whose service runs, and began so, with this process; 0: with none. By `sender` the host posts to it.
+    /// Makes a part whose service runs. `opening` and `adopted` say how it began and with which process; 0 means none.
+    /// The host posts to it through `sender`.
     pub(crate) fn new(
         id: PartId,
         opening: Opening,
@@ -126,34 +127,34 @@ impl<R: Runtime> Part<R> {
         }
     }
 
-    /// Which part it is.
+    /// Returns which part it is.
     pub(crate) fn id(&self) -> PartId
         ensures { result ≡ self.now.id }
     {
         self.id
     }
 
-    /// Whether it runs and owes what it could not write.
+    /// Returns whether it runs and owes what it could not write.
     pub(crate) fn owes(&self) -> bool {
         self.thread.owes()
     }
 
-    /// Whether its thread was joined.
+    /// Returns whether its thread was joined.
     pub(crate) fn has_ended(&self) -> bool
         ensures { result ≡ self.now.has_ended }
     {
         self.thread.has_ended()
     }
 
-    /// Whether its service has ended, and its thread is still to be joined.
+    /// Returns whether its service has ended and its thread is still to be joined.
     pub(crate) fn is_to_be_joined(&self) -> bool
         ensures { result ≡ true → self.now.has_ended ≡ false }
     {
         self.thread.is_to_be_joined()
     }
 
-    /// Joins its thread, if it was not joined. Whether it is joined then: a part whose service has not begun stays as it
-    /// was.
+    /// Joins its thread, if it was not joined. Returns whether it is joined then. If its service has not begun, the
+    /// part stays as it was.
     pub(crate) fn join(&mut self, rt: &R, alloc: Global) -> bool
         ensures same { PartGoesOn self.old self.new }
         ensures ended { result ≡ self.new.has_ended }
@@ -164,7 +165,7 @@ impl<R: Runtime> Part<R> {
         self.thread.join(rt, alloc)
     }
 
-    /// The machine after what was read of its events.
+    /// Returns the machine after the events that were read.
     pub(crate) fn machine(&mut self) -> Machine
         ensures read { IsRead self.old self.new }
         ensures reading { result ≡ state_of (history_of self.new) }
@@ -180,7 +181,7 @@ impl<R: Runtime> Part<R> {
         self.sender.post(rt, byte)
     }
 
-    // Posts a control byte, and answers whether it was.
+    // Posts a control byte, and returns whether it was posted.
     fn post_one(&mut self, rt: &R, byte: u8) -> bool
         ensures { MatchBool result (HasPosted self.old byte self.new) (IsRefused self.old self.new) }
     {
@@ -201,7 +202,7 @@ impl<R: Runtime> Part<R> {
         self.posted_exit = true;
     }
 
-    // Posts `d`, unless that was posted so. Whether it was.
+    // Posts `d`, unless it was posted for the end of all services. Returns whether it has been posted.
     fn post_down(&mut self, rt: &R) -> bool
         ensures posts { PostsDown self.old self.new }
         ensures posted { result ≡ self.new.end_bytes.down }
@@ -212,7 +213,7 @@ impl<R: Runtime> Part<R> {
         self.posted_down
     }
 
-    // Posts `x`, unless that was posted so.
+    // Posts `x`, unless it was posted for the end of all services.
     fn post_exit(&mut self, rt: &R)
         ensures { PostsExit self.old self.new }
     {
@@ -221,7 +222,7 @@ impl<R: Runtime> Part<R> {
         }
     }
 
-    // Posts the bytes of a step that were not posted yet, as far as its mailbox has room.
+    // Posts those bytes of a step that were not posted yet, as far as its mailbox has room.
     fn post_step(&mut self, rt: &R, step: EndStep)
         ensures { PostsStep step self.old self.new }
     {
@@ -236,7 +237,7 @@ impl<R: Runtime> Part<R> {
         }
     }
 
-    // Whether its process is one that an earlier svscan started.
+    // Returns whether an earlier svscan started its process.
     fn has_adopted(&mut self) -> bool
         ensures read { IsRead self.old self.new }
         ensures adopted { result ≡ has_adopted self.new }
@@ -244,7 +245,7 @@ impl<R: Runtime> Part<R> {
         is_adopted(self.machine().view().pid, self.adopted)
     }
 
-    /// What is seen of its process.
+    /// Returns what is seen of its process.
     pub(crate) fn sight(&mut self) -> ProcessSight
         ensures read { IsRead self.old self.new }
         ensures sight { result ≡ part_sight self.new }
@@ -254,15 +255,15 @@ impl<R: Runtime> Part<R> {
         sight_of(&machine, reads_another)
     }
 
-    /// Whether it was asked to end with its process.
+    /// Returns whether it was asked to exit with its process.
     pub(crate) fn is_reported(&self) -> bool
         ensures { result ≡ self.now.end_bytes.exit }
     {
         self.posted_exit
     }
 
-    /// Posts what is next for it in the end of all services, unless it has ended. Its service runs or not, and was
-    /// found gone so many milliseconds ago.
+    /// Posts the next step in the end of all services, unless the part has ended. `service_runs` says whether its
+    /// service runs, and `waited` how many milliseconds ago the service was found gone.
     pub(crate) fn end_next(&mut self, rt: &R, service_runs: bool, waited: u64)
         ensures { EndsNext service_runs waited self.old self.new }
     {
@@ -274,7 +275,7 @@ impl<R: Runtime> Part<R> {
         self.post_step(rt, step)
     }
 
-    /// The text of its trace, where that has grown since it was kept last.
+    /// Returns the text of its trace, if it has grown since it was last kept.
     pub(crate) fn growth(&mut self, alloc: Global) -> Growth
         ensures read { IsRead self.old self.new }
         ensures shows { Shows self.new.station self.new.known self.new.kept result }
@@ -282,15 +283,15 @@ impl<R: Runtime> Part<R> {
         self.thread.growth(alloc, self.kept)
     }
 
-    /// Its trace was kept, which counted so many events.
+    /// Notes that its trace with this many events was kept.
     pub(crate) fn trace_is_kept(&mut self, count: u64)
         ensures { self.new ≡ record self.old { kept = Some count } }
     {
         self.kept = Some(count);
     }
 
-    /// Notes what was lost at its end: the control bytes that are left in its mailbox, so many at most, and its last
-    /// trace, where that was not kept.
+    /// Notes what was lost when it ended: the control bytes that are left in its mailbox, at most this many, and its
+    /// last trace, if that was not kept.
     pub(crate) fn note_loss(&mut self, rt: &R, most: usize, has_trace: bool)
         ensures same { PartGoesOn self.old self.new }
         ensures ended { self.new.has_ended ≡ self.old.has_ended }
@@ -304,14 +305,14 @@ impl<R: Runtime> Part<R> {
         };
     }
 
-    /// What was lost at its end, and is not forgotten.
+    /// Returns what was lost when it ended, and is not forgotten.
     pub(crate) fn loss(&self) -> Loss
         ensures { result ≡ self.now.loss }
     {
         self.loss
     }
 
-    /// Forgets what was lost at its end.
+    /// Forgets what was lost when it ended.
     pub(crate) fn forget_loss(&mut self)
         ensures { self.new ≡ without_loss self.old }
     {

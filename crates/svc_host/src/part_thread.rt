@@ -27,8 +27,8 @@ use svc_station::reader::Reader;
 use svc_station::writer::Writer;
 
 /// What is left of a service that is gone, once its station has ended: the machine after its whole history, how many
-/// events that has, the trace of it, and the receiver of its mailbox, with how many letters that took since the service
-/// was gone.
+/// events that has, and its trace. The receiver of its mailbox is kept with a count of the letters it took after the
+/// service was gone.
 #[derive(Drop)]
 pub(crate) struct Last {
     pub(crate) machine: Machine,
@@ -41,7 +41,7 @@ pub(crate) struct Last {
     ghost gone: { phase_of (history_at reader.value) ≡ Phase.Gone },
     ghost all: { count ≡ length (known_to reader.value) },
     ghost requested: { option_map (λ _. trace_at reader.value) trace ≡ trace },
-    // The service took one letter for each control byte of its whole history. What was taken since then is counted.
+    // The service took one letter for each control byte of its whole history. Letters taken since then are counted.
     ghost counted: { length (taken_by receiver) ≡ length (bytes_in (known_to reader.value)) + untaken },
 }
 
@@ -54,8 +54,8 @@ impl Last {
     ghost use Rattle.svc_host.specs.Served.{IsServed};
     ghost use Rattle.svc_host.specs.Growth.{IsText};
 
-    /// What a reader reads once it has learnt what the writer of its station reports, whose service is gone. Where
-    /// there is no memory for it, there is no trace.
+    /// Reads what is left, after the reader has learnt everything that the writer of its station published. The
+    /// writer's service is gone. If there is no memory for the trace, there is none.
     pub(crate) fn of(
         alloc: Global,
         reader: &mut Reader,
@@ -81,7 +81,7 @@ impl Last {
         }
     }
 
-    // The text of its trace.
+    // Returns the text of its trace.
     fn text(&self, alloc: Global) -> Growth
         ensures { IsText (trace_at self.now.reader.value) (length (known_to self.now.reader.value)) result }
     {
@@ -91,7 +91,7 @@ impl Last {
         }
     }
 
-    // Takes a letter that the service did not take, and counts it. Whether there was one.
+    // Takes a letter that the service did not take, and counts it. Returns whether there was one.
     fn take_one<R: Wait>(&mut self, rt: &R) -> bool
         ensures reader { self.new.reader ≡ self.old.reader }
         ensures machine { self.new.machine ≡ self.old.machine }
@@ -105,7 +105,7 @@ impl Last {
         }
     }
 
-    /// Takes the letters that the service did not take, so many at most.
+    /// Takes the letters that the service did not take, at most this many.
     pub(crate) fn drain<R: Wait>(&mut self, rt: &R, most: usize)
         ensures reader { self.new.reader ≡ self.old.reader }
         ensures machine { self.new.machine ≡ self.old.machine }
@@ -118,7 +118,7 @@ impl Last {
     }
 }
 
-/// The machine and the trace of a service that is gone, after its whole history.
+/// Returns the machine and the trace of a service that is gone, after its whole history.
 fn read_last(
     alloc: Global,
     reader: &mut Reader,
@@ -140,7 +140,7 @@ fn read_last(
     }
 }
 
-/// How many events are read of.
+/// Returns how many events were read.
 fn count_at(reader: &mut Reader) -> u64
     ensures same { IsSameReader reader.old reader.new }
     ensures own { IsPrefix (known_to reader.old) (known_to reader.new) }
@@ -150,7 +150,7 @@ fn count_at(reader: &mut Reader) -> u64
     reader.count()
 }
 
-/// The text of the trace that is read.
+/// Returns the text of the trace that is read.
 fn text_at(alloc: Global, reader: &mut Reader) -> Growth
     ensures same { IsSameReader reader.old reader.new }
     ensures own { IsPrefix (known_to reader.old) (known_to reader.new) }
@@ -162,7 +162,7 @@ fn text_at(alloc: Global, reader: &mut Reader) -> Growth
     }
 }
 
-/// The thread of a part: it runs, or has ended and was joined.
+/// The thread of a part: it runs, or it has ended and was joined.
 #[derive(Drop)]
 pub(crate) enum PartThread<R: Wait + Drop> {
     Runs(Running<R>),
@@ -178,14 +178,14 @@ impl<R: Runtime> PartThread<R> {
     ghost use Rattle.svc_host.specs.Growth.{IsText, Shows};
     ghost use Rattle.svc_host.specs.Threads.{IsAsBefore, IsSameThread, is_ended, reader_at, untaken_at};
 
-    /// Whether the thread was joined.
+    /// Returns whether the thread was joined.
     pub(crate) fn has_ended(&self) -> bool
         ensures { result ≡ is_ended self.now }
     {
         matches!(self, PartThread::Ended(_))
     }
 
-    /// Whether the service has ended, and its thread is still to be joined.
+    /// Returns whether the service has ended and its thread is still to be joined.
     pub(crate) fn is_to_be_joined(&self) -> bool
         ensures { result ≡ true → is_ended self.now ≡ false }
     {
@@ -195,7 +195,7 @@ impl<R: Runtime> PartThread<R> {
         }
     }
 
-    /// Whether the service runs and owes what it could not write.
+    /// Returns whether the service runs and owes what it could not write.
     pub(crate) fn owes(&self) -> bool {
         match self {
             PartThread::Runs(running) => running.shared.owes(),
@@ -203,7 +203,8 @@ impl<R: Runtime> PartThread<R> {
         }
     }
 
-    // Joins the thread, if it was not joined. Whether it is joined then: a service that has not begun stays as it was.
+    // Joins the thread, if it was not joined. Returns whether it is joined then. A service that has not begun stays as
+    // it was.
     fn joined(self, rt: &R, alloc: Global) -> (PartThread<R>, bool)
         ensures same { IsSameThread self result.0 }
         ensures ended { result.1 ≡ is_ended result.0 }
@@ -219,7 +220,8 @@ impl<R: Runtime> PartThread<R> {
         }
     }
 
-    /// Joins the thread, if it was not joined. Whether it is joined then: a service that has not begun stays as it was.
+    /// Joins the thread, if it was not joined. Returns whether it is joined then. A service that has not begun stays as
+    /// it was.
     pub(crate) fn join(&mut self, rt: &R, alloc: Global) -> bool
         ensures same { IsSameThread self.old self.new }
         ensures ended { result ≡ is_ended self.new }
@@ -229,7 +231,7 @@ impl<R: Runtime> PartThread<R> {
         replace_with(self, rt, |thread, rt| thread.joined(rt, alloc))
     }
 
-    /// The machine after what was read of its events: of a part that has ended, after all of them.
+    /// Returns the machine after the events that were read. If the part has ended, these are all its events.
     pub(crate) fn machine(&mut self) -> Machine
         ensures same { IsSameThread self.old self.new }
         ensures ended { is_ended self.new ≡ is_ended self.old }
@@ -243,7 +245,8 @@ impl<R: Runtime> PartThread<R> {
         }
     }
 
-    // How many events were published, as far as is read: of a part that has ended, all of them.
+    // Returns how many events were published, as far as they were read. If the part has ended, these are all its
+    // events.
     fn count(&mut self) -> u64
         ensures same { IsSameThread self.old self.new }
         ensures ended { is_ended self.new ≡ is_ended self.old }
@@ -256,7 +259,7 @@ impl<R: Runtime> PartThread<R> {
         }
     }
 
-    // The text of its trace: while the service runs of its events so far, and after the join of all of them.
+    // Returns the text of its trace: while the service runs, of its events so far, and after the join, of all of them.
     fn text(&mut self, alloc: Global) -> Growth
         ensures same { IsSameThread self.old self.new }
         ensures ended { is_ended self.new ≡ is_ended self.old }
@@ -269,7 +272,7 @@ impl<R: Runtime> PartThread<R> {
         }
     }
 
-    /// The text of its trace, where that counts other events than were counted last.
+    /// Returns the text of its trace, if it counts other events than it did the last time.
     pub(crate) fn growth(&mut self, alloc: Global, last: Option<u64>) -> Growth
         ensures same { IsSameThread self.old self.new }
         ensures ended { is_ended self.new ≡ is_ended self.old }
@@ -282,8 +285,8 @@ impl<R: Runtime> PartThread<R> {
         self.text(alloc)
     }
 
-    /// Takes the letters that its service, which is gone, did not take, so many at most: how many these are. None while
-    /// it runs.
+    /// Takes the letters that its service, which is gone, did not take, at most this many. Returns how many were found
+    /// so far, which is 0 while the service runs.
     pub(crate) fn drain(&mut self, rt: &R, most: usize) -> u64
         ensures same { IsSameThread self.old self.new }
         ensures ended { is_ended self.new ≡ is_ended self.old }

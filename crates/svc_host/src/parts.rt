@@ -1,4 +1,4 @@
-//! The parts that are there, as a list.
+//! The parts that the host has, as a list.
 ghost use Rattle.std.specs.Prelude.{◌≡◌, ◌<◌, ◌++◌, ◌↔◌, [], ◌∷◌, IsTrue, Err, IfOk, OnOk, OnErr, MatchOption, length, map};
 ghost use Rattle.std.specs.Prelude.{false, slice_index_or};
 ghost use Rattle.sup_core.specs.History.{state_of};
@@ -18,14 +18,14 @@ use std::alloc::{AllocError, Global};
 use sup_core::Machine;
 use tai_status::View;
 
-/// Whether it is this part.
+/// Returns whether it is this part.
 fn is_part<R: Runtime>(part: &Part<R>, id: PartId) -> bool
     ensures { IsTrue result ↔ (part.now.id ≡ id) }
 {
     part.id() == id
 }
 
-/// The place of a part.
+/// Returns the place of a part.
 pub(crate) fn place_of<R: Runtime>(parts: &[Part<R>], id: PartId) -> Option<usize>
     ensures { MatchOption result (IsNowhere id parts.now) (λ place. IsPlace id parts.now place) }
 {
@@ -58,7 +58,7 @@ pub(crate) fn post_to<R: Runtime>(
     }
 }
 
-/// The machine of the part at a place, after what was read of its events.
+/// Returns the machine of the part at a place, after the events that were read.
 fn machine_at<R: Runtime>(parts: &mut Vec<Part<R>>, place: usize) -> Machine
     requires { place < length parts.old.items }
     ensures step { IsHearing parts.old.items place parts.new.items }
@@ -68,7 +68,7 @@ fn machine_at<R: Runtime>(parts: &mut Vec<Part<R>>, place: usize) -> Machine
     parts[place].machine()
 }
 
-/// What the status record of a part reports.
+/// Returns what the status record of a part reports.
 pub(crate) fn status_of<R: Runtime>(parts: &mut Vec<Part<R>>, id: PartId) -> Option<View>
     ensures parts { AreHeard parts.old.items parts.new.items }
     ensures there { MatchOption result (IsNowhere id parts.old.items) (λ view. IsReading id parts.new.items view) }
@@ -77,7 +77,7 @@ pub(crate) fn status_of<R: Runtime>(parts: &mut Vec<Part<R>>, id: PartId) -> Opt
     Some(machine_at(parts, place).view())
 }
 
-/// Adds what a part lost at its end, if it lost anything.
+/// Adds what a part lost when it ended, if it lost anything.
 fn add_loss<R: Runtime>(losses: &mut Vec<(PartId, Loss)>, part: &Part<R>) -> Result<(), AllocError>
     ensures { OnOk result (losses.new.items ≡ losses.old.items ++ losses_in (part.now ∷ [])) }
 {
@@ -87,7 +87,7 @@ fn add_loss<R: Runtime>(losses: &mut Vec<(PartId, Loss)>, part: &Part<R>) -> Res
     Ok(())
 }
 
-/// What the parts lost at their ends that is not forgotten, in their order.
+/// Returns what the parts lost when they ended and is not forgotten, in the order of the parts.
 pub(crate) fn losses<R: Runtime>(
     alloc: Global,
     parts: &[Part<R>],
@@ -101,7 +101,7 @@ pub(crate) fn losses<R: Runtime>(
     Ok(losses)
 }
 
-/// Forgets what the parts lost at their ends.
+/// Forgets what the parts lost when they ended.
 pub(crate) fn forget_losses<R: Runtime>(parts: &mut Vec<Part<R>>)
     ensures { parts.new.items ≡ map without_loss parts.old.items }
 {
@@ -110,14 +110,14 @@ pub(crate) fn forget_losses<R: Runtime>(parts: &mut Vec<Part<R>>)
     }
 }
 
-/// How many parts run.
+/// Returns how many parts run.
 pub(crate) fn running<R: Runtime>(parts: &[Part<R>]) -> usize
     ensures { result ≡ count_running parts.now }
 {
     parts.iter().filter(|part| !part.has_ended()).count()
 }
 
-/// What is seen of the process of the part of this role in a slot.
+/// Returns what is seen of the process of the part with this role in a slot.
 pub(crate) fn sight_at<R: Runtime>(parts: &mut Vec<Part<R>>, slot: u64, role: Role) -> ProcessSight
     ensures { IsSight slot role parts.old.items parts.new.items result }
 {
@@ -127,7 +127,7 @@ pub(crate) fn sight_at<R: Runtime>(parts: &mut Vec<Part<R>>, slot: u64, role: Ro
     }
 }
 
-/// Whether it is the part of this role in a slot, and runs.
+/// Returns whether it is the part with this role in a slot, and runs.
 fn runs_at<R: Runtime>(part: &Part<R>, slot: u64, role: Role) -> bool
     ensures { result ≡ runs_at slot role part.now }
 {
@@ -141,7 +141,7 @@ fn runs_at<R: Runtime>(part: &Part<R>, slot: u64, role: Role) -> bool
     ) && !part.has_ended()
 }
 
-/// The place of the part of this role in a slot, where it runs.
+/// Returns the place of the part with this role in a slot, if it runs.
 fn place_at<R: Runtime>(parts: &[Part<R>], slot: u64, role: Role) -> Option<usize>
     ensures { MatchOption result (All (λ (part : HostPart). runs_at slot role part ≡ false) parts.now)
         (λ place. RunsHere slot role parts.now place) }
@@ -154,7 +154,7 @@ fn place_at<R: Runtime>(parts: &[Part<R>], slot: u64, role: Role) -> Option<usiz
     None
 }
 
-/// Whether the service itself runs in a slot.
+/// Returns whether the service itself runs in a slot.
 pub(crate) fn service_runs<R: Runtime>(parts: &[Part<R>], slot: u64) -> bool
     ensures { result ≡ service_runs slot parts.now }
 {
@@ -176,7 +176,7 @@ fn add_running<R: Runtime>(ids: &mut Vec<PartId>, part: &Part<R>) -> Result<(), 
     Ok(())
 }
 
-/// The parts that run.
+/// Returns the parts that run.
 pub(crate) fn running_ids<R: Runtime>(
     alloc: Global,
     parts: &[Part<R>],
@@ -190,7 +190,7 @@ pub(crate) fn running_ids<R: Runtime>(
     Ok(ids)
 }
 
-/// The parts that run and owe what they could not write.
+/// Returns the parts that run and owe what they could not write.
 pub(crate) fn owing_ids<R: Runtime>(
     alloc: Global,
     parts: &[Part<R>],
@@ -204,12 +204,12 @@ pub(crate) fn owing_ids<R: Runtime>(
     Ok(ids)
 }
 
-/// Whether any part runs and owes what it could not write.
+/// Returns whether any part runs and owes what it could not write.
 pub(crate) fn any_owes<R: Runtime>(parts: &[Part<R>]) -> bool {
     parts.iter().any(|part| part.owes())
 }
 
-/// Whether a part is of the slot and the role of another.
+/// Returns whether a part has the slot and the role of another.
 fn is_of(other: &PartId, id: PartId) -> bool
     ensures { result ≡ is_at other.now id.slot id.role }
 {
@@ -219,7 +219,7 @@ fn is_of(other: &PartId, id: PartId) -> bool
     }
 }
 
-/// Whether one of these parts is of the slot and the role of a part.
+/// Returns whether one of these parts has the slot and the role of a part.
 fn restarts_in(ids: &[PartId], id: PartId) -> bool
     ensures { result ≡ list_any (λ other. is_at other id.slot id.role) ids.now }
 {
@@ -231,7 +231,7 @@ fn restarts_in(ids: &[PartId], id: PartId) -> bool
     false
 }
 
-/// Whether a part stays at a scan: its slot is not dropped, and it does not restart.
+/// Returns whether a part stays at a scan: its slot is not dropped, and it does not restart.
 pub(crate) fn stays(id: PartId, drops: &[u64], restarts: &[PartId]) -> bool
     ensures { result ≡ stays drops.now restarts.now id }
 {

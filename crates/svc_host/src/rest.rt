@@ -7,8 +7,8 @@ use tai_status::Label;
 
 const NANOS_IN_SECOND: u64 = 1_000_000_000;
 
-/// How many nanoseconds it is from one label to another, and at most a second: labels are of the wall clock, and so a
-/// step of that clock costs no more.
+/// Returns how many nanoseconds it is from one label to another, at most a second. Labels are from the wall clock: with
+/// this bound, a step of that clock delays a rest by no more than a second.
 pub(crate) fn rest_before(now: Label, until: Label) -> u64
     ensures { result ≡ rest_before now until }
 {
@@ -22,7 +22,7 @@ pub(crate) fn rest_before(now: Label, until: Label) -> u64
     }
 }
 
-/// The shorter of two rests, of which None has no end.
+/// Returns the shorter of two rests. None means without limit.
 pub(crate) fn shorter(one: Option<u64>, other: Option<u64>) -> Option<u64>
     ensures { result ≡ shorter one other }
 {
@@ -33,7 +33,7 @@ pub(crate) fn shorter(one: Option<u64>, other: Option<u64>) -> Option<u64>
     }
 }
 
-/// A time in nanoseconds, as far as they can be counted.
+/// Returns a time in nanoseconds, or the greatest number if it has more.
 pub(crate) fn nanos_of(time: Duration) -> u64 {
     u64::try_from(time.as_nanos()).unwrap_or(u64::MAX)
 }

@@ -18,7 +18,7 @@ use svc_station::parked::Parked;
 use svc_station::reader::Reader;
 use svc_station::writer::Writer;
 
-/// The reader of a station of one reader, and the vector in which it goes back.
+/// The reader of a station that has one reader, and the vector in which it is given back.
 #[derive(Drop)]
 pub(crate) struct StatusReader {
     pub(crate) reader: Reader,
@@ -29,7 +29,7 @@ pub(crate) struct StatusReader {
     ghost first: { number_of reader ≡ 0 },
 }
 
-/// The reader of a station that was just opened.
+/// Returns the reader of a newly opened station.
 pub(crate) fn status_reader_of(mut readers: Vec<Reader>, writer: &Writer) -> StatusReader
     requires one { (length readers.items ≡ 1) × ((station writer.now).readers ≡ 1) }
     requires new { AreNewReaders (station writer.now) readers.items }
@@ -42,7 +42,7 @@ pub(crate) fn status_reader_of(mut readers: Vec<Reader>, writer: &Writer) -> Sta
     }
 }
 
-/// Ends a station of one reader.
+/// Ends a station that has one reader.
 pub(crate) fn end<R: Wait>(rt: &R, writer: Writer, status_reader: StatusReader)
     requires { reader_station status_reader.reader ≡ station writer }
 {
@@ -60,7 +60,7 @@ pub(crate) enum Place<R: Wait + Drop> {
     Here(Parked<R>),
 }
 
-/// The writer of a service, wherever it is. Contracts see it as it went there.
+/// The writer of a service, wherever it is. Contracts see it as it was when it went there.
 #[derive(Drop)]
 pub(crate) struct Away<R: Wait + Drop>(Place<R>);
 
@@ -76,7 +76,7 @@ impl<R: Wait + Drop> Model for Away<R> {
 impl<R: Threads + Wait + Drop> Away<R> {
     ghost use Rattle.svc_host.specs.Served.{ServesOut};
 
-    /// What the thread gives back at its end, or again what it gave back.
+    /// Returns what the thread gives back when it ends, or what it already gave back.
     fn join(self, rt: &R) -> Served<R>
         ensures { ServesOut self result }
     {
@@ -101,7 +101,7 @@ pub(crate) struct Running<R: Wait + Drop> {
 }
 
 impl<R: Runtime> Running<R> {
-    /// Starts a service in a thread of its own, or ends its station where none can be made.
+    /// Starts a service in a thread of its own. Ends its station if no thread can be made.
     pub(crate) fn start<W: World + Drop + Send + 'static, G: Gate + Drop + Send + 'static>(
         rt: R,
         task: Task<W, G, R>,
@@ -134,8 +134,8 @@ impl<R: Runtime> Running<R> {
         }
     }
 
-    /// Joins the thread of a service that has ended, and ends its station: what its reader knows then, which is all
-    /// that was ever published there. If the service has not begun, all stays as it was.
+    /// Joins the thread of a service that has ended, and ends its station. Its reader then knows everything that was
+    /// ever published there. If the service has not begun, everything stays as it was.
     pub(crate) fn join(self, rt: &R, alloc: Global) -> Result<Last, Running<R>>
         ensures home { IfOk result (λ last.
             reader_station last.reader.value ≡ reader_station self.status_reader.reader) }

@@ -36,8 +36,8 @@ pub(crate) struct Beginning {
     pub(crate) label: Label,
 }
 
-/// What the thread of a service is given: a station to which nothing was published, a mailbox of which nothing was
-/// taken, a world that answered nothing, and how the part begins.
+/// What the thread of a service gets: a station to which nothing was published, a mailbox from which nothing was taken,
+/// a world that has given no answer, and how the part begins.
 #[derive(Drop)]
 pub(crate) struct Task<W: World + Drop, G: Gate + Drop, R: Wait + Drop> {
     pub(crate) parked: Parked<R>,
@@ -56,7 +56,7 @@ pub(crate) struct Task<W: World + Drop, G: Gate + Drop, R: Wait + Drop> {
 impl<W: World + Drop, G: Gate + Drop, R: Wait + Drop> Task<W, G, R> {
     ghost use Rattle.std.specs.Prelude.{◌≡◌};
 
-    /// The writer of its station alone.
+    /// Returns only the writer of its station.
     fn into_parked(self) -> Parked<R>
         ensures { result ≡ self.parked }
     {
@@ -70,11 +70,12 @@ impl<W: World + Drop, G: Gate + Drop, R: Wait + Drop> Task<W, G, R> {
 pub(crate) struct Served<R: Wait> {
     /// The writer of its station.
     pub(crate) parked: Parked<R>,
-    /// The receiver of its mailbox, once the service is gone. None: it did not begin, since it has no thread.
+    /// The receiver of its mailbox, once the service is gone. None: it did not begin, because it has no thread.
     pub(crate) receiver: Option<Receiver<u8>>,
 }
 
-/// The writer comes back as the one that went, and the service is gone, if it began. For `spawn_with`.
+/// The promise that the writer comes back as the one that went, and that the service is gone, if it began. It is for
+/// `spawn_with`.
 #[derive(Drop)]
 pub(crate) struct ServesToItsEnd<R: Wait> {
     pub(crate) went: Snapshot<Parked<R>>,
@@ -90,7 +91,7 @@ impl<R: Wait> Promise<Served<R>> for ServesToItsEnd<R> {
 impl<R: Wait> ServesToItsEnd<R> {
     ghost use Rattle.std.specs.Prelude.{◌≡◌};
 
-    /// The writer as it is before the thread has it.
+    /// Makes the promise for the writer as it is before the thread has it.
     pub(crate) fn of(parked: &Parked<R>) -> ServesToItsEnd<R>
         ensures { result.went.value ≡ parked.now }
     {
@@ -100,8 +101,8 @@ impl<R: Wait> ServesToItsEnd<R> {
     }
 }
 
-/// How long a service rests that found nothing: until a notification, or if it settles or rests until the end of that,
-/// and no longer than its world allows.
+/// Rests after a turn that found nothing: until a notification, or until the end of the time for which the service
+/// settles or rests, but no longer than its world allows.
 fn rest<W: World, I: Inbox, G: Gate + Drop, R: Wait + Clock + Copy + Drop>(
     rt: R,
     house: &House<W, I, G>,
@@ -115,10 +116,10 @@ fn rest<W: World, I: Inbox, G: Gate + Drop, R: Wait + Clock + Copy + Drop>(
     notifier.wait(&rt, shorter(rest, longest).map(Duration::from_nanos));
 }
 
-/// Turns the loop of a service until it is gone.
+/// Turns the loop of a service until the service is gone.
 ///
-/// It and what is called for the first start, each publication, each poll and each child are not inlined: so the stack
-/// of a thread is as deep as the deepest of them, and not as all together.
+/// This function, and what is called for the first start, each publication, each poll and each child, are not inlined.
+/// The stack of a thread is therefore as deep as the deepest of them, not as all of them together.
 #[inline(never)]
 fn run<W: World, I: Inbox, G: Gate + Drop, R: Wait + Clock + Copy + Drop>(
     rt: R,
@@ -143,8 +144,8 @@ fn run<W: World, I: Inbox, G: Gate + Drop, R: Wait + Clock + Copy + Drop>(
     }
 }
 
-/// Opens the house of a service whose station was opened as the service begins. The world is reported what is asked
-/// then.
+/// Opens the house of a service whose station was opened when the service began. Passes on to the world what is asked
+/// at that point.
 #[inline(never)]
 fn open<W: World + Drop, G: Gate + Drop>(
     world: W,
@@ -165,8 +166,8 @@ fn open<W: World + Drop, G: Gate + Drop>(
     House::open(world, MailInbox::new(receiver), gate, writer, first)
 }
 
-/// The life of a service. It ends once the service is gone, and gives back the writer of its station, and the receiver
-/// of its mailbox, which took the control bytes of its whole history.
+/// Runs a service for its whole life. Ends once the service is gone. Gives back the writer of its station, and the
+/// receiver of its mailbox, which took the control bytes of its whole history.
 fn serve<W: World + Drop, G: Gate + Drop, R: Wait + Clock + Copy + Drop>(
     rt: R,
     task: Task<W, G, R>,
@@ -189,8 +190,8 @@ fn serve<W: World + Drop, G: Gate + Drop, R: Wait + Clock + Copy + Drop>(
     (Parked::new(writer, rt), receiver)
 }
 
-/// What a thread does with its task: it serves it to its end. If the system refused the thread, the task stays out, and
-/// gives the writer back at once.
+/// Does what a thread does with its task: serves it to its end. If the system refused the thread, the task stays out,
+/// and gives the writer back at once.
 pub(crate) fn serve_or_stay_out<W: World + Drop, G: Gate + Drop, R: Wait + Clock + Copy + Drop>(
     rt: R,
     task: Task<W, G, R>,

@@ -1,10 +1,10 @@
-//! What threads of a host share.
+//! What the threads of a host share.
 use std::alloc::{AllocError, Global};
 use std::sync::Arc;
 use std::sync::atomic::{AtomicBool, AtomicU64, Ordering};
 use svc_house::{News, Notifier};
 
-/// How much has happened to the services of a host. Where this stands as it was, so do they.
+/// A count of what has happened to the services of a host. If the count has not changed, nothing has happened.
 #[derive(Drop)]
 pub(crate) struct Activity {
     count: AtomicU64,
@@ -17,7 +17,7 @@ impl Activity {
         }
     }
 
-    /// Something has happened to a service, and can be read.
+    /// Notes that something has happened to a service, and can be read.
     pub(crate) fn note(&self) {
         self.count.fetch_add(1, Ordering::SeqCst);
     }
@@ -30,9 +30,9 @@ impl Activity {
 /// What the thread of a service shares with the host.
 #[derive(Drop)]
 pub(crate) struct PartShared {
-    /// What the service's thread waits for.
+    /// The notifier of the service's thread.
     pub(crate) notifier: Arc<Notifier, Global>,
-    // What the host waits for.
+    // The notifier of the host.
     host: Arc<Notifier, Global>,
     activity: Arc<Activity, Global>,
     stays_out: AtomicBool,
@@ -56,7 +56,7 @@ impl PartShared {
         })
     }
 
-    /// Whether the service owes what it could not write, after its last turn.
+    /// Notes whether the service owes what it could not write, after its last turn.
     pub(crate) fn note_owing(&self, owes: bool) {
         self.owes.store(owes, Ordering::SeqCst);
     }
@@ -65,7 +65,7 @@ impl PartShared {
         self.owes.load(Ordering::SeqCst)
     }
 
-    /// The service is not to begin, since it has no thread.
+    /// Notes that the service must not begin, because it has no thread.
     pub(crate) fn stay_out(&self) {
         self.stays_out.store(true, Ordering::SeqCst);
     }
@@ -74,12 +74,12 @@ impl PartShared {
         self.stays_out.load(Ordering::SeqCst)
     }
 
-    /// An event of the service was published.
+    /// Notes that an event of the service was published.
     pub(crate) fn note_event(&self) {
         self.activity.note();
     }
 
-    /// The service has ended: the host is reported.
+    /// Notes that the service has ended, and notifies the host.
     pub(crate) fn end(&self) {
         let news = News::raise(&self.has_ended);
         self.activity.note();
@@ -94,9 +94,9 @@ impl PartShared {
 /// What the threads of a pair share with the host.
 #[derive(Drop)]
 pub(crate) struct PairShared {
-    /// Notified where there is something to put, or somewhere to put it.
+    /// Notified if there is something to put, or a place to put it.
     pub(crate) filled: Arc<Notifier, Global>,
-    /// Notified where there is room again.
+    /// Notified if there is room again.
     pub(crate) emptied: Notifier,
     leaves: AtomicBool,
     has_ended: AtomicBool,
@@ -114,7 +114,7 @@ impl PairShared {
         })
     }
 
-    /// Its threads are to end.
+    /// Lets its threads end.
     pub(crate) fn leave(&self) {
         let (first, second) = News::raise(&self.leaves).twice();
         self.filled.notify(first);
@@ -125,7 +125,7 @@ impl PairShared {
         self.leaves.load(Ordering::SeqCst)
     }
 
-    /// The output has ended, and all of it is posted.
+    /// Notes that the output has ended and all of it is posted.
     pub(crate) fn end(&self) {
         self.filled.notify(News::raise(&self.has_ended));
     }
@@ -134,7 +134,7 @@ impl PairShared {
         self.has_ended.load(Ordering::SeqCst)
     }
 
-    /// All of the output is put into the input of its logger, which ends there.
+    /// Notes that all of the output is in the input of its logger, which ends there.
     pub(crate) fn put(&self) {
         self.is_put.store(true, Ordering::SeqCst);
     }

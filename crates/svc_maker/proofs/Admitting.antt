@@ -10,7 +10,7 @@ use Rattle.svc_maker.specs.Admission.{Admits, AdmitsEach, Asks, refusal, refusal
 use Rattle.svc_maker.specs.Calls.{Call}
 use Rattle.svc_maker.specs.Making.{KeptPart}
 
--- Of these parts the first so many were to be admitted.
+-- It was tried to admit the first of these parts, this many.
 abbrev pub AdmitsFirst : ℕ → (old new : List KeptPart) (calls calls_now : Option (List Call)) → Type 0
 AdmitsFirst zero old new calls calls_now = (new ≡ old) × (calls_now ≡ calls)
 AdmitsFirst (suc count) [] new calls calls_now = (new ≡ []) × (calls_now ≡ calls)
@@ -67,7 +67,7 @@ so-far kept index all is = (
       ∙ sym (flat_map-append refusal (take index kept) (drop index kept)) ∙ ap refusals (take-append-drop index kept),
 )
 
--- one that waits was asked for
+-- it was tried to admit one that waits
 pub admits-waiting : (old new : KeptPart) (calls calls_now : Option (List Call)) → old.waits ≡ true
     → Asks old new calls calls_now → Admits old new calls calls_now
 admits-waiting old new calls calls_now waits asks =

@@ -1,4 +1,4 @@
--- How the parts that stand are admitted to the door.
+-- How the parts that the maker keeps are admitted to the door.
 use Rattle.std.specs.Prelude.{◌≡◌, Bool, List, [], ◌∷◌, Option, Some, None, MatchBool}
 use Rattle.std.specs.Prelude.{flat_map, is_some}
 use Rattle.std.specs.List.{list_any}
@@ -10,41 +10,41 @@ use Rattle.svc_house.specs.Calls.{ExtendedWhileKept}
 use Rattle.svc_maker.specs.Calls.{Call, Admitted, Dismissed}
 use Rattle.svc_maker.specs.Making.{KeptPart, Making}
 
--- the calls by which a part is to be admitted, under the number of its life, by the sockets of its folder: one that is
--- refused is dismissed, with its sockets
+-- the calls by which a part is to be admitted, under the number of its life and with the sockets of its folder; if it
+-- is refused, it is dismissed with its sockets
 abbrev pub admission : KeptPart → (fault : Option Cause) → List Call
 admission kept None = Admitted kept.part.life kept.path None ∷ []
 admission kept (Some cause) =
     Admitted kept.part.life kept.path (Some cause) ∷ Dismissed kept.part.life kept.path ∷ []
 
--- A part was to be admitted, once: where it is refused it waits on, and this is why.
+-- It was tried once to admit a part. If it is refused it still waits, and this is why.
 pub record Asks (old new : KeptPart) (calls calls_now : Option (List Call)) : Type 0 where
   pub fault : Option Cause
   pub asked : ExtendedWhileKept calls calls_now (admission old fault)
   pub stands : new ≡ record old { waits = is_some fault; refused = fault }
 
--- A part was to be admitted, where it waits for that.
+-- It was tried to admit a part, if it waits for that.
 abbrev pub Admits : (old new : KeptPart) (calls calls_now : Option (List Call)) → Type 0
 Admits old new calls calls_now =
     MatchBool old.waits (Asks old new calls calls_now) ((new ≡ old) × (calls_now ≡ calls))
 
--- So was each of these parts, one after the other.
+-- The same was done for each of these parts, one after the other.
 abbrev pub AdmitsEach : (old new : List KeptPart) (calls calls_now : Option (List Call)) → Type 0
 AdmitsEach [] [] calls calls_now = calls_now ≡ calls
 AdmitsEach (kept ∷ old) (now ∷ new) calls calls_now =
     (middle : Option (List Call)) × Admits kept now calls middle × AdmitsEach old new middle calls_now
 AdmitsEach old new calls calls_now = ⊥
 
--- So was each part that stands, and nothing else changed.
+-- The same was done for each part that the maker keeps, and nothing else changed.
 pub record AdmitsAll (old new : Making) : Type 0 where
   pub each : AdmitsEach old.kept new.kept old.calls new.calls
   pub stands : new ≡ record old { calls = new.calls; kept = new.kept }
 
--- whether some part waits to be admitted
+-- whether any part waits to be admitted
 abbrev pub any_waits : List KeptPart → Bool
 any_waits kept = list_any (λ (one : KeptPart). one.waits) kept
 
--- what the host is reported of a part that was refused
+-- what the host gets about a part, if it was refused
 abbrev pub refusal : KeptPart → List Unmade
 refusal kept =
     option_map_or (λ cause. record { part = kept.part; fault = part.Refused cause } ∷ []) kept.refused []

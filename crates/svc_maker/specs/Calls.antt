@@ -1,4 +1,4 @@
--- What was asked of the system for the parts of services, and what came of it.
+-- What was asked of the system for the parts of services, and the results.
 use Rattle.std.specs.Prelude.{ℕ, Bool, List, [], ◌∷◌, Option, Result}
 use Rattle.std.specs.Borrow.{Bor}
 use Rattle.std.specs.Option.{option_copied, option_map}
@@ -15,18 +15,27 @@ use Rattle.svc_left.specs.declared.opening.Left.{Left}
 use Rattle.svc_world.specs.declared.folder.FolderFault.{FolderFault}
 use Rattle.svc_maker.specs.declared.part_system.NotAdmitted.{NotAdmitted}
 
--- One call, with its answer: so many descriptors are allowed from now on; what the outputs of the services of these rows of a folder lacked was made, as far as it
--- could be; a pipe was to be made, and these are its two ends, or this came of it; the output of the
--- service in the folder at a path was to be opened, and these are its ends, or this came of it; the folder at a path
--- was to be opened and locked, and was, or this came of it; this was found left of the service in the folder at a path;
--- a world was to be made over the folder at a path, reported by this name, of which this was left, with these ends of
--- pipes as standard input and output, and was, or this came of it; the part of this number was to be admitted to the
--- door, with the sockets of the folder at a path, and was, or this came of it; the part of this number was dismissed
--- from the door, and the sockets of the folder at a path removed; a trace was to be kept in the folder at a path, and
--- was or not; svscan's own folder at a path was to be opened and locked, and was, or this came of it; a status record
--- was to be written in the folder at a path, and was or not; all outputs were to look after their flows; the output of a
--- flow was to end, at once or when it has nothing; it was asked whether a logger's input has nothing to read; the bytes
--- between an output and its logger were counted; a logger's input was read to its end, and had so many bytes.
+-- One call, with its result. The calls, in the order of the constructors:
+--
+-- - This many descriptors are allowed from now on.
+-- - What the outputs of the services in these rows of a folder lacked was made, as far as it could be.
+-- - A pipe was to be made. These are its two ends, or this is the fault.
+-- - The output of the service in the folder at a path was to be opened. These are its ends, or this is the fault.
+-- - The folder at a path was to be opened and locked, and it was, or this is the fault.
+-- - This was found left of the service in the folder at a path.
+-- - A world was to be made over the folder at a path, in which this was left. Messages use this name, and these ends of
+--   pipes are standard input and output. It was made, or this is the fault.
+-- - The part with this number was to be admitted to the door, with the sockets of the folder at a path. It was, or this
+--   is the fault.
+-- - The part with this number was dismissed from the door, and the sockets of the folder at a path were removed.
+-- - A trace was to be kept in the folder at a path, and was or was not.
+-- - svscan's own folder at a path was to be opened and locked, and it was, or this is the fault.
+-- - A status record was to be written in the folder at a path, and was or was not.
+-- - All outputs were to watch their flows.
+-- - The output with this flow was to end, at once or when there is nothing to read.
+-- - It was asked whether a logger's input has nothing to read.
+-- - The bytes between an output and its logger were counted.
+-- - A logger's input was read to its end, and had this many bytes.
 pub data Call : Type 0 where
   Allowed : (descriptors : ℕ) → Call
   Prepared : (folder : List ℕ) → (rows : List Row) → Call
@@ -47,13 +56,13 @@ pub data Call : Type 0 where
   CountedBetween : (flow : Flow) → (bytes : ℕ) → Call
   Drained : (input : PipeReader) → (bytes : ℕ) → Call
 
--- A world was to be made, with copies of these ends of pipes: that is one call more, while calls are kept.
+-- A world was to be made, with copies of these ends of pipes. That is one more call, while calls are recorded.
 abbrev pub MakesWorld : {A : Type 0} → (old new : Option (List Call)) (path name : List ℕ) (left : Left)
     (input : Option (Bor PipeReader)) (output : Option (Bor File)) (made : Result A Cause) → Type 0
 MakesWorld old new path name left input output made =
     ExtendedWhileKept old new
     (MadeWorld path name left (option_copied input) (option_copied output) (result_err made) ∷ [])
 
--- why a part was not admitted, where it was not
+-- why a part was not admitted, if it was not
 abbrev pub why_refused : {A : Type 0} → Result A NotAdmitted → Option Cause
 why_refused admitted = option_map (λ (refused : NotAdmitted). refused.cause) (result_err admitted)

@@ -35,21 +35,21 @@ use Rattle.svc_maker.specs.declared.pipes.PairPipes.{PairPipes}
 use Rattle.svc_maker.specs.declared.set_up.MakeFault.{MakeFault}
 use Rattle.svc_maker.specs.declared.set_up.MakeFault.TheVariants as why
 
--- A part that stands: the path by which its folder was opened, whether it waits to be admitted to the door, and why it
--- was refused there last, where it was.
+-- A part that the maker keeps: the path through which its folder was opened, whether it waits to be admitted to the
+-- door, and why the door last refused it, if it did.
 pub record KeptPart : Type 0 where
   pub part : PartId
   pub path : List ℕ
   pub waits : Bool
   pub refused : Option Cause
 
--- a part that was set up in the folder at a path: it is to be admitted
+-- a part that was set up in the folder at a path, and waits to be admitted
 abbrev pub waiting : PartId → (path : List ℕ) → KeptPart
 waiting part path = record { part = part; path = path; waits = true; refused = None }
 
--- What a maker knows: what it asked of the system, where that is kept; the path of the folder that is scanned; the
--- parts that stand, in the order of their making; the pipes of the slots that are pairs; and the path of the folder in
--- which svscan itself is served, where it is.
+-- What a maker knows. It has what it asked of the system, while that is recorded, and the path of the folder that is
+-- scanned. It has the parts that it keeps, in the order in which they were made, and the pipes of the slots that are
+-- pairs. It has the path of the folder in which svscan itself is served, if it is served.
 pub record Making : Type 0 where
   pub calls : Option (List Call)
   pub folder : List ℕ
@@ -59,12 +59,12 @@ pub record Making : Type 0 where
 
 -- Parts
 
--- what stands behind the name of a service in the path of a part: a logger is the service in its folder `log`
+-- what follows the name of a service in the path of a part: a logger is the service in its folder `log`
 abbrev pub behind : Role → List ℕ
 behind Main = []
 behind Log = codes "/log"
 
--- a part's name, as it is reported
+-- a part's name, as messages use it
 abbrev pub part_name : (name : List ℕ) → Role → List ℕ
 part_name name role = name ++ behind role
 
@@ -72,7 +72,7 @@ part_name name role = name ++ behind role
 abbrev pub part_path : (folder name : List ℕ) → Role → List ℕ
 part_path folder name role = folder ++ (47 ∷ part_name name role)
 
--- What a part is set up with: the path of its folder, the name by which it is reported, and the ends of pipes that its
+-- What a part is set up with: the path of its folder, the name that messages use, and the ends of pipes that its
 -- children have as standard input and output.
 pub record Plan : Type 0 where
   pub path : List ℕ
@@ -89,20 +89,20 @@ plan_at path name part pipes = record {
   output = output_of part.role (pipes_of part.slot pipes);
 }
 
--- the plan for a part of the service of this name
+-- the plan for a part of the service with this name
 abbrev pub plan_of : Making → (name : List ℕ) → PartId → Plan
 plan_of making name part =
     plan_at (part_path making.folder name part.role) (part_name name part.role) part making.pipes
 
--- the calls by which the world of a part was to be made, in whose own folder this was left
+-- the calls by which the world of a part was to be made, if this was left in its own folder
 abbrev pub world_made : Plan → Left → (fault : Option Cause) → List Call
 world_made plan left fault =
     Opened plan.path None ∷ FoundLeft plan.path left
     ∷ MadeWorld plan.path plan.name left plan.input plan.output fault ∷ []
 
 -- How a part is set up by a plan: its folder is opened, what an earlier svscan left there is found, and its world is
--- made with that. It begins as what was found says. Where one of these fails, the next is not tried; and for want of
--- memory none is tried at all.
+-- made with that. The part begins as what was found says. If one step fails, the next is not tried. If there is no
+-- memory, none is tried at all.
 abbrev pub IsSetUp : Option MakeFault → Option Opening → Plan → (old new : Option (List Call)) → Type 0
 IsSetUp None opening plan old new =
     (left : Left) × (opening ≡ Some (opening_left left))
@@ -113,26 +113,26 @@ IsSetUp (Some (why.Unopened fault)) opening plan old new =
 IsSetUp (Some (why.NoWorld cause)) opening plan old new =
     (opening ≡ None) × ((left : Left) × ExtendedWhileKept old new (world_made plan left (Some cause)))
 
--- the same of what setting up answers, by the plan for these
+-- the same for the result of setting up, by the plan for these
 abbrev pub SetsUpAt : {A : Type 0} → Result A MakeFault → (opening : A → Opening) → (path name : List ℕ) → PartId
     → List PairPipes → (old new : Option (List Call)) → Type 0
 SetsUpAt result opening path name part pipes old new =
     IsSetUp (result_err result) (option_map opening (result_ok result)) (plan_at path name part pipes) old new
 
--- the parts that stand, after this one was set up or failed
+-- the parts that the maker keeps, after this one was set up or failed
 abbrev pub kept_after : Option MakeFault → KeptPart → List KeptPart → List KeptPart
 kept_after None kept_part kept = kept ++ kept_part ∷ []
 kept_after (Some fault) kept_part kept = kept
 
--- what the host is reported of a part that failed
+-- what the host gets about a part that failed
 abbrev pub part_fault : MakeFault → PartFault
 part_fault why.NoRoom = part.Refused NoMemory
 part_fault (why.Unopened Locked) = part.Locked
 part_fault (why.Unopened (NotOpened cause)) = part.Refused cause
 part_fault (why.NoWorld cause) = part.Refused cause
 
--- A part of the service of this name was set up or failed, in the folder of its role. It stands where it was set up, is
--- to be admitted, and begins as what was found there says; nothing else changed.
+-- A part of the service with this name was set up or failed, in the folder of its role. If it was set up, the maker
+-- keeps it, it waits to be admitted, and it begins as what was found there says. Nothing else changed.
 pub record SetsUp (name : List ℕ) (part : PartId) (fault : Option MakeFault) (opening : Option Opening)
     (old new : Making) : Type 0 where
   pub is_set_up : IsSetUp fault opening (plan_of old name part) old.calls new.calls
@@ -141,11 +141,11 @@ pub record SetsUp (name : List ℕ) (part : PartId) (fault : Option MakeFault) (
     kept = kept_after fault (waiting part (part_path old.folder name part.role)) old.kept;
   }
 
--- A part was made: it was set up, stands, and begins so.
+-- A part was made: it was set up, is kept, and begins this way.
 abbrev pub MakesPart : (name : List ℕ) → PartId → Opening → (old new : Making) → Type 0
 MakesPart name part opening old new = SetsUp name part None (Some opening) old new
 
--- A part was not made, and this is what the host is reported: why it was not set up.
+-- A part was not made, and the host gets this fault, which says why it was not set up.
 pub record FailsToMake (name : List ℕ) (part : PartId) (fault : PartFault) (old new : Making) : Type 0 where
   pub failure : MakeFault
   pub is : fault ≡ part_fault failure
@@ -153,9 +153,9 @@ pub record FailsToMake (name : List ℕ) (part : PartId) (fault : PartFault) (ol
 
 -- Pairs
 
--- The output of a pair's service was opened, in the service's own folder, and the pipe of its logger made: what the
--- service writes is read at this end, and what this outlet takes the logger reads. They stand in the place of those
--- that the slot had.
+-- The output of a pair's service was opened, in the service's own folder, and the pipe of its logger was made. What the
+-- service writes is read at this end, and the logger reads what this outlet takes. They replace those that the slot
+-- had.
 pub record JoinsPair (name : List ℕ) (slot : ℕ) (read : ServiceOutput) (outlets : PairOutlets) (old new : Making)
     : Type 0 where
   pub ends : OutputEnds
@@ -171,8 +171,8 @@ pub record JoinsPair (name : List ℕ) (slot : ℕ) (read : ServiceOutput) (outl
         ++ record { slot = slot; output = ends.write; input = input; flow = ends.flow } ∷ [];
   }
 
--- An output at this path and a pipe were not made, and the host is reported this: for want of memory none was tried, or
--- the first or the second one was refused.
+-- An output at this path and a pipe were not made, and the host gets this fault. If there was no memory, none was
+-- tried. Otherwise the first or the second was refused.
 abbrev pub HaveFailed : (path : List ℕ) → PartFault → List Call → Type 0
 HaveFailed path fault [] = fault ≡ part.Refused NoMemory
 HaveFailed path fault (OpenedOutput there (Err refused) ∷ []) =
@@ -181,8 +181,8 @@ HaveFailed path fault (OpenedOutput there (Ok ends) ∷ MadePipe (Err refused) �
     (there ≡ path) × (fault ≡ part.Refused refused)
 HaveFailed path fault calls = ⊥
 
--- The pipes of a pair were not made, the host is reported this, and nothing else came of it: an output that was opened
--- is let go.
+-- The pipes of a pair were not made, the host gets this fault, and nothing else happened: an output that was opened is
+-- closed.
 pub record LacksPair (name : List ℕ) (fault : PartFault) (old new : Making) : Type 0 where
   pub tried : List Call
   pub failed : HaveFailed (part_path old.folder name Main) fault tried
@@ -197,16 +197,16 @@ MakesPair name slot made old new = MatchResult made
 
 -- Traces and ends
 
--- No such part stands.
+-- The maker keeps no such part.
 abbrev pub IsNowhere : PartId → List KeptPart → Type 0
 IsNowhere part kept = All (λ (kept_part : KeptPart). kept_part.part ≢ part) kept
 
--- At this place stands the part.
+-- The part is at this place.
 pub record IsPlace (part : PartId) (kept : List KeptPart) (place : ℕ) : Type 0 where
   pub within : place < length kept
   pub here : (d : KeptPart) → (slice_index_or kept place d).part ≡ part
 
--- A part that stands ended: it is dismissed, once, and stands no more.
+-- A part that the maker keeps has ended: it is dismissed, once, and is no longer kept.
 pub record Dismisses (part : PartId) (old new : Making) : Type 0 where
   pub place : ℕ
   pub is_place : IsPlace part old.kept place
@@ -214,11 +214,11 @@ pub record Dismisses (part : PartId) (old new : Making) : Type 0 where
       ExtendedWhileKept old.calls new.calls (Dismissed part.life (slice_index_or old.kept place d).path ∷ [])
   pub stands : new ≡ record old { calls = new.calls; kept = remove old.kept place }
 
--- A part ended. Of one that does not stand nothing is asked.
+-- A part ended. If the maker does not keep it, nothing is asked.
 abbrev pub EndsPart : PartId → (old new : Making) → Type 0
 EndsPart part old new = (IsNowhere part old.kept × (new ≡ old)) ⊎ Dismisses part old new
 
--- The trace of a part that stands was to be kept in its folder, once, and was or not.
+-- The trace of a part that the maker keeps was to be kept in its folder, once, and was or was not.
 pub record Keeps (part : PartId) (text : List ℕ) (kept : Bool) (old new : Making) : Type 0 where
   pub place : ℕ
   pub is_place : IsPlace part old.kept place
@@ -226,20 +226,20 @@ pub record Keeps (part : PartId) (text : List ℕ) (kept : Bool) (old new : Maki
       (KeptTrace (slice_index_or old.kept place d).path text kept ∷ [])
   pub stands : new ≡ record old { calls = new.calls }
 
--- A trace is to be kept. Of a part that does not stand none is.
+-- A trace is to be kept. If the maker does not keep the part, the trace is not kept.
 abbrev pub KeepsTrace : PartId → (text : List ℕ) → (kept : Bool) → (old new : Making) → Type 0
 KeepsTrace part text kept old new =
     (IsNowhere part old.kept × (new ≡ old) × (kept ≡ false)) ⊎ Keeps part text kept old new
 
 -- svscan itself
 
--- its number at the door
+-- the number of svscan itself at the door
 abbrev pub own_number : ℕ
 own_number = 2 ^ 64 - 1
 
--- svscan itself was to be served in the folder at a path, with this record. Its folder is opened, its record written,
--- and then it is admitted to the door: then it stands there. Where the folder is not opened nothing more is tried;
--- where it is not admitted it is dismissed, with its sockets.
+-- svscan itself was to be served in the folder at a path, with this record. Its folder is opened, its record is
+-- written, and it is admitted to the door: then it is served. If the folder is not opened, nothing more is tried. If it
+-- is not admitted, it is dismissed, with its sockets.
 abbrev pub ServesOwn : (path bytes : List ℕ) → Option OwnFault → (old new : Making) → Type 0
 ServesOwn path bytes None old new =
     ((written : Bool) × ExtendedWhileKept old.calls new.calls
@@ -254,24 +254,24 @@ ServesOwn path bytes (Some (own.NotAdmitted cause)) old new =
     ∷ Dismissed own_number path ∷ []))
     × (new ≡ record old { calls = new.calls })
 
--- svscan itself is dismissed, with its sockets, and has this record then, where it was served.
+-- svscan itself is dismissed, with its sockets, and then this record is written, if it was served.
 abbrev pub LeavesOwn : (bytes : List ℕ) → (old new : Making) → Type 0
 LeavesOwn bytes old new = MatchOption old.own (new ≡ old) (λ path.
     ((written : Bool) × ExtendedWhileKept old.calls new.calls
     (Dismissed own_number path ∷ Recorded path bytes written ∷ []))
     × (new ≡ record old { calls = new.calls; own = None }))
 
--- The outputs of the services of these rows were prepared, in the folder that is scanned, and nothing else.
+-- The outputs of the services in these rows were prepared, in the folder that is scanned. Nothing else was done.
 pub record Prepares (rows : List Row) (old new : Making) : Type 0 where
   pub calls : ExtendedWhileKept old.calls new.calls (Prepared old.folder rows ∷ [])
   pub stands : new ≡ record old { calls = new.calls }
 
--- So many descriptors are allowed from now on, and nothing else.
+-- This many descriptors are allowed from now on. Nothing else was done.
 pub record AllowsDescriptors (descriptors : ℕ) (old new : Making) : Type 0 where
   pub calls : ExtendedWhileKept old.calls new.calls (Allowed descriptors ∷ [])
   pub stands : new ≡ record old { calls = new.calls }
 
--- The outputs were reported to look after their flows, and nothing else.
+-- The outputs were asked to watch their flows. Nothing else was done.
 pub record WatchesOutputs (old new : Making) : Type 0 where
   pub calls : ExtendedWhileKept old.calls new.calls (WatchedOutputs ∷ [])
   pub stands : new ≡ record old { calls = new.calls }
@@ -283,25 +283,26 @@ pub record Asks (calls : List Call) (old new : Making) : Type 0 where
   pub made : ExtendedWhileKept old.calls new.calls calls
   pub stands : new ≡ record old { calls = new.calls }
 
--- The output of a slot's pair was to end so, once. Of a slot without pipes nothing is asked.
+-- The output of a slot's pair was to end this way, once. Nothing is asked for a slot without pipes.
 abbrev pub EndsOutput : (slot : ℕ) (at_once : Bool) (old new : Making) → Type 0
 EndsOutput slot at_once old new = MatchOption (pipes_of slot old.pipes) (new ≡ old) (λ pair.
     Asks (EndedOutput (arc_value pair.flow) at_once ∷ []) old new)
 
--- It was asked once whether the input of a slot's logger has nothing to read. A slot without pipes has nothing.
+-- It was asked once whether the input of a slot's logger has nothing to read. For a slot without pipes, the result is
+-- yes.
 abbrev pub LooksAtInput : (slot : ℕ) (is_read : Bool) (old new : Making) → Type 0
 LooksAtInput slot is_read old new = MatchOption (pipes_of slot old.pipes) ((new ≡ old) × (is_read ≡ true)) (λ pair.
     Asks (LookedAtInput pair.input is_read ∷ []) old new)
 
--- What is lost between an output and its logger, and in the logger's input if no logger reads that: that is read to its
--- end, before the rest is counted.
+-- What is lost between an output and its logger. If no logger reads its input, what is in the input counts too: the
+-- input is read to its end before the rest is counted.
 abbrev pub CountsLost : (has_logger : Bool) (pair : PairPipes) (lost : ℕ) (old new : Making) → Type 0
 CountsLost true pair lost old new = Asks (CountedBetween (arc_value pair.flow) lost ∷ []) old new
 CountsLost false pair lost old new =
     (unread between : ℕ) × (lost ≡ min (between + unread) (2 ^ 64 - 1))
     × Asks (Drained pair.input unread ∷ CountedBetween (arc_value pair.flow) between ∷ []) old new
 
--- Of a slot without pipes nothing is lost.
+-- For a slot without pipes, nothing is lost.
 abbrev pub Loses : (slot : ℕ) (has_logger : Bool) (lost : ℕ) (old new : Making) → Type 0
 Loses slot has_logger lost old new = MatchOption (pipes_of slot old.pipes) ((new ≡ old) × (lost ≡ 0)) (λ pair.
     CountsLost has_logger pair lost old new)

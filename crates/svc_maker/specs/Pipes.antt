@@ -1,4 +1,4 @@
--- The output of a pair's service and the pipe of its logger: what goes into that pipe the logger reads.
+-- The output of a pair's service and the pipe of its logger: the logger reads what goes into that pipe.
 use Rattle.std.specs.Prelude.{ℕ, ◌==◌, not, if◌then◌else◌, List, [], ◌∷◌, Option, Some, None}
 use Rattle.std.specs.List.{filter}
 use Rattle.std.specs.declared.io.PipeReader.{PipeReader}
@@ -7,7 +7,7 @@ use Rattle.scan_table.specs.declared.part.Role.{Role}
 use Rattle.scan_table.specs.declared.part.Role.TheVariants.{Main, Log}
 use Rattle.svc_maker.specs.declared.pipes.PairPipes.{PairPipes}
 
--- the pipes of a slot, where it is a pair
+-- the pipes of a slot, if it is a pair
 abbrev pub pipes_of : (slot : ℕ) → List PairPipes → Option PairPipes
 pipes_of slot [] = None
 pipes_of slot (pair ∷ pairs) = if pair.slot == slot then Some pair else pipes_of slot pairs
@@ -16,13 +16,13 @@ pipes_of slot (pair ∷ pairs) = if pair.slot == slot then Some pair else pipes_
 abbrev pub pipes_without : (slot : ℕ) → List PairPipes → List PairPipes
 pipes_without slot pairs = filter (λ (pair : PairPipes). not (pair.slot == slot)) pairs
 
--- what the children of a part have as standard input: those of a pair's logger the end of its pipe
+-- the standard input of a part's children: for a pair's logger, the reading end of its pipe
 abbrev pub input_of : Role → Option PairPipes → Option PipeReader
 input_of Log (Some pair) = Some pair.input
 input_of Log None = None
 input_of Main pair = None
 
--- what they have as standard output: those of a pair's service its end of the output
+-- their standard output: for a pair's service, its end of the output
 abbrev pub output_of : Role → Option PairPipes → Option File
 output_of Main (Some pair) = Some pair.output
 output_of Main None = None

@@ -1,11 +1,12 @@
-//! Whether the descriptors of this process are enough for one more part.
+//! Whether this process has enough descriptors for one more part.
 ghost use Rattle.std.specs.Prelude.{◌≡◌};
 ghost use Rattle.svc_maker.specs.Descriptors.{are_too_few};
 
-/// How many sockets a part has.
+/// The number of sockets of a part.
 const SOCKETS: u128 = 2;
 
-/// Whether too few are allowed for the sockets of one more part, if so many are taken and so many parts wait for theirs.
+/// Returns whether too few descriptors are allowed for the sockets of one more part. `taken` descriptors are taken, and
+/// `waiting` parts wait for their sockets.
 pub(crate) fn are_too_few(taken: u64, waiting: u64, allowed: u64) -> bool
     ensures { result ≡ are_too_few taken waiting allowed }
 {

@@ -12,21 +12,21 @@ use svc_host::{PartFault, Unmade};
 use svc_house::ControlSender;
 use tai_status::Cause;
 
-/// The folder of a part, open and locked. Contracts see the path by which it was opened (`path`).
+/// The folder of a part, open and locked. Contracts see the path through which it was opened (`path`).
 pub trait LockedFolder {
     ghost use Rattle.std.specs.Prelude.{ℕ, List};
 
     ghost path: { Self → List ℕ };
 }
 
-/// A part that stands, and its folder, which is kept.
+/// A part that the maker has made, and its folder, which is kept.
 #[derive(Drop)]
 pub(crate) struct KeptFolder<F: LockedFolder + Drop> {
     pub(crate) part: PartId,
     pub(crate) folder: F,
-    // By it control bytes are to come, while the part waits to be admitted to the door.
+    // The sender for its control bytes, while the part waits to be admitted to the door.
     sender: Option<ControlSender>,
-    // Why it was refused there last.
+    // Why the door last refused it.
     refused: Option<Cause>,
 }
 
@@ -48,7 +48,7 @@ impl<F: LockedFolder + Drop> KeptFolder<F> {
     ghost use Rattle.std.specs.Prelude.{◌≡◌, Some, None, true, is_some};
     ghost use Rattle.svc_maker.specs.Admission.{Admits};
 
-    /// A part that waits to be admitted to the door. By `sender` its control bytes are to come.
+    /// Makes a part that waits to be admitted to the door. Its control bytes will come through `sender`.
     pub(crate) fn new(part: PartId, folder: F, sender: ControlSender) -> KeptFolder<F>
         ensures { result ≡ record { part = part; path = F.path folder; waits = true; refused = None } }
     {
@@ -60,21 +60,21 @@ impl<F: LockedFolder + Drop> KeptFolder<F> {
         }
     }
 
-    /// Whether it waits to be admitted to the door.
+    /// Returns whether it waits to be admitted to the door.
     pub(crate) fn waits(&self) -> bool
         ensures { result ≡ self.now.waits }
     {
         self.sender.is_some()
     }
 
-    /// Why it was refused there last.
+    /// Returns why the door last refused it.
     pub(crate) fn refused(&self) -> Option<Cause>
         ensures { result ≡ self.now.refused }
     {
         self.refused
     }
 
-    /// Admits it to the door of a system, where it waits for that.
+    /// Admits it to the door of a system, if it waits for that.
     pub(crate) fn admit<S: PartSystem<Folder = F>>(&mut self, system: &mut S)
         ensures { Admits self.old self.new (S.calls system.old) (S.calls system.new) }
     {
@@ -92,7 +92,7 @@ impl<F: LockedFolder + Drop> KeptFolder<F> {
     }
 }
 
-/// The place of a part.
+/// Returns the place of a part.
 pub(crate) fn place_of<F: LockedFolder + Drop>(
     kept: &[KeptFolder<F>],
     part: PartId,
@@ -117,7 +117,7 @@ pub(crate) fn admit_each<S: PartSystem>(kept: &mut [KeptFolder<S::Folder>], syst
     }
 }
 
-/// The parts that were refused at the door: as many as there is memory for.
+/// Returns the parts that the door refused: as many as there is memory for.
 pub(crate) fn refusals_in<F: LockedFolder + Drop>(
     alloc: Global,
     kept: &[KeptFolder<F>],

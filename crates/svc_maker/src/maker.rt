@@ -20,10 +20,10 @@ use svc_house::{ControlSender, Notifier, OpenGate};
 use svc_world::{LoggerInput, OutputEnds, ServiceOutput};
 use tai_status::{Cause, Output};
 
-/// The number at the door of svscan itself. No life has it.
+/// The number of svscan itself at the door. No life has this number.
 const OWN_NUMBER: u64 = u64::MAX;
 
-/// Makes the resources of the parts of services, over the folders of a folder. Contracts see it as `Making`
+/// Makes the resources of the parts of services, over the folders in a folder. Contracts see it as `Making`
 /// (specs/Making).
 #[derive(Drop)]
 pub struct FolderMaker<S: PartSystem + Drop> {
@@ -54,7 +54,7 @@ impl<S: PartSystem + Drop> Model for FolderMaker<S> {
 impl<S: PartSystem + Drop> FolderMaker<S> {
     ghost use Rattle.std.specs.Prelude.{◌≡◌, [], None};
 
-    /// A maker over a system, with no part.
+    /// Returns a maker over a system, with no part.
     pub fn new(alloc: Global, system: S) -> FolderMaker<S>
         ensures { result
             ≡ record { calls = S.calls system; folder = []; kept = []; pipes = []; own = None } }
@@ -69,7 +69,7 @@ impl<S: PartSystem + Drop> FolderMaker<S> {
         }
     }
 
-    // Sets a part up, and notes that it stands.
+    // Sets a part up, and keeps it.
     fn try_part(
         &mut self,
         name: &str,
@@ -139,9 +139,9 @@ where
 
     type Outlets = PairOutlets;
 
-    /// A part stands exactly where its folder was opened and locked, and its world made; then it waits to be admitted
-    /// to the door. It begins as what an earlier svscan left in that folder says. The children of a pair have its
-    /// pipes, once `pair` made them for the slot.
+    /// Keeps a part exactly if its folder was opened and locked, and its world was made; then the part waits to be
+    /// admitted to the door. The part begins as what an earlier svscan left in that folder says. The children of a pair
+    /// have its pipes, once `pair` has made them for the slot.
     fn part(
         &mut self,
         name: &str,
@@ -158,8 +158,8 @@ where
             .map_err(part_fault)
     }
 
-    /// The output of a pair's service and the pipe of its logger. Once both are made, those of an earlier time are let
-    /// go.
+    /// Makes the output of a pair's service and the pipe of its logger. Once both are made, earlier ones of the slot
+    /// are dropped.
     fn pair(
         &mut self,
         name: &str,
@@ -273,8 +273,8 @@ where
     ghost use Rattle.svc_maker.specs.Admission.{AdmitsAll, any_waits, refusals};
     ghost use Rattle.svc_maker.specs.Making.{AllowsDescriptors, LeavesOwn, Prepares, ServesOwn};
 
-    /// The folders of services are sought in this folder from now on. At want of memory they are sought where they
-    /// were.
+    /// Looks for the folders of services in this folder from now on. Out of memory, it looks for them in the folder
+    /// before.
     fn set_folder(&mut self, folder: &str) -> Result<(), AllocError>
         ensures ok { OnOk result (self.new ≡ record self.old { folder = folder.now }) }
         ensures err { OnErr result (self.new ≡ self.old) }
@@ -283,23 +283,22 @@ where
         Ok(())
     }
 
-    /// This process may have so many descriptors from now on.
+    /// Sets the number of descriptors that this process may have from now on.
     fn set_allowed(&mut self, descriptors: u64)
         ensures { AllowsDescriptors descriptors self.old self.new }
     {
         self.system.set_allowed(descriptors);
     }
 
-    /// What the outputs of the services of these rows lack, in the folder that is scanned, is made at once, as far as
-    /// it can be.
+    /// Makes, all at once, what the outputs of the services in these rows of the scanned folder lack, as far as it can.
     fn prepare(&mut self, rows: &[DirRow])
         ensures { Prepares rows.now self.old self.new }
     {
         self.system.prepare(self.folder.as_str(), rows);
     }
 
-    /// Each part that waits is asked for once, in the order of their making. One that is refused is dismissed, with its
-    /// sockets, and waits on.
+    /// Tries once to admit each waiting part, in the order in which they were made. One that is refused is dismissed,
+    /// with its sockets, and still waits.
     fn admit_all(&mut self)
         ensures { AdmitsAll self.old self.new }
     {
@@ -320,8 +319,8 @@ where
         refusals_in(self.alloc, &self.kept)
     }
 
-    /// svscan itself is served exactly where its folder was opened and locked, its record was written, and it was
-    /// admitted.
+    /// Serves svscan itself exactly if its folder was opened and locked and the door admitted it. Its record is written
+    /// in between.
     fn serve_own(
         &mut self,
         path: String,
@@ -343,7 +342,7 @@ where
         Ok(())
     }
 
-    /// svscan itself is dismissed, with its sockets, and its record written.
+    /// Dismisses svscan itself, with its sockets, and writes its record.
     fn leave_own(&mut self, bytes: &[u8; 20])
         ensures { LeavesOwn bytes.now self.old self.new }
     {

@@ -11,18 +11,17 @@ use svc_left::Left;
 use svc_world::{Flow, FolderFault, LoggerInput, OutputEnds};
 use tai_status::Cause;
 
-/// What is given back of a part that was not admitted to the door.
+/// What is given back if a part was not admitted to the door.
 #[derive(Drop)]
 pub struct NotAdmitted {
-    /// By it its control bytes were to come.
+    /// The sender through which its control bytes were to come.
     pub sender: ControlSender,
     /// Why it was not admitted.
     pub cause: Cause,
 }
 
-/// What the operating system does for the parts of services. Contracts see the calls with their answers, in order
-/// (`calls`), where they are kept. They may stop to be kept, as where there is no memory for more, and are not kept
-/// again.
+/// What the operating system does for the parts of services. Contracts see the calls and their results, in order
+/// (`calls`), while they are recorded. Recording may stop, for example out of memory, and then does not resume.
 pub trait PartSystem {
     ghost use Rattle.std.specs.Prelude.{◌≡◌, Option, Some, None, List, [], ◌∷◌};
     ghost use Rattle.std.specs.Prelude.{string_bytes, IfOk, IfErr, OnOk};
@@ -41,24 +40,24 @@ pub trait PartSystem {
 
     type Reaper: Reaper + Drop;
 
-    /// This process may have so many descriptors from now on.
+    /// Sets the number of descriptors that this process may have from now on.
     fn set_allowed(&mut self, descriptors: u64)
         ensures calls { ExtendedWhileKept (calls self.old) (calls self.new) (Allowed descriptors ∷ []) };
 
-    /// Makes what the outputs of the services of these rows of a folder need and lack, all at once, as far as it can:
-    /// each is made by itself else, as it is opened.
+    /// Makes, all at once, what the outputs of the services in these rows of a folder need and lack, as far as it can.
+    /// What it can't make is made separately when the output is opened.
     fn prepare(&mut self, folder: &str, rows: &[DirRow])
         ensures calls { ExtendedWhileKept (calls self.old) (calls self.new) (Prepared folder.now rows.now ∷ []) };
 
-    /// Makes a pipe for the input of a logger. What it takes is counted in the flow.
+    /// Makes a pipe for the input of a logger. The flow counts what the pipe takes. A fault says why it can't be made.
     fn pipe(&mut self, flow: &Arc<Flow, Global>) -> Result<(PipeReader, LoggerInput), Cause>
         ensures calls { ExtendedWhileKept (calls self.old) (calls self.new) (MadePipe result ∷ []) };
 
-    /// Opens the output of the service in the folder at a path, or says why that can't be done in this round.
+    /// Opens the output of the service in the folder at a path. A fault says why that can't be done in this round.
     fn output(&mut self, path: &str) -> Result<OutputEnds, FolderFault>
         ensures calls { ExtendedWhileKept (calls self.old) (calls self.new) (OpenedOutput path.now result ∷ []) };
 
-    /// Opens the folder at a path and takes its lock. Both are kept until the folder is let go.
+    /// Opens the folder at a path and takes its lock. Both are kept until the folder is dropped.
     fn open(&mut self, path: String) -> Result<Self::Folder, FolderFault>
         ensures opened { OnOk result (ExtendedWhileKept (calls self.old) (calls self.new)
             (Opened (string_bytes path) None ∷ [])) }
@@ -66,8 +65,8 @@ pub trait PartSystem {
         ensures fault { IfErr result (λ fault.
             ExtendedWhileKept (calls self.old) (calls self.new) (Opened (string_bytes path) (Some fault) ∷ [])) };
 
-    /// Opens the folder at a path in which svscan itself is served, and takes its lock. It is made where it is missing,
-    /// and nothing is changed there while another svscan has the lock. Both are kept until the folder is let go.
+    /// Opens the folder at a path in which svscan itself is served, and takes its lock. Makes the folder if it is
+    /// missing, and changes nothing there while another svscan has the lock. Both are kept until the folder is dropped.
     fn open_own(&mut self, path: String) -> Result<Self::Folder, FolderFault>
         ensures opened { OnOk result (ExtendedWhileKept (calls self.old) (calls self.new)
             (OpenedOwn (string_bytes path) None ∷ [])) }
@@ -75,25 +74,25 @@ pub trait PartSystem {
         ensures fault { IfErr result (λ fault.
             ExtendedWhileKept (calls self.old) (calls self.new) (OpenedOwn (string_bytes path) (Some fault) ∷ [])) };
 
-    /// Puts these bytes in the place of the status record in a folder, and says whether it could.
+    /// Replaces the status record in a folder by these bytes, and returns whether it could.
     fn record(&mut self, folder: &Self::Folder, bytes: &[u8; 20]) -> bool
         ensures calls { ExtendedWhileKept (calls self.old) (calls self.new)
             (Recorded (Self.Folder.path folder.now) bytes.now result ∷ []) };
 
-    /// Has all outputs look after their flows from now on, so that each can be asked to end.
+    /// Lets all outputs watch their flows from now on, so that each can be asked to end.
     fn watch_outputs(&mut self)
         ensures calls { ExtendedWhileKept (calls self.old) (calls self.new) (WatchedOutputs ∷ []) };
 
-    /// What an earlier svscan left of the service in a folder.
+    /// Returns what an earlier svscan left of the service in a folder.
     fn left(&mut self, folder: &Self::Folder) -> Left
         ensures calls { ExtendedWhileKept (calls self.old) (calls self.new)
             (FoundLeft (Self.Folder.path folder.now) result ∷ []) }
         ensures process { IsLiving result.process };
 
-    /// The world of the service in a folder of which this was left, and what waits for its processes, or why it
-    /// can't be made. A process that lives on is adopted. Each child has copies of these ends of pipes as standard
-    /// input and output, and svscan's own where there is none. The notifier is notified where there is news. By this
-    /// name the service is reported.
+    /// Makes the world of the service in a folder in which this was left, and the reaper of its processes. A fault says
+    /// why they can't be made. A process that is still alive is adopted. Each child gets copies of these ends of pipes
+    /// as standard input and output, and svscan's own if there is none. The notifier is notified if there is news.
+    /// Messages about the service use this name.
     fn world(
         &mut self,
         folder: &Self::Folder,
@@ -107,8 +106,7 @@ pub trait PartSystem {
             input.entry output.entry result }
         ensures fresh { IfOk result (λ made. answered (Self.World.calls made.0) ≡ []) };
 
-    /// Admits a part to the door, by the sockets of its folder, or says why not. The number is one that no other part
-    /// there has.
+    /// Admits a part to the door, with the sockets of its folder, or says why not. No other part there has this number.
     fn admit(
         &mut self,
         number: u64,
@@ -119,29 +117,29 @@ pub trait PartSystem {
             (Admitted number (Self.Folder.path folder.now) (why_refused result) ∷ []) }
         ensures sender { IfErr result (λ refused. refused.sender ≡ sender) };
 
-    /// Dismisses a part from the door, where it is there, and removes the sockets of its folder.
+    /// Dismisses a part from the door, if it is there, and removes the sockets of its folder.
     fn dismiss(&mut self, number: u64, folder: &Self::Folder)
         ensures calls { ExtendedWhileKept (calls self.old) (calls self.new)
             (Dismissed number (Self.Folder.path folder.now) ∷ []) };
 
-    /// Puts a text in the place of the trace in a folder, and says whether it could. Where not, the old one stands.
+    /// Replaces the text of the trace in a folder, and returns whether it could. If not, the old text is there.
     fn keep_trace(&mut self, folder: &Self::Folder, text: &[u8]) -> bool
         ensures calls { ExtendedWhileKept (calls self.old) (calls self.new)
             (KeptTrace (Self.Folder.path folder.now) text.now result ∷ []) };
 
-    /// The output that has this flow is to end: at once, or when it has nothing for now.
+    /// Asks the output with this flow to end: at once, or when there is nothing to read for now.
     fn end_output(&mut self, flow: &Flow, at_once: bool)
         ensures calls { ExtendedWhileKept (calls self.old) (calls self.new) (EndedOutput flow.now at_once ∷ []) };
 
-    /// Whether there is nothing to read of a logger's input for now.
+    /// Returns whether a logger's input has nothing to read for now.
     fn is_read(&mut self, input: &PipeReader) -> bool
         ensures calls { ExtendedWhileKept (calls self.old) (calls self.new) (LookedAtInput input.now result ∷ []) };
 
-    /// How many bytes were read of the output that has this flow, and not put into the input of its logger.
+    /// Returns how many bytes were read from the output with this flow and not put into the input of its logger.
     fn between(&mut self, flow: &Flow) -> u64
         ensures calls { ExtendedWhileKept (calls self.old) (calls self.new) (CountedBetween flow.now result ∷ []) };
 
-    /// Reads a logger's input to its end, and returns how many bytes these are: 0 if it can't be read.
+    /// Reads a logger's input to its end, and returns the number of bytes: 0 if it can't be read.
     fn drain(&mut self, input: &PipeReader) -> u64
         ensures calls { ExtendedWhileKept (calls self.old) (calls self.new) (Drained input.now result ∷ []) };
 }

@@ -1,8 +1,9 @@
-//! What stands between a service and its logger.
+//! What is between a service and its logger.
 //!
 //! A pair has an output and a pipe, and both live as long as its slot. What the service writes, in all its lives, is
-//! read from the output; what all lives of the logger read is written to the pipe. So what a logger that died had not
-//! read waits for the next one. The output itself outlives svscan, as long as a process of the service has it.
+//! read from the output. What all lives of the logger read is written to the pipe. If a logger dies, what it had not
+//! read therefore waits for the next one. The output itself outlives svscan, as long as a process of the service has it
+//! open.
 ghost use Rattle.std.specs.Prelude.{◌≡◌, ◌≤◌, option_copied, vec_capacity, vec_len};
 ghost use Rattle.svc_maker.specs.Pipes.{input_of, output_of, pipes_of, pipes_without};
 
@@ -15,15 +16,15 @@ use svc_host::Outlets;
 use svc_world::{Flow, LoggerInput};
 use tai_status::{Counted, Output};
 
-/// The ends of a pair's output and pipe that its children get.
+/// Those ends of a pair's output and pipe that its children get.
 #[derive(Drop)]
 pub(crate) struct PairPipes {
     pub(crate) slot: u64,
-    /// Standard output of the service.
+    /// The standard output of the service.
     pub(crate) output: File,
-    /// Standard input of its logger.
+    /// The standard input of its logger.
     pub(crate) input: PipeReader,
-    /// What is counted of what flows between them.
+    /// The counts of what flows between them.
     pub(crate) flow: Arc<Flow, Global>,
 }
 
@@ -36,7 +37,7 @@ pub struct PairOutlets {
 impl Outlets<Output<LoggerInput>> for PairOutlets {
     ghost use Rattle.std.specs.Prelude.{◌≡◌, None, is_some};
 
-    /// The pipe, once.
+    /// Returns the pipe, once.
     fn next(&mut self) -> Option<Output<LoggerInput>>
         ensures there { is_some result ≡ is_some self.old.outlet }
         ensures once { self.new.outlet ≡ None }
@@ -48,7 +49,7 @@ impl Outlets<Output<LoggerInput>> for PairOutlets {
     }
 }
 
-/// The pipes of a slot, where it is a pair.
+/// Returns the pipes of a slot, if it is a pair.
 pub(crate) fn pipes_of(pipes: &[PairPipes], slot: u64) -> Option<&PairPipes>
     ensures { option_copied result ≡ pipes_of slot pipes.now }
 {
@@ -60,7 +61,7 @@ pub(crate) fn pipes_of(pipes: &[PairPipes], slot: u64) -> Option<&PairPipes>
     None
 }
 
-/// Lets the pipes of a slot go.
+/// Drops the pipes of a slot.
 pub(crate) fn leave_pipes(pipes: &mut Vec<PairPipes>, slot: u64)
     ensures pipes { pipes.new.items ≡ pipes_without slot pipes.old.items }
     ensures fewer { vec_len pipes.new ≤ vec_len pipes.old }
@@ -69,7 +70,7 @@ pub(crate) fn leave_pipes(pipes: &mut Vec<PairPipes>, slot: u64)
     pipes.retain(|pair| pair.slot != slot);
 }
 
-/// What the children of a part have as standard input. None: svscan's own.
+/// Returns the standard input of a part's children. None means svscan's own.
 pub(crate) fn input_of(pair: Option<&PairPipes>, role: Role) -> Option<&PipeReader>
     ensures { option_copied result ≡ input_of role (option_copied pair.entry) }
 {
@@ -79,7 +80,7 @@ pub(crate) fn input_of(pair: Option<&PairPipes>, role: Role) -> Option<&PipeRead
     }
 }
 
-/// What the children of a part have as standard output. None: svscan's own.
+/// Returns the standard output of a part's children. None means svscan's own.
 pub(crate) fn output_of(pair: Option<&PairPipes>, role: Role) -> Option<&File>
     ensures { option_copied result ≡ output_of role (option_copied pair.entry) }
 {

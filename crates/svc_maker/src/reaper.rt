@@ -1,4 +1,4 @@
-//! What reaps the children of a part, in a thread that the host makes.
+//! The reaper of a part's children, in a thread that the host makes.
 use std::sync::Wait;
 use std::time::Clock;
 use svc_host::Reaper;

@@ -21,7 +21,7 @@ use tai_status::Cause;
 /// Why a part was not made.
 #[derive(Clone, Copy, Debug, PartialEq, Eq)]
 pub(crate) enum MakeFault {
-    /// There was no memory. Nothing was asked.
+    /// There was no memory. Nothing was asked of the system.
     NoRoom,
     /// Its folder was not opened.
     Unopened(FolderFault),
@@ -29,7 +29,7 @@ pub(crate) enum MakeFault {
     NoWorld(Cause),
 }
 
-/// Why a part was not made, as its host is reported.
+/// Returns why a part was not made, in the form that its host gets.
 pub(crate) fn part_fault(fault: MakeFault) -> PartFault
     ensures { result ≡ part_fault fault }
 {
@@ -50,7 +50,7 @@ pub(crate) struct PartSetup<S: PartSystem> {
     pub(crate) opening: Opening,
 }
 
-/// What stands behind the name of a service in the path of a part.
+/// Returns what follows the name of a service in the path of a part.
 pub(crate) fn behind(role: Role) -> &'static str
     ensures { result.now ≡ behind role }
 {
@@ -60,7 +60,7 @@ pub(crate) fn behind(role: Role) -> &'static str
     }
 }
 
-/// A part's name, as it is reported: of a logger the service's, with `/log` behind it.
+/// Returns a part's name, as messages use it: for a logger, the service's name followed by `/log`.
 pub fn part_name(alloc: Global, name: &str, role: Role) -> Result<String, AllocError>
     ensures { IfOk result (λ text. string_bytes text ≡ part_name name.now role) }
 {
@@ -69,7 +69,7 @@ pub fn part_name(alloc: Global, name: &str, role: Role) -> Result<String, AllocE
     Ok(text)
 }
 
-/// The path of a part's folder.
+/// Returns the path of a part's folder.
 pub(crate) fn part_path(alloc: Global, folder: &str, name: &str) -> Result<String, AllocError>
     ensures { IfOk result (λ text. string_bytes text ≡ folder.now ++ (47 ∷ name.now)) }
 {
@@ -79,7 +79,7 @@ pub(crate) fn part_path(alloc: Global, folder: &str, name: &str) -> Result<Strin
     Ok(text)
 }
 
-/// Sets a part up: its folder is opened, what an earlier svscan left there is found, and its world is made.
+/// Sets a part up: opens its folder, finds what an earlier svscan left there, and makes its world.
 pub(crate) fn set_up<S: PartSystem>(
     system: &mut S,
     path: String,

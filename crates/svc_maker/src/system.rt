@@ -34,7 +34,7 @@ use tai_status::{Cause, TimeSource};
 #[derive(Drop)]
 pub struct OpenFolder {
     folder: Arc<ServiceFolder, Global>,
-    // The path by which it was opened, for contracts alone.
+    // The path through which it was opened, for contracts only.
     path: Snapshot<String>,
 }
 
@@ -56,13 +56,13 @@ where
     clock: SystemClock<R>,
     shared: Arc<Surroundings<R>, Global>,
     door: Door<ControlSender>,
-    // Until when locks are tried in this round.
+    // The time until which locks are tried in this round.
     patience: Patience,
-    // How many descriptors this process may have, and how many parts were opened in this round, at whose end they get
-    // their sockets.
+    // The number of descriptors that this process may have, and how many parts were opened in this round. These parts
+    // get their sockets at the end of the round.
     allowed: u64,
     waiting: u64,
-    // At its end once the other end is let go: then outputs look after their flows.
+    // This pipe is at its end once the other end is dropped: then outputs watch their flows.
     watch: Arc<PipeReader, Global>,
     unwatched: Option<PipeWriter>,
 }
@@ -71,8 +71,8 @@ impl<R> SystemParts<R>
 where
     R: Files + Net + Processes<Started = SystemProcess> + Wait + Clock + Copy + Drop,
 {
-    /// With a door at which parts are called, and what looks after the processes that are adopted. Its shell for
-    /// signals is started.
+    /// Makes the layer with a door, which serves the sockets of parts, and with the thread that watches adopted
+    /// processes. Starts the shell for signals.
     pub fn new(
         runtime: R,
         files: HostRuntime,
@@ -102,7 +102,7 @@ where
         })
     }
 
-    // The children of the service in a folder, and what waits for them.
+    // Makes the children of the service in a folder, and their reaper.
     fn children(
         &self,
         folder: &OpenFolder,
@@ -124,7 +124,7 @@ where
         )
     }
 
-    // An open folder, with the path by which it was opened.
+    // Keeps an open folder, with the path through which it was opened.
     fn keep(&self, folder: ServiceFolder, path: &String) -> Result<OpenFolder, FolderFault>
         ensures { IfOk result (λ kept. string_bytes kept.path.value ≡ string_bytes path.now) }
     {
@@ -148,15 +148,15 @@ where
         prepare_outputs(&self.runtime, &self.files, self.alloc, &folders)
     }
 
-    // Whether there are too few descriptors for one more part. The lowest free descriptor has as its number how many
-    // are taken at least.
+    // Returns whether there are too few descriptors for one more part. At least as many descriptors are taken as the
+    // number of the lowest free one says.
     fn lacks_descriptors(&self) -> io::Result<bool> {
         let lowest = u64::from(self.watch.try_clone()?.as_raw_fd().unsigned_abs());
         Ok(are_too_few(lowest, self.waiting, self.allowed))
     }
 
-    // What is left over of the start that the place of a service intends. While it is not sure, it is looked again, as
-    // long as there is patience: what an svscan that was killed had started for itself ends soon.
+    // Returns what is left over from the start that the place of a service intends. While that is not sure, looks again
+    // as long as there is patience: processes that a killed svscan had started for itself end soon.
     fn leftover(&self, folder: &ServiceFolder, place: &Place) -> Leftover
         ensures { HasNumber result }
     {
@@ -171,13 +171,13 @@ where
         unreachable!()
     }
 
-    // The sockets of a folder: `control` and `ok`.
+    // Opens the sockets of a folder: `control` and `ok`.
     fn sockets(&self, folder: &ServiceFolder) -> io::Result<(UnixListener, UnixListener)> {
         Ok((folder.control(&self.runtime)?, folder.ok(&self.runtime)?))
     }
 }
 
-/// Copies of ends of pipes, as the standard streams of children.
+/// Returns copies of ends of pipes, as the standard streams of children.
 fn copies(input: Option<&PipeReader>, output: Option<&File>) -> io::Result<Streams> {
     let input = match input {
         Some(end) => Some(end.try_clone()?),

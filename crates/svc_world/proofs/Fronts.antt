@@ -5,7 +5,7 @@ use Rattle.std.proofs.lemmas.Slice.{take-put_mid_below}
 use borrow.Rule.Slice.PartMut.{put_mid, post_of}
 use lib.Seq.{take-add, take-append-le}
 
--- the front of a buffer after a read behind `from`, which gave so many bytes
+-- the front of a buffer after a read into the place from `from` on, which gave this many bytes
 pub filled-more : (from room count : ℕ) (old new : List ℕ) → from ≤ length old → count ≤ length new
     → take (from + count) (put_mid from room old new) ≡ take from old ++ take count new
 filled-more from room count old new within fits =

@@ -7,7 +7,7 @@ use Rattle.svc_left.specs.declared.process.Found.{Found}
 use Rattle.svc_left.specs.declared.process.Found.TheVariants.{Unknown, Gone, Lives}
 use Rattle.svc_world.specs.Left.{IsFoundIn, IsOfBoot}
 
--- a process that was found to live is one
+-- a process that was found to live has a number
 pub found_living : (recorded : Option ProcessId) (boot : Option (List ℕ)) (tick : Option ℕ) (found : Found)
     → IfSome recorded (λ process. 0 < process.pid) → IsFoundIn recorded boot tick found → IsLiving found
 found_living recorded boot tick Unknown some h = tt

@@ -12,7 +12,7 @@ extended-then (Some xs) (Some ys) None first rest k l = absurd l
 extended-then (Some xs) (Some ys) (Some zs) first rest k l =
     l ∙ ap (λ (t : List ShellCall). t ++ rest) k ∙ append_assoc xs first rest
 
--- that shell was ended, and another one was started and reported the line
+-- that shell was ended, and another one was started and sent the line
 pub sends_anew : (line : List ℕ) (taken started taken_anew : Bool)
     (old reported ended begun new : Option (List ShellCall))
     → taken ≡ false → started ≡ true → Extended old reported (Sent line taken ∷ [])

@@ -1,4 +1,4 @@
--- What was asked of the system for one service, and what came of it.
+-- What was asked of the system for one service, and the results.
 use Rattle.std.specs.Prelude.{ℕ, Bool, List, Option}
 use Rattle.tai_status.specs.Label.{Tai64n}
 use Rattle.sup_core.specs.declared.asks.Sig.{Sig}
@@ -8,11 +8,19 @@ use Rattle.svc_world.specs.declared.begin.Death.{Death}
 use Rattle.svc_world.specs.declared.paper.Paper.{Paper}
 use Rattle.svc_world.specs.declared.paper.Remark.{Remark}
 
--- One call, with its answer: a child was spawned, which got this number, or could not be made; the death of the child
--- spawned last was sought; the report of a death is to wait for control bytes or not; a signal was sent; this content of a paper was to be written, and was or was not; this was
--- said of the service; what is left over of the start that this place intends was sought; the process of this number,
--- which began at this tick, was adopted; the tick at which the process of this number began was sought; the present
--- tick was read; the clock was read.
+-- One call, with its result. The calls, in the order of the constructors:
+--
+-- - A child was spawned and got this number, or could not be made.
+-- - The death of the last child was sought.
+-- - It was asked whether the report of a death waits for control bytes.
+-- - A signal was sent.
+-- - This content of a paper was to be written, and was or was not.
+-- - This was said about the service.
+-- - What is left over from the start that this place intends was sought.
+-- - The process with this number, which began at this tick, was adopted.
+-- - The tick at which the process with this number began was sought.
+-- - The present tick was read.
+-- - The clock was read.
 pub data Call : Type 0 where
   Spawned : (child : Option ℕ) → Call
   SoughtDeath : (death : Option Death) → Call

@@ -1,4 +1,4 @@
--- What an earlier svscan left: its process, where this boot may be unknown, and a start that it did not record.
+-- What an earlier svscan left: its process, even if this boot is unknown, and a start that it did not record.
 use Rattle.std.specs.Prelude.{◌≡◌, ⊤, ℕ, Bool, true, false, List, Option, Some, None, IsSome}
 use Rattle.tai_status.specs.declared.loading.Loaded.{Loaded}
 use Rattle.tai_status.specs.declared.loading.Loaded.TheVariants.{New}
@@ -14,19 +14,20 @@ use Rattle.svc_left.specs.declared.leftover.Leftover.TheVariants.{Process}
 use Rattle.svc_left.specs.declared.process.Found.{Found}
 use Rattle.svc_left.specs.declared.process.Found.TheVariants.{Unknown, Gone, Lives}
 
--- What became of it. Where the boot is not known nothing is known of a process.
+-- What became of the recorded process. If the boot is not known, nothing is known about a process.
 abbrev pub IsFoundIn : (recorded : Option ProcessId) (boot : Option (List ℕ)) (tick : Option ℕ) → Found → Type 0
 IsFoundIn recorded None tick found = found ≡ Unknown
 IsFoundIn recorded (Some boot) tick found = IsFound recorded boot tick found
 
--- A process that lives began in this boot, and where one is gone this boot is known.
+-- A process that lives began in this boot. If a process is gone, this boot is known.
 abbrev pub IsOfBoot : (boot : Option (List ℕ)) → Found → Type 0
 IsOfBoot boot (Lives process) = boot ≡ Some process.boot
 IsOfBoot boot Gone = IsSome boot
 IsOfBoot boot Unknown = ⊤
 
--- What became of the last process, once it is known what is left over of a start that was intended after it: a process
--- that is left over is the one. If another is left over, or nobody, the last one is gone.
+-- What became of the last process, once it is known what is left over from a start that was intended after it. A
+-- process that is left over is the last one. If nobody is left over, or it is not sure who is, the last process is
+-- gone.
 abbrev pub found_over : Found → Option Leftover → (boot : Option (List ℕ)) → Found
 found_over found (Some (Process pid tick)) (Some boot) = Lives (record { pid = pid; tick = tick; boot = boot })
 found_over found (Some over) (Some boot) = Gone
@@ -37,7 +38,7 @@ abbrev pub placed : Option Place → Option ProcessId
 placed None = None
 placed (Some place) = process_in place
 
--- Both are there, and are one file.
+-- Both exist and are the same file.
 abbrev pub IsOneFile : (there here : Option FileId) → Type 0
 IsOneFile (Some there) (Some here) = there ≡ here
 IsOneFile there here = ⊥
@@ -47,7 +48,7 @@ abbrev pub is_starting : Phase → Bool
 is_starting Starting = true
 is_starting other = false
 
--- the same of a record
+-- whether a record says so
 abbrev pub is_starting_in : Option Loaded → Bool
 is_starting_in (Some (New full)) = is_starting full.phase
 is_starting_in other = false

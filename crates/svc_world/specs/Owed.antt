@@ -1,4 +1,4 @@
--- Which papers of a service are still to be written.
+-- The papers of a service that are still to be written.
 use Rattle.std.specs.Prelude.{Bool, false, if◌then◌else◌, Option, Some, None}
 use Rattle.svc_world.specs.declared.paper.Owed.{Owed}
 use Rattle.svc_world.specs.declared.paper.Paper.{Paper}
@@ -7,7 +7,7 @@ use Rattle.svc_world.specs.declared.paper.Paper.TheVariants.{Place, Process, Sta
 abbrev pub nothing_owed : Owed
 nothing_owed = record { place = false; process = false; status = false; exit = false; counts = false }
 
--- the same, but that this paper is owed or not
+-- the same, except that this paper is owed or not
 abbrev pub with_owed : Paper → (owed : Bool) → Owed → Owed
 with_owed Place owed all = record all { place = owed }
 with_owed Process owed all = record all { process = owed }

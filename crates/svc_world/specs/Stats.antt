@@ -1,4 +1,4 @@
--- What the kernel's line of a process reports (proc(5), `/proc/PID/stat`).
+-- What the kernel's line about a process reports (proc(5), `/proc/PID/stat`).
 use Rattle.std.specs.Prelude.{◌≡◌, ◌<◌, ◌-◌, ◌^◌, ◌==◌, ℕ, Bool, false, ◌||◌, if◌then◌else◌, List, [], ◌∷◌}
 use Rattle.std.specs.Prelude.{◌↔◌, IsTrue, decimal, slice_get, Option, Some, None, option_and_then}
 use Rattle.std.specs.Prelude.{◌/◌, max, min}
@@ -9,21 +9,21 @@ use Rattle.sup_core.specs.Reading.{fields}
 use Rattle.svc_left.specs.declared.leftover.Seen.{Seen}
 use Rattle.svc_world.specs.declared.stat.Stat.{Stat}
 
--- what stands behind the last parenthesis of a line, which ends the program's name, or all where there is none
+-- what comes after the last parenthesis of a line, which ends the program's name; the whole line if there is none
 abbrev pub behind_name : List ℕ → List ℕ
 behind_name line = after_last (λ byte. byte == 41) line
 
--- The field of this number of a line, counted as in proc(5), from 3 on. The second is the program's name, in
--- parentheses. It may have spaces and parentheses itself, and no field behind it has any.
+-- The field of this number in a line, counted as in proc(5), from 3 on. Field 2 is the program's name, in parentheses.
+-- It may have spaces and parentheses itself, and no field after it has any.
 abbrev pub stat_field : (line : List ℕ) (number : ℕ) → Option (List ℕ)
 stat_field line number = slice_get (fields (behind_name line)) (number - 2)
 
--- whether a process that stands so is a zombie or dead
+-- whether a process in this state is a zombie or dead
 abbrev pub is_dead : List ℕ → Bool
 is_dead (letter ∷ []) = (letter == 90) || (letter == 88)
 is_dead other = false
 
--- A line says this of its process: its state, its parent, its session, and the tick at which it began.
+-- A line says this about its process: its state, its parent, its session, and the tick at which it began.
 pub record SaysStat (line : List ℕ) (stat : Stat) : Type 0 where
   pub state : List ℕ
   pub stands : stat_field line 3 ≡ Some state
@@ -38,15 +38,15 @@ pub record FitsStat (stat : Stat) : Type 0 where
   pub session : stat.session < 2 ^ 64
   pub tick : stat.tick < 2 ^ 64
 
--- the tick at which a process began that lives
+-- the tick at which a process began, if it lives
 abbrev pub living_tick : Stat → Option ℕ
 living_tick stat = if stat.has_died then None else Some stat.tick
 
--- It lives, and began at this tick, where that was found.
+-- It is found exactly if a process lives that began at this tick.
 abbrev pub LivesSince : (tick : ℕ) → Option Stat → (found : Bool) → Type 0
 LivesSince tick reported found = IsTrue found ↔ (option_and_then living_tick reported ≡ Some tick)
 
--- the process of this number, as it is seen in a look at all processes
+-- the process with this number, as a look at all processes sees it
 abbrev pub seen_as : (pid : ℕ) → Stat → Seen
 seen_as pid stat = record {
   pid = pid;

@@ -33,19 +33,19 @@ use Rattle.svc_world.specs.Calls.{Call, Spawned, SoughtDeath, Lingered, Signalle
 use Rattle.svc_world.specs.Calls.{SoughtTick, ReadTick, ReadClock}
 
 pub record Watch : Type 0 where
-  -- what the system was asked, where that is kept
+  -- what was asked of the system, while that is recorded
   pub calls : Option (List Call)
   -- the session of this svscan
   pub session : ℕ
   -- the place of the service, as it is to be on disk
   pub place : Place
-  -- whether that is the intent of an earlier svscan, of whose start something may be left over
+  -- whether that place is the intent of an earlier svscan, whose start may have left something over
   pub is_open : Bool
   -- how the last start ended, until that is reported
   pub answer : Option StartAnswer
-  -- the child that was spawned last, or the process that was adopted
+  -- the last child, or the adopted process
   pub child : LastChild
-  -- the status record that was to be written last
+  -- the last status record that was to be written
   pub status : Option (List ℕ)
   -- how the last child ended
   pub exit : Option Exit
@@ -57,13 +57,13 @@ pub record Watch : Type 0 where
   -- how many status records could not be written when they were new
   pub unwritten : ℕ
 
--- the child that was spawned last, after a start that made this one, or none
+-- the last child, after a start that made this one, or none
 abbrev pub child_of : (child : Option ℕ) → LastChild
 child_of None = Gone
 child_of (Some pid) = Alive pid
 
--- a world that begins in this session, with this place, which may be the open intent of an earlier svscan, and with
--- this process that is adopted, or none
+-- a world that begins in this session, with this place and with this adopted process, or none; the place may be the
+-- open intent of an earlier svscan
 abbrev pub begun : Option (List Call) → (session : ℕ) → Place → (is_open : Bool) → (adopted : Option ℕ) → Watch
 begun calls session place is_open adopted = record {
   calls = calls;
@@ -82,7 +82,7 @@ begun calls session place is_open adopted = record {
 
 -- Papers
 
--- A paper of this content was to be written, once, and was or not. It is owed exactly if it was not.
+-- A paper with this content was to be written, once, and was or was not. It is owed exactly if it was not.
 pub record WritesAs (paper : Paper) (content : List ℕ) (written : Bool) (old new : Watch) : Type 0 where
   pub calls : ExtendedWhileKept old.calls new.calls (Wrote paper content written ∷ [])
   pub stands : new ≡ record old { calls = new.calls; owed = with_owed paper (not written) old.owed }
@@ -95,7 +95,7 @@ abbrev pub WritesIfSome : (paper : Paper) (content : Option (List ℕ)) (old new
 WritesIfSome paper None old new = new ≡ old
 WritesIfSome paper (Some content) old new = Writes paper content old new
 
--- the content of a paper, as it is now
+-- the present content of a paper
 abbrev pub content_of : Paper → Watch → Option (List ℕ)
 content_of paper.Place w = Some (place_line w.place)
 content_of paper.Process w = option_map process_line (process_in w.place)
@@ -103,19 +103,19 @@ content_of paper.Status w = w.status
 content_of paper.Exit w = option_map exit_text w.exit
 content_of paper.Counts w = Some (counts_text w.counts)
 
--- This was said, once, or nothing was.
+-- This was said, once.
 pub record Says (remark : Remark) (old new : Watch) : Type 0 where
   pub calls : ExtendedWhileKept old.calls new.calls (Said remark ∷ [])
   pub stands : new ≡ record old { calls = new.calls }
 
 -- Mending
 
--- A paper was to be written again, as it is now, if this holds.
+-- A paper was to be written again, with its present content, if this holds.
 abbrev pub WritesIf : (owed : Bool) (paper : Paper) (old new : Watch) → Type 0
 WritesIf false paper old new = new ≡ old
 WritesIf true paper old new = WritesIfSome paper (content_of paper old) old new
 
--- A paper was to be written again, as it is now, if it is owed.
+-- A paper was to be written again, with its present content, if it is owed.
 abbrev pub WritesAgain : (paper : Paper) (old new : Watch) → Type 0
 WritesAgain paper old new = WritesIf (is_owed paper old.owed) paper old new
 
@@ -125,7 +125,7 @@ SaysChange (Some paper) false old new = Says (Unwritten paper) (record old { is_
 SaysChange None true old new = Says AllWritten (record old { is_said = false }) new
 SaysChange first is_said old new = new ≡ old
 
--- Each paper that is owed was to be written again, once, as it is now. Then it is said if that changed.
+-- Each owed paper was to be written again, once, with its present content. After that, it is said if something changed.
 pub record Mends (old new : Watch) : Type 0 where
   pub first : Watch
   pub second : Watch
@@ -141,8 +141,8 @@ pub record Mends (old new : Watch) : Type 0 where
 
 -- Starts
 
--- What is left over of the start that an earlier svscan intended was sought, if that is open. It stays open while it is
--- not sure.
+-- What is left over from the start that an earlier svscan intended was sought, if that is open. It stays open while it
+-- is not sure what is left over.
 abbrev pub stays_open : Leftover → Bool
 stays_open (Unsure pid) = true
 stays_open other = false
@@ -170,11 +170,11 @@ abbrev pub answer_of : (child : Option ℕ) (label : Tai64n) → StartAnswer
 answer_of None label = Failed label
 answer_of (Some pid) label = Started pid label
 
--- a world whose place is this
+-- a world with this place
 abbrev pub with_place : Place → Watch → Watch
 with_place place w = record w { place = place }
 
--- The intent of a start was to be written into the place, once, and was or not.
+-- The intent of a start was to be written into the place, once, and was or was not.
 pub record Intends (written : Bool) (old new : Watch) : Type 0 where
   pub tick : ℕ
   pub timed : Watch
@@ -182,7 +182,7 @@ pub record Intends (written : Bool) (old new : Watch) : Type 0 where
   pub writes : WritesAs paper.Place (place_line (intending timed.place tick timed.session)) written
       (with_place (intending timed.place tick timed.session) timed) new
 
--- One child was spawned, if the intent stands in the place, and else none.
+-- One child was spawned if the intent is in the place, and none otherwise.
 pub record Spawns (child : Option ℕ) (old new : Watch) : Type 0 where
   pub calls : ExtendedWhileKept old.calls new.calls (Spawned child ∷ [])
   pub stands : new ≡ record old { calls = new.calls }
@@ -191,8 +191,8 @@ abbrev pub SpawnsIf : (intended : Bool) (child : Option ℕ) (old new : Watch) �
 SpawnsIf false child old new = (child ≡ None) × (new ≡ old)
 SpawnsIf true child old new = Spawns child old new
 
--- The process of this number was recorded in the place, and then as the process of the service, if the tick at which it
--- began was found. Else the intent stays in the place.
+-- The process with this number was recorded in the place, and then as the process of the service, if the tick at which
+-- it began was found. If it was not found, the intent stays in the place.
 abbrev pub RecordsAt : (tick : Option ℕ) (pid : ℕ) (old new : Watch) → Type 0
 RecordsAt None pid old new = new ≡ old
 RecordsAt (Some tick) pid old new =
@@ -211,17 +211,17 @@ pub record RecordsProcess (pid : ℕ) (old new : Watch) : Type 0 where
   pub seeks : SeeksTick pid tick old sought
   pub records : RecordsAt tick pid sought new
 
--- a world in which one child more has begun
+-- a world in which one more child has begun
 abbrev pub with_start : Watch → Watch
 with_start w = record w { counts = one_started w.counts }
 
--- A start that made this child was recorded: its process, and then the counts, in which it is one more.
+-- A start that made this child was recorded: its process first, and then the counts, which have one more.
 pub record RecordsChild (pid : ℕ) (old new : Watch) : Type 0 where
   pub mid : Watch
   pub process : RecordsProcess pid old mid
   pub counts : Writes paper.Counts (counts_text (one_started mid.counts)) (with_start mid) new
 
--- No start is intended any more: the place was to be written so, once.
+-- No start is intended any more: the place was to be written accordingly, once.
 abbrev pub Vacates : (old new : Watch) → Type 0
 Vacates old new = Writes paper.Place (place_line (vacated old.place)) (with_place (vacated old.place) old) new
 
@@ -229,12 +229,12 @@ abbrev pub RecordsStart : (child : Option ℕ) (old new : Watch) → Type 0
 RecordsStart None old new = Vacates old new
 RecordsStart (Some pid) old new = RecordsChild pid old new
 
--- A child, or none, is the answer to a start at this time.
+-- a world in which this child, or none, is the answer to a start at this time
 abbrev pub answered : (child : Option ℕ) (label : Tai64n) → Watch → Watch
 answered child label w = record w { answer = Some (answer_of child label); child = child_of child }
 
--- The service was run: the intent was written into its place, and only then, if that is there, one child was spawned.
--- Its process was recorded, or, if there is none, that no start is intended any more.
+-- The service was run: the intent was written into its place, and only if that was written, one child was then spawned.
+-- If there is a child, its process was recorded. If there is none, it was recorded that no start is intended any more.
 pub record Runs (label : Tai64n) (old new : Watch) : Type 0 where
   pub written : Bool
   pub child : Option ℕ
@@ -254,14 +254,15 @@ pub record TakesUp (pid tick : ℕ) (label : Tai64n) (old new : Watch) : Type 0 
   pub adopts : Adopts pid tick old adopted
   pub records : RecordsStart (Some pid) (answered (Some pid) label adopted) new
 
--- How a start goes by what is left over: the service is run, or what is left over is adopted, or it is said that this
--- process may still run, and the start fails.
+-- How a start continues, by what is left over: the service is run; or the process left over is adopted; or it is said
+-- that this process may still run, and the start fails.
 abbrev pub StartsBy : Leftover → (label : Tai64n) (old new : Watch) → Type 0
 StartsBy Nobody label old new = Runs label old new
 StartsBy (Process pid tick) label old new = TakesUp pid tick label old new
 StartsBy (Unsure pid) label old new = Says (StillRuns pid) (answered None label old) new
 
--- A start: what is left over of an earlier one is sought, if that is open; the clock is read; and it goes by that.
+-- A start: what is left over from an earlier one is sought, if that is open; the clock is read; and the start continues
+-- by what was found.
 pub record Starts (old new : Watch) : Type 0 where
   pub found : Leftover
   pub label : Tai64n
@@ -273,22 +274,22 @@ pub record Starts (old new : Watch) : Type 0 where
 
 -- Signals
 
--- the exit of the child of this number that died so
+-- the exit of the child with this number that died this way
 abbrev pub exit_of : (pid : ℕ) → Death → Exit
 exit_of pid death = record { pid = pid; ending = death.ending; label = death.label }
 
--- what is sent to a child of which this death was found
+-- what is sent to a child for which this death, or none, was found
 abbrev pub sent : Sig → (pid : ℕ) → (death : Option Death) → List Call
 sent sig pid None = Signalled sig pid ∷ []
 sent sig pid (Some death) = []
 
--- the child, after its death was sought and is not reported yet
+-- the child, after its death was sought and before it is reported
 abbrev pub found : (pid : ℕ) (death : Option Death) → LastChild
 found pid None = Alive pid
 found pid (Some death) = Dead (exit_of pid death)
 
--- A signal to the child spawned last, whose death is not known: its death is sought, and only where there is none the
--- signal is sent. A death that is found is kept, to be reported.
+-- A signal to the last child, whose death is not known: its death is sought, and the signal is sent only if there is
+-- none. A death that is found is kept, to be reported.
 pub record SignalsChild (sig : Sig) (pid : ℕ) (old new : Watch) : Type 0 where
   pub death : Option Death
   pub calls : ExtendedWhileKept old.calls new.calls (SoughtDeath death ∷ sent sig pid death)
@@ -296,12 +297,12 @@ pub record SignalsChild (sig : Sig) (pid : ℕ) (old new : Watch) : Type 0 where
 
 -- Deaths
 
--- a world in which a child has ended so
+-- a world in which a child has ended this way
 abbrev pub bereft : Exit → Watch → Watch
 bereft exit w = record w { child = Gone; exit = Some exit; counts = one_ended w.counts }
 
--- A death is reported, and no more kept to be reported: how the child ended is to be written, once, and then the
--- counts, in which it is one more that ended.
+-- A death is reported, and no longer kept. How the child ended is to be written, once, and then the counts, in which
+-- one more has ended.
 pub record ReportsDeath (exit : Exit) (old new : Watch) : Type 0 where
   pub mid : Watch
   pub exit_written : Writes paper.Exit (exit_text exit) (bereft exit old) mid
@@ -313,11 +314,11 @@ pub record LivesOn (death : Option Tai64n) (old new : Watch) : Type 0 where
   pub calls : ExtendedWhileKept old.calls new.calls (SoughtDeath None ∷ [])
   pub stands : new ≡ record old { calls = new.calls }
 
--- a world whose child is dead, which is not reported yet
+-- a world whose child is dead, and the death is not reported yet
 abbrev pub with_death : Exit → Watch → Watch
 with_death exit w = record w { child = Dead exit }
 
--- A death that is known is kept while control bytes come, and else reported.
+-- A known death is kept while control bytes come, and otherwise reported.
 abbrev pub KeepsOrReports : (waits : Bool) → Exit → (death : Option Tai64n) (old new : Watch) → Type 0
 KeepsOrReports true exit death old new = (death ≡ None) × (new ≡ with_death exit old)
 KeepsOrReports false exit death old new = (death ≡ Some exit.label) × ReportsDeath exit old new
@@ -334,7 +335,7 @@ pub record KnowsDeath (exit : Exit) (death : Option Tai64n) (old new : Watch) : 
   pub asks : AsksLinger waits old asked
   pub does : KeepsOrReports waits exit death asked new
 
--- The death of the child of this number was sought and found.
+-- The death of the child with this number was sought and found.
 pub record FindsDeath (pid : ℕ) (death : Option Tai64n) (old new : Watch) : Type 0 where
   pub died : Death
   pub sought : Watch
@@ -342,12 +343,12 @@ pub record FindsDeath (pid : ℕ) (death : Option Tai64n) (old new : Watch) : Ty
   pub same : sought ≡ record old { calls = sought.calls }
   pub knows : KnowsDeath (exit_of pid died) death sought new
 
--- The death of a child that lives was sought: there was none, or it was found.
+-- The death of a child was sought: there was none, or it was found.
 abbrev pub SeeksDeath : (pid : ℕ) (death : Option Tai64n) (old new : Watch) → Type 0
 SeeksDeath pid death old new = LivesOn death old new ⊎ FindsDeath pid death old new
 
--- What a poll for a death reports: one that was found already, else what the system finds of a child that lives. Each
--- death is reported once, and no sooner than it waits for control bytes.
+-- What a poll for a death reports: one that was found already, or otherwise what the system finds for a child that
+-- lives. Each death is reported once, and only when it no longer waits for control bytes.
 abbrev pub PollsDeath : LastChild → (death : Option Tai64n) → (old new : Watch) → Type 0
 PollsDeath Gone death old new = (death ≡ None) × (new ≡ old)
 PollsDeath (Dead exit) death old new = KnowsDeath exit death old new
@@ -355,17 +356,17 @@ PollsDeath (Alive pid) death old new = SeeksDeath pid death old new
 
 -- Records
 
--- what is wanted by a status record that was read, or what was wanted before if it could not be
+-- what a status record that was read says is wanted, or what was wanted before if it could not be read
 abbrev pub want_loaded : Result Loaded RecordFault → (before : Want) → Want
 want_loaded (Ok loaded) before = (status_in loaded).want
 want_loaded (Err fault) before = before
 
--- the count rises for a record that was not written
+-- The count rises if a record was not written.
 abbrev pub CountsUnwritten : (written : Bool) → ℕ → ℕ → Type 0
 CountsUnwritten true old new = new ≡ old
 CountsUnwritten false old new = Rose old new
 
--- a world with this status record, which is wanted so
+-- a world whose place has what this status record says is wanted
 abbrev pub with_want : (bytes : List ℕ) → Watch → Watch
 with_want bytes w = with_place (wanting w.place (want_loaded (loaded_from bytes) w.place.want)) w
 
@@ -377,8 +378,8 @@ pub record CountsRecord (written : Bool) (old new : Watch) : Type 0 where
   pub counts : CountsUnwritten written old.unwritten new.unwritten
   pub stands : new ≡ record old { unwritten = new.unwritten }
 
--- A status record is to be written, once, and before it the place, with what is wanted now. A record that can't be
--- written is counted and owed, and nothing else comes of it.
+-- A status record is to be written, once, and before it the place with what is wanted now. A record that can't be
+-- written is counted and owed, and has no other effect.
 pub record Records (bytes : List ℕ) (old new : Watch) : Type 0 where
   pub placed : Watch
   pub done : Watch

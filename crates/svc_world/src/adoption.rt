@@ -1,4 +1,4 @@
-//! The processes that an earlier svscan started, and one thread that looks after all of them.
+//! The processes that an earlier svscan started, and the one thread that watches all of them.
 ghost use Rattle.std.specs.Prelude.{◌≡◌, IfErr, IfOk};
 ghost use Rattle.svc_world.specs.Adoption.{is_unchanged};
 
@@ -12,35 +12,36 @@ use std::thread::{Builder, Threads};
 use std::time::Duration;
 use svc_house::{News, Notifier};
 
-/// After how many seconds is looked again whether the adopted processes live.
+/// The seconds between two looks at the adopted processes.
 const LOOK_SECONDS: u64 = 1;
 
-/// One look of this many shows whether a process has ended and waits for its parent. The others show whether another
-/// process has its number.
+/// Every look whose number is a multiple of this checks whether a process has ended and waits for its parent. The others
+/// check whether another process has its number.
 const ENDS_EVERY: u64 = 2;
 
-/// The number of a process's folder in /proc that is not known. No folder has it.
+/// The inode number of a process's folder in /proc if it is not known. No folder has this number.
 const UNKNOWN: u64 = 0;
 
-/// A process that was adopted, and what its service waits for.
+/// An adopted process, and the notifier that its service waits for.
 #[derive(Drop)]
 struct Adopted {
     process: AdoptedProcess,
     notifier: Arc<Notifier, Global>,
-    /// The number of the process's folder in /proc at the last reading of its line.
+    /// The inode number of the process's folder in /proc when its line was last read.
     folder: AtomicU64,
 }
 
 /// What one call of the system shows of an adopted process.
 #[derive(Clone, Copy, Debug, PartialEq, Eq)]
 enum Glance {
-    /// The number of its folder in /proc. The folder of a later process with the same process number has another number.
+    /// The inode number of its folder in /proc. The folder of a later process with the same process number has another
+    /// inode number.
     Folder(u64),
     /// Whether it may have ended and wait for its parent.
     End(bool),
 }
 
-/// Returns whether a process is the known one and lives, as far as one call shows. If not, its line is read.
+/// Returns whether one call of the system shows that a process is the known one and lives. If not, its line is read.
 fn is_unchanged(known: u64, glance: Glance) -> bool
     ensures { result ≡ is_unchanged known glance }
 {
@@ -51,8 +52,8 @@ fn is_unchanged(known: u64, glance: Glance) -> bool
         }
 }
 
-/// Returns the folder's number to compare with at the next look. It is known only if the line was read after it was found:
-/// the folder may be another process's.
+/// Returns the folder's number to compare with at the next look. A folder is known only if the line was read after the
+/// folder was found, because another process may have it.
 fn known_by(line: &io::Result<Option<Stat>>, found: u64) -> u64
     ensures read { IfOk line.now (λ _. result ≡ found) }
     ensures unread { IfErr line.now (λ _. result ≡ 0) }
@@ -63,7 +64,7 @@ fn known_by(line: &io::Result<Option<Stat>>, found: u64) -> u64
     }
 }
 
-/// The number of a process's folder in /proc, as far as the kernel says it.
+/// Returns the inode number of a process's folder in /proc, if the kernel says it.
 fn folder_number(files: &HostRuntime, pid: u32) -> u64 {
     match folder_of(files, pid) {
         Ok(Some(number)) => number,
@@ -72,8 +73,8 @@ fn folder_number(files: &HostRuntime, pid: u32) -> u64 {
 }
 
 impl Adopted {
-    /// Returns whether the process still lives. A look makes one call of the system if that shows no change. If the kernel
-    /// can't be asked, the process lives.
+    /// Returns whether the process still lives. A look makes one call of the system if that shows no change, and otherwise
+    /// reads the process's line in /proc. If the kernel can't be asked, the process counts as alive.
     fn lives(&self, looks_for_end: bool) -> bool {
         let AdoptedProcess { files, pid, tick } = &self.process;
         let glance = if looks_for_end {
@@ -91,7 +92,7 @@ impl Adopted {
     }
 }
 
-/// What the thread shares with those who adopt.
+/// What the thread shares with those who adopt processes.
 #[derive(Drop)]
 struct WatchState {
     adopted: Mutex<Vec<Adopted>>,
@@ -99,8 +100,8 @@ struct WatchState {
     notifier: Notifier,
 }
 
-/// Looks once a second whether the adopted processes live, in a thread of its own, and notifies the service of each
-/// that does not. Whoever has the process finds itself that it is gone.
+/// A thread that checks once a second whether the adopted processes live, and notifies the service of each one that
+/// does not. The service itself then finds that its process is gone.
 pub struct AdoptionWatch {
     state: Arc<WatchState, Global>,
 }
@@ -129,7 +130,7 @@ impl AdoptionWatch {
         Ok(AdoptionWatch { state })
     }
 
-    /// Looks after a process from now on, and notifies once it is gone.
+    /// Watches a process from now on, and notifies its service once the process is gone.
     pub(crate) fn add<R: Wait>(
         &self,
         rt: &R,
@@ -158,7 +159,7 @@ fn start<R: Threads + Wait + Copy + Send + Drop + 'static>(
     Ok(())
 }
 
-/// Looks again and again, until the watch is closed. While no process is adopted it rests.
+/// Looks repeatedly until the watch is closed. Rests without a time limit while no process is adopted.
 fn watch<R: Wait + Drop>(rt: R, state: &WatchState) {
     let mut looks: u64 = 0;
     for _ in rt.forever() {
@@ -175,7 +176,7 @@ fn watch<R: Wait + Drop>(rt: R, state: &WatchState) {
     }
 }
 
-/// Looks at each process once. Whether one lives still.
+/// Looks at each process once. Returns whether any still lives.
 fn look<R: Wait>(rt: &R, state: &WatchState, looks_for_ends: bool) -> bool {
     let mut adopted = state.adopted.lock(rt);
     adopted.retain(|one| {

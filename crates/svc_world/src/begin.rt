@@ -14,7 +14,7 @@ pub struct Death {
 pub enum LastChild {
     /// There is none, or its death was reported.
     Gone,
-    /// It has this number, and its death is not known.
+    /// It has this number, and its death is not known yet.
     Alive(u32),
     /// Its death was found, and is not reported yet.
     Dead(Exit),
@@ -24,7 +24,7 @@ impl Death {
     ghost use Rattle.std.specs.Prelude.{◌≡◌};
     ghost use Rattle.svc_world.specs.Watch.{exit_of};
 
-    /// The exit of the child of this number that died so.
+    /// Returns the exit of the child with this number that died this way.
     pub(crate) fn exit_of(&self, pid: u32) -> Exit
         ensures { result ≡ exit_of pid self.now }
     {

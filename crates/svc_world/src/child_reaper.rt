@@ -1,4 +1,4 @@
-//! What waits for the children of a service.
+//! The thread that waits for the children of a service.
 use crate::begin::Death;
 use cmd_base::SystemClock;
 use std::alloc::{AllocError, Global};
@@ -10,10 +10,10 @@ use svc_exit::ending_of;
 use svc_house::{News, Notifier};
 use tai_status::TimeSource;
 
-/// Where a child's death is put.
+/// The place for a child's death.
 pub(crate) type DeathSlot = Arc<OnceLock<Death>, Global>;
 
-/// A child that is handed to the reaper, and where its death is put.
+/// A child that is handed to the reaper, and the place for its death.
 #[derive(Drop)]
 pub(crate) struct WatchedChild {
     pub(crate) child: Child<SystemProcess>,
@@ -28,7 +28,7 @@ struct SlotState {
     notifier: Notifier,
 }
 
-/// Where the children of a service are handed to their reaper. Once it is let go, the reaper ends.
+/// Hands the children of a service to their reaper. The reaper ends once this is dropped.
 pub(crate) struct ChildSlot {
     state: Arc<SlotState, Global>,
 }
@@ -48,7 +48,7 @@ impl ChildSlot {
     }
 }
 
-/// It reaps the children of one service, in a thread of its own.
+/// Reaps the children of one service, in a thread of its own.
 #[derive(Drop)]
 pub struct ChildReaper {
     state: Arc<SlotState, Global>,
@@ -57,7 +57,7 @@ pub struct ChildReaper {
 }
 
 impl ChildReaper {
-    /// A reaper, and where children are handed to it.
+    /// Makes a reaper, and the slot through which children are handed to it.
     pub(crate) fn open(
         alloc: Global,
         notifier: Arc<Notifier, Global>,
@@ -78,8 +78,8 @@ impl ChildReaper {
         ))
     }
 
-    /// Waits for each child of the service, puts its death in its place, and then notifies the service's notifier. It
-    /// returns once the service's children are let go and the child that it waits for has died.
+    /// Waits for each child of the service, puts its death in its place, and then notifies the service. Returns once
+    /// the service has dropped its children's slot and the child that the reaper waits for has died.
     pub fn run<R: Wait + Clock + Copy + Drop>(self, rt: R) {
         let ChildReaper { state, notifier } = self;
         let mut clock = SystemClock::new(rt);

@@ -1,4 +1,4 @@
-//! How the output of a service flows to its logger: it is counted, and it can be ended while the service runs.
+//! How the output of a service flows to its logger. The flow is counted, and it can be ended while the service runs.
 ghost use Rattle.std.specs.Prelude.{◌≡◌, ◌≤◌, [], ◌∷◌, IfOk, OnErr};
 ghost use Rattle.std.specs.Io.{ReadsAtMost, WritesAtMost};
 ghost use Rattle.std.specs.Io.KnownBytes.{ReadConsumes, WriteAppends};
@@ -15,16 +15,16 @@ use std::os::fd::AsRawFd;
 use std::sync::Arc;
 use std::sync::atomic::{AtomicBool, AtomicU64, Ordering};
 
-/// How many milliseconds an output waits for bytes before it looks whether it is to end, once outputs may be.
+/// The milliseconds that an output waits for bytes before it checks whether it is to end, once outputs may be ended.
 const PAUSE_MILLIS: i32 = 20;
 
-/// How often a wait is begun again.
+/// The most times that a wait is repeated.
 const TRIES: u64 = 1 << 48;
 
-/// How many bytes the system takes as a whole or not at all.
+/// The number of bytes that the system writes to a pipe completely or not at all.
 const WHOLE: usize = 4096;
 
-/// What is counted of a service's output, and whether that is to end.
+/// The counts of a service's output, and whether that output is to end.
 #[derive(Drop)]
 pub struct Flow {
     taken: AtomicU64,
@@ -33,19 +33,19 @@ pub struct Flow {
     ends_at_once: AtomicBool,
 }
 
-/// Where bytes are counted that flow. Contracts see what was counted, in order (`counted`), where that is kept.
+/// Counts the bytes that flow. Contracts see what was counted, in order (`counted`), while that is recorded.
 trait ByteCounter {
     ghost use Rattle.std.specs.Prelude.{ℕ, Option, None, List, [], ◌∷◌};
     ghost use Rattle.tai_status.specs.Extended.{Extended};
 
     ghost counted: { Self → Option (List ℕ) } = { λ _. None };
 
-    /// Counts so many more.
+    /// Counts this many more bytes.
     fn count(&mut self, more: usize)
         ensures { Extended (counted self.old) (counted self.new) (more ∷ []) };
 }
 
-/// A count of a flow, by which one thread alone counts. It says nothing to contracts.
+/// A count of a flow that only one thread changes. It says nothing to contracts.
 #[derive(Drop)]
 struct FlowCount<'a> {
     bytes: &'a AtomicU64,
@@ -59,7 +59,7 @@ impl ByteCounter for FlowCount<'_> {
     }
 }
 
-/// Reads once, and counts what that gave.
+/// Reads once, and counts the bytes that were read.
 fn read_counted<R: Read, C: ByteCounter>(
     reader: &mut R,
     counter: &mut C,
@@ -75,7 +75,7 @@ fn read_counted<R: Read, C: ByteCounter>(
     Ok(count)
 }
 
-/// Writes once a front of these bytes, which is no more than the system takes as a whole, and counts what was taken.
+/// Writes once a front of these bytes, no longer than the system takes as a whole, and counts the bytes taken.
 fn write_counted<W: Write, C: ByteCounter>(
     writer: &mut W,
     counter: &mut C,
@@ -93,7 +93,7 @@ fn write_counted<W: Write, C: ByteCounter>(
 }
 
 impl Flow {
-    /// Nothing flowed yet.
+    /// Makes a flow in which nothing has flowed yet.
     pub(crate) const fn new() -> Flow {
         Flow {
             taken: AtomicU64::new(0),
@@ -103,7 +103,7 @@ impl Flow {
         }
     }
 
-    /// The output is to end: at once, or when it has nothing for now.
+    /// Ends the output: at once, or when there is nothing to read for now.
     pub fn end(&self, at_once: bool) {
         if at_once {
             self.ends_at_once.store(true, Ordering::SeqCst);
@@ -111,15 +111,15 @@ impl Flow {
         self.ends.store(true, Ordering::SeqCst);
     }
 
-    /// How many bytes were read of the output and not put into the input of its logger.
+    /// Returns how many bytes were read from the output and not yet put into the input of its logger.
     pub fn between(&self) -> u64 {
         let put = self.put.load(Ordering::SeqCst);
         self.taken.load(Ordering::SeqCst).saturating_sub(put)
     }
 }
 
-/// How an output waits for bytes: whether it is asked too whether outputs may be asked to end, and for how many
-/// milliseconds at most; less than 0 is without an end.
+/// Returns how an output waits for bytes: whether it also watches for the moment when outputs may be ended, and for how
+/// many milliseconds it waits at most. A negative number means without limit.
 fn wait_of(ends: bool, is_watched: bool) -> (bool, i32)
     ensures asked { result.0 ≡ is_watch_asked ends is_watched }
     ensures millis { result.1 ≡ wait_millis ends is_watched }
@@ -131,8 +131,8 @@ fn wait_of(ends: bool, is_watched: bool) -> (bool, i32)
     }
 }
 
-/// Whether an output is over, which is to end or not, after a wait that found something to read or nothing. None: it
-/// waits again.
+/// Returns whether an output is over, after a wait that found something to read (`is_ready`) or nothing. `ends` says
+/// whether the output is to end. None means that it waits again.
 fn is_over_after(ends: bool, is_ready: bool) -> Option<bool>
     ensures { result ≡ is_over_after ends is_ready }
 {
@@ -143,8 +143,8 @@ fn is_over_after(ends: bool, is_ready: bool) -> Option<bool>
     }
 }
 
-/// Waits until there is something to read of the first descriptor, or the second one is at its end, where that is
-/// given, and for so many milliseconds at most; less than 0 is without an end. Whether each is so.
+/// Waits until the first descriptor has something to read, or the second one, if given, is at its end. Waits at most
+/// this many milliseconds; a negative number means without limit. Returns whether each of the two is so.
 fn wait_for_either(first: i32, second: Option<i32>, millis: i32) -> io::Result<(bool, bool)> {
     let mut asked = [first, second.unwrap_or(-1)].map(|fd| pollfd {
         fd,
@@ -161,7 +161,7 @@ fn wait_for_either(first: i32, second: Option<i32>, millis: i32) -> io::Result<(
     Ok((asked[0].revents != 0, asked[1].revents != 0))
 }
 
-/// Whether there is nothing to read of a logger's input for now.
+/// Returns whether a logger's input has nothing to read for now.
 pub fn is_read(input: &PipeReader) -> bool {
     let mut asked = [pollfd {
         fd: input.as_raw_fd(),
@@ -171,24 +171,24 @@ pub fn is_read(input: &PipeReader) -> bool {
     poll(&mut asked, 0) <= 0 || asked[0].revents & POLLIN == 0
 }
 
-/// Reads a logger's input to its end, and counts the bytes.
+/// Reads a logger's input to its end, and returns the number of bytes.
 pub fn drain(input: &PipeReader) -> io::Result<u64> {
     let mut input = input.try_clone()?;
     io::copy(&mut input, &mut io::sink())
 }
 
-/// The end of a service's output that is read. It ends where nobody has the other end, and where it is asked to.
+/// The reading end of a service's output. It ends if nobody has the writing end, or if it is asked to end.
 #[derive(Drop)]
 pub struct ServiceOutput {
     file: File,
-    // At its end once outputs may be asked to end.
+    // This pipe is at its end once outputs may be asked to end.
     watch: Arc<PipeReader, Global>,
     flow: Arc<Flow, Global>,
     is_watched: bool,
 }
 
 impl ServiceOutput {
-    /// This end. Once the pipe is at its end the output looks after the flow.
+    /// Makes this end. Once the pipe `watch` is at its end, the output checks whether the flow is to end.
     pub(crate) fn new(
         file: File,
         watch: Arc<PipeReader, Global>,
@@ -202,7 +202,7 @@ impl ServiceOutput {
         }
     }
 
-    /// Waits until there is something to read, or the output is over, as it was reported. Whether it is over.
+    /// Waits until there is something to read, or the output is asked to end. Returns whether it is over.
     fn is_over(&mut self) -> io::Result<bool> {
         for _ in 0..TRIES {
             if self.flow.ends_at_once.load(Ordering::SeqCst) {
@@ -235,8 +235,8 @@ impl Read for ServiceOutput {
     }
 }
 
-/// The end of a logger's input that is written. It takes no more at once than the system takes as a whole, so that what
-/// was put is known at any moment.
+/// The writing end of a logger's input. It never takes more at once than the system takes as a whole, so that at any
+/// moment it is known what was put.
 #[derive(Drop)]
 pub struct LoggerInput {
     pipe: PipeWriter,
@@ -244,7 +244,7 @@ pub struct LoggerInput {
 }
 
 impl LoggerInput {
-    /// This end, and the flow in which is counted what it took.
+    /// Makes this end, with the flow that counts the bytes it took.
     pub fn new(pipe: PipeWriter, flow: Arc<Flow, Global>) -> LoggerInput {
         LoggerInput { pipe, flow }
     }

@@ -1,7 +1,8 @@
 //! The folder of a service on this system.
 //!
-//! A call of the file system has its path on the stack, with room for the longest one, and the thread of a service keeps
-//! what it touched of its stack. What makes such calls has a frame of its own, which is gone before the next call.
+//! A call of the file system keeps its path on the stack, with room for the longest path, and the thread of a service
+//! never gives back the stack that it has touched. Each function that makes such calls therefore has a frame of its
+//! own, which is gone before the next call.
 ghost use Rattle.std.specs.Prelude.{◌≡◌, ◌<◌, ◌≤◌, ◌↔◌, IsTrue, Some, length, option_copied, IfSome};
 ghost use Rattle.svc_world.specs.Commands.{process_in};
 ghost use Rattle.svc_world.specs.Left.{IsFoundIn, IsOfBoot, IsOneFile, found_over, is_starting_in, placed};
@@ -29,30 +30,30 @@ use svc_left::{
 use tai_status::{Cause, Label, Loaded, Phase, decode_front};
 use thiserror::Error;
 
-/// The modes of what is made, whatever the umask.
+/// The modes of new folders and files, whatever the umask is.
 const FOLDER_MODE: u32 = 0o700;
 
 const FILE_MODE: u32 = 0o600;
 
-/// The bits of a mode by which somebody may execute the file.
+/// The bits of a mode that let somebody execute the file.
 const EXECUTABLE: u32 = 0o111;
 
-/// How many bytes a status record has at least.
+/// The least number of bytes in a status record.
 const STATUS_BYTES: u64 = 20;
 
-/// How long the path of a name in a folder is at most, by descriptor.
+/// The longest path of a name in a folder that is reached by descriptor.
 const PATH_BYTES: usize = 64;
 
-/// A path by descriptor.
+/// A path that begins at a descriptor.
 pub(crate) type ShortPath = ArrayString<PATH_BYTES>;
 
 /// Why a folder is not held.
 #[derive(Clone, Copy, Debug, PartialEq, Eq, Error)]
 pub enum FolderFault {
-    /// Its lock is held elsewhere.
+    /// Somebody else holds its lock.
     #[error("unable to lock")]
     Locked,
-    /// It is no folder, or something in it could not be opened or made.
+    /// It is not a folder, or something in it could not be opened or made.
     #[error("unable to open")]
     NotOpened(Cause),
 }
@@ -63,7 +64,7 @@ impl From<Error> for FolderFault {
     }
 }
 
-/// By what a file is known, whatever its names.
+/// What identifies a file, whatever its names are.
 #[derive(Clone, Copy, Debug, PartialEq, Eq)]
 pub(crate) struct FileId {
     device: u64,
@@ -71,7 +72,7 @@ pub(crate) struct FileId {
 }
 
 impl FileId {
-    /// That of a file of which this was found. None where nothing was.
+    /// Returns the id of the file that has this metadata. Returns None if nothing was found.
     pub(crate) fn found(found: io::Result<Metadata>) -> Option<FileId> {
         let found = found.ok()?;
         Some(FileId {
@@ -81,7 +82,7 @@ impl FileId {
     }
 }
 
-/// Whether both are there, and are one file.
+/// Returns whether both files exist and are the same file.
 fn is_one_file(there: Option<FileId>, here: Option<FileId>) -> bool
     ensures { IsTrue result ↔ IsOneFile there here }
 {
@@ -91,10 +92,10 @@ fn is_one_file(there: Option<FileId>, here: Option<FileId>) -> bool
     }
 }
 
-/// The folder of a service, with its lock. It is held by descriptor, so that it is reached whatever becomes of its
-/// path, and however long that is. It says nothing to contracts.
+/// The folder of a service, with its lock. It is held by descriptor, so that it can be reached whatever happens to its
+/// path, and however long that path is. It says nothing to contracts.
 ///
-/// It has the runtime itself for its files, and not a type parameter, so that it may be used in any thread.
+/// It uses the runtime itself for its files, not a type parameter, so that any thread can use it.
 #[derive(Drop)]
 pub struct ServiceFolder {
     files: HostRuntime,
@@ -102,14 +103,14 @@ pub struct ServiceFolder {
     _lock: File,
 }
 
-/// The path of a name in an open folder.
+/// Returns the path of a name in an open folder.
 fn path_in(folder: &File, name: &str) -> ShortPath
     requires { length name.now ≤ 23 }
 {
     path_by_descriptor(folder.as_raw_fd().unsigned_abs(), name)
 }
 
-/// Opens a folder.
+/// Opens a folder. Returns `NotADirectory` if the path names something else.
 fn open_folder<R: Files<File = File>>(runtime: &R, path: &str) -> io::Result<File> {
     if !fs::metadata(runtime, path)?.is_dir() {
         return Err(Error::from(ErrorKind::NotADirectory));
@@ -117,7 +118,7 @@ fn open_folder<R: Files<File = File>>(runtime: &R, path: &str) -> io::Result<Fil
     fs::open(runtime, path)
 }
 
-/// Makes a folder that is its owner's alone. One that is there becomes so.
+/// Makes a folder that only its owner can use. An existing folder gets the same mode.
 fn make_private<R: Files<File = File>>(runtime: &R, path: &str) -> io::Result<()> {
     let mut how = DirBuilder::new();
     how.mode(FOLDER_MODE);
@@ -129,7 +130,7 @@ fn make_private<R: Files<File = File>>(runtime: &R, path: &str) -> io::Result<()
     fs::set_permissions(runtime, path, Permissions::from_mode(FOLDER_MODE))
 }
 
-/// Makes what a link in a folder names, as a folder that is its owner's alone. Its own folder has to be there.
+/// Makes the folder that a link names, for its owner alone. The folder above it must exist.
 fn make_linked<R: Files<File = File>>(
     runtime: &R,
     alloc: Global,
@@ -145,8 +146,8 @@ fn make_linked<R: Files<File = File>>(
     make_private(runtime, path.as_str())
 }
 
-/// Makes the folder `supervise` in a folder, which is its owner's alone. Where a link to nothing has its name, what
-/// that names is made.
+/// Makes the folder `supervise` in a folder, for its owner alone. If its name is that of a dangling link, the folder
+/// that the link names is made.
 pub(crate) fn make_supervise<R: Files<File = File>>(
     runtime: &R,
     alloc: Global,
@@ -161,7 +162,7 @@ pub(crate) fn make_supervise<R: Files<File = File>>(
     }
 }
 
-/// Opens a file for appending, which is its owner's alone, and makes it where it is missing.
+/// Opens a file for appending, for its owner alone. Makes the file if it is missing.
 pub(crate) fn open_lock<R: Files<File = File>>(runtime: &R, path: &str) -> io::Result<File> {
     let mut how = OpenOptions::new();
     how.append(true).create(true).mode(FILE_MODE);
@@ -170,8 +171,7 @@ pub(crate) fn open_lock<R: Files<File = File>>(runtime: &R, path: &str) -> io::R
     Ok(file)
 }
 
-/// Makes a file of this content, which is its owner's alone. What has its name is removed first, and no link is
-/// followed.
+/// Makes a file with this content, for its owner alone. Removes any file of that name first, and follows no link.
 #[inline(never)]
 fn write_private<R: Files<File = File>>(runtime: &R, path: &str, content: &[u8]) -> io::Result<()> {
     remove(runtime, path)?;
@@ -182,7 +182,7 @@ fn write_private<R: Files<File = File>>(runtime: &R, path: &str, content: &[u8])
     file.write_all(content)
 }
 
-/// Writes over the front of a file that is there and has so many bytes at least. It takes no room on the device.
+/// Writes over the front of an existing file that has at least this many bytes. This takes no more room on the device.
 #[inline(never)]
 fn overwrite<R: Files<File = File>>(
     runtime: &R,
@@ -199,7 +199,7 @@ fn overwrite<R: Files<File = File>>(
     file.write_all_at(content, 0)
 }
 
-/// Removes a file, where it is there.
+/// Removes a file, if it exists.
 #[inline(never)]
 pub(crate) fn remove<R: Files<File = File>>(runtime: &R, path: &str) -> io::Result<()> {
     match fs::remove_file(runtime, path) {
@@ -208,7 +208,7 @@ pub(crate) fn remove<R: Files<File = File>>(runtime: &R, path: &str) -> io::Resu
     }
 }
 
-/// The process that a status record names. None where it names none, or these bytes are no record.
+/// Returns the process that a status record names. Returns None if it names none, or if these bytes are not a record.
 fn process_in(bytes: &[u8]) -> Option<u32>
     ensures { result ≡ process_in bytes.now }
 {
@@ -216,7 +216,7 @@ fn process_in(bytes: &[u8]) -> Option<u32>
     if view.pid > 0 { Some(view.pid) } else { None }
 }
 
-/// Whether a record says that a start was asked for and not answered.
+/// Returns whether a record says that a start was asked for and not answered.
 fn is_starting(recorded: &Option<Loaded>) -> bool
     ensures { result ≡ is_starting_in recorded.now }
 {
@@ -226,8 +226,8 @@ fn is_starting(recorded: &Option<Loaded>) -> bool
     }
 }
 
-/// What became of the process that was recorded: `boot` is this boot, where it is known, and `tick` when the process of
-/// its number began that there is now, if there is one.
+/// Returns what became of the recorded process. `boot` is this boot, if it is known. `tick` is when the process that
+/// has its number now began, if there is one.
 fn find_in(recorded: Option<ProcessId>, boot: Option<&BootId>, tick: Option<u64>) -> Found
     ensures { IsFoundIn recorded (option_copied boot.entry) tick result }
 {
@@ -237,7 +237,8 @@ fn find_in(recorded: Option<ProcessId>, boot: Option<&BootId>, tick: Option<u64>
     }
 }
 
-/// What became of the last process: what is left over of a start, if that was intended after it.
+/// Returns what became of the last process. If a start was intended after it, what is left over from that start
+/// decides.
 fn found_over(found: Found, over: Option<Leftover>, boot: Option<&BootId>) -> Found
     requires living { IsLiving found }
     requires of_boot { IsOfBoot (option_copied boot) found }
@@ -257,7 +258,7 @@ fn found_over(found: Found, over: Option<Leftover>, boot: Option<&BootId>) -> Fo
     }
 }
 
-/// The process that a place names, if there is one.
+/// Returns the process that a place names, if it names one.
 fn placed(place: &Option<Place>) -> Option<ProcessId>
     ensures named { result ≡ placed place.now }
     ensures number { IfSome result (λ process. 0 < process.pid) }
@@ -268,7 +269,7 @@ fn placed(place: &Option<Place>) -> Option<ProcessId>
     }
 }
 
-/// Makes a folder that is its owner's alone, where there is none.
+/// Makes a folder for its owner alone, if it does not exist.
 fn make_missing<R: Files<File = File>>(runtime: &R, path: &str) -> io::Result<()> {
     let mut how = DirBuilder::new();
     how.mode(FOLDER_MODE);
@@ -279,28 +280,28 @@ fn make_missing<R: Files<File = File>>(runtime: &R, path: &str) -> io::Result<()
     }
 }
 
-/// Until when a lock is tried that is held elsewhere. A child that a killed svscan has just made holds its locks until
-/// it executes its program.
+/// The time until which a lock is tried that somebody else holds. A child that a killed svscan has just made holds that
+/// svscan's locks until it executes its program.
 #[derive(Clone, Copy, Debug, PartialEq, Eq)]
 pub struct Patience {
     until: Option<Duration>,
 }
 
-/// How long a lock is tried, in seconds, and how long svscan's own, without which nothing else is to be done.
+/// The seconds for which a lock is tried, and those for svscan's own lock, without which svscan can do nothing else.
 const PATIENCE: u64 = 1;
 
 const OWN_PATIENCE: u64 = 5;
 
-/// How long is waited between two tries, in milliseconds.
+/// The milliseconds between two tries.
 const LOCK_REST: u64 = 2;
 
 impl Patience {
-    /// One second from now on, by the running clock.
+    /// Returns patience of one second from now, by the running clock.
     pub fn new<R: Clock>(rt: &R) -> Patience {
         Patience::of(rt, PATIENCE)
     }
 
-    /// So many seconds from now on.
+    /// Returns patience of this many seconds from now.
     fn of<R: Clock>(rt: &R, seconds: u64) -> Patience {
         let now = rt.monotonic().ok();
         Patience {
@@ -308,7 +309,7 @@ impl Patience {
         }
     }
 
-    /// Waits for a moment before the next try. Whether there is to be one.
+    /// Waits a moment before the next try. Returns whether there is to be one.
     pub fn wait<R: Clock + Wait>(&self, rt: &R) -> bool {
         match (rt.monotonic(), self.until) {
             (Ok(now), Some(until)) if now < until => {
@@ -319,7 +320,7 @@ impl Patience {
         }
     }
 
-    /// Takes a lock, which is tried again and again while it is held elsewhere.
+    /// Takes a lock. Tries repeatedly while somebody else holds it.
     pub(crate) fn lock<R: Clock + Wait>(&self, rt: &R, file: &File) -> Result<(), TryLockError> {
         for _ in rt.forever() {
             match file.try_lock() {
@@ -331,7 +332,7 @@ impl Patience {
     }
 }
 
-/// Whether the lock in the folder at a path is held. It changes nothing there, not even a time.
+/// Returns whether the lock in the folder at a path is held. Changes nothing there, not even a time.
 fn is_held<R: Files<File = File>>(runtime: &R, path: &str) -> bool {
     let Ok(folder) = open_folder(runtime, path) else {
         return false;
@@ -340,14 +341,14 @@ fn is_held<R: Files<File = File>>(runtime: &R, path: &str) -> bool {
         return false;
     };
     match lock.try_lock() {
-        // A child that starts just now has the file too: closing alone would leave the lock.
+        // A child that is just being started has the file too: closing it alone would leave the lock.
         Ok(()) => lock.unlock().is_err(),
         Err(TryLockError::WouldBlock) => true,
         Err(TryLockError::Error(_)) => false,
     }
 }
 
-/// Waits while the lock in the folder at a path is held, as long as there is patience.
+/// Waits while the lock in the folder at a path is held. Returns `Locked` if patience runs out.
 fn while_held<R: Clock + Wait>(
     rt: &R,
     files: &HostRuntime,
@@ -366,8 +367,8 @@ fn while_held<R: Clock + Wait>(
 }
 
 impl ServiceFolder {
-    /// Opens svscan's own folder at a path as that of a service. It is made where it is missing. While another svscan
-    /// holds it nothing is changed there, not even a time.
+    /// Opens svscan's own folder at a path in the same way as that of a service. Makes the folder if it is missing.
+    /// While another svscan holds it, nothing there is changed, not even a time.
     pub fn open_own<R: Clock + Wait>(
         rt: &R,
         files: HostRuntime,
@@ -379,8 +380,9 @@ impl ServiceFolder {
         ServiceFolder::open(rt, files, path, &patience)
     }
 
-    /// Opens the folder at a path, makes its folder `supervise`, and takes the lock in that, which is tried while it is
-    /// held elsewhere as long as there is patience. The lock is held until this is let go.
+    /// Opens the folder at a path, makes its folder `supervise`, and takes the lock in there. If somebody else holds
+    /// the lock, tries until patience runs out, and then returns `Locked`. The lock is held until the result is
+    /// dropped.
     pub fn open<R: Clock + Wait>(
         rt: &R,
         files: HostRuntime,
@@ -401,14 +403,14 @@ impl ServiceFolder {
         }
     }
 
-    /// The path of a name in the folder, which holds in this process and in its children as they start.
+    /// Returns the path of a name in the folder. It is valid in this process, and in its children while they start.
     pub(crate) fn path(&self, name: &str) -> ShortPath
         requires { length name.now ≤ 23 }
     {
         path_in(&self.service, name)
     }
 
-    /// Listens at a socket of this name. An old file of the name is removed first.
+    /// Listens at a socket with this name. Removes an old file of that name first.
     fn listen<R: Files + Net>(&self, rt: &R, name: &str) -> io::Result<UnixListener>
         requires { length name.now ≤ 23 }
     {
@@ -428,19 +430,19 @@ impl ServiceFolder {
         self.listen(rt, "supervise/control")
     }
 
-    /// Listens at the socket that says that the service is supervised.
+    /// Listens at the socket that shows that the service is supervised.
     pub fn ok<R: Files + Net>(&self, rt: &R) -> io::Result<UnixListener> {
         self.listen(rt, "supervise/ok")
     }
 
-    /// Removes both sockets, where they are there.
+    /// Removes both sockets, if they exist.
     pub fn remove_sockets(&self) -> io::Result<()> {
         let control = remove(&self.files, self.path("supervise/control").as_str());
         let ok = remove(&self.files, self.path("supervise/ok").as_str());
         control.and(ok)
     }
 
-    /// Puts this content in the place of a file, as a whole.
+    /// Replaces the content of a file as a whole.
     #[inline(never)]
     fn replace(&self, file: &str, new: &str, content: &[u8]) -> io::Result<()>
         requires file { length file.now ≤ 23 }
@@ -451,8 +453,8 @@ impl ServiceFolder {
         fs::rename(&self.files, new.as_str(), self.path(file).as_str())
     }
 
-    /// Puts these bytes in the place of the status record. If they can't replace it, as on a full device, they are
-    /// written over it. After a fault the old ones are there.
+    /// Replaces the status record by these bytes. If that fails, as on a full device, writes them over the old record.
+    /// After a fault the old bytes are there.
     #[inline(never)]
     pub fn replace_status(&self, bytes: &[u8]) -> io::Result<()> {
         match self.replace("supervise/status", "supervise/status.new", bytes) {
@@ -464,8 +466,7 @@ impl ServiceFolder {
         }
     }
 
-    /// Writes a line over the one in `supervise/place`, which is made where it is missing, with room for any other
-    /// line.
+    /// Writes a line over the one in `supervise/place`. Makes the file if it is missing, with room for any other line.
     #[inline(never)]
     pub fn write_place(&self, line: &[u8]) -> io::Result<()> {
         let path = self.path("supervise/place");
@@ -484,33 +485,32 @@ impl ServiceFolder {
         self.replace("supervise/place", "supervise/place.new", &content)
     }
 
-    /// Puts this line, how the last process ended, in the place of the one before. After a fault that stands there.
+    /// Replaces the line that says how the last process ended. After a fault the old line is there.
     pub fn replace_exit(&self, line: &[u8]) -> io::Result<()> {
         self.replace("supervise/exit", "supervise/exit.new", line)
     }
 
-    /// Puts this line, how many processes began and ended, in the place of the one before. After a fault that stands
-    /// there.
+    /// Replaces the line that says how many processes began and ended. After a fault the old line is there.
     pub fn replace_counts(&self, line: &[u8]) -> io::Result<()> {
         self.replace("supervise/counts", "supervise/counts.new", line)
     }
 
-    /// Puts this line, which process the service has, in the place of the one before. After a fault that stands there.
+    /// Replaces the line that says which process the service has. After a fault the old line is there.
     pub fn replace_process(&self, line: &[u8]) -> io::Result<()> {
         self.replace("supervise/process", "supervise/process.new", line)
     }
 
-    /// Removes the counts of an earlier svscan, where they are there.
+    /// Removes the counts of an earlier svscan, if they exist.
     pub fn remove_counts(&self) -> io::Result<()> {
         remove(&self.files, self.path("supervise/counts").as_str())
     }
 
-    /// Puts this text in the place of the trace. After a fault the old one stands there.
+    /// Replaces the text of the trace. After a fault the old text is there.
     pub fn replace_trace(&self, text: &[u8]) -> io::Result<()> {
         self.replace("supervise/trace", "supervise/trace.new", text)
     }
 
-    /// Whether a process runs in this folder that the record in a file names.
+    /// Returns whether the process that the record in a file names runs in this folder.
     fn has_process_of(&self, file: &str) -> bool
         requires { length file.now ≤ 23 }
     {
@@ -520,22 +520,22 @@ impl ServiceFolder {
         process_in(record.as_slice()).map_or(false, |pid| self.is_running(pid))
     }
 
-    /// Whether an svscan that wrote no place may have left a process that is not recorded: one that runs in this folder
-    /// and that the status record, or the copy of an earlier one, names, or one of a start that was asked for and not
-    /// answered.
+    /// Returns whether an svscan that wrote no place may have left a process that is not recorded. That is so if the
+    /// status record, or the copy of an earlier one, names a process that runs in this folder. It is also so if the
+    /// record says that a start was asked for and not answered.
     fn has_unplaced(&self) -> bool {
         is_starting(&self.record())
             || self.has_process_of("supervise/earlier")
             || self.has_process_of("supervise/status")
     }
 
-    /// The status record.
+    /// Returns the status record, if it can be read.
     fn record(&self) -> Option<Loaded> {
         let front = read_status_front(&self.files, self.path("supervise/status").as_str()).ok()?;
         decode_front(front.as_slice()).ok()
     }
 
-    /// The process that was recorded at the last start.
+    /// Returns the process that was recorded at the last start.
     fn process(&self) -> Option<ProcessId>
         ensures { IfSome result (λ process. 0 < process.pid) }
     {
@@ -544,8 +544,8 @@ impl ServiceFolder {
         read_process(line.as_slice())
     }
 
-    /// What `supervise/place` says, if it is of this run of the system. What is no line of a place is an intent of which
-    /// nothing more is known.
+    /// Returns what `supervise/place` says, if it is from this run of the system. Text that is not a valid line of a
+    /// place counts as an intent about which nothing more is known.
     fn place(&self, own: &OwnRun) -> Option<Place> {
         let path = self.path("supervise/place");
         let text = read_front::<HostRuntime, PLACE_BYTES>(&self.files, path.as_str()).ok()?;
@@ -563,7 +563,7 @@ impl ServiceFolder {
         }
     }
 
-    /// The process that the place names, or that was recorded at the last start if the place names none.
+    /// Returns the process that the place names. If the place names none, returns the one recorded at the last start.
     fn last_process(&self, place: &Option<Place>) -> Option<ProcessId>
         ensures number { IfSome result (λ process. 0 < process.pid) }
         ensures placed { IfSome (placed place.now) (λ process. result ≡ Some process) }
@@ -574,8 +574,8 @@ impl ServiceFolder {
         }
     }
 
-    /// What an earlier svscan left of the service, in this run of the system, at this time. `over` is what is left over
-    /// of a start that it intended, if it did.
+    /// Returns what an earlier svscan left of the service, in this run of the system, at this time. `over` is what is
+    /// left over from a start that the earlier svscan intended, if it did.
     #[tactic(auto, using(crate::proofs::Lefts::found_living, crate::proofs::Lefts::found_of_boot))]
     pub fn left(&self, own: &OwnRun, over: Option<Leftover>, label: Label) -> Left
         requires over { IfSome over HasNumber }
@@ -586,7 +586,7 @@ impl ServiceFolder {
         let place = self.place(own);
         let recorded = self.last_process(&place);
         let tick = match &recorded {
-            // Where the kernel can't be asked, it lives.
+            // If the kernel can't be asked, the process counts as alive.
             Some(process) => tick_of(&self.files, process.pid).unwrap_or(Some(process.tick)),
             None => None,
         };
@@ -599,7 +599,7 @@ impl ServiceFolder {
         }
     }
 
-    /// The start that an earlier svscan intended, and of whose process nothing is recorded, if there is one.
+    /// Returns the start that an earlier svscan intended and for which no process is recorded, if there is one.
     pub fn intended(&self, own: &OwnRun) -> Option<Place> {
         match self.place(own) {
             Some(place) if place.is_intent() => Some(place),
@@ -609,8 +609,8 @@ impl ServiceFolder {
         }
     }
 
-    /// What is left over of a start that an earlier svscan intended, by one look at all processes. Where they can't be
-    /// looked at, it is not sure.
+    /// Looks once at all processes, and returns what is left over from a start that an earlier svscan intended. If it
+    /// can't look at them, the result is not sure.
     #[inline(never)]
     pub(crate) fn leftover(
         &self,
@@ -638,13 +638,13 @@ impl ServiceFolder {
         find_leftover(&intent, &all).numbered()
     }
 
-    /// Whether the service begins a session of its own: its folder has a file `setsid`.
+    /// Returns whether the service begins a session of its own: its folder has a file `setsid`.
     #[inline(never)]
     pub(crate) fn begins_session(&self) -> bool {
         fs::metadata(&self.files, self.path("setsid").as_str()).is_ok()
     }
 
-    /// Why nobody can execute `run`, if that shows without an attempt.
+    /// Returns why nobody can execute `run`, if that shows without an attempt.
     #[inline(never)]
     pub(crate) fn look_at_run(&self) -> io::Result<()> {
         let found = fs::metadata(&self.files, self.path("run").as_str())?;
@@ -654,14 +654,14 @@ impl ServiceFolder {
         Ok(())
     }
 
-    /// Whether this file is the standard output of a process.
+    /// Returns whether this file is the standard output of a process.
     #[inline(never)]
     fn has_output(&self, pid: u32, output: Option<FileId>) -> bool {
         let there = fs::metadata(&self.files, path_of_process(pid, "fd/1").as_str());
         is_one_file(FileId::found(there), output)
     }
 
-    /// Whether a process runs in this folder.
+    /// Returns whether a process runs in this folder.
     #[inline(never)]
     pub fn is_running(&self, pid: u32) -> bool {
         let there = fs::metadata(&self.files, path_of_process(pid, "cwd").as_str());

@@ -1,9 +1,14 @@
 //! The real world of one service: its folder, its children, its signals and its status record.
 //!
-//! `ChildWorld` keeps the rules of a service's world over the small trait `ChildSystem`, and is proved: no second copy
-//! of a service that still runs, no signal to a process that may be another's, each start and each death reported once,
-//! which process the service has is recorded at each start, and how it ended at each death, beside how many began and
-//! ended. So is how the shell that sends a signal is asked for it, over the small trait `ShellProcess`. Below these
+//! `ChildWorld` keeps the rules of a service's world over the small trait `ChildSystem`, and is proved:
+//!
+//! - No second copy of a service that still runs is started.
+//! - No signal goes to a process that may belong to somebody else.
+//! - Each start and each death is reported once.
+//! - Each start records which process the service has. Each death records how that process ended, and how many began
+//!   and ended.
+//!
+//! How the shell that sends a signal is asked for it is proved too, over the small trait `ShellProcess`. Below these
 //! traits is the system's own layer, which says nothing to contracts: `ServiceFolder`, `SystemChildren` with their
 //! `ChildReaper`, `AdoptionWatch`, `SignalShell`.
 #![tactic(auto)]

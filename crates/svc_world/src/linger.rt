@@ -5,14 +5,15 @@ ghost use Rattle.svc_world.specs.Linger.{lingers, seen, waits};
 use cmd_base::millis_between;
 use std::time::Duration;
 
-/// How long after a letter the next one is waited for, in milliseconds. A sender whose letter does not fit tries again
-/// after one, and later on a busy machine.
+/// The milliseconds after a letter in which the next one is awaited. A sender whose letter does not fit tries again
+/// after one millisecond, and later on a busy machine.
 const GAP: u64 = 20;
 
-/// How long a death is kept at most, in milliseconds.
+/// The most milliseconds for which a death is kept.
 const LONGEST: u64 = 1000;
 
-/// Whether a death waits that was found so long ago, when the last letter came so long ago, both in milliseconds.
+/// Returns whether a death waits. Both arguments are in milliseconds: since the last letter came, and since the death
+/// was found.
 fn waits(since_letter: u64, since_found: u64) -> bool
     ensures { result ≡ waits since_letter since_found }
 {
@@ -22,7 +23,7 @@ fn waits(since_letter: u64, since_found: u64) -> bool
 /// What is known of the letters and of the death of a child.
 #[derive(Clone, Copy, Debug, PartialEq, Eq)]
 pub(crate) struct Linger {
-    // How many letters there were, and when that changed last.
+    // The number of letters, and when it last changed.
     letters: u64,
     changed: Option<Duration>,
     // When the death was found.
@@ -38,7 +39,7 @@ impl Linger {
         }
     }
 
-    /// A child begins, when so many letters had come.
+    /// Begins with a new child, at a moment when this many letters had come.
     pub(crate) fn begin(&mut self, letters: u64)
         ensures { self.new ≡ record { letters = letters; changed = None; found = None } }
     {
@@ -47,7 +48,7 @@ impl Linger {
         self.found = None;
     }
 
-    /// Whether its death waits at this time, when so many letters have come.
+    /// Returns whether the child's death waits at this time, when this many letters have come.
     pub(crate) fn look(&mut self, letters: u64, now: Duration) -> bool
         ensures seen { self.new ≡ seen letters now self.old }
         ensures waits { result ≡ lingers now self.new }

@@ -1,4 +1,4 @@
-//! The processes of the services of a folder, by their places.
+//! The processes of the services in a folder, read from their places.
 use crate::folder::FileId;
 use crate::processes::{OwnRun, path_of_process, read_front};
 use arrayvec::ArrayVec;
@@ -11,14 +11,14 @@ use svc_left::{PLACE_BYTES, Place, ProcessId, first_line, read_place, read_proce
 /// What is known of the services next to a service.
 #[derive(Drop)]
 pub(crate) struct Near {
-    /// The processes that are recorded of them.
+    /// Their recorded processes.
     pub(crate) known: Vec<ProcessId>,
-    /// The folders of those of which a start is not known either.
+    /// The folders of those whose start is not known either.
     open: Vec<FileId>,
 }
 
 impl Near {
-    /// In which of the open folders a process runs, by its number from 1. 0 if it runs in none.
+    /// Returns the number, counted from 1, of the open folder in which a process runs. Returns 0 if it runs in none.
     pub(crate) fn folder_of<R: Files<File = File>>(&self, files: &R, pid: u32) -> u64 {
         let there = FileId::found(fs::metadata(files, path_of_process(pid, "cwd").as_str()));
         match self.open.iter().position(|open| Some(*open) == there) {
@@ -37,7 +37,7 @@ pub struct Neighbours {
 }
 
 impl Neighbours {
-    /// Those of no folder.
+    /// Makes the neighbours of no folder.
     pub fn new(files: HostRuntime, alloc: Global) -> Neighbours {
         Neighbours {
             files,
@@ -46,15 +46,15 @@ impl Neighbours {
         }
     }
 
-    /// Those of this folder from now on.
+    /// Uses the services of this folder from now on.
     pub fn set_folder<R: Wait>(&self, rt: &R, folder: &str) -> Result<(), AllocError> {
         let folder = String::from_str(self.alloc, folder)?;
         *self.folder.lock(rt) = folder;
         Ok(())
     }
 
-    /// What is known of them in this run of the system, for a service of which the svscan of this session intended a
-    /// start.
+    /// Returns what is known of them in this run of the system. It is used for a service whose start the svscan of this
+    /// session intended.
     #[inline(never)]
     pub(crate) fn near<R: Wait>(&self, rt: &R, own: &OwnRun, session: u64) -> io::Result<Near> {
         let folder = self.folder.lock(rt);
@@ -65,7 +65,7 @@ impl Neighbours {
         for entry in fs::read_dir(&(&self.files, &self.alloc), folder.as_str())? {
             match entry {
                 Ok(entry) => self.add(&mut near, folder.as_str(), entry.file_name(), own, session)?,
-                // A name that is no text is no service.
+                // A name that is not text is not a service.
                 Err(fault) if fault.kind() == io::ErrorKind::InvalidFilename => {}
                 Err(fault) => return Err(fault),
             }
@@ -73,7 +73,7 @@ impl Neighbours {
         Ok(near)
     }
 
-    // Adds what is known of the service of this name in a folder, and of its logger.
+    // Adds what is known of the service with this name in a folder, and of its logger.
     fn add(
         &self,
         near: &mut Near,
@@ -98,7 +98,7 @@ impl Neighbours {
         Ok(())
     }
 
-    // What the place of the service in a folder says.
+    // Returns what the place of the service in a folder says.
     fn place_at(&self, path: &str) -> io::Result<Option<Place>> {
         let path = format!(in self.alloc; "{path}/supervise/place")?;
         match self.front::<PLACE_BYTES>(path.as_str())? {
@@ -107,7 +107,8 @@ impl Neighbours {
         }
     }
 
-    // The process that is recorded of the service in a folder, which has this place, if one of this boot is.
+    // Returns the process recorded for the service in a folder, which has this place, if one from this boot is
+    // recorded.
     fn process_at(
         &self,
         path: &str,
@@ -127,7 +128,7 @@ impl Neighbours {
         }
     }
 
-    // The front of a file, if it is there.
+    // Returns the front of a file, if it exists.
     fn front<const N: usize>(&self, path: &str) -> io::Result<Option<ArrayVec<u8, N>>> {
         match read_front::<HostRuntime, N>(&self.files, path) {
             Ok(front) => Ok(Some(front)),
@@ -137,7 +138,7 @@ impl Neighbours {
     }
 }
 
-// Whether a place intends a start of the svscan of this session, in this run of the system.
+// Returns whether a place intends a start by the svscan of this session, in this run of the system.
 fn is_open(place: Option<Place>, own: &OwnRun, session: u64) -> bool {
     match place {
         Some(place) => {
@@ -147,7 +148,7 @@ fn is_open(place: Option<Place>, own: &OwnRun, session: u64) -> bool {
     }
 }
 
-// Whether a fault says that there is no such file.
+// Returns whether a fault says that there is no such file.
 fn is_absent(fault: &io::Error) -> bool {
     matches!(
         fault.kind(),

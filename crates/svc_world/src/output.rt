@@ -1,8 +1,9 @@
-//! The output of a service that has a logger: what it writes waits there for whoever reads it.
+//! The output of a service that has a logger: what the service writes waits there until somebody reads it.
 //!
-//! It is a FIFO in the folder of the service, which each of its processes has open for reading too. So a process that
-//! writes while there is no svscan gets no signal and no error: it waits once the FIFO is full, and goes on with the
-//! next svscan. Only where the folder can hold no FIFO at all it is a pipe, which ends with svscan.
+//! It is a FIFO in the folder of the service, and each process of the service has it open for reading too. A process
+//! that writes while there is no svscan therefore gets no signal and no error: it waits once the FIFO is full, and goes
+//! on with the next svscan. Only if the folder can hold no FIFO at all is the output a pipe, which is gone when svscan
+//! ends.
 ghost use Rattle.std.specs.Prelude.{◌≡◌};
 ghost use Rattle.svc_world.specs.Flow.{may_be_pipe};
 
@@ -19,7 +20,8 @@ use std::time::Clock;
 use std::{fs, io};
 use tai_status::Cause;
 
-/// The two ends of an output, what is read and what the processes of the service have, and what is counted of it.
+/// The two ends of an output: the one to read, and the one that the service's processes have. What is counted of the
+/// output is with them.
 #[derive(Drop)]
 pub struct OutputEnds {
     pub read: ServiceOutput,
@@ -34,7 +36,7 @@ fn is_fifo<R: Files<File = File>>(files: &R, path: &str) -> bool {
     }
 }
 
-/// Makes FIFOs at these paths that are their owner's alone, by one call of the system's own tool.
+/// Makes FIFOs at these paths for their owner alone, by one call of the system's own tool.
 fn make_fifos<R: Processes<Started = SystemProcess> + Wait>(
     rt: &R,
     alloc: Global,
@@ -49,8 +51,8 @@ fn make_fifos<R: Processes<Started = SystemProcess> + Wait>(
     Ok(())
 }
 
-/// Whether the FIFO of the service in a folder is to be made: it is missing, and no svscan has the service. A file in
-/// its place is removed.
+/// Returns whether the FIFO of the service in a folder is to be made: it is missing, and no svscan has the service.
+/// Removes a file that is in its place.
 fn lacks_fifo<R: Files<File = File>>(
     files: &R,
     alloc: Global,
@@ -64,8 +66,8 @@ fn lacks_fifo<R: Files<File = File>>(
     Ok(true)
 }
 
-/// Makes the FIFOs of the services in these folders, where they are missing, by one call. Those that can't be made now
-/// are tried again one by one, as each output is opened.
+/// Makes the missing FIFOs of the services in these folders, by one call. Those that can't be made now are tried again
+/// one by one, when each output is opened.
 pub fn prepare_outputs<R: Processes<Started = SystemProcess> + Wait>(
     rt: &R,
     files: &HostRuntime,
@@ -85,25 +87,26 @@ pub fn prepare_outputs<R: Processes<Started = SystemProcess> + Wait>(
     make_fifos(rt, alloc, &paths)
 }
 
-/// The path of the FIFO of the service in a folder.
+/// Returns the path of the FIFO of the service in a folder.
 fn path_of_output(alloc: Global, folder: &str) -> io::Result<String> {
     Ok(format!(in alloc; "{folder}/supervise/out")?)
 }
 
-/// The lock of the service in a folder, not taken.
+/// Opens the lock of the service in a folder, without taking it.
 fn lock_of<R: Files<File = File>>(files: &R, alloc: Global, folder: &str) -> io::Result<File> {
     make_supervise(files, alloc, folder)?;
     let lock = format!(in alloc; "{folder}/supervise/lock")?;
     open_lock(files, lock.as_str())
 }
 
-/// Whether no svscan has the service in a folder.
+/// Returns whether no svscan has the service in a folder.
 fn is_free<R: Files<File = File>>(files: &R, alloc: Global, folder: &str) -> io::Result<bool> {
     let file = lock_of(files, alloc, folder)?;
     if file.try_lock().is_err() {
         return Ok(false);
     }
-    // A child that starts just now has the file too, until it executes its program: closing alone would leave the lock.
+    // A child that is just being started has the file too, until it executes its program: closing it alone would leave
+    // the lock.
     file.unlock()?;
     Ok(true)
 }
@@ -111,11 +114,11 @@ fn is_free<R: Files<File = File>>(files: &R, alloc: Global, folder: &str) -> io:
 /// Why the FIFO of a service is not opened.
 #[derive(Clone, Copy, Debug, PartialEq, Eq)]
 pub enum FifoFault {
-    /// The lock of the service is held elsewhere: others may write to the FIFO.
+    /// Somebody else holds the lock of the service, and others may write to the FIFO.
     Held,
-    /// Its folder holds other files, and no FIFO.
+    /// Its folder can hold other files, but no FIFO.
     Unfit,
-    /// Something else, which may pass.
+    /// Some other fault, which may pass.
     Refused(Cause),
 }
 
@@ -131,8 +134,8 @@ impl From<AllocError> for FifoFault {
     }
 }
 
-/// Whether a pipe serves in the place of a FIFO that is not opened: only where no FIFO can be there at all, since
-/// another reader of the service's output, or a service that has the FIFO, would be left alone.
+/// Returns whether a pipe may replace a FIFO that is not opened. It may only if no FIFO can be there at all. Otherwise
+/// another reader of the service's output, or a service that has the FIFO, would be cut off.
 fn may_be_pipe(fault: FifoFault) -> bool
     ensures { result ≡ may_be_pipe fault }
 {
@@ -142,7 +145,7 @@ fn may_be_pipe(fault: FifoFault) -> bool
     }
 }
 
-/// What is reported of a FIFO that is not opened.
+/// Returns what is reported about a FIFO that is not opened.
 fn folder_fault(fault: FifoFault) -> FolderFault {
     match fault {
         FifoFault::Held => FolderFault::Locked,
@@ -151,7 +154,7 @@ fn folder_fault(fault: FifoFault) -> FolderFault {
     }
 }
 
-/// Whether the folder of this path holds a file that is made there now.
+/// Checks that the folder of this path can hold files, by making one at the path now.
 fn holds_files(files: &HostRuntime, path: &str) -> io::Result<()> {
     let mut how = OpenOptions::new();
     how.write(true).create_new(true);
@@ -160,7 +163,7 @@ fn holds_files(files: &HostRuntime, path: &str) -> io::Result<()> {
     remove(files, path)
 }
 
-/// Makes the FIFO at a path, where it is missing. A file in its place is removed.
+/// Makes the FIFO at a path, if it is missing. Removes a file that is in its place.
 fn make_fifo<R: Processes<Started = SystemProcess> + Wait>(
     rt: &R,
     files: &HostRuntime,
@@ -180,8 +183,8 @@ fn make_fifo<R: Processes<Started = SystemProcess> + Wait>(
     Err(FifoFault::Unfit)
 }
 
-/// Opens the FIFO of the service in a folder, to be read and to be written. Its lock is tried while it is held
-/// elsewhere, as long as there is patience.
+/// Opens the FIFO of the service in a folder, once for reading and once for writing. If somebody else holds the
+/// service's lock, tries until patience runs out, and then returns `Held`.
 fn open_fifo<R: Processes<Started = SystemProcess> + Clock + Wait>(
     rt: &R,
     files: &HostRuntime,
@@ -193,11 +196,11 @@ fn open_fifo<R: Processes<Started = SystemProcess> + Clock + Wait>(
     if patience.lock(rt, &lock).is_err() {
         return Err(FifoFault::Held);
     }
-    // A child that starts just now has the file too: closing alone would leave the lock.
+    // A child that is just being started has the file too: closing it alone would leave the lock.
     lock.unlock()?;
     let path = path_of_output(alloc, folder)?;
     make_fifo(rt, files, alloc, path.as_str())?;
-    // The end that can be written is open first, so that the other one does not wait for it.
+    // The writing end is opened first, so that opening the other one does not wait for it.
     let mut how = OpenOptions::new();
     how.read(true).write(true);
     let write = how.open(files, path.as_str())?;
@@ -205,7 +208,7 @@ fn open_fifo<R: Processes<Started = SystemProcess> + Clock + Wait>(
     Ok((read, write))
 }
 
-/// A pipe, as files to be read and to be written.
+/// Makes a pipe, and returns its ends as files, the reading end first.
 fn open_pipe(files: &HostRuntime, alloc: Global) -> io::Result<(File, File)> {
     let (reader, writer) = io::pipe(files)?;
     let read = format!(in alloc; "/proc/self/fd/{}", reader.as_raw_fd())?;
@@ -218,7 +221,7 @@ fn open_pipe(files: &HostRuntime, alloc: Global) -> io::Result<(File, File)> {
     ))
 }
 
-/// The ends of an output that is read and written by these files.
+/// Returns the ends of an output that is read and written through these files.
 fn ends_of(
     alloc: Global,
     read: File,

@@ -1,8 +1,8 @@
-//! What is written of a service, what of it is owed, and what is said of it.
+//! What is written about a service, what of it is owed, and what is said about the service.
 ghost use Rattle.std.specs.Prelude.{◌≡◌};
 ghost use Rattle.svc_world.specs.Owed.{first_owed, is_owed, with_owed};
 
-/// What is written of a service, each into a file of its own in `supervise/`.
+/// What is written about a service. Each paper has a file of its own in `supervise/`.
 #[derive(Clone, Copy, Debug, PartialEq, Eq)]
 pub enum Paper {
     /// Which process runs, or that one is about to be started, and what is wanted.
@@ -17,18 +17,18 @@ pub enum Paper {
     Counts,
 }
 
-/// What svscan says of a service on its standard error.
+/// What svscan says about a service on its standard error.
 #[derive(Clone, Copy, Debug, PartialEq, Eq)]
 pub enum Remark {
-    /// The service is not started, since the process of this number still runs.
+    /// The service is not started, because the process with this number still runs.
     StillRuns(u32),
-    /// A paper can't be written. It is tried again.
+    /// A paper can't be written. It will be tried again.
     Unwritten(Paper),
     /// All that was owed is written.
     AllWritten,
 }
 
-/// Which papers are still to be written, as they are now.
+/// The papers that are still to be written, each with its present content.
 #[derive(Clone, Copy, Debug, PartialEq, Eq)]
 pub struct Owed {
     pub place: bool,
@@ -41,7 +41,7 @@ pub struct Owed {
 impl Owed {
     ghost use Rattle.svc_world.specs.Owed.{nothing_owed};
 
-    /// None.
+    /// Returns that nothing is owed.
     pub(crate) fn nothing() -> Owed
         ensures { result ≡ nothing_owed }
     {
@@ -54,7 +54,7 @@ impl Owed {
         }
     }
 
-    /// The same, but that this paper is owed or not.
+    /// Returns the same, except that this paper is owed or not.
     pub(crate) fn with(self, paper: Paper, owed: bool) -> Owed
         ensures { result ≡ with_owed paper owed self }
     {
@@ -79,7 +79,7 @@ impl Owed {
         }
     }
 
-    /// Whether this paper is owed.
+    /// Returns whether this paper is owed.
     pub(crate) fn has(&self, paper: Paper) -> bool
         ensures { result ≡ is_owed paper self.now }
     {
@@ -92,7 +92,7 @@ impl Owed {
         }
     }
 
-    /// The first paper that is owed.
+    /// Returns the first paper that is owed.
     pub(crate) fn first(&self) -> Option<Paper>
         ensures { result ≡ first_owed self.now }
     {

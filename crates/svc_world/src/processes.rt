@@ -1,4 +1,4 @@
-//! Processes of this system that are no children of this one.
+//! Processes of this system that are not children of this one.
 ghost use Rattle.std.specs.Prelude.{◌≡◌, ◌<◌, ◌≤◌, length, take, option_and_then, false, true, IfErr, IfOk, IfSome};
 ghost use Rattle.std.specs.Io.{ReadsAtMost};
 ghost use Rattle.std.specs.Io.KnownBytes.{Consumes, IsAtEnd};
@@ -19,14 +19,15 @@ use sup_core::read_number;
 use svc_left::{BootId, Intent, Place, ProcessId, Seen};
 use tai_status::Want;
 
-/// The error number of a process that is gone (errno(3)).
+/// The error number for a process that is gone (errno(3)).
 const ESRCH: i32 = 3;
 
-/// How much of a process's line is read: up to the tick at which it began, whatever the program's name.
+/// The number of bytes read of a process's line: enough to reach the tick at which it began, whatever the program's
+/// name.
 const STAT_BYTES: usize = 512;
 
-/// Fills a buffer from its start with what a reader gives, in as many reads as that takes, and says how many bytes
-/// that were: fewer than it has room for only where the reader is at its end. After a fault those that came are lost.
+/// Fills a buffer from its start with bytes from a reader, in as many reads as that takes. Returns how many bytes these
+/// were: fewer than there is room for only if the reader is at its end. After a fault the bytes read so far are lost.
 fn fill<R: Read>(reader: &mut R, buffer: &mut [u8]) -> io::Result<usize>
     ensures bound { ReadsAtMost result buffer.new }
     ensures given { IfOk result (λ count. Consumes (R.remaining reader.old) (R.remaining reader.new)
@@ -44,7 +45,7 @@ fn fill<R: Read>(reader: &mut R, buffer: &mut [u8]) -> io::Result<usize>
     Ok(filled)
 }
 
-/// The first bytes of a file.
+/// Returns the first bytes of a file.
 #[inline(never)]
 pub(crate) fn read_front<R: Files<File = File>, const N: usize>(
     files: &R,
@@ -58,7 +59,7 @@ pub(crate) fn read_front<R: Files<File = File>, const N: usize>(
     Ok(front)
 }
 
-/// The path of a name in the folder that the kernel has of a process.
+/// Returns the path of a name in the kernel's folder of a process.
 pub(crate) fn path_of_process(pid: u32, name: &str) -> ShortPath
     requires { length name.now ≤ 23 }
     ensures { result.bytes ≡ path_of_process pid name.now }
@@ -71,16 +72,16 @@ pub(crate) fn path_of_process(pid: u32, name: &str) -> ShortPath
     path
 }
 
-/// Where the kernel's lines of processes are read. Contracts see what is reported of the process of a number, where
-/// that is known.
+/// Reads the kernel's lines about processes. Contracts see what is reported for a process number, if that is known.
 pub(crate) trait StatSource {
     ghost use Rattle.std.specs.Prelude.{◌≡◌, ℕ, Option, None, IfOk, IfSome};
     ghost use Rattle.svc_world.specs.declared.stat.Stat.{Stat};
 
-    // what is reported of the process of a number, if there is one
+    // what is reported for a process number, if there is such a process
     ghost stat_at: { Self → ℕ → Option (Option Stat) } = { λ _ _. None };
 
-    /// What the kernel says of the process of this number, if there is one, or why it can't be asked.
+    /// Returns what the kernel says about the process with this number, if there is one. A fault says why the kernel
+    /// can't be asked.
     fn stat_of(&self, pid: u32) -> io::Result<Option<Stat>>
         ensures { IfOk result (λ found. IfSome (stat_at self.now pid) (λ reported. found ≡ reported)) };
 }
@@ -92,8 +93,8 @@ impl StatSource for HostRuntime {
     }
 }
 
-/// What the kernel says of the process of this number, if there is one, in one read; or why it can't be asked, as for
-/// want of a descriptor. That it is gone takes none to see.
+/// Returns what the kernel says about the process with this number, if there is one, in one read. A fault says why the
+/// kernel can't be asked, for example out of descriptors. Seeing that a process is gone needs no descriptor.
 #[inline(never)]
 fn stat_of<R: Files<File = File>>(files: &R, pid: u32) -> io::Result<Option<Stat>> {
     if folder_of(files, pid)?.is_none() {
@@ -113,8 +114,8 @@ fn stat_of<R: Files<File = File>>(files: &R, pid: u32) -> io::Result<Option<Stat
     }
 }
 
-/// The tick at which the process of this number began that lives now, if there is one, or why the kernel can't be
-/// asked.
+/// Returns the tick at which the living process with this number began, if there is one. A fault says why the kernel
+/// can't be asked.
 pub(crate) fn tick_of<S: StatSource>(processes: &S, pid: u32) -> io::Result<Option<u64>>
     ensures { IfOk result (λ tick.
         IfSome (S.stat_at processes.now pid) (λ reported. tick ≡ option_and_then living_tick reported)) }
@@ -125,8 +126,8 @@ pub(crate) fn tick_of<S: StatSource>(processes: &S, pid: u32) -> io::Result<Opti
     }
 }
 
-/// Whether the process lives that began at this tick, by what was found of the one of its number. Where the kernel
-/// could not be asked, it does: taken for dead it would be started again.
+/// Returns whether the process that began at this tick lives, from what was found for its number. If the kernel could
+/// not be asked, it counts as alive: if it were taken for dead, the service would be started twice.
 pub(crate) fn lives_by(found: io::Result<Option<Stat>>, tick: u64) -> bool
     ensures asked { IfOk found (λ stat. LivesSince tick stat result) }
     ensures unasked { IfErr found (λ _. result ≡ true) }
@@ -138,14 +139,14 @@ pub(crate) fn lives_by(found: io::Result<Option<Stat>>, tick: u64) -> bool
     }
 }
 
-/// Whether the process of this number is not known to be gone that began at this tick.
+/// Returns whether the process with this number that began at this tick is not known to be gone.
 fn lives<S: StatSource>(processes: &S, pid: u32, tick: u64) -> bool
     ensures { result ≡ false → IfSome (S.stat_at processes.now pid) (λ reported. LivesSince tick reported false) }
 {
     lives_by(processes.stat_of(pid), tick)
 }
 
-/// This process, of which an svscan is one: in which boot and since which first process it runs, and its session.
+/// This process, which is an svscan: the boot and the first process under which it runs, and its session.
 #[derive(Clone, Copy, Debug, PartialEq, Eq)]
 pub struct OwnRun {
     pub boot: Option<BootId>,
@@ -157,7 +158,7 @@ pub struct OwnRun {
     pub tick: u64,
 }
 
-/// What the kernel says of the process of this number, if it says anything.
+/// Returns what the kernel says about the process with this number, if it says anything.
 fn known_stat(files: &HostRuntime, pid: u32) -> Option<Stat> {
     match files.stat_of(pid) {
         Ok(found) => found,
@@ -165,14 +166,14 @@ fn known_stat(files: &HostRuntime, pid: u32) -> Option<Stat> {
     }
 }
 
-/// The boot in the place of a service, if the kernel does not name it. Such a place counts for no svscan.
+/// The boot in the place of a service if the kernel does not name the boot. No svscan accepts such a place.
 const UNKNOWN_BOOT: BootId = [b'-'; 36];
 
 /// The number of the first process.
 const INIT: u32 = 1;
 
 impl OwnRun {
-    /// Whether this is the boot.
+    /// Returns whether this process runs in that boot.
     pub(crate) fn is_in(&self, boot: &BootId) -> bool {
         match self.boot {
             Some(own) => own == *boot,
@@ -180,7 +181,7 @@ impl OwnRun {
         }
     }
 
-    /// The place of a service that has not been started in this run of the system.
+    /// Returns the place of a service that has not been started in this run of the system.
     pub fn vacant(&self) -> Place {
         Place {
             pid: 0,
@@ -192,7 +193,7 @@ impl OwnRun {
         }
     }
 
-    /// What the kernel says of this process, whose number this is. What it does not say is 0.
+    /// Returns what the kernel says about this process, which has this number. What it does not say is 0.
     pub fn find(files: &HostRuntime, pid: u32) -> OwnRun {
         let own = known_stat(files, pid);
         let init = known_stat(files, INIT);
@@ -206,8 +207,9 @@ impl OwnRun {
     }
 }
 
-/// All processes of the system, as they are seen now. Of those that began since the intent `is_here` says whether they
-/// are the service's, and of others it is looked in the folder of which neighbour they run.
+/// Returns all processes of the system as they are seen now. For those that began since the intent, `is_here` says
+/// whether they are the service's. For the others that began since then, the neighbour in whose folder they run is
+/// looked up.
 #[inline(never)]
 pub(crate) fn see_all<R: Files<File = File> + StatSource, F: Fn(u32) -> bool>(
     files: &R,
@@ -246,18 +248,19 @@ pub(crate) fn see_all<R: Files<File = File> + StatSource, F: Fn(u32) -> bool>(
     Ok(all)
 }
 
-/// Whether the process of this number, which began at this tick, is one of these.
+/// Returns whether the process with this number, which began at this tick, is in this list.
 fn is_among(known: &[ProcessId], pid: u32, tick: u64) -> bool {
     known.iter().any(|one| one.pid == pid && one.tick == tick)
 }
 
-/// The boot, where the kernel names it.
+/// Returns the boot, if the kernel names it.
 pub fn boot_id<R: Files<File = File>>(files: &R) -> Option<BootId> {
     let front = read_front::<R, 36>(files, "/proc/sys/kernel/random/boot_id").ok()?;
     BootId::try_from(front.as_slice()).ok()
 }
 
-/// The number of the kernel's folder of a process, if it has one: no other process's folder has that.
+/// Returns the inode number of the kernel's folder of a process, if it has one. No other process's folder has that
+/// number.
 #[inline(never)]
 pub(crate) fn folder_of<R: Files<File = File>>(files: &R, pid: u32) -> io::Result<Option<u64>> {
     let path = path_of_process(pid, "");
@@ -268,14 +271,14 @@ pub(crate) fn folder_of<R: Files<File = File>>(files: &R, pid: u32) -> io::Resul
     }
 }
 
-/// Whether the process of this number may have ended and wait for its parent: it runs in no folder any more. One look,
-/// that needs no descriptor. Where the kernel does not say it, it may have.
+/// Returns whether the process with this number may have ended and wait for its parent: it no longer runs in any
+/// folder. This takes one look, which needs no descriptor. If the kernel does not say, the process may have ended.
 #[inline(never)]
 pub(crate) fn has_ended<R: Files<File = File>>(files: &R, pid: u32) -> bool {
     fs::metadata(files, path_of_process(pid, "cwd").as_str()).is_err()
 }
 
-/// A process that is no child of this one, and is not mistaken for another.
+/// A process that is not a child of this one. Its tick keeps it from being mistaken for another.
 #[derive(Clone, Copy)]
 pub(crate) struct AdoptedProcess {
     pub(crate) files: HostRuntime,
@@ -284,7 +287,7 @@ pub(crate) struct AdoptedProcess {
 }
 
 impl AdoptedProcess {
-    /// Whether it lives, as far as is known.
+    /// Returns whether it lives, as far as is known.
     pub(crate) fn lives(&self) -> bool {
         lives(&self.files, self.pid, self.tick)
     }

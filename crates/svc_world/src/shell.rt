@@ -7,10 +7,10 @@ use std::process::{Child, Command, Processes, Stdio, SystemProcess};
 use std::sync::{Mutex, Wait};
 use sup_core::Sig;
 
-/// What the shell runs: it ends with its input, and passes over a process that is gone.
+/// What the shell runs. It ends at the end of its input, and ignores a process that is gone.
 const SCRIPT: &str = "while read -r s n; do kill -$s $n 2>/dev/null; done";
 
-/// The system's own shell, where it runs. It says nothing to contracts.
+/// The system's own shell, while it runs. It says nothing to contracts.
 #[derive(Drop)]
 struct SystemShell<R: Processes<Started = SystemProcess> + Drop> {
     runtime: R,
@@ -18,7 +18,7 @@ struct SystemShell<R: Processes<Started = SystemProcess> + Drop> {
     child: Option<Child<SystemProcess>>,
 }
 
-/// One shell that sends the signals of all services. It is started again where it died.
+/// The one shell that sends the signals of all services. It is restarted if it died.
 #[derive(Drop)]
 pub struct SignalShell<R: Processes<Started = SystemProcess> + Wait + Copy + Drop> {
     runtime: R,
@@ -70,8 +70,8 @@ impl<R: Processes<Started = SystemProcess> + Drop> ShellProcess for SystemShell<
 }
 
 impl<R: Processes<Started = SystemProcess> + Wait + Copy + Drop> SignalShell<R> {
-    /// The shell, which is started at once, so that signals go out where later nothing can be started. Where it can't
-    /// be started now, it is with the first signal.
+    /// Makes the shell, and starts it at once, so that signals can be sent even if nothing can be started later. If it
+    /// can't be started now, the first signal starts it.
     pub fn new(runtime: R, alloc: Global) -> SignalShell<R> {
         let mut shell = SystemShell {
             runtime,
@@ -85,7 +85,7 @@ impl<R: Processes<Started = SystemProcess> + Wait + Copy + Drop> SignalShell<R> 
         }
     }
 
-    /// Has the shell send a signal to the process of this number.
+    /// Lets the shell send a signal to the process with this number.
     pub fn signal(&self, sig: Sig, pid: u32) {
         let mut shell = self.shell.lock(&self.runtime);
         send_signal(&mut *shell, sig, pid)

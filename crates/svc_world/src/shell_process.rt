@@ -9,11 +9,11 @@ use cmd_base::push_number;
 use std::io;
 use sup_core::{Sig, sig_name};
 
-/// How long a line to the shell is at most.
+/// The most bytes in a line to the shell.
 const LINE_BYTES: usize = 32;
 
-/// A shell that sends the signals of the lines that it takes. Contracts see the calls with their answers, in order
-/// (`calls`), where they are kept.
+/// A shell that sends the signals that its lines name. Contracts see the calls and their results, in order (`calls`),
+/// while they are recorded.
 pub(crate) trait ShellProcess {
     ghost use Rattle.std.specs.Prelude.{Option, None, List, [], ◌∷◌, is_ok};
     ghost use Rattle.svc_world.specs.Shell.{ShellCall, Sent, Ended, Started};
@@ -21,20 +21,20 @@ pub(crate) trait ShellProcess {
 
     ghost calls: { Self → Option (List ShellCall) } = { λ _. None };
 
-    /// Sends the shell a line. A fault is that it did not take all of it.
+    /// Sends the shell a line. A fault means that it did not take the whole line.
     fn send(&mut self, line: &str) -> io::Result<()>
         ensures calls { Extended (calls self.old) (calls self.new) (Sent line.now (is_ok result) ∷ []) };
 
-    /// Ends the shell: it sends the signals of the lines that it took, and meets the end of its input.
+    /// Ends the shell: it sends the signals of the lines that it took, and reaches the end of its input.
     fn end(&mut self)
         ensures calls { Extended (calls self.old) (calls self.new) (Ended ∷ []) };
 
-    /// Starts another shell, where there is none.
+    /// Starts another shell, if there is none.
     fn start(&mut self) -> io::Result<()>
         ensures calls { Extended (calls self.old) (calls self.new) (Started (is_ok result) ∷ []) };
 }
 
-/// The line that asks the shell for a signal.
+/// Returns the line that asks the shell for a signal.
 fn signal_line(name: &str, pid: u32) -> ArrayString<LINE_BYTES>
     requires { length name.now ≤ 6 }
     ensures { result.bytes ≡ signal_line name.now pid }
@@ -47,8 +47,8 @@ fn signal_line(name: &str, pid: u32) -> ArrayString<LINE_BYTES>
     line
 }
 
-/// Sends a line to a shell. One that does not take it is ended, and another one is started and sent it, once.
-/// Where that fails too, nothing is sent.
+/// Sends a line to a shell. If the shell does not take it, ends that shell, starts another one and sends it the line,
+/// once. If that fails too, nothing is sent.
 fn send_line<S: ShellProcess>(shell: &mut S, line: &str)
     ensures { SendsLine line.now (S.calls shell.old) (S.calls shell.new) }
 {
@@ -61,7 +61,7 @@ fn send_line<S: ShellProcess>(shell: &mut S, line: &str)
     }
 }
 
-/// Has a shell send a signal to the process of this number.
+/// Lets a shell send a signal to the process with this number.
 pub(crate) fn send_signal<S: ShellProcess>(shell: &mut S, sig: Sig, pid: u32)
     ensures { SendsLine (signal_line (signal_name sig) pid) (S.calls shell.old) (S.calls shell.new) }
 {

@@ -1,4 +1,4 @@
-//! What the kernel's line of a process reports, and what follows of that.
+//! What the kernel's line about a process reports, and what follows from that.
 ghost use Rattle.std.specs.Prelude.{◌≡◌, option_copied, slice_get};
 ghost use Rattle.sup_core.specs.Reading.{fields};
 ghost use Rattle.svc_world.specs.Stats.{behind_name, is_dead};
@@ -6,10 +6,10 @@ ghost use Rattle.svc_world.specs.Stats.{behind_name, is_dead};
 use sup_core::{read_number, split_field};
 use svc_left::Seen;
 
-/// What the line of a process reports of it (proc(5), `stat`).
+/// What the line about a process reports (proc(5), `stat`).
 #[derive(Clone, Copy, Debug, PartialEq, Eq)]
 pub(crate) struct Stat {
-    /// Whether it died, and its parent has not waited for it.
+    /// Whether the process died and its parent has not waited for it.
     has_died: bool,
     /// The number of its parent.
     parent: u64,
@@ -19,7 +19,7 @@ pub(crate) struct Stat {
     tick: u64,
 }
 
-/// What stands behind the last parenthesis of a process's line, which ends the program's name.
+/// Returns what comes after the last parenthesis of a process's line, which ends the program's name.
 fn behind_name(line: &[u8]) -> &[u8]
     ensures { result.now ≡ behind_name line.now }
 {
@@ -30,7 +30,7 @@ fn behind_name(line: &[u8]) -> &[u8]
     &line[from..]
 }
 
-/// The field at a place behind the name. That of how the process stands is the first.
+/// Returns the field at a place after the name. The process's state is the first one.
 fn field_at(behind: &[u8], place: usize) -> Option<&[u8]>
     ensures { option_copied result ≡ slice_get (fields behind.now) place }
 {
@@ -41,7 +41,7 @@ fn field_at(behind: &[u8], place: usize) -> Option<&[u8]>
     Some(split_field(rest).0)
 }
 
-/// Whether a process that stands so is a zombie or dead.
+/// Returns whether a process in this state is a zombie or dead.
 fn is_dead(state: &[u8]) -> bool
     ensures { result ≡ is_dead state.now }
 {
@@ -55,7 +55,7 @@ impl Stat {
     ghost use Rattle.std.specs.Prelude.{◌≡◌, ◌↔◌, IsTrue, IfSome, Some};
     ghost use Rattle.svc_world.specs.Stats.{FitsStat, SaysStat, living_tick, seen_as};
 
-    /// What the line of a process reports. None where it is no such line.
+    /// Reads what the line about a process reports. Returns None if it is not such a line.
     pub(crate) fn read(line: &[u8]) -> Option<Stat>
         ensures reported { IfSome result (λ stat. SaysStat line.now stat) }
         ensures only { (stat : Stat) → FitsStat stat → SaysStat line.now stat → result ≡ Some stat }
@@ -69,21 +69,21 @@ impl Stat {
         })
     }
 
-    /// The tick at which the process began, where it lives.
+    /// Returns the tick at which the process began, if it lives.
     pub(crate) fn living_tick(&self) -> Option<u64>
         ensures { result ≡ living_tick self.now }
     {
         if self.has_died { None } else { Some(self.tick) }
     }
 
-    /// Whether the process lives, and is the one that began at this tick.
+    /// Returns whether the process lives, and is the one that began at this tick.
     pub(crate) fn lives_since(&self, tick: u64) -> bool
         ensures { IsTrue result ↔ (living_tick self.now ≡ Some tick) }
     {
         self.living_tick() == Some(tick)
     }
 
-    /// The process of this number, as it is seen in a look at all processes.
+    /// Returns the process with this number, as a look at all processes sees it.
     pub(crate) fn seen(&self, pid: u32) -> Seen
         ensures { result ≡ seen_as pid self.now }
     {
@@ -100,14 +100,14 @@ impl Stat {
         }
     }
 
-    /// Its session.
+    /// Returns its session.
     pub(crate) fn session(&self) -> u64
         ensures { result ≡ self.now.session }
     {
         self.session
     }
 
-    /// The tick at which it began.
+    /// Returns the tick at which it began.
     pub(crate) fn tick(&self) -> u64
         ensures { result ≡ self.now.tick }
     {

@@ -18,14 +18,14 @@ pub struct Surroundings<R: Processes<Started = SystemProcess> + Wait + Copy + Dr
     pub own: OwnRun,
     /// The shell that sends their signals.
     pub shell: SignalShell<R>,
-    /// The services next to each.
+    /// The services of the folder, and their loggers.
     pub neighbours: Neighbours,
-    /// What looks after the processes that are adopted.
+    /// The thread that watches adopted processes.
     pub adoptions: AdoptionWatch,
 }
 
 impl<R: Processes<Started = SystemProcess> + Wait + Copy + Drop> Surroundings<R> {
-    /// What is left over of the start that this place of the service in a folder intends.
+    /// Returns what is left over from the start that this place of the service in a folder intends.
     pub fn leftover(&self, rt: &R, alloc: Global, folder: &ServiceFolder, place: &Place) -> Leftover
         ensures { HasNumber result }
     {

@@ -29,8 +29,8 @@ use svc_house::Notifier;
 use svc_left::{Leftover, Place};
 use tai_status::{Cause, Label, TimeSource};
 
-/// What the children of a service have as standard input and output, each one after the other. What is None they have
-/// from this process.
+/// The standard input and output of a service's children, of each one after the other. A child inherits from this
+/// process what is None here.
 #[derive(Drop)]
 pub struct Streams {
     /// Standard input.
@@ -39,18 +39,18 @@ pub struct Streams {
     pub output: Option<File>,
 }
 
-/// Where the death of the process of a service is found.
+/// Where the death of a service's process is found.
 #[derive(Drop)]
 enum DeathSource {
     /// There is no process.
     None,
-    /// The reaper puts it here.
+    /// The reaper puts the death here.
     Slot(DeathSlot),
-    /// The process is no child.
+    /// The process is not a child.
     Process(AdoptedProcess),
 }
 
-/// The children of one service on this system. It says nothing to contracts but that a child has a number.
+/// The children of one service on this system. It says nothing to contracts, except that a child has a number.
 #[derive(Drop)]
 pub struct SystemChildren<R>
 where
@@ -67,15 +67,15 @@ where
     clock: SystemClock<R>,
     slot: ChildSlot,
     death: DeathSource,
-    // Why a paper could not be written last.
+    // Why the last paper that could not be written failed.
     cause: Cause,
     linger: Linger,
 }
 
-/// What a shell does in the place of a service that can't be run.
+/// What a shell does in place of a service that can't be run.
 const SAY: &str = "printf 'svscan: %s: %s\\n' \"$1\" \"$2\" >&2; exit 111";
 
-/// Runs the service.
+/// Returns the command that runs the service.
 fn run(alloc: Global) -> Result<Command, AllocError>
     ensures program { IfOk result (λ command. command_program command ≡ codes "./run") }
     ensures words { IfOk result (λ command. command_args command ≡ []) }
@@ -83,7 +83,7 @@ fn run(alloc: Global) -> Result<Command, AllocError>
     Command::new(alloc, "./run")
 }
 
-/// Runs the service in a session of its own (setsid(1)).
+/// Returns the command that runs the service in a session of its own (setsid(1)).
 fn run_in_session(alloc: Global) -> Result<Command, AllocError>
     ensures program { IfOk result (λ command. command_program command ≡ codes "/usr/bin/setsid") }
     ensures words { IfOk result (λ command. command_args command ≡ codes "./run" ∷ []) }
@@ -93,10 +93,10 @@ fn run_in_session(alloc: Global) -> Result<Command, AllocError>
     Ok(command)
 }
 
-/// What is said of a service that begins a session, if there is no program for that.
+/// What is said about a service that begins a session if there is no program for that.
 const NO_SETSID: &str = "unable to run setsid: No such file or directory";
 
-/// A shell that runs the service, or says why that can't be and fails.
+/// Returns the command of a shell that runs the service, or says why it can't and fails.
 fn run_by_shell(alloc: Global) -> Result<Command, AllocError>
     ensures program { IfOk result (λ command. command_program command ≡ codes "/bin/sh") }
     ensures words { IfOk result (λ command. command_args command ≡ codes "-c" ∷ codes "exec ./run" ∷ []) }
@@ -106,7 +106,7 @@ fn run_by_shell(alloc: Global) -> Result<Command, AllocError>
     Ok(command)
 }
 
-/// A shell that says this of the service of this name, and fails.
+/// Returns the command of a shell that says this about the service with this name, and fails.
 fn say(alloc: Global, name: &str, what: &str) -> Result<Command, AllocError>
     ensures program { IfOk result (λ command. command_program command ≡ codes "/bin/sh") }
     ensures words { IfOk result (λ command. command_args command
@@ -123,7 +123,7 @@ fn say(alloc: Global, name: &str, what: &str) -> Result<Command, AllocError>
     Ok(command)
 }
 
-/// The name of a paper's file.
+/// Returns the name of a paper's file.
 fn paper_name(paper: Paper) -> &'static str
     ensures { result.now ≡ paper_name paper }
 {
@@ -136,10 +136,10 @@ fn paper_name(paper: Paper) -> &'static str
     }
 }
 
-/// How long what is said of a service is at most.
+/// The most bytes in a remark about a service.
 const REMARK_BYTES: usize = 96;
 
-/// What is said of a service: of a paper that can't be written, the cause.
+/// Returns what is said about a service. For a paper that can't be written, this includes the cause.
 fn remark_text(remark: Remark, cause: Cause) -> ArrayString<REMARK_BYTES>
     ensures { result.bytes ≡ remark_text remark cause }
 {
@@ -162,7 +162,7 @@ fn remark_text(remark: Remark, cause: Cause) -> ArrayString<REMARK_BYTES>
     text
 }
 
-/// What is said of a `run` that can't be executed, or none where a shell may still run it.
+/// Returns what is said about a `run` that can't be executed. Returns None if a shell may still run it.
 fn unable_to_run(fault: &io::Error) -> Option<&'static str>
     ensures { option_copied result ≡ unable_to_run (error_kind fault.now) }
 {
@@ -173,11 +173,11 @@ fn unable_to_run(fault: &io::Error) -> Option<&'static str>
     }
 }
 
-/// How many nanoseconds a tick of the kernel's clock has, as it reports times (sysconf(3), `_SC_CLK_TCK`).
+/// The nanoseconds in a tick of the kernel's clock, as it reports times (sysconf(3), `_SC_CLK_TCK`).
 const TICK_NANOS: u128 = 10_000_000;
 
-/// The tick at this time of the running clock: no process that begins now has an earlier one. The first tick, if the
-/// time is not known.
+/// Returns the tick at this time of the running clock: no process that begins now has an earlier one. Returns the first
+/// tick if the time is not known.
 fn present_tick(now: Option<Duration>) -> u64
     ensures { result ≡ present_tick now }
 {
@@ -193,8 +193,8 @@ impl<R> SystemChildren<R>
 where
     R: Processes<Started = SystemProcess> + Wait + Clock + Copy + Drop,
 {
-    /// The children of the service of this name in this folder, and the reaper, which is to run in a thread of its
-    /// own: by it their deaths are known. It notifies the notifier after each death.
+    /// Makes the children of the service with this name in this folder, and their reaper, which must run in a thread of
+    /// its own: it finds their deaths, and notifies the notifier after each one.
     pub fn new(
         runtime: R,
         files: HostRuntime,
@@ -225,8 +225,8 @@ where
         Ok((children, reaper))
     }
 
-    /// Adopts the process that runs for the service already. That it is gone is found when its death is sought, and
-    /// the notifier is notified then.
+    /// Adopts the process that already runs for the service. A look for its death finds that it is gone. The notifier
+    /// is notified once that is so.
     pub fn try_adopt(&mut self, pid: u32, tick: u64) -> Result<(), AllocError> {
         let process = AdoptedProcess {
             files: self.files,
@@ -262,7 +262,7 @@ where
         command.spawn(&self.runtime)
     }
 
-    /// Makes a child in the place of a `run` that can't be executed.
+    /// Makes a child in place of a `run` that can't be executed.
     #[inline(never)]
     fn make_in_place(&self, fault: &io::Error) -> io::Result<Child<SystemProcess>> {
         let mut command = match unable_to_run(fault) {
@@ -272,7 +272,7 @@ where
         self.launch(&mut command)
     }
 
-    /// Makes a child in a session of its own. If there is no program for that it is a shell, which says so.
+    /// Makes a child in a session of its own. If there is no program for that, the child is a shell that says so.
     #[inline(never)]
     fn make_in_session(&self) -> io::Result<Child<SystemProcess>> {
         self.folder.look_at_run()?;
@@ -284,7 +284,7 @@ where
         }
     }
 
-    /// Makes a child. If `./run` can't be executed it is a shell, which says why.
+    /// Makes a child. If `./run` can't be executed, the child is a shell that says why.
     fn make(&self) -> io::Result<Child<SystemProcess>> {
         let made = if self.folder.begins_session() {
             self.make_in_session()

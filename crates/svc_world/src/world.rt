@@ -15,23 +15,23 @@ use svc_house::{StartAnswer, World};
 use svc_left::{Leftover, Place, place_line, process_line};
 use tai_status::{Label, Want, decode_front};
 
-/// How long a service that owes a paper rests at most before its next turn, in seconds.
+/// The most seconds that a service rests before its next turn while it owes a paper.
 const OWING_REST: u64 = 1;
 
-/// How long a service rests at most before it looks again whether a death is to be reported, in milliseconds.
+/// The most milliseconds that a service rests before it checks again whether a death is to be reported.
 const LINGERING_REST: u64 = 3;
 
 /// The world of one service. Contracts see it as `Watch` (specs/Watch).
 ///
-/// A process of the service runs only if its number, or the intent to start it, is in the place of the service on disk:
-/// the intent is written before a child is spawned, and none is spawned if it can't be. A start that spawns none leaves
-/// no intent. What an earlier svscan left over of a start that it intended is adopted if it is sure which process that
-/// is; while it is not sure, no child is spawned.
+/// A process of the service runs only if its number, or the intent to start it, is in the place of the service on disk.
+/// The intent is written before a child is spawned, and no child is spawned if it can't be written. A start that spawns
+/// no child leaves no intent. What is left over from a start that an earlier svscan intended is adopted if it is sure
+/// which process that is. While that is not sure, no child is spawned.
 ///
-/// Each paper that can't be written is owed: `mend` tries again to write it, as it is then, and says once that it is
-/// owed and once that all is written.
+/// Each paper that can't be written is owed: `mend` tries again to write it, with its content at that time. It says
+/// once that something is owed, and once that all is written.
 ///
-/// A signal goes to the child that was made last, or to the process that was adopted, while its death is not known.
+/// A signal goes to the last child, or to the adopted process, while its death is not known.
 #[derive(Drop)]
 pub struct ChildWorld<C: ChildSystem + Drop> {
     system: C,
@@ -73,7 +73,7 @@ impl<C: ChildSystem + Drop> Model for ChildWorld<C> {
     ghost invariant = { λ w. ForSome w.answer IsAnswer };
 }
 
-/// How a start ended that made this child, or none.
+/// Returns how a start ended that made this child, or none.
 fn answer_of(child: Option<u32>, label: Label) -> StartAnswer
     requires { IfSome child (λ pid. 0 < pid) }
     ensures answer { result ≡ answer_of child label }
@@ -85,7 +85,7 @@ fn answer_of(child: Option<u32>, label: Label) -> StartAnswer
     }
 }
 
-/// The child that was spawned last, after a start that made this one, or none.
+/// Returns the last child, after a start that made this one, or none.
 fn child_of(child: Option<u32>) -> LastChild
     ensures { result ≡ child_of child }
 {
@@ -95,7 +95,7 @@ fn child_of(child: Option<u32>) -> LastChild
     }
 }
 
-/// What is wanted by a status record, or what was wanted before if these bytes are none.
+/// Returns what a status record says is wanted. If these bytes are not a record, returns what was wanted before.
 fn want_in(bytes: &[u8; 20], before: Want) -> Want
     ensures { result ≡ want_loaded (loaded_from bytes.now) before }
 {
@@ -120,9 +120,9 @@ impl<C: ChildSystem + Drop> ChildWorld<C> {
     ghost use Rattle.svc_world.specs.Watch.{Writes, WritesAgain, WritesAs, WritesIf, WritesIfSome, answered, begun, bereft};
     ghost use Rattle.svc_world.specs.Watch.{content_of, with_place, with_start, with_status, with_want};
 
-    /// The world over these children, for an svscan of this session. `place` is the place of the service as it is on
-    /// disk: with `is_open` it is the intent of an earlier svscan, of whose start something may be left over. `adopted`
-    /// is the process that runs for the service already.
+    /// Makes the world over these children, for an svscan of this session. `place` is the place of the service as it is
+    /// on disk. If `is_open`, it is the intent of an earlier svscan, and something of that start may be left over.
+    /// `adopted` is the process that already runs for the service.
     pub fn new(
         system: C,
         session: u64,
@@ -148,14 +148,14 @@ impl<C: ChildSystem + Drop> ChildWorld<C> {
         }
     }
 
-    /// How many status records could not be written when they were new. The count stands still at its end.
+    /// Returns how many status records could not be written when they were new. The count stops at its highest value.
     pub fn unwritten(&self) -> u64
         ensures { result ≡ self.now.unwritten }
     {
         self.unwritten
     }
 
-    /// Which papers are still to be written.
+    /// Returns which papers are still to be written.
     pub fn owed(&self) -> Owed
         ensures { result ≡ self.now.owed }
     {
@@ -267,7 +267,8 @@ impl<C: ChildSystem + Drop> ChildWorld<C> {
         }
     }
 
-    // What is left over of the start that an earlier svscan intended. Nobody, if that is not open.
+    // Returns what is left over from the start that an earlier svscan intended. Returns `Nobody` if no such start is
+    // open.
     fn leftover(&mut self) -> Leftover
         ensures seeks { SeeksLeftover self.old.is_open result self.old self.new }
         ensures number { HasNumber result }
@@ -280,7 +281,7 @@ impl<C: ChildSystem + Drop> ChildWorld<C> {
         found
     }
 
-    // Writes the intent of a start into the place. Returns whether it is there.
+    // Writes the intent of a start into the place. Returns whether it is written.
     #[inline(never)]
     fn intend(&mut self) -> bool
         ensures { Intends result self.old self.new }
@@ -298,7 +299,7 @@ impl<C: ChildSystem + Drop> ChildWorld<C> {
         self.system.present_tick()
     }
 
-    // Has this as the place of the service.
+    // Sets the place of the service.
     fn set_place(&mut self, place: Place)
         ensures { self.new ≡ with_place place self.old }
     {
@@ -313,14 +314,14 @@ impl<C: ChildSystem + Drop> ChildWorld<C> {
         if intended { self.system.spawn() } else { None }
     }
 
-    // The tick at which a process began, if that can be found.
+    // Returns the tick at which a process began, if it can be found.
     fn seek_tick(&mut self, pid: u32) -> Option<u64>
         ensures { SeeksTick pid result self.old self.new }
     {
         self.system.tick(pid)
     }
 
-    // Records the process of this number in the place, and as that of the service, if the tick at which it began is
+    // Records the process with this number in the place, and as the service's process, if the tick at which it began is
     // known.
     fn record_at(&mut self, tick: Option<u64>, pid: u32)
         ensures { RecordsAt tick pid self.old self.new }
@@ -333,7 +334,7 @@ impl<C: ChildSystem + Drop> ChildWorld<C> {
         }
     }
 
-    // Records the process of this number.
+    // Records the process with this number.
     fn record_process(&mut self, pid: u32)
         ensures { RecordsProcess pid self.old self.new }
     {
@@ -341,14 +342,14 @@ impl<C: ChildSystem + Drop> ChildWorld<C> {
         self.record_at(tick, pid);
     }
 
-    // Counts one child more that has begun.
+    // Counts one more child that has begun.
     fn count_start(&mut self)
         ensures { self.new ≡ with_start self.old }
     {
         self.counts = self.counts.one_started();
     }
 
-    // Records a start that made the child of this number, and counts it.
+    // Records a start that made the child with this number, and counts it.
     fn record_child(&mut self, pid: u32)
         ensures { RecordsChild pid self.old self.new }
     {
@@ -357,7 +358,7 @@ impl<C: ChildSystem + Drop> ChildWorld<C> {
         self.write_counts();
     }
 
-    // Records that no process was made: the place intends no start any more.
+    // Records that no process was made: the place no longer intends a start.
     fn vacate(&mut self)
         ensures { Vacates self.old self.new }
     {
@@ -377,7 +378,7 @@ impl<C: ChildSystem + Drop> ChildWorld<C> {
         }
     }
 
-    // This child, or none, is the answer to a start at this time.
+    // Sets this child, or none, as the answer to a start at this time.
     fn answer(&mut self, child: Option<u32>, label: Label)
         requires { IfSome child (λ pid. 0 < pid) }
         ensures { self.new ≡ answered child label self.old }
@@ -386,7 +387,7 @@ impl<C: ChildSystem + Drop> ChildWorld<C> {
         self.child = child_of(child);
     }
 
-    // Runs the service: intends the start, and then spawns a child.
+    // Runs the service: writes the intent, and then spawns a child.
     fn run(&mut self, label: Label)
         ensures { Runs label self.old self.new }
     {
@@ -396,7 +397,7 @@ impl<C: ChildSystem + Drop> ChildWorld<C> {
         self.record_start(child);
     }
 
-    // Adopts the process that was left over, as the one of this start.
+    // Adopts the process that was left over, as the process of this start.
     #[inline(never)]
     fn take_up(&mut self, pid: u32, tick: u64, label: Label)
         requires { 0 < pid }
@@ -415,7 +416,7 @@ impl<C: ChildSystem + Drop> ChildWorld<C> {
         self.system.adopt(pid, tick);
     }
 
-    // Goes on with a start by what is left over.
+    // Continues a start according to what is left over.
     fn start_by(&mut self, found: Leftover, label: Label)
         requires { HasNumber found }
         ensures { StartsBy found label self.old self.new }
@@ -430,7 +431,7 @@ impl<C: ChildSystem + Drop> ChildWorld<C> {
         }
     }
 
-    // Records how the child ended whose death is reported, and counts it. Returns when it ended.
+    // Records and counts how the child ended whose death is reported. Returns when it ended.
     #[inline(never)]
     fn report_death(&mut self, exit: Exit) -> Label
         ensures label { result ≡ exit.label }
@@ -442,7 +443,7 @@ impl<C: ChildSystem + Drop> ChildWorld<C> {
         exit.label
     }
 
-    // Has no child any more, which ended so.
+    // Sets that there is no child any more, because it ended this way.
     fn bereave(&mut self, exit: Exit)
         ensures { self.new ≡ bereft exit self.old }
     {
@@ -451,14 +452,14 @@ impl<C: ChildSystem + Drop> ChildWorld<C> {
         self.counts = self.counts.one_ended();
     }
 
-    // Has what is wanted by a status record in the place.
+    // Sets in the place what a status record says is wanted.
     fn set_want(&mut self, bytes: &[u8; 20])
         ensures { self.new ≡ with_want bytes.now self.old }
     {
         self.place = self.place.wanting(want_in(bytes, self.place.want));
     }
 
-    // Has this as the status record.
+    // Sets the status record.
     fn set_status(&mut self, bytes: &[u8; 20])
         ensures { self.new ≡ with_status bytes.now self.old }
     {
@@ -474,7 +475,7 @@ impl<C: ChildSystem + Drop> ChildWorld<C> {
         }
     }
 
-    // Whether the report of a death waits.
+    // Returns whether the report of a death waits.
     fn ask_linger(&mut self) -> bool
         ensures { AsksLinger result self.old self.new }
     {
@@ -508,7 +509,7 @@ impl<C: ChildSystem + Drop> ChildWorld<C> {
         self.keep_or_report(waits, exit)
     }
 
-    // Seeks the death of the child of this number.
+    // Looks for the death of the child with this number.
     fn seek_death(&mut self, pid: u32) -> Option<Label>
         ensures { SeeksDeath pid result self.old self.new }
     {
@@ -526,8 +527,8 @@ impl<C: ChildSystem + Drop> World for ChildWorld<C> {
     ghost use Rattle.svc_world.specs.declared.begin.LastChild.TheVariants.{Alive};
     ghost use Rattle.svc_world.specs.Watch.{Mends, PollsDeath, ReadsClock, Records, SignalsChild, Starts, Watch};
 
-    /// Sends a signal to the child that was spawned last and whose death is not known. Its death is sought just before,
-    /// and one that is found keeps the signal back. To any other process nothing is sent.
+    /// Sends a signal to the last child if its death is not known. Looks for its death just before, and sends nothing
+    /// if it finds one. Sends nothing to any other process.
     fn signal(&mut self, sig: Sig, pid: u32)
         requires { 0 < pid }
         ensures child { self.old.child ≡ Alive pid → SignalsChild sig pid self.old self.new }
@@ -542,9 +543,9 @@ impl<C: ChildSystem + Drop> World for ChildWorld<C> {
         }
     }
 
-    /// Starts the service once: what an earlier svscan left over is adopted, or one child is spawned, or none while it
-    /// is not sure what is left over. No child is spawned whose intent is not in the place. The clock is read just
-    /// before, so that no child dies before its start, as long as the clock is not set back.
+    /// Starts the service once: adopts what an earlier svscan left over, or spawns one child. Spawns none while it is
+    /// not sure what is left over, and never one whose intent is not in the place. The clock is read just before, so
+    /// that no child dies before its start, as long as the clock is not set back.
     fn start(&mut self)
         ensures { Starts self.old self.new }
     {
@@ -553,7 +554,7 @@ impl<C: ChildSystem + Drop> World for ChildWorld<C> {
         self.start_by(found, label);
     }
 
-    /// Writes the status record, and before it the place, with what is wanted now.
+    /// Writes the status record. Before it, writes the place with what is wanted now.
     fn write(&mut self, bytes: &[u8; 20])
         ensures { Records bytes.now self.old self.new }
     {
@@ -564,7 +565,7 @@ impl<C: ChildSystem + Drop> World for ChildWorld<C> {
         self.count_record(written);
     }
 
-    /// How the last start ended. It is reported once.
+    /// Returns how the last start ended. This is reported once.
     fn poll_start(&mut self) -> Option<StartAnswer>
         ensures reported { result ≡ self.old.answer }
         ensures once { self.new ≡ record self.old { answer = None } }
@@ -573,8 +574,8 @@ impl<C: ChildSystem + Drop> World for ChildWorld<C> {
         self.answer.take()
     }
 
-    /// When the child that was spawned last died, once it has. It is reported once, and how it ended is recorded then.
-    /// While control bytes come one after the other they are taken first.
+    /// Returns when the last child died, once it has died. This is reported once, and how it ended is recorded then.
+    /// While control bytes follow one another, they are taken first.
     fn poll_death(&mut self) -> Option<Label>
         ensures { PollsDeath self.old.child result self.old self.new }
     {
@@ -585,15 +586,15 @@ impl<C: ChildSystem + Drop> World for ChildWorld<C> {
         }
     }
 
-    /// The time.
+    /// Returns the time.
     fn clock(&mut self) -> Label
         ensures { ReadsClock result self.old self.new }
     {
         self.system.now()
     }
 
-    /// Writes each paper that is owed again, as it is now, and says if something came to be owed or nothing is owed any
-    /// more.
+    /// Writes each owed paper again, with its present content. Says so if something has become owed, or if nothing is
+    /// owed any more.
     #[inline(never)]
     fn mend(&mut self)
         ensures { Mends self.old self.new }
@@ -606,7 +607,7 @@ impl<C: ChildSystem + Drop> World for ChildWorld<C> {
         self.say_change();
     }
 
-    /// While a death waits 3 ms, and while something is owed a second.
+    /// Returns 3 milliseconds while a death waits, and otherwise one second while a paper is owed.
     fn longest_rest(&self) -> Option<Duration> {
         match (self.child, self.owed.first()) {
             (LastChild::Dead(_), _) => Some(Duration::from_millis(LINGERING_REST)),

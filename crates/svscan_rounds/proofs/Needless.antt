@@ -39,7 +39,7 @@ eligible-named (row ∷ rows) =
           ∙ passed-over row.is_dir row (eligible rows))
     ] refl
 
--- What a scan does, by the eligible ones of its rows
+-- What a scan does, by those of its rows that are eligible
 
 abbrev is_dropped_by : List Row → SlotState → Bool
 is_dropped_by ones slot = not (list_any (λ (row : Row). is_name row.name slot.name) ones) && all_ended slot
@@ -73,7 +73,7 @@ scanned_by table ones =
       next = table.next + sum_by (need_by table.slots ones) ones;
     }
 
--- Rows of which the same ones are eligible are scanned alike.
+-- Two scans do the same if the same of their rows are eligible.
 scans-alike : (table : TableState) (rows others : List Row) → eligible rows ≡ eligible others
     → IsSameScan table rows others
 scans-alike table rows others same =
@@ -86,7 +86,7 @@ scans-alike table rows others same =
       same_table = ap (scanned_by table) same;
     }
 
--- the same, by a scan between
+-- the same, through a scan in between
 alike-then : (table : TableState) (a b c : List Row) → IsSameScan table a b → IsSameScan table b c
     → IsSameScan table a c
 alike-then table a b c first rest = record {
@@ -97,7 +97,7 @@ alike-then table a b c first rest = record {
   same_table = first.same_table ∙ rest.same_table;
 }
 
--- A scan does the same without the rows of whole services, and without those of names that no service may have.
+-- A scan does the same without the rows of whole services, and without those whose names no service may have.
 pub needs-no-other : (table : TableState) → WholeNeedNoRow table → NeedsNoOtherRow table
 needs-no-other table whole rows =
     let named = filter is_named rows in

@@ -20,14 +20,14 @@ in_order {Z} (name ∷ names) h = λ k d low within.
     let sooner = get_or-map string_bytes (name ∷ names) k name d near in
     rw (later, sooner) (h k name low far)
 
--- what holds of a list holds of the one in a result that is equal to it
+-- what holds for a list also holds for an equal list in a result
 pub if_ok-same : {T E : Type 0} (P : List (List ℕ) → Type 0) (f : T → List (List ℕ)) (r : Result T E)
     (names : List (List ℕ)) → IfOk r (λ rows. f rows ≡ names)
     → P names → IfOk r (λ rows. P (f rows))
 if_ok-same P f (Ok rows) names h p = subst P (sym h) p
 if_ok-same P f (Err e) names h p = tt
 
--- a row says what stands at the paths of its entry
+-- a row says what is at the paths of its entry
 pub entry-said : (at : Option (List ℕ → Standing)) (name : List ℕ) (a b c d : Bool)
     → IfSome at (λ at. a ≡ (true && is_directory (at (name ++ []))))
     → IfSome at (λ at. b ≡ (a && is_directory (at (name ++ codes "/log"))))

@@ -19,13 +19,13 @@ use Rattle.svscan_rounds.specs.Rounds.{lines_along, listed_after, listed_along}
 use Rattle.svscan_rounds.specs.Rounds.{lines_of_close, remaining_report, unlogged_report}
 use Rattle.svscan_rounds.proofs.Reporting.{extended-then, extended-none, reports-then}
 
--- how many rounds are left after so many
+-- how many rounds are left after this many
 abbrev pub IsLeft : (limit left : Option ℕ) (count : ℕ) → Type 0
 IsLeft None left count = left ≡ None
 IsLeft (Some n) None count = ⊥
 IsLeft (Some n) (Some m) count = (0 < m) × (m + count ≡ n)
 
--- the rounds so far go on, each with its rest
+-- svscan continues after each of the rounds so far, each with its rest
 pub record IsUnderWay (folder : List ℕ) (limit left : Option ℕ) (is_listed : Bool) (old now : Effects) : Type 0 where
   pub turns : List Turn
   pub followed : All IsFollowed turns
@@ -76,7 +76,7 @@ reports_of : (folder : List ℕ) (limit left : Option ℕ) (was : Bool) (old mid
 reports_of folder limit left was old mid now round way makes =
     subst (λ (b : Bool). ReportsAll (lines_of folder b round) mid.faults now.faults) way.listed_is makes.reported
 
--- one more round that goes on, and its rest
+-- one more round after which svscan continues, and its rest
 pub way_more : (folder : List ℕ) (limit left after : Option ℕ) (was is : Bool) (old mid now new : Effects) (round : Round)
     → IsUnderWay folder limit left was old mid
     → Makes folder was round mid now → is ≡ listed_after was round → GoesOn round → Rests order.Round now.calls new.calls → new.faults ≡ now.faults
@@ -128,7 +128,7 @@ within None left count is = tt
 within (Some n) None count is = absurd is
 within (Some n) (Some m) count is = omega arith
 
--- the last round does not go on
+-- svscan does not continue after the last round
 pub way_fails : (folder : List ℕ) (limit left : Option ℕ) (was : Bool) (old mid now new : Effects) (round : Round)
     → IsUnderWay folder limit left was old mid
     → Makes folder was round mid now → (GoesOn round → ⊥) → EndsAll now new → Runs folder limit 111 old new
@@ -150,7 +150,7 @@ way_done folder limit was old mid now new round way makes on ended =
     ended.reported
     (inl (refl, on, last limit (length way.turns) way.left_is))
 
--- the end of all was asked for in the rest
+-- the end of all services was asked for in the rest
 pub way_report : (folder : List ℕ) (limit left : Option ℕ) (was : Bool) (old mid now rested new : Effects) (round : Round)
     → IsUnderWay folder limit left was old mid
     → Makes folder was round mid now → GoesOn round → Rests order.End now.calls rested.calls → rested.faults ≡ now.faults
@@ -175,7 +175,7 @@ way_left folder limit left was old mid now rested new round way makes on rests s
     (subst (λ (d : Device). ReportsAll (map unlogged_report leaves.unlogged) d new.faults) same leaves.reported)
     (refl, on, rests.decides)
 
--- one round less is left
+-- one fewer round is left
 pub left-less : (limit : Option ℕ) (m : ℕ) → (m ≡ 1 → ⊥) → (count : ℕ) → IsLeft limit (Some m) count
     → IsLeft limit (Some (m - 1)) (count + 1)
 left-less None m more count is = absurd cc
@@ -192,7 +192,7 @@ less-some limit left after m is is_after more count h =
     subst (λ (o : Option ℕ). IsLeft limit o (count + 1)) (sym is_after)
     (left-less limit m more count (subst (λ (o : Option ℕ). IsLeft limit o count) is h))
 
--- there is no end
+-- there is no limit
 pub less-none : (limit left after : Option ℕ) → left ≡ None → after ≡ left → (count : ℕ) → IsLeft limit left count
     → IsLeft limit after (count + 1)
 less-none limit left after is same count h =
@@ -236,9 +236,9 @@ passed-rests order old mid new last so_far heard is = record {
   calls = extended-then old mid new _ _ so_far.calls heard;
 }
 
--- Within the end of all
+-- Within the end of all services
 
--- some still ran, each time, and were reported
+-- each time some still ran, and were reported
 abbrev pub still_left : List Remaining → Call
 still_left some = Ended (Some some)
 

@@ -1,4 +1,4 @@
--- What svscan asks of the services of a folder, and what came of it.
+-- What svscan asks of the services of a folder, and the results.
 use Rattle.std.specs.Prelude.{ℕ, List, Option, Result}
 use Rattle.scan_table.specs.Slots.{Row}
 use Rattle.scan_table.specs.declared.fault.ScanFault.{ScanFault}
@@ -9,9 +9,14 @@ use Rattle.svscan_rounds.specs.declared.service_set.Remaining.{Remaining}
 use Rattle.svscan_rounds.specs.declared.service_set.RoundOut.{RoundOut}
 use Rattle.svscan_rounds.specs.declared.service_set.Unlogged.{Unlogged}
 
--- A call, with what came of it: svscan was to be served in the folder; the folder was listed; a round went over these
--- rows; this control byte of its own came, or none until the next round was due; the end of all services went on, and
--- after five seconds these still ran, or all had ended; svscan left the services, and this was not logged.
+-- A call, with its result. The calls, in the order of the constructors:
+--
+-- - svscan was to be served in the folder.
+-- - The folder was listed.
+-- - A round went over these rows.
+-- - This control byte of svscan's own came, or none until the next round was due.
+-- - The end of all services continued, and after five seconds these still ran, or all had ended.
+-- - svscan left the services, and this was not logged.
 pub data Call : Type 0 where
   Began : (folder : List ℕ) → (begun : Begun) → Call
   Listed : (folder : List ℕ) → (found : Result Listing ListFault) → Call

@@ -1,14 +1,14 @@
--- When a folder has the names that it had.
+-- When a folder is known to have the same names as before.
 use Rattle.std.specs.Prelude.{◌≡◌, Bool, if◌then◌else◌, Option, Some, None}
 use Rattle.tai_status.specs.Label.{Tai64n, is_earlier, plus_second}
 use Rattle.svscan_rounds.specs.declared.folder_state.FolderState.{FolderState}
 
--- whether a change at this moment gives the folder another time than the last change did: some systems report whole
--- seconds, or every second one
+-- whether a change at this moment would give the folder another time than the last change did: some systems only record
+-- whole seconds, or every second one
 abbrev pub is_settled : FolderState → (now : Tai64n) → Bool
 is_settled state now = is_earlier (plus_second (plus_second state.changed)) now
 
--- what is kept of a folder's state as it is listed: nothing, if it may change unnoticed
+-- what is kept of a folder's state when it is listed: nothing, if the folder may change unnoticed
 abbrev pub kept_state : Option FolderState → (now : Tai64n) → Option FolderState
 kept_state None now = None
 kept_state (Some state) now = if is_settled state now then Some state else None

@@ -3,7 +3,7 @@ use Rattle.std.specs.Prelude.{◌≡◌, ℕ, ◌==◌, ◌&&◌, Bool, true, fa
 use Rattle.std.specs.Prelude.{Option, Some, None}
 use Rattle.svscan_rounds.specs.declared.quiet.Quiet.{Quiet}
 
--- nothing was read
+-- the state before anything was read; and whether an activity is this one
 abbrev pub fresh : Quiet
 fresh = record { activity = 0; whole_at = None; is_idle = false }
 
@@ -11,7 +11,7 @@ abbrev pub is_just : Option ℕ → (activity : ℕ) → Bool
 is_just None activity = false
 is_just (Some at) activity = at == activity
 
--- whether nothing has happened to a service since a scan had need of no row
+-- whether nothing has happened to a service since a scan needed no row
 abbrev pub is_quiet : Quiet → Bool
 is_quiet quiet = is_just quiet.whole_at quiet.activity
 
@@ -19,7 +19,8 @@ is_quiet quiet = is_just quiet.whole_at quiet.activity
 abbrev pub read : Quiet → (activity : ℕ) → Quiet
 read quiet activity = record { activity = activity; whole_at = quiet.whole_at; is_idle = false }
 
--- after a look at the folder: it has the names that it had, or not, and a part waits to be heard, or none does
+-- after a look at the folder, which has the same names as before or not, while a part waits to be admitted to the door
+-- or none does
 abbrev pub looked : Quiet → (has_names any_waits : Bool) → Quiet
 looked quiet has_names any_waits = record {
   activity = quiet.activity;
@@ -27,7 +28,7 @@ looked quiet has_names any_waits = record {
   is_idle = is_quiet quiet && has_names && not any_waits;
 }
 
--- after its names were looked through: a scan has need of a row, or of none
+-- after its names were looked through: a scan needs some row, or none
 abbrev pub listed : Quiet → (needs_rows : Bool) → Quiet
 listed quiet needs_rows = record {
   activity = quiet.activity;
@@ -43,7 +44,7 @@ scanned quiet is_refused = record {
   is_idle = false;
 }
 
--- What comes of it
+-- What follows from it
 
 pub data Step : Type 0 where
   Read : (activity : ℕ) → Step
@@ -51,7 +52,7 @@ pub data Step : Type 0 where
   Listed : (needs_rows : Bool) → Step
   Scanned : (is_refused : Bool) → Step
 
--- after these steps, the newest of which is the first
+-- the state after these steps; the first is the newest
 abbrev pub quiet_after : List Step → Quiet
 quiet_after [] = fresh
 quiet_after (Read activity ∷ earlier) = read (quiet_after earlier) activity
@@ -59,7 +60,7 @@ quiet_after (Looked has_names any_waits ∷ earlier) = looked (quiet_after earli
 quiet_after (Listed needs_rows ∷ earlier) = listed (quiet_after earlier) needs_rows
 quiet_after (Scanned is_refused ∷ earlier) = scanned (quiet_after earlier) is_refused
 
--- the activity that was read last
+-- the last activity that was read
 abbrev pub activity_after : List Step → ℕ
 activity_after [] = 0
 activity_after (Read activity ∷ earlier) = activity
@@ -67,8 +68,8 @@ activity_after (Looked has_names any_waits ∷ earlier) = activity_after earlier
 activity_after (Listed needs_rows ∷ earlier) = activity_after earlier
 activity_after (Scanned is_refused ∷ earlier) = activity_after earlier
 
--- A scan had need of no row when the activity was this. Since then the folder had the same names at each look, and no
--- round was refused.
+-- A scan needed no row when this was the activity. Since then the folder had the same names at each look, and no round
+-- was refused.
 abbrev pub WasWhole : (activity : ℕ) → List Step → Type 0
 WasWhole activity [] = ⊥
 WasWhole activity (Read later ∷ earlier) = WasWhole activity earlier
@@ -77,8 +78,8 @@ WasWhole activity (Listed true ∷ earlier) = ⊥
 WasWhole activity (Listed false ∷ earlier) = activity_after earlier ≡ activity
 WasWhole activity (Scanned is_refused ∷ earlier) = (is_refused ≡ false) × WasWhole activity earlier
 
--- The folder was looked at just now: it has the names that it had, no part waits to be heard, and a scan had need of no
--- row of these names when the activity was the same.
+-- The folder was looked at just now: it has the same names as before, and no part waits to be admitted to the door. A
+-- scan needed no row of these names when the activity was the same.
 abbrev pub NothingChanged : List Step → Type 0
 NothingChanged [] = ⊥
 NothingChanged (Read activity ∷ earlier) = ⊥

@@ -31,7 +31,7 @@ use Rattle.svscan_rounds.specs.Orders.{Rest, Decides}
 use Rattle.tai_status.specs.Extended.{Extended}
 use Rattle.svscan_rounds.specs.Words.{Asks, AskNothing}
 
--- What svscan works with: the calls that were made, and where it reports faults.
+-- What svscan works with: the calls that were made, and the device on which it reports faults.
 pub record Effects : Type 0 where
   pub calls : Option (List Call)
   pub faults : Device
@@ -39,20 +39,20 @@ pub record Effects : Type 0 where
 abbrev pub effects : (calls : Option (List Call)) (faults : Device) → Effects
 effects calls faults = record { calls = calls; faults = faults }
 
--- A round: the folder was not listed; it was, and its rows were scanned, with what could not be done; or the scan of
+-- A round: the folder was not listed; or it was, and its rows were scanned, with what could not be done; or the scan of
 -- its rows failed.
 pub data Round : Type 0 where
   Unlisted : (fault : ListFault) → Round
   Scan : (listing : Listing) → (out : RoundOut) → Round
   Fails : (listing : Listing) → (fault : ScanFault) → Round
 
--- Whether svscan goes on after a round: but for a scan that failed, and not for want of memory.
+-- svscan continues after every round, except after a scan that failed for another reason than a lack of memory.
 abbrev pub GoesOn : Round → Type 0
 GoesOn (Unlisted fault) = ⊤
 GoesOn (Scan listing out) = ⊤
 GoesOn (Fails listing fault) = fault ≡ OutOfMemory
 
--- Whether it goes on is the answer.
+-- This is whether svscan continues.
 abbrev pub Answers : (on : Bool) → Round → Type 0
 Answers true round = GoesOn round
 Answers false round = GoesOn round → ⊥
@@ -64,7 +64,7 @@ calls_of folder (Scan listing out) = Listed folder (Ok listing) ∷ Scanned fold
 calls_of folder (Fails listing fault) =
     Listed folder (Ok listing) ∷ Scanned folder listing.rows.items (Err fault) ∷ []
 
--- Sayings
+-- Messages
 
 abbrev pub kind_name : ScanFault → List ℕ
 kind_name (Unsorted place) = codes "Unsorted"
@@ -77,32 +77,32 @@ abbrev pub is_listed_after : (was_listed : Bool) → ListFault → Bool
 is_listed_after was_listed (list.Unlisted cause) = false
 is_listed_after was_listed list.OutOfMemory = was_listed
 
--- a folder can't be listed, for this cause
+-- the report that a folder can't be listed, for this cause
 abbrev pub unable_to_list : (folder : List ℕ) → Cause → List ℕ
 unable_to_list folder cause = codes "svscan: unable to list " ++ (folder ++ cause_note cause)
 
--- what is reported of a folder that was not listed: the cause, unless it was not listed before either
+-- what is reported about a folder that was not listed: the cause, unless it was not listed before either
 abbrev pub lines_of_unlisted : (folder : List ℕ) (was_listed : Bool) → ListFault → List (List ℕ)
 lines_of_unlisted folder was_listed (list.Unlisted cause) = if was_listed then unable_to_list folder cause ∷ [] else []
 lines_of_unlisted folder was_listed list.OutOfMemory = (codes "svscan: OutOfMemory" ++ 10 ∷ []) ∷ []
 
--- what is reported of a folder that is listed, and was not before
+-- what is reported about a folder that is listed, and was not before
 abbrev pub lines_of_listed : (folder : List ℕ) (was_listed : Bool) → List (List ℕ)
 lines_of_listed folder was_listed =
     if was_listed then [] else (codes "svscan: " ++ (folder ++ (codes " is listed again" ++ 10 ∷ []))) ∷ []
 
--- what is reported of a name
+-- what is reported about a name
 abbrev pub name_report : (what : List ℕ) (name : List ℕ) → List ℕ
 name_report what name = codes "svscan: " ++ (name ++ what)
 
 abbrev pub too_many : List ℕ
 too_many = codes ": TooMany" ++ 10 ∷ []
 
--- a part can't be supervised, for this cause
+-- the report that a part can't be supervised, for this cause
 abbrev pub unable_to_supervise : Cause → List ℕ
 unable_to_supervise cause = codes ": unable to supervise" ++ cause_note cause
 
--- why a part was not made
+-- the report why a part was not made
 abbrev pub not_made : PartFault → List ℕ
 not_made part.Locked = codes ": unable to lock" ++ 10 ∷ []
 not_made (part.Refused cause) = unable_to_supervise cause
@@ -110,7 +110,7 @@ not_made (part.Refused cause) = unable_to_supervise cause
 abbrev pub unmade_report : Unmade → List ℕ
 unmade_report unmade = name_report (not_made unmade.fault) unmade.name
 
--- so many control bytes were not taken
+-- the report that this many control bytes were not taken; and the one that a trace can't be written
 abbrev pub not_taken : ℕ → List ℕ
 not_taken count = codes ": " ++ (decimal count ++ (codes " bytes were not taken" ++ 10 ∷ []))
 
@@ -120,21 +120,21 @@ untaken_report untaken = name_report (not_taken untaken.count) untaken.name
 abbrev pub unable_to_trace : List ℕ
 unable_to_trace = codes ": unable to write the trace" ++ 10 ∷ []
 
--- what is reported of what was lost, and of what a round could not do
+-- the report of what was lost, and of what a round could not do
 abbrev pub lines_of_out : RoundOut → List (List ℕ)
 lines_of_out out =
     map untaken_report out.untaken.items
     ++ (map (name_report unable_to_trace) out.untraced
     ++ (map (name_report too_many) out.refused ++ map unmade_report out.unmade.items))
 
--- so many names are not text
+-- the report that this many names are not text
 abbrev pub not_text : ℕ → List ℕ
 not_text count = codes "svscan: " ++ (decimal count ++ (codes " names are not text" ++ 10 ∷ []))
 
 abbrev pub lines_of_unnamed : (count : ℕ) → List (List ℕ)
 lines_of_unnamed count = if count == 0 then [] else not_text count ∷ []
 
--- too few descriptors are allowed
+-- the report that too few descriptors are allowed
 abbrev pub too_few : Shortage → List ℕ
 too_few shortage =
     codes "svscan: " ++ (decimal shortage.needed ++ (codes " descriptors are needed, "
@@ -144,7 +144,7 @@ abbrev pub lines_of_shortage : Option Shortage → List (List ℕ)
 lines_of_shortage None = []
 lines_of_shortage (Some shortage) = too_few shortage ∷ []
 
--- what is reported of what a folder has
+-- the report of what is wrong with what a folder has; and the one of a fault of a scan
 abbrev pub lines_of_listing : (unnamed : ℕ) → Option Shortage → List (List ℕ)
 lines_of_listing unnamed shortage = lines_of_unnamed unnamed ++ lines_of_shortage shortage
 
@@ -157,7 +157,7 @@ listed_after was_listed (Unlisted fault) = is_listed_after was_listed fault
 listed_after was_listed (Scan listing out) = true
 listed_after was_listed (Fails listing fault) = true
 
--- the lines that a round reports, by whether the folder counted as listed before
+-- the lines that a round reports; they depend on whether the folder counted as listed before
 abbrev pub lines_of : (folder : List ℕ) (was_listed : Bool) → Round → List (List ℕ)
 lines_of folder was_listed (Unlisted fault) = lines_of_unlisted folder was_listed fault
 lines_of folder was_listed (Scan listing out) =
@@ -175,18 +175,18 @@ pub record Makes (folder : List ℕ) (was_listed : Bool) (round : Round) (old ne
   pub calls : Extended old.calls new.calls (calls_of folder round)
   pub reported : ReportsAll (lines_of folder was_listed round) old.faults new.faults
 
--- A round was made, this is whether svscan goes on, and this is whether the folder counts as listed now.
+-- A round was made. `on` says whether svscan continues, and `is_listed` whether the folder counts as listed now.
 abbrev pub TakesRound : (folder : List ℕ) (was_listed is_listed on : Bool) (old new : Effects) → Type 0
 TakesRound folder was_listed is_listed on old new =
     (round : Round) × Answers on round × Makes folder was_listed round old new
     × (is_listed ≡ listed_after was_listed round)
 
--- A round, and the rest behind it.
+-- A round, and the rest after it.
 pub record Turn : Type 0 where
   pub round : Round
   pub rest : Rest
 
--- After it comes a further round.
+-- Another round comes after it.
 abbrev pub IsFollowed : Turn → Type 0
 IsFollowed turn = GoesOn turn.round × Decides turn.rest order.Round
 
@@ -201,7 +201,7 @@ abbrev pub listed_along : (was_listed : Bool) → List Turn → Bool
 listed_along was_listed [] = was_listed
 listed_along was_listed (turn ∷ turns) = listed_along (listed_after was_listed turn.round) turns
 
--- the lines that the rounds of turns report, one round after the other
+-- the lines that the rounds of these turns report, one round after the other
 abbrev pub lines_along : (folder : List ℕ) (was_listed : Bool) → List Turn → List (List ℕ)
 lines_along folder was_listed [] = []
 lines_along folder was_listed (turn ∷ turns) =
@@ -209,14 +209,14 @@ lines_along folder was_listed (turn ∷ turns) =
 
 -- The end
 
--- a process of this number still runs
+-- the report that the process with this number still runs
 abbrev pub still_runs : ℕ → List ℕ
 still_runs pid = codes ": process " ++ (decimal pid ++ (codes " still runs" ++ 10 ∷ []))
 
 abbrev pub remaining_report : Remaining → List ℕ
 remaining_report remaining = name_report (still_runs remaining.pid) remaining.name
 
--- so many bytes were not logged, or records are not written
+-- the report that this many bytes were not logged, or that records are not written
 abbrev pub unfinished : Unfinished → List ℕ
 unfinished (Bytes count) = codes ": " ++ (decimal count ++ (codes " bytes were not logged" ++ 10 ∷ []))
 unfinished Records = codes ": unable to write its records" ++ 10 ∷ []
@@ -224,8 +224,8 @@ unfinished Records = codes ": unable to write its records" ++ 10 ∷ []
 abbrev pub unlogged_report : Unlogged → List ℕ
 unlogged_report unlogged = name_report (unfinished unlogged.what) unlogged.name
 
--- How a run closes behind its last round: all services are ended, and meanwhile these still ran each five seconds; or
--- that was asked for in a rest; or svscan's own end was. In the end it leaves the services, and these bytes were not
+-- How a run closes after its last round. All services are ended, and these still ran, listed every five seconds; or the
+-- same was asked for in a rest; or svscan's own end was asked for. At last svscan leaves the services, and this was not
 -- logged.
 pub data Close : Type 0 where
   Ends : (left : List (List Remaining)) → (unlogged : List Unlogged) → Close
@@ -248,7 +248,7 @@ lines_of_close (Ends left unlogged) = lines_of_end left unlogged
 lines_of_close (EndsAsAsked rest left unlogged) = lines_of_end left unlogged
 lines_of_close (LeavesAsAsked rest unlogged) = map unlogged_report unlogged
 
--- A rest was taken, after which this is next.
+-- A rest was taken, and this is next.
 pub record Rests (order : Order) (old new : Option (List Call)) : Type 0 where
   pub rest : Rest
   pub decides : Decides rest order
@@ -267,8 +267,8 @@ pub record EndsAll (old new : Effects) : Type 0 where
   pub calls : Extended old.calls new.calls (calls_of_end left unlogged)
   pub reported : ReportsAll (lines_of_end left unlogged) old.faults new.faults
 
--- How it ends with its last round, of so many in all: with status 0 after as many as were asked for, or as it was asked
--- in the rest behind it; or with status 111, where that round doesn't go on.
+-- How a run ends after its last round, of this many in all. The status is 0 after as many rounds as were asked for, or
+-- if the end was asked for in the rest after it. The status is 111 if svscan does not continue after that round.
 abbrev pub EndsBy : (limit : Option ℕ) (count : ℕ) (last : Round) (close : Close) (status : ℕ) → Type 0
 EndsBy limit count last (Ends left unlogged) status =
     ((status ≡ 0) × GoesOn last × (limit ≡ Some count))
@@ -278,8 +278,8 @@ EndsBy limit count last (EndsAsAsked rest left unlogged) status =
 EndsBy limit count last (LeavesAsAsked rest unlogged) status =
     (status ≡ 0) × GoesOn last × Decides rest order.Leave
 
--- Rounds that go on, each followed by a rest, and then the last one and the close. The folder counts as listed before
--- the first one.
+-- Rounds after which svscan continues, each followed by a rest, and then the last round and the close. Before the first
+-- round, the folder counts as listed.
 pub record Runs (folder : List ℕ) (limit : Option ℕ) (status : ℕ) (old new : Effects) : Type 0 where
   pub turns : List Turn
   pub last : Round
@@ -291,14 +291,14 @@ pub record Runs (folder : List ℕ) (limit : Option ℕ) (status : ℕ) (old new
       ++ (lines_of folder (listed_along true turns) last ++ lines_of_close close)) old.faults new.faults
   pub ends : EndsBy limit (length turns + 1) last close status
 
--- what is reported of a folder that can't be read
+-- what is reported about a folder that can't be read; and about one that another svscan has
 abbrev pub unread_report : (folder : List ℕ) → Cause → List ℕ
 unread_report folder cause = codes "svscan: unable to read " ++ (folder ++ cause_note cause)
 
 abbrev pub locked_report : (folder : List ℕ) → List ℕ
 locked_report folder = codes "svscan: unable to lock " ++ (folder ++ 10 ∷ [])
 
--- What is reported where svscan is to be served in a folder.
+-- What is reported when svscan is to be served in a folder.
 abbrev pub lines_of_begun : (folder : List ℕ) → Begun → List (List ℕ)
 lines_of_begun folder Served = []
 lines_of_begun folder (Unserved cause) = name_report (unable_to_supervise cause) (codes ".svscan") ∷ []
@@ -306,13 +306,13 @@ lines_of_begun folder (Refused cause) = name_report (unable_to_supervise cause) 
 lines_of_begun folder (Unread cause) = unread_report folder cause ∷ []
 lines_of_begun folder Locked = locked_report folder ∷ []
 
--- It runs, unless another svscan has the folder, or that can't be read, or no service could be kept running.
+-- svscan runs, unless another svscan has the folder, or the folder can't be read, or no service could be kept running.
 abbrev pub RunsIfBegun : Begun → (folder : List ℕ) (limit : Option ℕ) (status : ℕ) (old new : Effects) → Type 0
 RunsIfBegun Served folder limit status old new = Runs folder limit status old new
 RunsIfBegun (Unserved cause) folder limit status old new = Runs folder limit status old new
 RunsIfBegun ends folder limit status old new = (status ≡ 111) × (new ≡ old)
 
--- It begins, and runs.
+-- svscan begins, and runs.
 pub record BeginsAndRuns (folder : List ℕ) (limit : Option ℕ) (status : ℕ) (old new : Effects) : Type 0 where
   pub begun : Begun
   pub middle : Effects
@@ -320,14 +320,14 @@ pub record BeginsAndRuns (folder : List ℕ) (limit : Option ℕ) (status : ℕ)
   pub reported : ReportsAll (lines_of_begun folder begun) old.faults middle.faults
   pub runs : RunsIfBegun begun folder limit status middle new
 
--- Words that ask for nothing: the usage is reported, and nothing is asked of the system.
+-- These words ask for nothing: the usage is reported, and nothing is asked of the system.
 pub record RefusesWords (words : List (List ℕ)) (status : ℕ) (old new : Effects) : Type 0 where
   pub wrong : AskNothing words
   pub status_is : status ≡ 100
   pub unasked : new.calls ≡ old.calls
   pub reported : Reports old.faults new.faults (usage_text Svscan)
 
--- It runs as its words ask.
+-- svscan runs as its words ask.
 pub record RunsWords (words : List (List ℕ)) (status : ℕ) (old new : Effects) : Type 0 where
   pub folder : List ℕ
   pub limit : Option ℕ

@@ -1,4 +1,4 @@
--- The rows of a folder, of what it says of its names.
+-- The rows of a folder, from what it says of its names.
 use Rattle.std.specs.Prelude.{◌≡◌, ⊤, ℕ, ◌++◌, Bool, true, false, ◌&&◌, codes, List, Option, Some, None, IsSorted}
 use Rattle.std.specs.List.{All}
 use Rattle.scan_table.specs.Slots.{Row, name_order}
@@ -8,7 +8,7 @@ use Rattle.svscan_rounds.specs.declared.rows.Entry.{Entry}
 abbrev pub AreInOrder : List (List ℕ) → Type 0
 AreInOrder names = IsSorted name_order names
 
--- what stands at a path
+-- what is at a path
 pub data Standing : Type 0 where
   Nothing : Standing
   Directory : Standing
@@ -24,8 +24,8 @@ is_there Nothing = false
 is_there Directory = true
 is_there Other = true
 
--- Of the entry of a name: whether it is a directory, and has a directory `log`, and whether each of these has something
--- of the name `down`.
+-- The entry of a name says whether it is a directory, and whether it has a directory `log`. It says for each of the two
+-- whether it has anything called `down`.
 abbrev pub entry_at : (at : List ℕ → Standing) → (name : List ℕ) → Entry
 entry_at at name = record {
   is_dir = is_directory (at name);
@@ -35,12 +35,12 @@ entry_at at name = record {
       && is_there (at (name ++ codes "/log/down"));
 }
 
--- the entries of names, where it is known what stands at paths
+-- the entries of names, if it is known what is at paths
 abbrev pub entries_of : Option (List ℕ → Standing) → Option (List ℕ → Entry)
 entries_of None = None
 entries_of (Some at) = Some (entry_at at)
 
--- the row of a name and what is said of it
+-- the row of a name with this entry
 abbrev pub row_of : (name : List ℕ) → Entry → Row
 row_of name entry = record {
   name = name;
@@ -50,7 +50,7 @@ row_of name entry = record {
   log_down = entry.log_down;
 }
 
--- Each row is as the folder says of its name, where that is known.
+-- Each row is as the folder says of its name, if that is known.
 abbrev pub AreAsSaid : Option (List ℕ → Entry) → List Row → Type 0
 AreAsSaid None rows = ⊤
 AreAsSaid (Some says) rows = All (λ row. row ≡ row_of row.name (says row.name)) rows

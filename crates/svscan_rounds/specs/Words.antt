@@ -12,13 +12,13 @@ pub record ReportsRounds (word : List ℕ) (number : ℕ) : Type 0 where
   pub some : 0 < number
   pub below : number < 2 ^ 32
 
--- The words ask for this folder and so many rounds; None: for rounds without an end.
+-- The words ask for this folder and this many rounds; None is for rounds without limit.
 abbrev pub Asks : (words : List (List ℕ)) (folder : List ℕ) (limit : Option ℕ) → Type 0
 Asks [] folder limit = (folder ≡ codes ".") × (limit ≡ None)
 Asks (dir ∷ []) folder limit = (folder ≡ dir) × (limit ≡ None)
 Asks (dir ∷ number ∷ []) folder limit = (folder ≡ dir) × MatchOption limit ⊥ (λ rounds. ReportsRounds number rounds)
 Asks (dir ∷ number ∷ other ∷ words) folder limit = ⊥
 
--- They ask for nothing.
+-- The words ask for nothing.
 abbrev pub AskNothing : (words : List (List ℕ)) → Type 0
 AskNothing words = (folder : List ℕ) (limit : Option ℕ) → Asks words folder limit → ⊥

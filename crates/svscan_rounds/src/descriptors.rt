@@ -5,18 +5,18 @@ ghost use Rattle.svscan_rounds.specs.Descriptors.{descriptors_for, descriptors_o
 use crate::service_set::Shortage;
 use scan_table::DirRow;
 
-/// How many svscan has for itself: 15, and those that its threads have open for a moment, as a child starts or a record
-/// is written.
+/// The descriptors that svscan has for itself: 15, and those that its threads open for a moment, when a child starts or
+/// a record is written.
 const OWN: u64 = 24;
 
-/// How many a service takes: its folder, its lock and two sockets.
+/// The descriptors of a service: its folder, its lock and two sockets.
 const SERVICE: u64 = 4;
 
-/// How many a service with a logger takes: twice as many, the output of the service and the input of the logger with
-/// two ends each, and for each of the two a copy of one end.
+/// The descriptors of a service with a logger: twice as many, two ends each for the output of the service and the input
+/// of the logger, and one more copy for each of the two.
 const PAIR: u64 = 14;
 
-/// How many descriptors the service of a row needs.
+/// Returns how many descriptors the service of a row needs.
 fn descriptors_of(row: &DirRow) -> u64
     ensures { result ≡ descriptors_of row.now }
 {
@@ -29,7 +29,7 @@ fn descriptors_of(row: &DirRow) -> u64
     }
 }
 
-/// How many descriptors svscan needs for the services of these rows.
+/// Returns how many descriptors svscan needs for the services of these rows.
 fn descriptors_for(rows: &[DirRow]) -> u64
     ensures { result ≡ descriptors_for rows.now }
 {
@@ -40,7 +40,7 @@ fn descriptors_for(rows: &[DirRow]) -> u64
     needed
 }
 
-/// Whether so many descriptors are too few for the services of these rows.
+/// Returns a shortage if too few descriptors are allowed for the services of these rows.
 pub fn shortage(rows: &[DirRow], allowed: u64) -> Option<Shortage>
     ensures { result ≡ shortage rows.now allowed }
 {

@@ -1,10 +1,10 @@
-//! When a folder has the names that it had.
+//! When a folder is known to have the same names as before.
 ghost use Rattle.std.specs.Prelude.{◌≡◌, ◌↔◌, true};
 ghost use Rattle.svscan_rounds.specs.FolderStates.{IsUnchanged, is_settled, kept_state};
 
 use tai_status::Label;
 
-/// Which folder a path names, and when something in it changed last.
+/// The folder that a path names, and when something in it last changed.
 #[derive(Clone, Copy, Debug, PartialEq, Eq)]
 pub struct FolderState {
     pub device: u64,
@@ -13,8 +13,8 @@ pub struct FolderState {
 }
 
 impl FolderState {
-    /// Whether a change now gives the folder another time than the last change did: some systems report whole seconds,
-    /// or every second one.
+    /// Returns whether a change now would give the folder another time than the last change did. Some systems only
+    /// record whole seconds, or every second one.
     fn is_settled(&self, now: Label) -> bool
         ensures { result ≡ is_settled self.now now }
     {
@@ -22,7 +22,7 @@ impl FolderState {
     }
 }
 
-/// What is kept of a folder's state as it is listed: nothing, if it may change unnoticed.
+/// Returns what is kept of a folder's state when it is listed: nothing, if the folder may change unnoticed.
 pub fn kept_state(state: Option<FolderState>, now: Label) -> Option<FolderState>
     ensures { result ≡ kept_state state now }
 {
@@ -34,7 +34,7 @@ pub fn kept_state(state: Option<FolderState>, now: Label) -> Option<FolderState>
     }
 }
 
-/// Whether a folder has the names that it had: its state was kept, and is the same now.
+/// Returns whether a folder has the same names as before: its state was kept, and is the same now.
 pub fn is_unchanged(kept: Option<FolderState>, now: Option<FolderState>) -> bool
     ensures { (result ≡ true) ↔ IsUnchanged kept now }
 {

@@ -1,9 +1,9 @@
 //! The rounds of `svscan`: what it asks of the services of a folder, and when.
 //!
 //! [`run_svscan`] makes the rounds over any [`ServiceSet`], which is what svscan does to the system. [`rows_of`] makes
-//! the rows of a folder, in the byte order of their names, and [`shortage`] says whether there are too few descriptors
-//! for the services of rows. [`needed_names`] says of which names a scan has need, [`Quiet`] when a round is idle,
-//! [`is_unchanged`] when a folder has the names that it had, and [`rest_left`] what is left of a rest.
+//! the rows of a folder, in the byte order of their names. [`shortage`] says whether there are too few descriptors for
+//! the services of rows. [`needed_names`] says which names a scan needs, [`Quiet`] when a round is idle, and
+//! [`is_unchanged`] when a folder has the same names as before. [`rest_left`] says how much of a rest is left.
 #![tactic(auto)]
 
 mod descriptors;

@@ -1,4 +1,4 @@
-//! Of which names a scan needs rows.
+//! The names whose rows a scan needs.
 ghost use Rattle.std.specs.Prelude.{◌≡◌, map, string_bytes, IfOk};
 ghost use Rattle.scan_table.specs.Slots.{is_service_name};
 ghost use Rattle.svscan_rounds.specs.Needed.{NeedsNoOtherRow, needed};
@@ -10,15 +10,15 @@ use std::thread::Threads;
 use std::time::Clock;
 use svc_host::{Host, Maker};
 
-/// Whether a service may have this name: it is not empty, and does not begin with a dot.
+/// Returns whether a service may have this name: it is not empty, and does not begin with a dot.
 fn is_service_name(name: &str) -> bool
     ensures { result ≡ is_service_name name.now }
 {
     !matches!(name.as_bytes(), [] | [b'.', ..])
 }
 
-/// Those of some names of which a scan of a host needs rows (`others_need_no_row`): all but those that no service may
-/// have, and those of the services of which every part runs.
+/// Returns those of some names whose rows a scan of a host needs (`others_need_no_row`). It leaves out names that no
+/// service may have, and the names of services whose parts all run.
 pub fn needed_names<M: Maker + Drop, R: Threads + Wait + Clock + Copy + Drop + Send + 'static>(
     alloc: Global,
     host: &Host<M, R>,
@@ -36,8 +36,8 @@ pub fn needed_names<M: Maker + Drop, R: Threads + Wait + Clock + Copy + Drop + S
     Ok(found)
 }
 
-/// A law: a scan does the same with the rows of the names alone that it needs. So who lists a folder need look neither
-/// at the services of which no part has ended, nor at names that begin with a dot.
+/// A law: a scan does the same with only the rows of the names that it needs. Whoever lists a folder therefore need not
+/// look at services whose parts all run, nor at names that begin with a dot.
 pub fn others_need_no_row(table: &ScanTable)
     ensures { NeedsNoOtherRow table.now }
 {

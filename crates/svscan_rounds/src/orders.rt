@@ -7,13 +7,13 @@ ghost use Rattle.svscan_rounds.specs.Orders.{order_of};
 pub enum Order {
     /// A round.
     Round,
-    /// It ends all services, in order, and then itself.
+    /// It ends all services, in order, and then exits.
     End,
-    /// It ends, and leaves all services running.
+    /// It exits, and leaves all services running.
     Leave,
 }
 
-/// What a control byte of svscan's own asks for. Most ask for nothing.
+/// Returns what one of svscan's own control bytes asks for. Most ask for nothing.
 pub(crate) fn order_of(byte: u8) -> Option<Order>
     ensures { result ≡ order_of byte }
 {

@@ -2,19 +2,19 @@
 ghost use Rattle.std.specs.Prelude.{◌≡◌};
 ghost use Rattle.svscan_rounds.specs.Quiet.{IdleOnlyUnchanged, fresh, is_quiet, listed, looked, read, scanned};
 
-/// What the last listing found, as far as the next one goes on from it.
+/// What the last listing found, as far as the next one uses it.
 #[derive(Clone, Copy, Debug, PartialEq, Eq)]
 pub struct Quiet {
-    /// The activity that was read last, before the threads of what had ended were joined.
+    /// The last activity that was read, before the threads of parts that had ended were joined.
     pub activity: u64,
-    /// The activity at which a scan had need of no row of the folder's names, where that was so.
+    /// The activity at which a scan needed no row of the folder's names, if that was so.
     pub whole_at: Option<u64>,
-    /// Whether the round that comes is idle: a scan would find nothing to do.
+    /// Whether the next round is idle: a scan would find nothing to do.
     pub is_idle: bool,
 }
 
 impl Quiet {
-    /// Nothing was read.
+    /// Returns the state before anything was read.
     pub fn new() -> Quiet
         ensures { result ≡ fresh }
     {
@@ -25,7 +25,7 @@ impl Quiet {
         }
     }
 
-    /// The activity was read.
+    /// Returns the state after the activity was read.
     pub fn read(self, activity: u64) -> Quiet
         ensures { result ≡ read self activity }
     {
@@ -36,14 +36,15 @@ impl Quiet {
         }
     }
 
-    /// Whether nothing has happened to a service since a scan had need of no row.
+    /// Returns whether nothing has happened to a service since a scan needed no row.
     pub fn is_quiet(self) -> bool
         ensures { result ≡ is_quiet self }
     {
         self.whole_at == Some(self.activity)
     }
 
-    /// The folder was looked at: it has the names that it had, or other ones, and a part waits to be heard, or none.
+    /// Returns the state after a look at the folder. `has_names` says whether it has the same names as before, and
+    /// `any_waits` whether a part waits to be admitted to the door.
     pub fn looked(self, has_names: bool, any_waits: bool) -> Quiet
         ensures { result ≡ looked self has_names any_waits }
     {
@@ -54,7 +55,7 @@ impl Quiet {
         }
     }
 
-    /// The names were looked through: a scan has need of a row, or of none.
+    /// Returns the state after the names were looked through. `needs_rows` says whether a scan needs any row.
     pub fn listed(self, needs_rows: bool) -> Quiet
         ensures { result ≡ listed self needs_rows }
     {
@@ -69,7 +70,7 @@ impl Quiet {
         }
     }
 
-    /// A round was made. After one that was refused no round is idle before a listing.
+    /// Returns the state after a round. After a refused round, no round is idle before the next listing.
     pub fn scanned(self, is_refused: bool) -> Quiet
         ensures { result ≡ scanned self is_refused }
     {
@@ -81,8 +82,8 @@ impl Quiet {
     }
 }
 
-/// A law: a round is idle only if the folder has the same names, no part waits to be heard, and nothing has happened to
-/// a service since a scan had need of no row of these names.
+/// A law: a round is idle only if three things hold. The folder has the same names, no part waits to be admitted to the
+/// door, and nothing has happened to a service since a scan needed no row of these names.
 pub fn idle_only_unchanged()
     ensures { IdleOnlyUnchanged }
 {}

@@ -5,17 +5,17 @@ ghost use Rattle.std.specs.Duration.{as_nanos};
 
 use std::time::Duration;
 
-/// How many seconds a rest between two rounds has, and one look at the end of all services.
+/// The seconds of a rest between two rounds, and of one look while all services end.
 const REST_SECONDS: u64 = 5;
 
-/// A whole rest.
+/// Returns a whole rest.
 pub fn whole_rest() -> Duration
     ensures { as_nanos result ≡ rest_nanos }
 {
     Duration::from_secs(REST_SECONDS)
 }
 
-/// What is left of a rest, by the running clock at its beginning and now.
+/// Returns how much of a rest is left, by the running clock when it began and now.
 pub fn rest_left(begin: Option<Duration>, now: Option<Duration>) -> Option<Duration>
     ensures { IsLeft (nanos_left begin now) result }
 {

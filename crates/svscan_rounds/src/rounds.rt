@@ -28,7 +28,7 @@ use std::sync::Wait;
 use svc_host::PartFault;
 use tai_status::{Cause, Name, Output};
 
-/// The name of a fault.
+/// Returns the name of a fault.
 fn kind(fault: ScanFault) -> &'static [u8]
     ensures { result.now ≡ kind_name fault }
 {
@@ -40,7 +40,7 @@ fn kind(fault: ScanFault) -> &'static [u8]
     }
 }
 
-/// Reports names, a line for each.
+/// Reports names, one line for each.
 fn report_names<E: Write>(names: &[Name], what: &[u8], faults: &mut Output<E>)
     ensures { ReportsAll (map (name_report what.now) names.now) faults.old faults.new }
 {
@@ -49,7 +49,7 @@ fn report_names<E: Write>(names: &[Name], what: &[u8], faults: &mut Output<E>)
     }
 }
 
-/// What is reported of so many control bytes, behind a part's name.
+/// Returns what is reported about this many control bytes, after a part's name.
 fn not_taken(count: u64) -> ArrayString<64>
     ensures { result.bytes ≡ not_taken count }
 {
@@ -60,7 +60,7 @@ fn not_taken(count: u64) -> ArrayString<64>
     text
 }
 
-/// Reports control bytes that were not taken, a line for each part.
+/// Reports control bytes that were not taken, one line for each part.
 fn report_untaken<E: Write>(all: &[Untaken], faults: &mut Output<E>)
     ensures { ReportsAll (map untaken_report all.now) faults.old faults.new }
 {
@@ -71,7 +71,7 @@ fn report_untaken<E: Write>(all: &[Untaken], faults: &mut Output<E>)
     }
 }
 
-/// The end of the line of a part that can't be supervised, after its name.
+/// Returns the end of the line about a part that can't be supervised, after its name.
 fn unable_to_supervise(cause: Cause) -> ArrayString<64>
     ensures { result.bytes ≡ unable_to_supervise cause }
 {
@@ -81,7 +81,7 @@ fn unable_to_supervise(cause: Cause) -> ArrayString<64>
     text
 }
 
-/// What is reported of a part that was not made, behind its name.
+/// Returns what is reported about a part that was not made, after its name.
 fn not_made(fault: PartFault) -> ArrayString<64>
     ensures { result.bytes ≡ not_made fault }
 {
@@ -95,7 +95,7 @@ fn not_made(fault: PartFault) -> ArrayString<64>
     }
 }
 
-/// Reports parts that were not made, a line for each.
+/// Reports parts that were not made, one line for each.
 fn report_unmade<E: Write>(all: &[Unmade], faults: &mut Output<E>)
     ensures { ReportsAll (map unmade_report all.now) faults.old faults.new }
 {
@@ -106,7 +106,7 @@ fn report_unmade<E: Write>(all: &[Unmade], faults: &mut Output<E>)
     }
 }
 
-/// What is reported of so many names that are not text.
+/// Returns what is reported about this many names that are not text.
 fn not_text(count: u64) -> ArrayString<64>
     ensures { result.bytes ≡ not_text count }
 {
@@ -126,7 +126,7 @@ fn report_unnamed<E: Write>(count: u64, faults: &mut Output<E>)
     }
 }
 
-/// What is reported where there are too few descriptors.
+/// Returns what is reported if there are too few descriptors.
 fn too_few(shortage: Shortage) -> ArrayString<128>
     ensures { result.bytes ≡ too_few shortage }
 {
@@ -139,7 +139,7 @@ fn too_few(shortage: Shortage) -> ArrayString<128>
     text
 }
 
-/// Reports that there are too few descriptors, where that is so.
+/// Reports that there are too few descriptors, if that is so.
 fn report_shortage<E: Write>(shortage: Option<Shortage>, faults: &mut Output<E>)
     ensures { ReportsAll (lines_of_shortage shortage) faults.old faults.new }
 {
@@ -148,7 +148,7 @@ fn report_shortage<E: Write>(shortage: Option<Shortage>, faults: &mut Output<E>)
     }
 }
 
-/// Reports what is amiss with what a folder has.
+/// Reports what is wrong with what a folder has.
 fn report_listing<E: Write>(unnamed: u64, shortage: Option<Shortage>, faults: &mut Output<E>)
     ensures { ReportsAll (lines_of_listing unnamed shortage) faults.old faults.new }
 {
@@ -170,7 +170,7 @@ fn report_out<E: Write>(out: &RoundOut, faults: &mut Output<E>)
     report_unmade(&out.unmade, faults);
 }
 
-/// Whether a folder counts as listed after a fault of its listing.
+/// Returns whether a folder counts as listed after a fault of its listing.
 fn is_listed_after(was_listed: bool, fault: ListFault) -> bool
     ensures { result ≡ is_listed_after was_listed fault }
 {
@@ -194,7 +194,7 @@ fn report_unable_to_list<E: Write>(folder: &str, cause: Cause, faults: &mut Outp
     );
 }
 
-/// Reports that a folder was not listed: if it was listed before, or for want of memory.
+/// Reports that a folder was not listed: if it counted as listed before, or if there is no memory.
 fn report_unlisted<E: Write>(
     folder: &str,
     was_listed: bool,
@@ -213,7 +213,7 @@ fn report_unlisted<E: Write>(
     }
 }
 
-/// Reports that a folder is listed, if it was not before.
+/// Reports that a folder is listed again, if it was not listed before.
 fn report_listed<E: Write>(folder: &str, was_listed: bool, faults: &mut Output<E>)
     ensures { ReportsAll (lines_of_listed folder.now was_listed) faults.old faults.new }
 {
@@ -228,8 +228,8 @@ fn report_listed<E: Write>(folder: &str, was_listed: bool, faults: &mut Output<E
     }
 }
 
-/// One round: lists the folder, scans its rows, and says what could not be done. Returns whether svscan goes on. That
-/// the folder can't be listed is said in the first of such rounds, and once it is listed again.
+/// Makes one round: lists the folder, scans its rows, and says what could not be done. Returns whether svscan
+/// continues. If the folder can't be listed, says so in the first such round, and says once that it is listed again.
 fn take_round<K: ServiceSet, E: Write>(
     services: &mut K,
     folder: &str,
@@ -269,7 +269,7 @@ fn take_round<K: ServiceSet, E: Write>(
     }
 }
 
-/// What is reported of a process that still runs, behind its part's name.
+/// Returns what is reported about a process that still runs, after its part's name.
 fn still_runs(pid: u32) -> ArrayString<64>
     ensures { result.bytes ≡ still_runs pid }
 {
@@ -280,7 +280,7 @@ fn still_runs(pid: u32) -> ArrayString<64>
     text
 }
 
-/// Reports processes that still run, a line for each.
+/// Reports processes that still run, one line for each.
 fn report_remaining<E: Write>(all: &[Remaining], faults: &mut Output<E>)
     ensures { ReportsAll (map remaining_report all.now) faults.old faults.new }
 {
@@ -291,7 +291,7 @@ fn report_remaining<E: Write>(all: &[Remaining], faults: &mut Output<E>)
     }
 }
 
-/// What is reported of what svscan could not finish, behind a name.
+/// Returns what is reported about something that svscan could not finish, after a name.
 fn unfinished(what: Unfinished) -> ArrayString<64>
     ensures { result.bytes ≡ unfinished what }
 {
@@ -307,7 +307,7 @@ fn unfinished(what: Unfinished) -> ArrayString<64>
     text
 }
 
-/// Reports what svscan could not finish, a line for each.
+/// Reports what svscan could not finish, one line for each.
 fn report_unlogged<E: Write>(all: &[Unlogged], faults: &mut Output<E>)
     ensures { ReportsAll (map unlogged_report all.now) faults.old faults.new }
 {
@@ -318,7 +318,7 @@ fn report_unlogged<E: Write>(all: &[Unlogged], faults: &mut Output<E>)
     }
 }
 
-/// Rests until something is next.
+/// Rests until svscan has something to do, and returns what that is.
 fn rest<R: Wait, K: ServiceSet>(rt: &R, services: &mut K) -> Order
     requires ready { K.ready services.old }
     ensures ready { K.ready services.new }
@@ -337,7 +337,7 @@ fn rest<R: Wait, K: ServiceSet>(rt: &R, services: &mut K) -> Order
     unreachable!()
 }
 
-/// The services are left, and what was not logged is reported.
+/// Leaves the services, and reports what was not logged.
 fn leave<K: ServiceSet, E: Write>(services: &mut K, faults: &mut Output<E>)
     requires ready { K.ready services.old }
     ensures ready { K.ready services.new }
@@ -348,7 +348,7 @@ fn leave<K: ServiceSet, E: Write>(services: &mut K, faults: &mut Output<E>)
     report_unlogged(&unlogged, faults);
 }
 
-/// All services end, in order. What still runs is reported each five seconds, and in the end what was not logged.
+/// Ends all services, in order. Reports every five seconds what still runs, and at the end what was not logged.
 fn end_all<R: Wait, K: ServiceSet, E: Write>(rt: &R, services: &mut K, faults: &mut Output<E>)
     requires ready { K.ready services.old }
     ensures ready { K.ready services.new }
@@ -367,7 +367,7 @@ fn end_all<R: Wait, K: ServiceSet, E: Write>(rt: &R, services: &mut K, faults: &
     unreachable!()
 }
 
-/// Rounds, a rest between each two, and then the end of all services, or svscan's own.
+/// Makes rounds, with a rest between each two. Then ends all services, or only svscan itself.
 fn take_rounds<R: Wait, K: ServiceSet, E: Write>(
     rt: &R,
     services: &mut K,
@@ -444,7 +444,7 @@ fn report_locked<E: Write>(folder: &str, faults: &mut Output<E>)
     );
 }
 
-/// Says whether svscan itself is served in a folder.
+/// Reports if svscan itself is not served in a folder.
 fn report_begun<E: Write>(folder: &str, begun: Begun, faults: &mut Output<E>)
     ensures { ReportsAll (lines_of_begun folder.now begun) faults.old faults.new }
 {
@@ -457,8 +457,8 @@ fn report_begun<E: Write>(folder: &str, begun: Begun, faults: &mut Output<E>)
     }
 }
 
-/// svscan is served in the folder, and makes its rounds, unless another svscan has the folder, or that can't be read, or
-/// no service could be kept running.
+/// Serves svscan in the folder, and makes its rounds, unless another svscan has the folder, or the folder can't be
+/// read, or no service could be kept running.
 fn begin_and_run<R: Wait, K: ServiceSet, E: Write>(
     rt: &R,
     services: &mut K,
@@ -479,28 +479,37 @@ fn begin_and_run<R: Wait, K: ServiceSet, E: Write>(
     }
 }
 
-/// The command `svscan [DIR [N]]`: keeps the services of DIR, or of the folder that it is in, running
-/// (<https://cr.yp.to/daemontools/svscan.html>). Each round lists the folder and scans its rows; five seconds lie
-/// between two rounds. It is served itself, in the folder `.svscan` there, and of its control bytes `a` asks for a
-/// round now, `x` for the end of all services, in order, and `q` for its own end, at which the services run on; the
-/// first of these two counts. With N, which is 1 to 4294967295 without leading zeros, it ends all services after N
-/// rounds; else it doesn't come back, unless by these two or a fault.
+/// The command `svscan [DIR [N]]`: keeps the services in DIR running, or those in the current folder
+/// (<https://cr.yp.to/daemontools/svscan.html>). Each round lists the folder and scans its rows. Two rounds are five
+/// seconds apart. svscan itself is served in the folder `.svscan` there. Its control byte `a` asks for a round now, `x`
+/// for the end of all services, in order, and `q` for its own end, with the services left running. The first `x` or `q`
+/// counts. With N, which is 1 to 4294967295 without leading zeros, it ends all services after N rounds. Without N, it
+/// exits only if one of these two bytes comes, or after a fault.
 ///
-/// Reported on `faults`: `svscan: unable to lock DIR`, where another svscan has the folder; `svscan: unable to read DIR:
-/// CAUSE`, where the folder can't be read at the beginning; `svscan: .svscan: unable to supervise: CAUSE`, where it can't
-/// be served itself; `svscan: unable to list DIR: CAUSE`, in the first round in which the folder can't be read, `svscan: DIR
-/// is listed again`, in the first one after that in which it can, and `svscan: OutOfMemory` if there is no memory: the
-/// round does nothing more, and the next one tries again; `svscan: N names
-/// are not text` of names that get no service; `svscan: N descriptors are needed, M are allowed`, where the first
-/// listing has more services than that; `svscan: NAME: N bytes were not taken` of control bytes that came to a service
-/// which ended without them, and `svscan: NAME: unable to write the trace` of one whose last trace is not whole;
-/// `svscan: NAME: TooMany` of each name that gets no service, `svscan: NAME: unable to lock` of each that another
-/// svscan has, and `svscan: NAME: unable to supervise: CAUSE` of each other one that a round could not begin, or that
-/// runs without its sockets, where CAUSE is what the C library says of it; `svscan: KIND` of another fault of the scan,
-/// which ends all services; `svscan: NAME: process PID still runs`, each five seconds, of what does not end; `svscan:
-/// NAME: N bytes were not logged`, of lines that did not reach their logger, and `svscan: NAME: unable to write its
-/// records` of a part that svscan leaves so. Answers the status: 0; 111 after such a fault, where another svscan has the
-/// folder or it can't be read, and where no service could be kept running; 100 for wrong words: then nothing is asked of the system.
+/// It reports on `faults`:
+///
+/// - `svscan: unable to lock DIR` if another svscan has the folder;
+/// - `svscan: unable to read DIR: CAUSE` if the folder can't be read at the beginning;
+/// - `svscan: .svscan: unable to supervise: CAUSE` if it can't be served itself;
+/// - `svscan: unable to list DIR: CAUSE` in the first round in which the folder can't be read, and `svscan: DIR is
+///   listed again` in the first round after that in which it can;
+/// - `svscan: OutOfMemory` if there is no memory: the round does nothing more, and the next one tries again;
+/// - `svscan: N names are not text` if that many names get no service for this reason;
+/// - `svscan: N descriptors are needed, M are allowed` if the first listing has more services than that;
+/// - `svscan: NAME: N bytes were not taken` if control bytes came to a service which ended without taking them;
+/// - `svscan: NAME: unable to write the trace` if the last trace of a service is not whole;
+/// - `svscan: NAME: TooMany` for each name that gets no service because there are too many;
+/// - `svscan: NAME: unable to lock` for each service that another svscan has;
+/// - `svscan: NAME: unable to supervise: CAUSE` for each other one that a round could not begin, or that runs without
+///   its sockets; CAUSE is in the words of the C library;
+/// - `svscan: KIND` for another fault of the scan, which ends all services;
+/// - `svscan: NAME: process PID still runs` every five seconds, for each process that does not end;
+/// - `svscan: NAME: N bytes were not logged` if that many bytes did not reach their logger;
+/// - `svscan: NAME: unable to write its records` for a part that svscan leaves in that state.
+///
+/// Returns the exit status, usually 0. The status is 111 after a fault of the scan, if another svscan has the folder,
+/// if the folder can't be read, and if no service could be kept running. It is 100 for wrong words, and then nothing is
+/// asked of the system.
 pub fn run_svscan<R: Wait, K: ServiceSet, E: Write>(
     rt: &R,
     services: &mut K,

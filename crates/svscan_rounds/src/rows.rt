@@ -20,23 +20,24 @@ pub struct Entry {
     pub log_down: bool,
 }
 
-/// A folder whose entries are looked at. Contracts see what stands at each path in it, where that is known (`at`).
+/// A folder whose entries can be looked at. Contracts see what is at each path in it, if that is known (`at`).
 pub trait Folder {
     ghost use Rattle.std.specs.Prelude.{◌≡◌, ◌++◌, ℕ, Option, None, List, IfSome, IfOk};
     ghost use Rattle.svscan_rounds.specs.Rows.{Standing, is_directory, is_there};
 
     ghost at: { Self → Option (List ℕ → Standing) } = { λ _. None };
 
-    /// Whether a directory stands at the path that a name and this make.
+    /// Returns whether a directory is at the path that consists of a name and this rest.
     fn is_dir(&self, name: &str, rest: &str) -> Result<bool, AllocError>
         ensures { IfOk result (λ is. IfSome (at self.now) (λ at. is ≡ is_directory (at (name.now ++ rest.now)))) };
 
-    /// Whether anything does.
+    /// Returns whether anything is at that path.
     fn is_there(&self, name: &str, rest: &str) -> Result<bool, AllocError>
         ensures { IfOk result (λ is. IfSome (at self.now) (λ at. is ≡ is_there (at (name.now ++ rest.now)))) };
 }
 
-/// Whether a directory has anything at the path that a name and this make: nothing, where there is no directory.
+/// Returns whether a directory has anything at the path that consists of a name and this rest. If `is_dir` is false, it
+/// has nothing.
 fn has<F: Folder>(folder: &F, is_dir: bool, name: &str, rest: &str) -> Result<bool, AllocError>
     ensures { IfOk result (λ has. IfSome (F.at folder.now)
         (λ at. has ≡ (is_dir && is_there (at (name.now ++ rest.now))))) }
@@ -47,7 +48,7 @@ fn has<F: Folder>(folder: &F, is_dir: bool, name: &str, rest: &str) -> Result<bo
     Ok(false)
 }
 
-/// Whether a directory has one at the path that a name and this make.
+/// Returns whether a directory has a directory at the path that consists of a name and this rest.
 fn has_dir<F: Folder>(folder: &F, is_dir: bool, name: &str, rest: &str) -> Result<bool, AllocError>
     ensures { IfOk result (λ has. IfSome (F.at folder.now)
         (λ at. has ≡ (is_dir && is_directory (at (name.now ++ rest.now))))) }
@@ -58,7 +59,7 @@ fn has_dir<F: Folder>(folder: &F, is_dir: bool, name: &str, rest: &str) -> Resul
     Ok(false)
 }
 
-/// What a folder says of the entry of a name.
+/// Returns what a folder says of the entry with a name.
 fn entry_of<F: Folder>(folder: &F, name: &str) -> Result<Entry, AllocError>
     ensures { IfOk result (λ entry. IfSome (entries_of (F.at folder.now)) (λ said. entry ≡ said name.now)) }
 {
@@ -74,7 +75,7 @@ fn entry_of<F: Folder>(folder: &F, name: &str) -> Result<Entry, AllocError>
     })
 }
 
-/// A row for each name, in the byte order of the names.
+/// Returns a row for each name, in the byte order of the names.
 pub fn rows_of<F: Folder>(
     alloc: Global,
     folder: &F,
@@ -90,7 +91,7 @@ pub fn rows_of<F: Folder>(
     rows_in_turn(alloc, folder, names)
 }
 
-/// A row for each name, in the order of the names.
+/// Returns a row for each name, in the order of the names.
 fn rows_in_turn<F: Folder>(
     alloc: Global,
     folder: &F,
@@ -107,7 +108,7 @@ fn rows_in_turn<F: Folder>(
     Ok(rows)
 }
 
-/// The row of an entry.
+/// Returns the row of an entry.
 fn row(name: String, entry: Entry) -> DirRow
     ensures { result ≡ row_of (string_bytes name) entry }
 {

@@ -3,7 +3,7 @@ use scan_table::{DirRow, ScanFault};
 use svc_host::PartFault;
 use tai_status::{Cause, Name, Names};
 
-/// More descriptors than there may be are needed for the services of a folder.
+/// The services of a folder need more descriptors than are allowed.
 #[derive(Clone, Copy, Debug, PartialEq, Eq)]
 pub struct Shortage {
     pub needed: u64,
@@ -15,9 +15,9 @@ pub struct Shortage {
 pub struct Listing {
     /// The rows of its names, in the byte order of the names.
     pub rows: Vec<DirRow>,
-    /// How many more names it has, which are not text: no service has such a name.
+    /// The number of further names, which are not text: no service has such a name.
     pub unnamed: u64,
-    /// Where it is listed for the first time, and there are too few descriptors for its services.
+    /// Present if the folder is listed for the first time, and there are too few descriptors for its services.
     pub shortage: Option<Shortage>,
 }
 
@@ -33,29 +33,29 @@ pub enum ListFault {
 /// Control bytes that were posted to a part which ended without taking them.
 #[derive(Drop)]
 pub struct Untaken {
-    /// The part: the name of its service, for a logger with `/log` behind it.
+    /// The part: the name of its service, for a logger followed by `/log`.
     pub name: Name,
-    /// How many there are.
+    /// The number of these bytes.
     pub count: u64,
 }
 
-/// A part that a round could not make, or that runs and could not be given its sockets.
+/// A part that a round could not make, or that runs and could not get its sockets.
 #[derive(Drop)]
 pub struct Unmade {
-    /// The part: the name of its service, for a logger with `/log` behind it.
+    /// The part: the name of its service, for a logger followed by `/log`.
     pub name: Name,
-    /// Why.
+    /// The reason.
     pub fault: PartFault,
 }
 
-/// What was lost at the ends of parts, and what a round could not do.
+/// What was lost when parts ended, and what a round could not do.
 #[derive(Drop)]
 pub struct RoundOut {
-    /// The control bytes that were not taken, by the parts that ended.
+    /// The control bytes that parts which ended did not take.
     pub untaken: Vec<Untaken>,
     /// The parts that ended and whose last trace could not be written.
     pub untraced: Names,
-    /// The names that get no service since there are too many.
+    /// The names that get no service because there are too many.
     pub refused: Names,
     /// The parts that could not be made, and those that run without their sockets.
     pub unmade: Vec<Unmade>,
@@ -64,11 +64,11 @@ pub struct RoundOut {
 /// Whether svscan itself is served in a folder.
 #[derive(Clone, Copy, Debug, PartialEq, Eq)]
 pub enum Begun {
-    /// It is, and no other svscan will be.
+    /// It is served, and no other svscan will be.
     Served,
-    /// It is not, since the system refused something that its own folder stands on.
+    /// It is not served, because the system refused something that its own folder needs.
     Unserved(Cause),
-    /// Another svscan is.
+    /// Another svscan is served there.
     Locked,
     /// The folder of the services can't be read. svscan ends.
     Unread(Cause),
@@ -76,35 +76,35 @@ pub enum Begun {
     Refused(Cause),
 }
 
-/// A process that still runs, where all services are to end.
+/// A process that still runs while all services are to end.
 #[derive(Drop)]
 pub struct Remaining {
-    /// The part: the name of its service, for a logger with `/log` behind it.
+    /// The part: the name of its service, for a logger followed by `/log`.
     pub name: Name,
-    /// Its number.
+    /// Its process number.
     pub pid: u32,
 }
 
-/// What svscan could not finish as it left.
+/// What svscan could not finish when it left.
 #[derive(Clone, Copy, Debug, PartialEq, Eq)]
 pub enum Unfinished {
-    /// So many bytes of a service's output did not reach its logger.
+    /// This many bytes of a service's output did not reach its logger.
     Bytes(u64),
-    /// What is recorded of a part could not be written.
+    /// The records of a part could not be written.
     Records,
 }
 
-/// What svscan could not finish for a service as it left.
+/// What svscan could not finish for a service when it left.
 #[derive(Drop)]
 pub struct Unlogged {
     /// The name of the service, or of the part.
     pub name: Name,
-    /// What it is.
+    /// What could not be finished.
     pub what: Unfinished,
 }
 
-/// The services of a folder, which it keeps running. Contracts see which calls were made and what came of them, where
-/// it keeps that.
+/// The services of a folder, which it keeps running. Contracts see which calls were made and their results, while these
+/// are recorded.
 pub trait ServiceSet {
     ghost use Rattle.std.specs.Prelude.{◌∷◌, [], ⊤, Option, None, List, option_map};
     ghost use Rattle.svscan_rounds.specs.Calls.{Call, Began, Listed, Scanned, Heard, Ended, Left};
@@ -115,42 +115,44 @@ pub trait ServiceSet {
     // Whether it may be called.
     ghost ready: { Self → Type 0 } = { λ _. ⊤ };
 
-    /// Before the first round: svscan itself is served in the folder, or is not. Nothing is changed there where another
-    /// svscan is.
+    /// Called before the first round. Serves svscan itself in the folder, or says why not. Nothing is changed there if
+    /// another svscan is served there.
     fn begin(&mut self, folder: &str) -> Begun
         requires { ready self.old }
         ensures ready { ready self.new }
         ensures began { Extended (calls self.old) (calls self.new) (Began folder.now result ∷ []) };
 
-    /// What a folder has. It may leave out the rows of services of which every part runs: the round after it does the
-    /// same without.
+    /// Lists a folder. It may leave out the rows of services whose parts all run: the round after it does the same
+    /// without these rows. A fault says why the folder was not listed.
     fn list(&mut self, folder: &str) -> Result<Listing, ListFault>
         requires { ready self.old }
         ensures ready { ready self.new }
         ensures listed { Extended (calls self.old) (calls self.new) (Listed folder.now result ∷ []) };
 
-    /// One round over these rows of the folder: what is new starts, what ended starts again, and what went goes.
+    /// Makes one round over these rows of the folder: starts what is new, restarts what ended, and drops what is no
+    /// longer there.
     fn round(&mut self, folder: &str, rows: Vec<DirRow>) -> Result<RoundOut, ScanFault>
         requires { ready self.old }
         ensures ready { ready self.new }
         ensures scanned { Extended (calls self.old) (calls self.new) (Scanned folder.now rows.items result ∷ []) };
 
-    /// The next control byte of svscan's own, or none once the next round is due: five seconds after the last one.
+    /// Returns the next of svscan's own control bytes, or None once the next round is due: five seconds after the last
+    /// one.
     fn hear(&mut self) -> Option<u8>
         requires { ready self.old }
         ensures ready { ready self.new }
         ensures heard { Extended (calls self.old) (calls self.new) (Heard result ∷ []) };
 
-    /// Goes on with the end of all services, in order, for five seconds at most: none once all have ended, else the
-    /// processes that still run.
+    /// Continues the end of all services, in order, for at most five seconds. Returns None once all have ended, and
+    /// otherwise the processes that still run.
     fn end(&mut self) -> Option<Vec<Remaining>>
         requires { ready self.old }
         ensures ready { ready self.new }
         ensures ended { Extended (calls self.old) (calls self.new)
             (Ended (option_map (λ left. left.items) result) ∷ []) };
 
-    /// The services are left: what was read of their outputs is given to their loggers first, for five seconds at most.
-    /// svscan itself is served no more. Answers what was not logged, and whose records could not be written.
+    /// Leaves the services. Before that, puts what was read of their outputs into their loggers, for at most five
+    /// seconds. svscan itself is no longer served. Returns what was not logged, and whose records could not be written.
     fn leave(&mut self) -> Vec<Unlogged>
         requires { ready self.old }
         ensures ready { ready self.new }

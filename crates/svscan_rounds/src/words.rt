@@ -8,11 +8,11 @@ use sup_core::read_number;
 #[derive(Clone, Copy)]
 pub struct Options<'a> {
     pub folder: &'a str,
-    /// How many rounds. None: without an end.
+    /// The number of rounds. None means without limit.
     pub rounds: Option<u32>,
 }
 
-/// The number of rounds that a word says.
+/// Returns the number of rounds that a word says.
 fn read_rounds(word: &str) -> Option<u32>
     ensures { MatchOption result
         ((number : ℕ) → ReportsRounds word.now number → ⊥)
@@ -25,7 +25,7 @@ fn read_rounds(word: &str) -> Option<u32>
     u32::try_from(number).ok()
 }
 
-/// What words ask for: `[DIR [N]]`.
+/// Returns what the words `[DIR [N]]` ask for. Returns None if the words are wrong.
 pub fn read_words<'a>(words: &'a [&'a str]) -> Option<Options<'a>>
     ensures wrong { MatchOption result (AskNothing (texts words.entry.now)) (λ _. ⊤) }
     ensures asks { IfSome result (λ options.

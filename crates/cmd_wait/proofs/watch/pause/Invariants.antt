@@ -3,7 +3,7 @@ use Rattle.cmd_wait.specs.Steps.{sight}
 use Rattle.cmd_wait.specs.Watching.{RestsOn, watched}
 use Rattle.cmd_wait.proofs.watch.pause.Given as goal
 
--- so many rests, behind none of which a round was due
+-- this many rests, and no round was due after any of them
 abbrev pub invariant-loop : goal.invariant-loop
 invariant-loop g l =
     RestsOn l.limit l.begin (texts l.left)

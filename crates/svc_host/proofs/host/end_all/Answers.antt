@@ -7,7 +7,7 @@ use Rattle.svc_host.specs.Rounds.{after_ends, unmade_ids}
 use Rattle.svc_host.proofs.Tables.{past}
 use Rattle.svc_host.proofs.host.end_all.Goals as goal
 
--- what is read past the end of the list
+-- the default for what is read past the end of the list
 abbrev none : Unmade
 none = record { part = past; fault = Locked }
 

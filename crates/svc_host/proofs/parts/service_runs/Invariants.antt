@@ -5,7 +5,7 @@ use Rattle.scan_table.specs.Table.{is_at}
 use Rattle.svc_host.specs.Parts.{HostPart}
 use Rattle.svc_host.proofs.parts.service_runs.Given as goal
 
--- none so far is it
+-- so far none is it
 abbrev pub invariant-loop-part : goal.invariant-loop-part
 invariant-loop-part g l =
     (k : ℕ) (d : HostPart) → k < l.part-index

@@ -3,7 +3,7 @@ use Rattle.std.specs.Prelude.{slice_get}
 use Rattle.sup_core.specs.Reading.{fields}
 use Rattle.svc_world.proofs.stat.field_at.Given as goal
 
--- the field is sought in what is left
+-- what is left still has the field
 abbrev pub invariant-loop-passed : goal.invariant-loop-passed
 invariant-loop-passed l =
     slice_get (fields l.behind) l.place ≡ slice_get (fields l.rest) (l.place - l.passed)

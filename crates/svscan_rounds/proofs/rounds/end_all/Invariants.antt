@@ -2,7 +2,7 @@ use Rattle.svscan_rounds.specs.Rounds.{effects}
 use Rattle.svscan_rounds.proofs.Turning.{IsEnding}
 use Rattle.svscan_rounds.proofs.rounds.end_all.Given as goal
 
--- some still ran, each time
+-- each time some still ran
 abbrev pub invariant-loop : goal.invariant-loop
 invariant-loop g l =
     IsEnding (effects (g.K.ServiceSet.calls l.fn.services) l.fn.faults)
