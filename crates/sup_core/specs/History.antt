@@ -99,9 +99,11 @@ ends_in_failure (Then past (StartFailed label)) = true
 ends_in_failure (Opened state) = is_resting state.phase
 ends_in_failure history = false
 
--- A history calls for a start if its last item is one of these: a beginning that wants up; a byte u or o with no
--- process before it; a death if up is wanted and there is no exit; a clock reading that ends the rest after a failed
--- start, if up is wanted.
+-- A history calls for a start if its last item is one of these:
+-- - a beginning that wants up
+-- - a byte u or o with no process before it
+-- - a death, if up is wanted and there is no exit
+-- - a clock reading that ends the rest after a failed start, if up is wanted
 abbrev pub calls_for_start : History → Bool
 calls_for_start (Begin down label) = wants_up (Begin down label)
 calls_for_start (Then past (Byte byte)) = is_among (codes "uo") byte && not (runs past)

@@ -90,8 +90,8 @@ abbrev pub spells_label : List ℕ → Bool
 spells_label word =
     bytes_eq word (codes "failed") || bytes_eq word (codes "death") || bytes_eq word (codes "clock")
 
--- The first fault of a line that spells no event, by its first word and the fields after it: an unknown word; a wrong
--- number of fields or no text of a byte; no process number; no label.
+-- The first fault of a line that spells no event, by its first word and the fields after it. The faults are, in order:
+-- an unknown word; a wrong number of fields, or no text of a byte; no process number; no label.
 abbrev pub first_fault : List ℕ → List (List ℕ) → EventFault
 first_fault word rest =
     if bytes_eq word (codes "byte") then fault.Line
