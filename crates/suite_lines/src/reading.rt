@@ -96,9 +96,9 @@ fn parse_suite_event<A: Allocator + Clone>(
 /// | `scan LABEL ROW ..` | the folder was scanned, and had these rows, perhaps none |
 /// | `at PART EVENT` | the event that the line EVENT spells happened at this part; `sup_core::read_event` reads it |
 ///
-/// PART is a slot's number, `main` or `log`, and a life's number, separated by dots. ROW is the four flags `d` (a
-/// directory), `l` (has a log), `n` (has a file `down`) and `m` (its log has one), each its letter or `-`; then a
-/// colon, and a name of at least one byte, all from `!` to `~`.
+/// PART is a slot's number, `main` or `log`, and a life's number, separated by dots. ROW is four flags, a colon and a
+/// name. The flags are `d` (a directory), `l` (has a log), `n` (has a file `down`) and `m` (its log has one), each its
+/// letter or `-`. The name has at least one byte, and all its bytes are from `!` to `~`.
 ///
 /// The first fault is reported. The first word comes first. The faults of a scan are, in order: no field for a label, a
 /// wrong label, and a field that is no row's text. Those at a part are: fewer than three fields or no part; a slot or a
